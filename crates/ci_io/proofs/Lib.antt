@@ -1,0 +1,3 @@
+mod FilesOf
+mod Raised
+mod WithFile

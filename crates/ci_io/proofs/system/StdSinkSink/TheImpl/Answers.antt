@@ -1,0 +1,13 @@
+-- A sink that tells no byte owes only what its count does.
+use Rattle.std.proofs.Common.{◌≡◌, ℕ, List, Option, None, refl}
+use Rattle.ci_io.proofs.Raised.{Rises-raised, OnErr-IsErrOf, OnOk-always}
+use Rattle.ci_io.proofs.system.StdSinkSink.TheImpl.Goals as goal
+
+pub put-tells : goal.put-tells
+put-tells g c = record {
+  ok = OnOk-always c.result (◌≡◌ {A = Option (List ℕ)} None None) refl;
+  fault = λ _. (0, refl);
+  no_memory = λ _. refl;
+  fault_counted = λ fault. Rises-raised _ _ (OnErr-IsErrOf c.result _ _ c.ensures.after_fault fault);
+  never_falls = c.ensures.never_falls;
+}

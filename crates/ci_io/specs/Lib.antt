@@ -1,0 +1,5 @@
+pub mod Counts
+pub mod Maps
+pub mod MemoryStates
+pub mod Outcomes
+pub mod Reads

@@ -1,0 +1,19 @@
+-- What a read, a write and a put may answer, and what they leave.
+use Rattle.std.specs.Prelude.{◌≡◌, ℕ, ◌<◌, ◌-◌, ◌^◌, ◌⊎◌, List, Option}
+use Rattle.std.specs.Prelude.{Some, None}
+use Rattle.std.specs.Ordering.{nat_cmp}
+use Rattle.std.specs.Cmp.Lexicographic.{slice_cmp}
+use Rattle.std.specs.FinMap as map
+
+-- files by name: the bytes of each name that has some
+abbrev pub Files : Type 0
+Files = map.FinMap (slice_cmp nat_cmp) (List ℕ)
+
+-- A count of faults rose. A counter stays at its last value once it has reached it, and may have risen there.
+abbrev pub Rises : ℕ → ℕ → Type 0
+Rises before after = (before < after) ⊎ (after ≡ 2 ^ 64 - 1)
+
+-- the files with this content, or nothing, under the name
+abbrev pub with_file : List ℕ → Option (List ℕ) → Files → Files
+with_file name None files = map.remove files name
+with_file name (Some bytes) files = map.insert files name bytes

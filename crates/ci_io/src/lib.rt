@@ -1,0 +1,18 @@
+//! What the program reads and writes through: shelves of files and sinks of output bytes.
+#![tactic(auto)]
+
+pub use memory::{MemShelf, MemSink};
+pub use shelves::{Shelf, ShelfErr};
+pub use sinks::{Sink, SinkErr};
+pub use sure::{SureShelf, SureSink};
+pub use system::{FileShelf, StdSink};
+
+mod calls;
+mod held;
+mod memory;
+mod shelves;
+mod sinks;
+mod sure;
+mod system;
+#[cfg(test)]
+mod tests;

@@ -1,0 +1,156 @@
+//! A shelf over the files of the system, and a sink over its standard output.
+//!
+//! What they do to real files and to the real output is not proved.
+ghost use Rattle.std.specs.Prelude.{◌≡◌, ◌≢◌, ◌≤◌, None, OnOk, OnErr, IfOk, IsErrOf, vec_len};
+ghost use Rattle.ci_io.specs.Counts.{raised};
+
+use crate::{Shelf, ShelfErr, Sink, SinkErr};
+use std::alloc::Global;
+use std::io::{Read, Write};
+use std::marker::Model;
+use std::rt::Files;
+use std::{fs, io};
+
+/// A shelf of the system's files, by their paths. It tells no file.
+///
+/// A missing file, a folder and a file that cannot be read are faults of reading. Contracts see it as its two
+/// counts of faults, each of which stays at its last value.
+#[derive(Drop)]
+pub struct FileShelf<'a, R: Files> {
+    rt: &'a R,
+    read_faults: u64,
+    write_faults: u64,
+}
+
+impl<'a, R: Files> Model for FileShelf<'a, R> {
+    ghost use Rattle.ci_io.specs.Counts.{FaultCounts};
+
+    ghost Value = { FaultCounts };
+
+    ghost view = { λ shelf. record { reads = shelf.read_faults; writes = shelf.write_faults } };
+}
+
+impl<'a, R: Files> FileShelf<'a, R> {
+    /// The shelf of the runtime's files, with no fault so far.
+    pub fn new(rt: &'a R) -> FileShelf<'a, R>
+        ensures counts { result ≡ record { reads = 0; writes = 0 } }
+        ensures untold { ⟦<FileShelf<'a, R> as Shelf>⟧.files result ≡ None }
+        ensures no_read_fault { ⟦<FileShelf<'a, R> as Shelf>⟧.read_faults result ≡ 0 }
+        ensures no_write_fault { ⟦<FileShelf<'a, R> as Shelf>⟧.write_faults result ≡ 0 }
+    {
+        FileShelf {
+            rt,
+            read_faults: 0,
+            write_faults: 0,
+        }
+    }
+}
+
+impl<'a, R: Files> Shelf for FileShelf<'a, R> {
+    ghost files = { λ _. None };
+
+    ghost read_faults = { λ counts. counts.reads };
+
+    ghost write_faults = { λ counts. counts.writes };
+
+    fn read(&mut self, alloc: Global, name: &str, limit: u64) -> Result<Vec<u8>, ShelfErr>
+        ensures within_limit { IfOk result (λ bytes. vec_len bytes ≤ limit) }
+        ensures never_absent { result ≢ Err ShelfErr.Absent }
+
+        // The count of reads rises by a fault alone.
+        ensures after_fault { IsErrOf result ShelfErr.Fault → self.new.reads ≡ raised self.old.reads }
+        ensures after_others { result ≢ Err ShelfErr.Fault → self.new.reads ≡ self.old.reads }
+        ensures never_falls { self.old.reads ≤ self.new.reads }
+        ensures writes_stay { self.new.writes ≡ self.old.writes }
+    {
+        match read_file(self.rt, alloc, name, limit) {
+            Ok(bytes) if bytes.len() as u64 > limit => Err(ShelfErr::TooLarge),
+            Ok(bytes) => Ok(bytes),
+            Err(error) if error.kind() == io::ErrorKind::OutOfMemory => Err(ShelfErr::NoMemory),
+            Err(_) => {
+                self.read_faults = self.read_faults.saturating_add(1);
+                Err(ShelfErr::Fault)
+            }
+        }
+    }
+
+    fn write(&mut self, _alloc: Global, name: &str, bytes: &[u8]) -> Result<(), ShelfErr>
+        ensures never_absent { result ≢ Err ShelfErr.Absent }
+        ensures never_too_large { result ≢ Err ShelfErr.TooLarge }
+        ensures never_no_memory { result ≢ Err ShelfErr.NoMemory }
+
+        // The count of writes rises by a fault alone.
+        ensures after_ok { OnOk result (self.new.writes ≡ self.old.writes) }
+        ensures after_fault { OnErr result (self.new.writes ≡ raised self.old.writes) }
+        ensures never_falls { self.old.writes ≤ self.new.writes }
+        ensures reads_stay { self.new.reads ≡ self.old.reads }
+    {
+        match fs::write(self.rt, name, bytes) {
+            Ok(()) => Ok(()),
+            Err(_) => {
+                self.write_faults = self.write_faults.saturating_add(1);
+                Err(ShelfErr::Fault)
+            }
+        }
+    }
+}
+
+// The file's bytes, or more than `limit` of them where it has more. No more than one byte past the limit is read.
+fn read_file<R: Files>(rt: &R, alloc: Global, name: &str, limit: u64) -> io::Result<Vec<u8>> {
+    let mut bytes = Vec::new(alloc);
+    fs::open(rt, name)?
+        .take(limit.saturating_add(1))
+        .read_to_end(&mut bytes)?;
+    Ok(bytes)
+}
+
+/// A sink over standard output. It tells no byte.
+///
+/// Contracts see it as its count of faults, which stays at its last value.
+#[derive(Drop)]
+pub struct StdSink<'a, R: Print> {
+    rt: &'a R,
+    faults: u64,
+}
+
+impl<'a, R: Print> Model for StdSink<'a, R> {
+    ghost use Rattle.std.specs.Prelude.{ℕ};
+
+    ghost Value = { ℕ };
+
+    ghost view = { λ sink. sink.faults };
+}
+
+impl<'a, R: Print> StdSink<'a, R> {
+    /// The sink over the runtime's standard output, with no fault so far.
+    pub fn new(rt: &'a R) -> StdSink<'a, R>
+        ensures count { result ≡ 0 }
+        ensures untold { ⟦<StdSink<'a, R> as Sink>⟧.taken result ≡ None }
+        ensures no_fault { ⟦<StdSink<'a, R> as Sink>⟧.faults result ≡ 0 }
+    {
+        StdSink { rt, faults: 0 }
+    }
+}
+
+impl<'a, R: Print> Sink for StdSink<'a, R> {
+    ghost taken = { λ _. None };
+
+    ghost faults = { λ count. count };
+
+    fn put(&mut self, bytes: &[u8]) -> Result<(), SinkErr>
+        ensures never_no_memory { result ≢ Err SinkErr.NoMemory }
+
+        // The count rises by a fault alone.
+        ensures after_ok { OnOk result (self.new ≡ self.old) }
+        ensures after_fault { OnErr result (self.new ≡ raised self.old) }
+        ensures never_falls { self.old ≤ self.new }
+    {
+        match self.rt.write_all(bytes) {
+            Ok(()) => Ok(()),
+            Err(_) => {
+                self.faults = self.faults.saturating_add(1);
+                Err(SinkErr::Fault)
+            }
+        }
+    }
+}
