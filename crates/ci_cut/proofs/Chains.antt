@@ -1,0 +1,142 @@
+-- Chains of members of a set of nodes: none has more than the greatest delay, and some chain has it.
+use Rattle.std.proofs.Common.{◌≡◌, ℕ, zero, suc, ◌<◌, ◌≤◌, max, Bool, true, false, cond, ◌&&◌, List, [], ◌∷◌, ◌++◌, length, map, filter, IsTrue, ◌⊎◌, refl, sym, ap, ◌∙◌, subst, inl, inr, arith}
+use Rattle.std.proofs.lemmas.Bool.{and_parts, and_from, cases_Bool, cases_eq, cases_lt}
+use Rattle.ci_cut.specs.declared.graph.Source.TheVariants.{Made}
+use Rattle.ci_cut.specs.FlowGraph.{FlowGraph, IsFlowGraph, reads}
+use Rattle.ci_cut.specs.Hardware.{falling_lists, is_chain, delay_along, greatest, greatest_delay, hardware}
+
+-- ---- the greatest value of a function on the elements that pass a test
+
+abbrev pub greatest_of : {X : Type 0} → (X → Bool) → (X → ℕ) → List X → ℕ
+greatest_of p f xs = greatest (map f (filter p xs))
+
+-- one element more
+greatest_of-cons : {X : Type 0} (b : Bool) (f : X → ℕ) (x : X) (xs : List X) → greatest (map f (cond b (x ∷ xs) xs)) ≡ max (cond b (f x) 0) (greatest (map f xs))
+greatest_of-cons true f x xs = refl
+greatest_of-cons false f x xs = omega arith
+
+greatest_of-append : {X : Type 0} (p : X → Bool) (f : X → ℕ) (xs ys : List X) → greatest_of p f (xs ++ ys) ≡ max (greatest_of p f xs) (greatest_of p f ys)
+greatest_of-append p f [] ys = omega arith
+greatest_of-append p f (x ∷ xs) ys =
+    omega (arith, greatest_of-cons (p x) f x (filter p (xs ++ ys)), greatest_of-cons (p x) f x (filter p xs), greatest_of-append p f xs ys)
+
+greatest_of-map : {X Y : Type 0} (p : Y → Bool) (f : Y → ℕ) (g : X → Y) (xs : List X) → greatest_of p f (map g xs) ≡ greatest_of (λ x. p (g x)) (λ x. f (g x)) xs
+greatest_of-map p f g [] = refl
+greatest_of-map p f g (x ∷ xs) =
+    greatest_of-cons (p (g x)) f (g x) (filter p (map g xs))
+    ∙ ap (max (cond (p (g x)) (f (g x)) 0)) (greatest_of-map p f g xs)
+    ∙ sym (greatest_of-cons (p (g x)) (λ y. f (g y)) x (filter (λ y. p (g y)) xs))
+
+-- where the greater of two numbers comes from, if the first counts where b holds
+max_from : (b : Bool) (m n : ℕ) → (max (cond b m 0) n ≡ n) ⊎ ((b ≡ true) × (max (cond b m 0) n ≡ m))
+max_from true m n = elim (cases_lt m n) [ inl h ↦ inl (omega arith) | inr h ↦ inr (refl, omega arith) ]
+max_from false m n = inl (omega arith)
+
+-- the greatest value is that of some element that passes, if one that passes has value 0
+greatest_of-reached : {X : Type 0} (p : X → Bool) (f : X → ℕ) (least : X) → IsTrue (p least) → f least ≡ 0 → (xs : List X) → (x : X) × IsTrue (p x) × (f x ≡ greatest_of p f xs)
+greatest_of-reached p f least passes none [] = (least, passes, none)
+greatest_of-reached p f least passes none (x ∷ xs) =
+    let step = greatest_of-cons (p x) f x (filter p xs) in
+    let before = greatest_of-reached p f least passes none xs in
+    elim (max_from (p x) (f x) (greatest_of p f xs)) [
+      | inl same ↦ (before.0, before.1, before.2 ∙ sym (step ∙ same))
+      | inr (px, same) ↦ (x, px, sym (step ∙ same))
+    ]
+
+-- a test that lets more pass gives no less
+greatest_of-mono : {X : Type 0} (p q : X → Bool) (f : X → ℕ) → ((x : X) → IsTrue (p x) → IsTrue (q x)) → (xs : List X) → greatest_of p f xs ≤ greatest_of q f xs
+greatest_of-mono p q f more [] = omega arith
+greatest_of-mono p q f more (x ∷ xs) =
+    let step_p = greatest_of-cons (p x) f x (filter p xs) in
+    let step_q = greatest_of-cons (q x) f x (filter q xs) in
+    let before = greatest_of-mono p q f more xs in
+    elim (cases_Bool (p x)) [
+      | inl passes ↦ omega (arith, ap (λ b. cond b (f x) 0) passes, ap (λ b. cond b (f x) 0) (more x passes))
+      | inr fails ↦ omega (arith, ap (λ b. cond b (f x) 0) fails)
+    ]
+
+-- ---- lists in which the numbers fall
+
+-- each number is below the one before it, and the first is below n
+abbrev pub IsFallingBelow : ℕ → List ℕ → Type 0
+IsFallingBelow n [] = Unit {0}
+IsFallingBelow n (a ∷ rest) = (a < n) × IsFallingBelow a rest
+
+greatest_of-falling_lists-suc : (p : List ℕ → Bool) (f : List ℕ → ℕ) (n : ℕ) → greatest_of p f (falling_lists (suc n)) ≡ max (greatest_of p f (falling_lists n)) (greatest_of (λ xs. p (n ∷ xs)) (λ xs. f (n ∷ xs)) (falling_lists n))
+unfolding falling_lists
+greatest_of-falling_lists-suc p f n =
+    greatest_of-append p f (falling_lists n) (map (λ xs. n ∷ xs) (falling_lists n))
+    ∙ ap (max (greatest_of p f (falling_lists n))) (greatest_of-map p f (λ xs. n ∷ xs) (falling_lists n))
+
+-- a falling list that passes has at most the greatest value
+falling_at_most : (n : ℕ) (p : List ℕ → Bool) (f : List ℕ → ℕ) (xs : List ℕ) → IsFallingBelow n xs → IsTrue (p xs) → f xs ≤ greatest_of p f (falling_lists n)
+unfolding falling_lists
+falling_at_most zero p f [] falls passes = omega (arith, greatest_of-cons (p []) f [] [], ap (λ b. cond b (f []) 0) passes)
+falling_at_most zero p f (a ∷ rest) falls passes = absurd (omega arith)
+falling_at_most (suc n) p f [] falls passes = omega (arith, greatest_of-falling_lists-suc p f n, falling_at_most n p f [] tt passes)
+falling_at_most (suc n) p f (a ∷ rest) falls passes =
+    let step = greatest_of-falling_lists-suc p f n in
+    elim (cases_eq a n) [
+      | inl same ↦
+          let bound = falling_at_most n (λ xs. p (n ∷ xs)) (λ xs. f (n ∷ xs)) rest (subst (λ k. IsFallingBelow k rest) same falls.1) (subst (λ k. IsTrue (p (k ∷ rest))) same passes) in
+          omega (arith, ap (λ k. f (k ∷ rest)) same)
+      | inr differ ↦
+          let below : a < n = omega arith in
+          let bound = falling_at_most n p f (a ∷ rest) (below, falls.1) passes in
+          omega arith
+    ]
+
+-- ---- chains
+
+-- a longer chain: its first node reads the second
+pub chain_onward : (graph : FlowGraph) (cut : ℕ → Bool) (k m : ℕ) (rest : List ℕ) → IsTrue (cut k) → IsTrue (reads graph k (Made m)) → IsTrue (is_chain graph cut (m ∷ rest)) → IsTrue (is_chain graph cut (k ∷ m ∷ rest))
+chain_onward graph cut k m rest member reading onward =
+    and_from (cut k && reads graph k (Made m)) (is_chain graph cut (m ∷ rest)) (and_from (cut k) (reads graph k (Made m)) member reading) onward
+
+-- what a chain of two nodes and more consists of
+pub chain_parts : (graph : FlowGraph) (cut : ℕ → Bool) (k m : ℕ) (rest : List ℕ) → IsTrue (is_chain graph cut (k ∷ m ∷ rest)) → IsTrue (reads graph k (Made m)) × IsTrue (is_chain graph cut (m ∷ rest))
+chain_parts graph cut k m rest is_one =
+    let parts = and_parts (cut k && reads graph k (Made m)) (is_chain graph cut (m ∷ rest)) is_one in
+    ((and_parts (cut k) (reads graph k (Made m)) parts.0).1, parts.1)
+
+-- In a chain the numbers fall, since a node reads earlier nodes alone.
+chain_falls : (graph : FlowGraph) (cut : ℕ → Bool) → IsFlowGraph graph → (chain : List ℕ) (a n : ℕ) → a < n → IsTrue (is_chain graph cut (a ∷ chain)) → IsFallingBelow n (a ∷ chain)
+chain_falls graph cut kept [] a n below is_one = (below, tt)
+chain_falls graph cut kept (b ∷ chain) a n below is_one =
+    let parts = chain_parts graph cut a b chain is_one in
+    (below, chain_falls graph cut kept chain b a (kept.sources_rise b a parts.0) parts.1)
+
+-- the first node of a chain is a member
+pub chain_first : (graph : FlowGraph) (cut : ℕ → Bool) (a : ℕ) (chain : List ℕ) → IsTrue (is_chain graph cut (a ∷ chain)) → IsTrue (cut a)
+chain_first graph cut a [] is_one = is_one
+chain_first graph cut a (b ∷ chain) is_one =
+    let parts = and_parts (cut a && reads graph a (Made b)) (is_chain graph cut (b ∷ chain)) is_one in
+    (and_parts (cut a) (reads graph a (Made b)) parts.0).0
+
+-- no chain of members of a set of nodes has more than the greatest delay
+pub delay_along-le : (graph : FlowGraph) (cut : ℕ → Bool) → IsFlowGraph graph → ((k : ℕ) → IsTrue (cut k) → k < length graph.nodes) → (chain : List ℕ) → IsTrue (is_chain graph cut chain) → delay_along graph chain ≤ greatest_delay graph cut
+delay_along-le graph cut kept are_nodes [] is_one = falling_at_most (length graph.nodes) (is_chain graph cut) (delay_along graph) [] tt is_one
+delay_along-le graph cut kept are_nodes (a ∷ chain) is_one =
+    falling_at_most (length graph.nodes) (is_chain graph cut) (delay_along graph) (a ∷ chain)
+    (chain_falls graph cut kept chain a (length graph.nodes) (are_nodes a (chain_first graph cut a chain is_one)) is_one)
+    is_one
+
+-- some chain has the greatest delay
+pub greatest_delay-reached : (graph : FlowGraph) (cut : ℕ → Bool) → (chain : List ℕ) × IsTrue (is_chain graph cut chain) × (delay_along graph chain ≡ greatest_delay graph cut)
+greatest_delay-reached graph cut = greatest_of-reached (is_chain graph cut) (delay_along graph) [] refl refl (falling_lists (length graph.nodes))
+
+-- a chain of members is one of a greater set's members
+is_chain-more : (graph : FlowGraph) (cut other : ℕ → Bool) → ((k : ℕ) → IsTrue (cut k) → IsTrue (other k)) → (chain : List ℕ) → IsTrue (is_chain graph cut chain) → IsTrue (is_chain graph other chain)
+is_chain-more graph cut other more [] is_one = refl
+is_chain-more graph cut other more (a ∷ []) is_one = more a is_one
+is_chain-more graph cut other more (a ∷ b ∷ chain) is_one =
+    let parts = chain_parts graph cut a b chain is_one in
+    chain_onward graph other a b chain (more a (chain_first graph cut a (b ∷ chain) is_one)) parts.0 (is_chain-more graph cut other more (b ∷ chain) parts.1)
+
+-- a greater set has no less delay, and no less hardware time
+pub greatest_delay-mono : (graph : FlowGraph) (cut other : ℕ → Bool) → ((k : ℕ) → IsTrue (cut k) → IsTrue (other k)) → greatest_delay graph cut ≤ greatest_delay graph other
+greatest_delay-mono graph cut other more =
+    greatest_of-mono (is_chain graph cut) (is_chain graph other) (delay_along graph) (is_chain-more graph cut other more) (falling_lists (length graph.nodes))
+
+pub hardware-mono : (graph : FlowGraph) (cut other : ℕ → Bool) → ((k : ℕ) → IsTrue (cut k) → IsTrue (other k)) → hardware graph cut ≤ hardware graph other
+hardware-mono graph cut other more = omega (arith, greatest_delay-mono graph cut other more)

@@ -1,0 +1,12 @@
+pub mod Chains
+pub mod GainArithmetic
+pub mod Gains
+pub mod GraphLaws
+pub mod GreatestAt
+pub mod LongestChains
+pub mod NodeLaws
+pub mod PortLaws
+pub mod SetLaws
+pub mod SourceSetLaws
+pub mod Tries
+pub mod WalkLaws

@@ -1,0 +1,56 @@
+-- What is read by the nodes below a number, and what is counted over them.
+use Rattle.std.proofs.Common.{◌≡◌, ℕ, ◌+◌, Bool, true, false, not, ◌&&◌, ◌||◌, if◌then◌else◌, refl, ap, sym, arith, add-one, length}
+use Rattle.std.proofs.Math.Bool.{beq, or-false}
+use Rattle.std.specs.List.{list_any}
+use Rattle.ci_word.specs.Numbers.{count_below, some_below}
+use Rattle.ci_word.proofs.NumberLaws.{count_below-suc, some_below-suc}
+use Rattle.ci_cut.specs.declared.graph.Source.{Source}
+use Rattle.ci_cut.specs.declared.graph.Source.TheVariants.{Made}
+use Rattle.ci_cut.specs.declared.graph.Node.{Node}
+use Rattle.ci_cut.specs.FlowGraph.{FlowGraph, node_at, is_source, reads}
+use Rattle.ci_cut.specs.SourceSets.{is_reader, is_read_below}
+use Rattle.ci_cut.specs.Ports.{is_input, is_output}
+
+-- one number more
+some_below-more : (k : ℕ) (p : ℕ → Bool) → some_below (k + 1) p ≡ (some_below k p || p k)
+some_below-more k p = rw add-one (some_below-suc k p)
+
+count_below-more : (k : ℕ) (p : ℕ → Bool) → count_below (k + 1) p ≡ count_below k p + (if p k then 1 else 0)
+count_below-more k p = rw add-one (count_below-suc k p)
+
+-- a number that passes the test is counted, and another is not
+pub counted : (k : ℕ) (p : ℕ → Bool) (count : ℕ) → count ≡ count_below k p → p k ≡ true → count + 1 ≡ count_below (k + 1) p
+counted k p count so_far passes = rw (count_below-more k p, passes, ← so_far)
+
+pub not_counted : (k : ℕ) (p : ℕ → Bool) (count : ℕ) → count ≡ count_below k p → p k ≡ false → count ≡ count_below (k + 1) p
+not_counted k p count so_far fails = rw (count_below-more k p, fails) (omega (arith, so_far))
+
+-- node k is on a side if its test is the one that is meant
+on_side : (cut : ℕ → Bool) (members : Bool) (k : ℕ) → is_reader cut members k ≡ beq (cut k) members
+on_side cut true k = elim (cut k) as (λ b. b ≡ beq b true) [ true ↦ refl | false ↦ refl ]
+on_side cut false k = elim (cut k) as (λ b. not b ≡ beq b false) [ true ↦ refl | false ↦ refl ]
+
+module _ (graph : FlowGraph) (cut : ℕ → Bool) (members : Bool) (k : ℕ) (has : Bool) (has_is : has ≡ cut k) where
+  read_more : (source : Source) → is_read_below (k + 1) graph cut members source ≡ (is_read_below k graph cut members source || (beq has members && reads graph k source))
+  read_more source = rw (some_below-more k (λ j. is_reader cut members j && reads graph j source), on_side cut members k, ← has_is)
+
+  -- the sources of a node on that side are read
+  pub read_here : (node : Node) (source : Source) (old new : Bool) → node_at graph k ≡ node → beq has members ≡ true →
+      old ≡ is_read_below k graph cut members source → new ≡ (old || list_any (is_source source) node.sources) →
+      new ≡ is_read_below (k + 1) graph cut members source
+  read_here node source old new here same so_far more = rw (read_more source, same, here, ← so_far) more
+
+  -- and those of another node are not
+  pub not_read_here : (source : Source) (old : Bool) → beq has members ≡ false →
+      old ≡ is_read_below k graph cut members source → old ≡ is_read_below (k + 1) graph cut members source
+  not_read_here source old other so_far = rw (read_more source, other, ← so_far) (sym (or-false old))
+
+-- whether a node is an input or an output, by what is read
+pub is_input-made : (graph : FlowGraph) (cut : ℕ → Bool) (k : ℕ) (read : Bool) → read ≡ is_read_below (length graph.nodes) graph cut true (Made k) →
+    is_input graph cut (Made k) ≡ (not (cut k) && read)
+is_input-made graph cut k read read_is = ap (λ r. not (cut k) && r) (sym read_is)
+
+pub is_output-at : (graph : FlowGraph) (cut : ℕ → Bool) (k : ℕ) (node : Node) (read wanted : Bool) → node_at graph k ≡ node →
+    read ≡ is_read_below (length graph.nodes) graph cut false (Made k) → wanted ≡ (node.live || read) →
+    is_output graph cut k ≡ (cut k && wanted)
+is_output-at graph cut k node read wanted here read_is wanted_is = rw (here, ← read_is, ← wanted_is)

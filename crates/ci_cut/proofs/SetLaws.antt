@@ -1,0 +1,23 @@
+-- Sets of numbers after a change.
+use Rattle.std.proofs.Common.{◌≡◌, ℕ, ◌<◌, ◌⊎◌, inl, inr, IsTrue, arith}
+use Rattle.std.proofs.lemmas.Bool.Decides.{nat_tests}
+use Rattle.std.specs.Ordering.{nat_cmp}
+use Rattle.std.specs.FinSet as set
+use Rattle.ci_word.proofs.NumberLaws.{contains-insert_nat}
+
+-- what a set with one number more contains
+pub contains_new : (s : set.FinSet nat_cmp) (n : ℕ) → IsTrue (set.contains (set.insert s n) n)
+contains_new s n = let more = contains-insert_nat s n n in grind (arith, nat_tests)
+
+pub contains_kept : (s : set.FinSet nat_cmp) (n k : ℕ) → IsTrue (set.contains s k) → IsTrue (set.contains (set.insert s n) k)
+contains_kept s n k old = let more = contains-insert_nat s n k in grind (arith, nat_tests)
+
+pub from_more : (s : set.FinSet nat_cmp) (n k : ℕ) → IsTrue (set.contains (set.insert s n) k) → (k ≡ n) ⊎ IsTrue (set.contains s k)
+from_more s n k new = let more = contains-insert_nat s n k in grind (arith, nat_tests)
+
+-- all numbers of a set are below n
+pub below_empty : (n j : ℕ) → IsTrue (set.contains {R = nat_cmp} set.empty j) → j < n
+below_empty n j h = let none = set.contains-empty nat_cmp j in cc
+
+pub below_insert : (s : set.FinSet nat_cmp) (k n : ℕ) → ((j : ℕ) → IsTrue (set.contains s j) → j < n) → k < n → (j : ℕ) → IsTrue (set.contains (set.insert s k) j) → j < n
+below_insert s k n old new j h = elim (from_more s k j h) [ inl same ↦ omega arith | inr before ↦ old j before ]

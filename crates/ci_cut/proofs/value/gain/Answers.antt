@@ -1,0 +1,44 @@
+use Rattle.std.proofs.Common.{◌≤◌, length, slice_index_or, ap, ◌∙◌, arith}
+use Rattle.std.specs.FinSet as set
+use Rattle.ci_word.proofs.NumberLaws.{count_below-le, len-count_below}
+use Rattle.ci_word.specs.Numbers.{sum_below}
+use Rattle.ci_cut.specs.FlowGraph.{no_node}
+use Rattle.ci_cut.proofs.Gains.{further_words-le, gain_from_parts}
+use Rattle.ci_cut.proofs.GainArithmetic.{reads_fit, pads_fit, less_reads_fits, gain_is, less_pads_fits}
+use Rattle.ci_cut.proofs.value.gain.Goals as goal
+use Rattle.ci_cut.proofs.value.gain.Goals.{After-read, After-pad}
+
+-- the further words and the members are few
+further_few : (c : After-read) → c.further_words-further.result ≤ 256
+further_few c = omega (arith, c.further_words-further.ensures, further_words-le c.args.graph.now (set.contains c.args.cut.now) c.nodes.ensures.kept)
+
+count_few : (c : After-read) → c.count.result ≤ 256
+count_few c = omega (arith, c.count.ensures.counted, count_below-le 256 (set.contains c.args.cut.now))
+
+pub overflow_mul-result : goal.overflow_mul-result
+overflow_mul-result c = reads_fit c.further_words-further.result c.read.result (further_few c) (omega arith)
+
+pub overflow_sub-result : goal.overflow_sub-result
+overflow_sub-result c =
+    less_reads_fits c.software.result c.hardware.result c.further_words-further.result c.read.result c.software.ensures.most (omega arith) (further_few c) (omega arith)
+
+pub overflow_mul-result-2 : goal.overflow_mul-result-2
+overflow_mul-result-2 c =
+    let start = (goal.at.overflow_mul-result-2 c).After-read in
+    pads_fit c.count.result c.further_words-further.result c.pad.result (count_few start) (further_few start) (omega arith)
+
+pub overflow_sub-result-2 : goal.overflow_sub-result-2
+overflow_sub-result-2 c =
+    let start = (goal.at.overflow_sub-result-2 c).After-read in
+    less_pads_fits c.software.result c.hardware.result c.further_words-further.result c.read.result c.software.ensures.most (omega arith) (further_few start) (omega arith) c.count.result c.pad.result (count_few start) (omega arith)
+
+pub returns : goal.returns
+returns c =
+    let start = (goal.at.returns c).After-read in
+    let graph = c.args.graph.now in
+    let cut = set.contains c.args.cut.now in
+    let computed = gain_is c.software.result c.hardware.result c.further_words-further.result c.read.result c.software.ensures.most (omega arith) (further_few start) (omega arith) c.count.result c.pad.result (count_few start) (omega arith) in
+    let counted = c.count.ensures.value ∙ len-count_below (length graph.nodes) c.args.cut.now c.requires in
+    let latencies = c.software.ensures.value ∙ ap (λ nodes. sum_below (length nodes) cut (λ k. (slice_index_or nodes k no_node).latency)) c.nodes.ensures.value in
+    computed
+    ∙ gain_from_parts graph cut c.software.result c.hardware.result c.further_words-further.result c.read.result c.count.result c.pad.result latencies c.hardware.ensures c.further_words-further.ensures c.read.ensures counted c.pad.ensures

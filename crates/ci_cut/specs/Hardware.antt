@@ -1,0 +1,32 @@
+-- The hardware time of a set of nodes: that of its slowest chain, in whole cycles.
+use Rattle.std.specs.Prelude.{ℕ, zero, suc, ◌+◌, ◌/◌, max, Bool, true, ◌&&◌, List, [], ◌∷◌, ◌++◌, length, map, filter, sum_by}
+use Rattle.ci_cut.specs.declared.graph.Source.TheVariants.{Made}
+use Rattle.ci_cut.specs.FlowGraph.{FlowGraph, node_at, reads}
+
+-- all lists of numbers below n in which the numbers fall
+unfoldable pub falling_lists : ℕ → List (List ℕ)
+falling_lists zero = [] ∷ []
+falling_lists (suc n) = falling_lists n ++ map (λ numbers. n ∷ numbers) (falling_lists n)
+
+-- members of the set, each of which reads the value of the next
+abbrev pub is_chain : FlowGraph → (ℕ → Bool) → List ℕ → Bool
+is_chain graph cut [] = true
+is_chain graph cut (a ∷ []) = cut a
+is_chain graph cut (a ∷ b ∷ chain) = (cut a && reads graph a (Made b)) && is_chain graph cut (b ∷ chain)
+
+-- the sum of the delays of nodes, in thousandths of a cycle
+abbrev pub delay_along : FlowGraph → List ℕ → ℕ
+delay_along graph nodes = sum_by (λ k. (node_at graph k).delay) nodes
+
+abbrev pub greatest : List ℕ → ℕ
+greatest [] = 0
+greatest (x ∷ xs) = max x (greatest xs)
+
+-- The greatest sum of delays along a chain. A node reads only earlier nodes, so in each chain the numbers fall.
+abbrev pub greatest_delay : FlowGraph → (ℕ → Bool) → ℕ
+greatest_delay graph cut =
+    greatest (map (delay_along graph) (filter (is_chain graph cut) (falling_lists (length graph.nodes))))
+
+-- in cycles, rounded up, and at least one
+abbrev pub hardware : FlowGraph → (ℕ → Bool) → ℕ
+hardware graph cut = max 1 ((greatest_delay graph cut + 999) / 1000)

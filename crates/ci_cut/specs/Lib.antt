@@ -1,0 +1,10 @@
+pub mod FlowGraph
+pub mod Walks
+pub mod Ports
+pub mod Hardware
+pub mod Gain
+pub mod Best
+pub mod SourceSets
+pub mod ChainDelays
+pub mod PortLimits
+pub mod Tried

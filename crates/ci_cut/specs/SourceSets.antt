@@ -1,0 +1,22 @@
+-- Sets of sources, and the nodes on either side of a set of nodes.
+use Rattle.std.specs.Prelude.{ℕ, Bool, true, false, not, ◌&&◌}
+use Rattle.std.specs.FinSet as set
+use Rattle.ci_cut.specs.declared.graph.Source.{Source}
+use Rattle.ci_cut.specs.declared.graph.Source.TheVariants.{Entry, Made}
+use Rattle.ci_word.specs.Numbers.{some_below}
+use Rattle.ci_cut.specs.FlowGraph.{FlowGraph, reads}
+use Rattle.ci_cut.specs.declared.ports.SourceSet.{SourceSet}
+
+-- the source is in the set
+abbrev pub holds : SourceSet → Source → Bool
+holds sources (Entry r) = set.contains sources.registers r
+holds sources (Made k) = set.contains sources.nodes k
+
+-- node k is a member, if members are meant, or else none
+abbrev pub is_reader : (ℕ → Bool) → Bool → ℕ → Bool
+is_reader cut true k = cut k
+is_reader cut false k = not (cut k)
+
+-- some node below n reads the source, a member if members are meant, or else none
+abbrev pub is_read_below : ℕ → FlowGraph → (ℕ → Bool) → Bool → Source → Bool
+is_read_below n graph cut members source = some_below n (λ k. is_reader cut members k && reads graph k source)

@@ -1,0 +1,18 @@
+//! Graphs of basic blocks, convex cuts of them, and the best cut.
+#![tactic(auto)]
+
+pub use choice::best_of_all;
+pub use convexity::is_convex;
+pub use graph::{Graph, Limits, Node, Source, Sources};
+pub use ports::{inputs, outputs};
+pub use timing::{hardware, hardware_is_the_slowest_chain};
+pub use value::{fits, gain};
+
+mod choice;
+mod convexity;
+mod graph;
+mod ports;
+#[cfg(test)]
+mod tests;
+mod timing;
+mod value;

@@ -1,0 +1,96 @@
+//! The inputs and outputs of a set of nodes.
+ghost use Rattle.std.specs.Prelude.{◌≡◌, ◌||◌, false, length};
+ghost use Rattle.std.specs.FinSet as set;
+ghost use Rattle.std.specs.List.{list_any};
+ghost use Rattle.ci_cut.specs.declared.graph.Source.{Source};
+ghost use Rattle.ci_cut.specs.Ports as terms;
+ghost use Rattle.ci_cut.specs.FlowGraph.{AreNodes, is_source};
+ghost use Rattle.ci_cut.specs.SourceSets.{holds, is_read_below};
+
+use crate::graph::{Graph, Source};
+use ci_word::Row;
+
+/// A set of sources.
+#[derive(Drop)]
+struct SourceSet {
+    /// Registers at entry.
+    registers: Row,
+    /// Nodes.
+    nodes: Row,
+}
+
+impl SourceSet {
+    /// The set without a source.
+    fn empty() -> SourceSet
+        ensures { (source : Source) → holds result source ≡ false }
+    {
+        SourceSet {
+            registers: Row::empty(),
+            nodes: Row::empty(),
+        }
+    }
+
+    /// Puts a source in.
+    fn insert(&mut self, source: Source)
+        ensures { (other : Source) → holds self.new other ≡ (is_source other source || holds self.old other) }
+    {
+        match source {
+            Source::Entry(register) => self.registers.insert(register),
+            Source::Made(node) => self.nodes.insert(node),
+        }
+    }
+
+    /// Puts sources in.
+    fn extend(&mut self, sources: &[Source])
+        ensures { (other : Source) → holds self.new other ≡ (holds self.old other || list_any (is_source other) sources.now) }
+    {
+        for source in sources {
+            self.insert(*source);
+        }
+    }
+}
+
+/// The sources that the members of a set read, or those that the other nodes read.
+fn read_by(graph: &Graph, cut: &Row, members: bool) -> SourceSet
+    ensures { let nodes = length graph.now.nodes in (source : Source) →
+        holds result source ≡ is_read_below nodes graph.now (set.contains cut.now) members source }
+{
+    let mut read = SourceSet::empty();
+    for (k, node) in graph.nodes().iter().enumerate() {
+        if cut.has(k as u8) == members {
+            read.extend(node.sources.as_slice());
+        }
+    }
+    read
+}
+
+/// How many distinct sources outside the set its members read: nodes, and registers at entry.
+pub fn inputs(graph: &Graph, cut: &Row) -> u32
+    requires { AreNodes graph.now cut.now }
+    ensures { result ≡ terms.inputs graph.now (set.contains cut.now) }
+{
+    let read = read_by(graph, cut, true);
+    let mut nodes = 0;
+    for k in 0..graph.nodes().len() {
+        if read.nodes.has(k as u8) && !cut.has(k as u8) {
+            nodes += 1;
+        }
+    }
+    read.registers.count() + nodes
+}
+
+/// How many members have a value that a node outside reads or that is live after the block.
+pub fn outputs(graph: &Graph, cut: &Row) -> u32
+    requires { AreNodes graph.now cut.now }
+    ensures { result ≡ terms.outputs graph.now (set.contains cut.now) }
+{
+    let read = read_by(graph, cut, false);
+    let mut count = 0;
+    for (k, node) in graph.nodes().iter().enumerate() {
+        let wanted = node.live || read.nodes.has(k as u8);
+        if wanted && cut.has(k as u8) {
+            count += 1;
+        }
+    }
+    count
+}
