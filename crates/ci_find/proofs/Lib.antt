@@ -1,0 +1,11 @@
+mod Dues
+mod Endings
+mod Fields
+mod Graphs
+mod HexDigits
+mod Members
+mod Nodes
+mod Readings
+mod Runs
+mod Shelves
+mod Spelling

@@ -1,0 +1,52 @@
+-- The lines that the program prints.
+use Rattle.std.specs.Prelude.{◌≡◌, ℕ, ◌+◌, ◌/◌, ◌%◌, ◌^◌, ◌⊎◌, Bool, nat_lt, if◌then◌else◌, List, [], ◌∷◌, ◌++◌, length, map, codes}
+use Rattle.std.specs.List.{flat_map}
+use Rattle.std.specs.Fmt.{decimal, signed_decimal}
+use Rattle.ci_word.specs.Numbers.{numbers_below}
+use Rattle.ci_cut.specs.declared.graph.Limits.{Limits}
+use Rattle.ci_cut.specs.FlowGraph.{FlowGraph}
+use Rattle.ci_cut.specs.Gain.{gain}
+use Rattle.ci_cut.specs.Best.{IsBest, HasNoCut}
+
+-- the text, ended by a newline
+abbrev pub line : List ℕ → List ℕ
+line text = text ++ 10 ∷ []
+
+-- a lower-case hex digit
+abbrev pub hex_digit : ℕ → ℕ
+hex_digit d = if nat_lt d 10 then 48 + d else 87 + d
+
+-- eight hex digits
+abbrev pub hex : ℕ → List ℕ
+hex n = map (λ place. hex_digit (n / 16 ^ place % 16)) (7 ∷ 6 ∷ 5 ∷ 4 ∷ 3 ∷ 2 ∷ 1 ∷ 0 ∷ [])
+
+abbrev pub usage_line : List ℕ
+usage_line = line (codes "fault 1 usage")
+
+abbrev pub read_line : List ℕ → List ℕ
+read_line name = line (codes "fault 2 read " ++ name)
+
+-- standard output is written as a hyphen
+abbrev pub write_line : List ℕ
+write_line = line (codes "fault 3 write -")
+
+abbrev pub too_large_line : List ℕ → List ℕ
+too_large_line name = line (codes "fault 4 too large " ++ name)
+
+abbrev pub unsupported_line : ℕ → ℕ → List ℕ
+unsupported_line position word = line (codes "fault 7 unsupported " ++ hex position ++ codes " " ++ hex word)
+
+abbrev pub no_memory_line : List ℕ
+no_memory_line = line (codes "fault 12 no memory")
+
+-- the members in rising order, and the gain
+abbrev pub cut_line : FlowGraph → (ℕ → Bool) → List ℕ
+cut_line graph cut =
+    line (codes "cut" ++ flat_map (λ k. codes " " ++ decimal k) (numbers_below (length graph.nodes) cut)
+    ++ codes " gain " ++ signed_decimal (gain graph cut))
+
+-- the line of the best cut, or that there is none
+abbrev pub IsBestLine : FlowGraph → Limits → List ℕ → Type 0
+IsBestLine graph limits text =
+    (HasNoCut graph limits × (text ≡ line (codes "no cut")))
+    ⊎ ((cut : ℕ → Bool) × IsBest graph limits cut × (text ≡ cut_line graph cut))

@@ -1,0 +1,130 @@
+//! Why a call of the program is refused, and the fault lines that say it.
+ghost use Rattle.std.specs.Prelude.{◌≡◌, ℕ, ◌≤◌, [], IfOk, OnErr};
+ghost use Rattle.std.specs.String.{string_bytes};
+ghost use Rattle.ci_find.specs.Answers.{TakesFault};
+ghost use Rattle.ci_find.specs.Lines.{hex, read_line, write_line, too_large_line, unsupported_line, no_memory_line};
+ghost use Rattle.ci_find.specs.Refusals.{IsRefused};
+
+use ci_io::Sink;
+use std::alloc::{AllocError, Global};
+
+/// The status where the words have no reading.
+pub const USAGE: u8 = 1;
+
+/// The status where the file isn't there, or reading it failed.
+pub const READ_FAULT: u8 = 2;
+
+/// The status where the sink failed to take the line.
+pub const WRITE_FAULT: u8 = 3;
+
+/// The status where the file is longer than its limit.
+pub const TOO_LARGE: u8 = 4;
+
+/// The status where the file holds no block.
+pub const UNSUPPORTED: u8 = 7;
+
+/// The status where memory ran out.
+pub const NO_MEMORY: u8 = 12;
+
+/// Why there is no line of success.
+#[derive(Drop)]
+pub enum Refusal<'a> {
+    /// The words have no reading.
+    Usage,
+    /// The file of this name isn't there, or reading it failed.
+    Read(&'a str),
+    /// The file of this name is longer than its limit.
+    TooLarge(&'a str),
+    /// The file holds no block, for the word at this offset, or for its length and 0.
+    Unsupported { position: u32, word: u32 },
+    /// Memory ran out.
+    NoMemory,
+}
+
+/// Puts the fault line of a refusal, and answers its status. Where memory for the line runs out, that is the refusal.
+pub fn refuse<O: Sink>(alloc: Global, refusal: &Refusal<'_>, out: &mut O) -> u8
+    ensures { IsRefused refusal.now result (O.taken out.old) (O.taken out.new) (O.faults out.old) (O.faults out.new) }
+{
+    match refusal {
+        Refusal::Usage => put_fault(USAGE, "fault 1 usage\n", out),
+        Refusal::Read(name) => put_text(READ_FAULT, read_text(alloc, name), out),
+        Refusal::TooLarge(name) => put_text(TOO_LARGE, too_large_text(alloc, name), out),
+        Refusal::Unsupported { position, word } => put_text(
+            UNSUPPORTED,
+            unsupported_text(alloc, *position, *word),
+            out,
+        ),
+        Refusal::NoMemory => refuse_memory(out),
+    }
+}
+
+/// Puts the fault line of a line of success that the sink failed to take, and answers its status.
+pub fn refuse_write<O: Sink>(out: &mut O) -> u8
+    ensures status { result ≡ 3 }
+    ensures taken { TakesFault (O.taken out.old) (O.taken out.new) (O.faults out.old) (O.faults out.new) [] write_line }
+    ensures never_falls { O.faults out.old ≤ O.faults out.new }
+{
+    put_fault(WRITE_FAULT, "fault 3 write -\n", out)
+}
+
+/// Puts the fault line of want of memory, and answers its status.
+pub fn refuse_memory<O: Sink>(out: &mut O) -> u8
+    ensures status { result ≡ 12 }
+    ensures taken { TakesFault (O.taken out.old) (O.taken out.new) (O.faults out.old) (O.faults out.new) [] no_memory_line }
+    ensures never_falls { O.faults out.old ≤ O.faults out.new }
+{
+    put_fault(NO_MEMORY, "fault 12 no memory\n", out)
+}
+
+/// Puts a fault line, if memory was there for its text, and answers its status; else that of want of memory.
+fn put_text<O: Sink>(status: u8, text: Result<String, AllocError>, out: &mut O) -> u8
+    ensures ok { IfOk text (λ text. (result ≡ status)
+        × TakesFault (O.taken out.old) (O.taken out.new) (O.faults out.old) (O.faults out.new) [] (string_bytes text)) }
+    ensures err { OnErr text ((result ≡ 12)
+        × TakesFault (O.taken out.old) (O.taken out.new) (O.faults out.old) (O.faults out.new) [] no_memory_line) }
+{
+    match text {
+        Ok(text) => put_fault(status, text.as_str(), out),
+        Err(AllocError) => refuse_memory(out),
+    }
+}
+
+/// Puts a fault line, and answers its status, also where the sink fails to take the line.
+fn put_fault<O: Sink>(status: u8, line: &str, out: &mut O) -> u8
+    ensures status { result ≡ status }
+    ensures taken { TakesFault (O.taken out.old) (O.taken out.new) (O.faults out.old) (O.faults out.new) [] line.now }
+    ensures never_falls { O.faults out.old ≤ O.faults out.new }
+{
+    let _ = out.put(line.as_bytes());
+    status
+}
+
+/// The fault line of a file that isn't there, or that could not be read.
+fn read_text(alloc: Global, name: &str) -> Result<String, AllocError>
+    ensures { IfOk result (λ text. string_bytes text ≡ read_line name.now) }
+{
+    format!(in alloc; "fault 2 read {name}\n")
+}
+
+/// The fault line of a file that is longer than its limit.
+fn too_large_text(alloc: Global, name: &str) -> Result<String, AllocError>
+    ensures { IfOk result (λ text. string_bytes text ≡ too_large_line name.now) }
+{
+    format!(in alloc; "fault 4 too large {name}\n")
+}
+
+/// The fault line of a file that holds no block.
+fn unsupported_text(alloc: Global, position: u32, word: u32) -> Result<String, AllocError>
+    ensures { IfOk result (λ text. string_bytes text ≡ unsupported_line position word) }
+{
+    let position = hex_text(alloc, position)?;
+    let word = hex_text(alloc, word)?;
+    format!(in alloc; "fault 7 unsupported {position} {word}\n")
+}
+
+/// Eight hex digits.
+fn hex_text(alloc: Global, number: u32) -> Result<String, AllocError>
+    ensures { IfOk result (λ text. string_bytes text ≡ hex number) }
+{
+    format!(in alloc; "{number:08x}")
+}

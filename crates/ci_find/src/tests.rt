@@ -1,0 +1,149 @@
+//! Worked calls, over one file `F` and a sink in memory.
+use crate::run;
+use ci_io::{SureShelf, SureSink};
+use std::alloc::{AllocError, Global};
+use std::collections::BTreeMap;
+use std::process::Abort;
+use std::test::Fail;
+
+/// The words after the program's name, by blanks: `''` is the empty word.
+fn words(alloc: Global, text: &str) -> Result<Vec<String>, AllocError> {
+    let mut words = Vec::new(alloc);
+    for word in text.split(' ') {
+        if word == "''" {
+            words.push(String::new(alloc))?;
+        } else if !word.is_empty() {
+            words.push(String::from_str(alloc, word)?)?;
+        }
+    }
+    Ok(words)
+}
+
+/// A shelf that holds the file `F` of these bytes, or no file.
+fn shelf(alloc: Global, file: Option<&[u8]>) -> Result<SureShelf, AllocError> {
+    let mut files = BTreeMap::new(alloc);
+    if let Some(bytes) = file {
+        files.insert(
+            String::from_str(alloc, "F")?,
+            Vec::from_slice(alloc, bytes)?,
+        )?;
+    }
+    Ok(SureShelf::new(files))
+}
+
+/// Calls the program, and asserts its status and the bytes that it put.
+fn expect(
+    rt: &(impl Abort + AllocGlobal),
+    file: Option<&[u8]>,
+    text: &str,
+    status: u8,
+    line: &str,
+) -> Result<(), AllocError> {
+    let alloc = rt.alloc();
+    let words = words(alloc, text)?;
+    let mut shelf = shelf(alloc, file)?;
+    let mut out = SureSink::new(alloc);
+    let answer = run(alloc, &words, &mut shelf, &mut out);
+    assert_eq!(rt; answer, status, "the status of {text}");
+    assert_eq!(rt; out.taken(), line.as_bytes(), "the line of {text}");
+    Ok(())
+}
+
+/// The bytes of words, the lowest byte of each first.
+fn bytes_of(alloc: Global, words: &[u32]) -> Result<Vec<u8>, AllocError> {
+    let mut bytes = Vec::new(alloc);
+    for word in words {
+        bytes.extend_from_slice(&word.to_le_bytes())?;
+    }
+    Ok(bytes)
+}
+
+/// Two sums, of which the second writes the register of the first.
+const SUMS: [u32; 2] = [0x00B502B3, 0x00C282B3];
+
+/// A sum of a constant, and one of its result.
+const CONSTANT: [u32; 2] = [0x00150293, 0x00B28333];
+
+/// Four operations of logic with two results.
+const LOGIC: [u32; 4] = [0x00B542B3, 0x00C2C333, 0x00A34333, 0x00B34333];
+
+/// Two pairs of sums.
+const PAIRS: [u32; 4] = [0x00B502B3, 0x00C282B3, 0x00E68333, 0x00F30333];
+
+/// Half a word.
+const UNEVEN: [u8; 2] = [0x13, 0x05];
+
+/// A sum, and the word that only fills a place.
+const NO_RESULT: [u8; 8] = [0xB3, 0x02, 0xB5, 0x00, 0x13, 0x00, 0x00, 0x00];
+
+/// A sum, thirteen times.
+const THIRTEEN: [u32; 13] = [0x00B502B3; 13];
+
+#[test]
+fn blocks(rt: HostRuntime) -> Result<(), Fail> {
+    let rows: [(&[u32], &str, &str); 7] = [
+        (&SUMS, "best F --in 3 --out 1", "cut 0 1 gain 1\n"),
+        (&SUMS, "best F --in 2 --out 1", "no cut\n"),
+        (&[], "best F", "no cut\n"),
+        (&CONSTANT, "best F --in 2 --out 1", "no cut\n"),
+        (&CONSTANT, "best F --in 2 --out 2", "no cut\n"),
+        (&LOGIC, "best F --in 3 --out 2", "cut 0 1 2 3 gain 2\n"),
+        (&PAIRS, "best F --in 3 --out 1", "cut 2 3 gain 1\n"),
+    ];
+    for (block, text, line) in rows {
+        let bytes = bytes_of(rt.alloc(), block)?;
+        expect(&rt, Some(bytes.as_slice()), text, 0, line)?;
+    }
+    // A number may begin with zeros.
+    let bytes = bytes_of(rt.alloc(), &SUMS)?;
+    expect(
+        &rt,
+        Some(bytes.as_slice()),
+        "best F --in 03",
+        0,
+        "cut 0 1 gain 1\n",
+    )?;
+    Ok(())
+}
+
+#[test]
+fn words_with_no_reading(rt: HostRuntime) -> Result<(), Fail> {
+    let rows = [
+        "",
+        "best",
+        "best F --in 4",
+        "best F --in 2 --in 2",
+        "best F --out 1 --in 3",
+        "best -F",
+        "best F --in ''",
+    ];
+    let bytes = bytes_of(rt.alloc(), &SUMS)?;
+    for text in rows {
+        expect(&rt, Some(bytes.as_slice()), text, 1, "fault 1 usage\n")?;
+    }
+    Ok(())
+}
+
+#[test]
+fn files_not_read(rt: HostRuntime) -> Result<(), Fail> {
+    expect(&rt, None, "best F", 2, "fault 2 read F\n")?;
+    let long = vec![in rt.alloc(); 0u8; 1025]?;
+    let line = "fault 4 too large F\n";
+    expect(&rt, Some(long.as_slice()), "best F", 4, line)?;
+    Ok(())
+}
+
+#[test]
+fn files_with_no_block(rt: HostRuntime) -> Result<(), Fail> {
+    let rows: [(&[u8], &str); 2] = [
+        (&UNEVEN, "fault 7 unsupported 00000002 00000000\n"),
+        (&NO_RESULT, "fault 7 unsupported 00000004 00000013\n"),
+    ];
+    for (bytes, line) in rows {
+        expect(&rt, Some(bytes), "best F", 7, line)?;
+    }
+    let bytes = bytes_of(rt.alloc(), &THIRTEEN)?;
+    let line = "fault 7 unsupported 00000030 00b502b3\n";
+    expect(&rt, Some(bytes.as_slice()), "best F", 7, line)?;
+    Ok(())
+}
