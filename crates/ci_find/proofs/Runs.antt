@@ -1,9 +1,9 @@
 -- How a call of the program ends.
-use Rattle.std.proofs.Common.{◌≡◌, ℕ, ◌<◌, inl, inr, List, [], Option, Some, None, IfSome, refl, sym, ap, subst, arith}
+use Rattle.std.proofs.Common.{◌≡◌, ℕ, ◌<◌, inl, inr, List, [], ◌∷◌, Contains, lit<, Option, Some, None, IfSome, refl, sym, ap, subst, arith}
 use Rattle.ci_io.specs.Outcomes.{Files}
 use Rattle.ci_find.specs.declared.fault.Refusal.{Refusal}
 use Rattle.ci_find.specs.declared.fault.Refusal.TheVariants.{Usage, Read, TooLarge, Unsupported, NoMemory}
-use Rattle.ci_find.specs.Answers.{IsDue, Change, EndsWithFault, Ends, done, refused, read_fault, write_fault, no_memory, MayHold, Answers}
+use Rattle.ci_find.specs.Answers.{IsDue, usage, absent, too_large, unsupported, best, Change, EndsWithFault, Ends, done, refused, read_fault, write_fault, no_memory, MayHold, Answers}
 use Rattle.ci_find.specs.Refusals.{status_of, line_of, Explains, IsRefused, IsPut}
 use Rattle.ci_find.proofs.Dues.{IsDue-same}
 
@@ -54,3 +54,24 @@ Answers-due None words change status ends = tt
 Answers-due (Some files) words change status ends = λ due text is.
     let over = subst (λ (held : Files). IsDue held words due text) ends.1 is in
     Answers-end ends.0 words change status due text ends.2 over
+
+-- ---- the statuses
+
+abbrev statuses : List ℕ
+statuses = 0 ∷ 1 ∷ 2 ∷ 3 ∷ 4 ∷ 7 ∷ 12 ∷ []
+
+-- a status that is due is one of them
+IsDue-status : (held : Files) (words : List (List ℕ)) (status : ℕ) (text : List ℕ) → IsDue held words status text → Contains statuses status
+IsDue-status held words status text (usage none) = (1, lit< tt, refl)
+IsDue-status held words status text (absent reads none) = (2, lit< tt, refl)
+IsDue-status held words status text (too_large reads file longer) = (4, lit< tt, refl)
+IsDue-status held words status text (unsupported reads file few wrong) = (5, lit< tt, refl)
+IsDue-status held words status text (best reads file few block inputs outputs line) = (0, lit< tt, refl)
+
+-- a call ends with one of them
+pub Ends-status : (held : Files) (words : List (List ℕ)) (change : Change) (status : ℕ) → Ends held words change status → Contains statuses status
+Ends-status held words change status (done due took) = (0, lit< tt, refl)
+Ends-status held words change status (refused due positive line) = IsDue-status held words status _ due
+Ends-status held words change status (read_fault reads rose line) = (2, lit< tt, refl)
+Ends-status held words change status (write_fault due rose n line) = (3, lit< tt, refl)
+Ends-status held words change status (no_memory line) = (6, lit< tt, refl)

@@ -1,7 +1,7 @@
 //! The commands of the program.
 #![tactic(auto)]
 
-ghost use Rattle.std.specs.Prelude.{◌≡◌, ℕ, List, None, IfSome, map};
+ghost use Rattle.std.specs.Prelude.{◌≡◌, ℕ, List, [], ◌∷◌, None, IfSome, Contains, map};
 ghost use Rattle.std.specs.String.{string_bytes};
 ghost use Rattle.ci_io.specs.Outcomes.{Files, Rises};
 ghost use Rattle.ci_find.specs.Answers.{IsDue, Ends, MayHold, Answers};
@@ -58,6 +58,8 @@ pub fn run<F: Shelf, O: Sink>(alloc: Global, words: &Vec<String>, shelf: &mut F,
           taken_before = O.taken out.old;
           taken_after = O.taken out.new;
         }) status) }
+    // No other status comes.
+    ensures statuses { Contains (0 ∷ 1 ∷ 2 ∷ 3 ∷ 4 ∷ 7 ∷ 12 ∷ []) result }
     ensures files_stay { F.files shelf.new ≡ F.files shelf.old }
     ensures no_write { F.write_faults shelf.new ≡ F.write_faults shelf.old }
 {

@@ -3,9 +3,8 @@
 
 use ci_find::run;
 use ci_io::{FileShelf, StdSink};
-use std::env;
-use std::io;
 use std::process::ExitCode;
+use std::{env, io};
 
 /// The status where the system doesn't give the words.
 const NO_WORDS: u8 = 16;

@@ -2,7 +2,7 @@
 use Rattle.std.proofs.Common.{map}
 use Rattle.std.specs.String.{string_bytes}
 use Rattle.ci_find.specs.Answers.{IsDue}
-use Rattle.ci_find.proofs.Runs.{Ends-put, Ends-refused, Answers-due}
+use Rattle.ci_find.proofs.Runs.{Ends-put, Ends-refused, Ends-status, Answers-due}
 use Rattle.ci_find.proofs.run.Goals as goal
 
 pub returns-in-Ok-clause-ends : goal.returns-in-Ok-clause-ends
@@ -23,3 +23,9 @@ returns-in-Err-clause-ends g c =
 
 pub returns-in-Err-clause-due : goal.returns-in-Err-clause-due
 returns-in-Err-clause-due g c = Answers-due _ _ _ _ (returns-in-Err-clause-ends g c)
+
+pub returns-in-Ok-clause-statuses : goal.returns-in-Ok-clause-statuses
+returns-in-Ok-clause-statuses g c = let ends = returns-in-Ok-clause-ends g c in Ends-status ends.0 _ _ _ ends.2
+
+pub returns-in-Err-clause-statuses : goal.returns-in-Err-clause-statuses
+returns-in-Err-clause-statuses g c = let ends = returns-in-Err-clause-ends g c in Ends-status ends.0 _ _ _ ends.2
