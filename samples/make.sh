@@ -1,0 +1,10 @@
+#!/usr/bin/env bash
+# Makes sha256_round.bin anew from sha256_round.c: the words of its one basic block, without the return at its end.
+# It needs Debian's package gcc-riscv64-unknown-elf; the file that it made is kept beside it.
+set -eu
+cd "$(dirname "$0")"
+object=$(mktemp)
+trap 'rm -f "$object" "$object.bin"' EXIT
+riscv64-unknown-elf-gcc -march=rv32im -mabi=ilp32 -O2 -c sha256_round.c -o "$object"
+riscv64-unknown-elf-objcopy -O binary --only-section=.text "$object" "$object.bin"
+head -c -4 "$object.bin" > sha256_round.bin
