@@ -1,0 +1,6 @@
+pub mod Bits
+pub mod Constants
+pub mod Found
+pub mod Only
+pub mod Registers
+pub mod WellFormed

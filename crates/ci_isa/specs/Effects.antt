@@ -1,0 +1,158 @@
+-- What an instruction reads and writes, and what kind it is (RISC-V Unprivileged ISA 20191213, chapters 2 and 7).
+use Rattle.std.specs.Prelude.{ℕ, Bool, true, false, not, ◌&&◌, ◌==◌, if◌then◌else◌, List, [], ◌∷◌, ℤ, pos, negsuc}
+use Rattle.std.specs.Ordering.{nat_cmp}
+use Rattle.std.specs.FinSet as set
+use Rattle.ci_word.specs.declared.arithmetic.Op.{Op}
+use Rattle.ci_word.specs.declared.arithmetic.Op.TheVariants as ops
+use Rattle.ci_word.specs.declared.arithmetic.Class.{Class}
+use Rattle.ci_word.specs.declared.arithmetic.Class.TheVariants as class
+use Rattle.ci_isa.specs.declared.instruction.Insn.{Insn}
+use Rattle.ci_isa.specs.declared.instruction.Insn.TheVariants.{Alu, AluImm, Lui, Auipc, Jal, Jalr, Branch, Load, Store, Fence, Ecall, Ebreak, Unit, Cread, Illegal}
+
+-- ---- registers
+
+-- The registers that the instruction takes its operands from. An environment call takes its arguments in x10 to x12, and its
+-- number in x17.
+abbrev pub operands : Insn → List ℕ
+operands (Alu op rd rs1 rs2) = rs1 ∷ rs2 ∷ []
+operands (AluImm op rd rs1 imm) = rs1 ∷ []
+operands (Lui rd upper) = []
+operands (Auipc rd upper) = []
+operands (Jal rd offset) = []
+operands (Jalr rd rs1 offset) = rs1 ∷ []
+operands (Branch cond rs1 rs2 offset) = rs1 ∷ rs2 ∷ []
+operands (Load kind rd rs1 offset) = rs1 ∷ []
+operands (Store width rs1 rs2 offset) = rs1 ∷ rs2 ∷ []
+operands (Fence bits rs1 rd) = []
+operands Ecall = 10 ∷ 11 ∷ 12 ∷ 17 ∷ []
+operands Ebreak = []
+operands (Unit number rd rs1 rs2 rs3) = rs1 ∷ rs2 ∷ rs3 ∷ []
+operands (Cread rd) = []
+operands (Illegal word) = []
+
+-- The register that takes the instruction's result. An environment call answers in x10.
+abbrev pub results : Insn → List ℕ
+results (Alu op rd rs1 rs2) = rd ∷ []
+results (AluImm op rd rs1 imm) = rd ∷ []
+results (Lui rd upper) = rd ∷ []
+results (Auipc rd upper) = rd ∷ []
+results (Jal rd offset) = rd ∷ []
+results (Jalr rd rs1 offset) = rd ∷ []
+results (Branch cond rs1 rs2 offset) = []
+results (Load kind rd rs1 offset) = rd ∷ []
+results (Store width rs1 rs2 offset) = []
+results (Fence bits rs1 rd) = []
+results Ecall = 10 ∷ []
+results Ebreak = []
+results (Unit number rd rs1 rs2 rs3) = rd ∷ []
+results (Cread rd) = rd ∷ []
+results (Illegal word) = []
+
+-- the set of these registers without x0, which is never read or written
+abbrev pub without_zero : List ℕ → set.FinSet nat_cmp
+without_zero registers = set.remove (set.from_list registers) 0
+
+abbrev pub registers_read : Insn → set.FinSet nat_cmp
+registers_read insn = without_zero (operands insn)
+
+abbrev pub registers_written : Insn → set.FinSet nat_cmp
+registers_written insn = without_zero (results insn)
+
+-- ---- kinds
+
+-- the instruction ends a block
+abbrev pub ends_block : Insn → Bool
+ends_block (Alu op rd rs1 rs2) = false
+ends_block (AluImm op rd rs1 imm) = false
+ends_block (Lui rd upper) = false
+ends_block (Auipc rd upper) = true
+ends_block (Jal rd offset) = true
+ends_block (Jalr rd rs1 offset) = true
+ends_block (Branch cond rs1 rs2 offset) = true
+ends_block (Load kind rd rs1 offset) = false
+ends_block (Store width rs1 rs2 offset) = false
+ends_block (Fence bits rs1 rd) = true
+ends_block Ecall = true
+ends_block Ebreak = true
+ends_block (Unit number rd rs1 rs2 rs3) = false
+ends_block (Cread rd) = false
+ends_block (Illegal word) = true
+
+-- of an operation on two registers
+abbrev pub register_class : Op → Class
+register_class ops.Add = class.Add
+register_class ops.Sub = class.Add
+register_class ops.Sll = class.Shift
+register_class ops.Slt = class.Compare
+register_class ops.Sltu = class.Compare
+register_class ops.Xor = class.Logic
+register_class ops.Srl = class.Shift
+register_class ops.Sra = class.Shift
+register_class ops.Or = class.Logic
+register_class ops.And = class.Logic
+register_class ops.Mul = class.Mul
+register_class ops.Mulh = class.Mulh
+register_class ops.Mulhsu = class.Mulh
+register_class ops.Mulhu = class.Mulh
+register_class ops.Div = class.Div
+register_class ops.Divu = class.Div
+register_class ops.Rem = class.Div
+register_class ops.Remu = class.Div
+
+-- of an operation on a register and a constant, which differs for the shifts alone
+abbrev pub constant_class : Op → Class
+constant_class ops.Sll = class.ShiftConst
+constant_class ops.Srl = class.ShiftConst
+constant_class ops.Sra = class.ShiftConst
+constant_class op = register_class op
+
+-- `addi x0, x0, 0`, the canonical no-op
+abbrev pub is_zero : ℤ → Bool
+is_zero (pos n) = n == 0
+is_zero (negsuc n) = false
+
+abbrev pub is_no_op : Op → ℕ → ℕ → ℤ → Bool
+is_no_op ops.Add rd rs1 imm = rd == 0 && rs1 == 0 && is_zero imm
+is_no_op op rd rs1 imm = false
+
+abbrev pub class_of : Insn → Class
+class_of (Alu op rd rs1 rs2) = register_class op
+class_of (AluImm op rd rs1 imm) = if is_no_op op rd rs1 imm then class.Free else constant_class op
+class_of (Lui rd upper) = class.Lui
+class_of (Auipc rd upper) = class.Auipc
+class_of (Jal rd offset) = class.Jump
+class_of (Jalr rd rs1 offset) = class.Jump
+class_of (Branch cond rs1 rs2 offset) = class.Branch
+class_of (Load kind rd rs1 offset) = class.Load
+class_of (Store width rs1 rs2 offset) = class.Store
+class_of (Fence bits rs1 rd) = class.Fence
+class_of Ecall = class.System
+class_of Ebreak = class.System
+class_of (Unit number rd rs1 rs2 rs3) = class.Free
+class_of (Cread rd) = class.Free
+class_of (Illegal word) = class.Free
+
+abbrev pub is_division : Op → Bool
+is_division ops.Div = true
+is_division ops.Divu = true
+is_division ops.Rem = true
+is_division ops.Remu = true
+is_division op = false
+
+-- the instruction may be part of a unit: an operation other than a division, or LUI, with a result that is kept
+abbrev pub may_join : Insn → Bool
+may_join (Alu op rd rs1 rs2) = not (is_division op) && not (rd == 0)
+may_join (AluImm op rd rs1 imm) = not (is_division op) && not (rd == 0)
+may_join (Lui rd upper) = not (rd == 0)
+may_join (Auipc rd upper) = false
+may_join (Jal rd offset) = false
+may_join (Jalr rd rs1 offset) = false
+may_join (Branch cond rs1 rs2 offset) = false
+may_join (Load kind rd rs1 offset) = false
+may_join (Store width rs1 rs2 offset) = false
+may_join (Fence bits rs1 rd) = false
+may_join Ecall = false
+may_join Ebreak = false
+may_join (Unit number rd rs1 rs2 rs3) = false
+may_join (Cread rd) = false
+may_join (Illegal word) = false

@@ -1,0 +1,4 @@
+pub mod Decoding
+pub mod Effects
+pub mod Fields
+pub mod Table

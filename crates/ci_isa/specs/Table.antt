@@ -1,0 +1,130 @@
+-- Which instruction a word is: a row for each (RISC-V Unprivileged ISA 20191213, chapter 24, tables of RV32I and RV32M).
+-- The plain table has RV32I without Zifencei and Zicsr, and the extension M. The extended table adds unit words in the
+-- opcode custom-0 and `cread` in the opcode custom-1, which are the project's own.
+use Rattle.std.specs.Prelude.{◌≡◌, ℕ, ◌/◌, ◌%◌, ◌^◌, ◌<◌, ℤ, pos}
+use Rattle.ci_word.specs.declared.arithmetic.Op.{Op}
+use Rattle.ci_word.specs.declared.arithmetic.Op.TheVariants.{Add, Sub, Sll, Slt, Sltu, Xor, Srl, Sra, Or, And, Mul, Mulh, Mulhsu, Mulhu, Div, Divu, Rem, Remu}
+use Rattle.ci_isa.specs.declared.instruction.Cond.{Cond}
+use Rattle.ci_isa.specs.declared.instruction.Cond.TheVariants.{Eq, Ne, Lt, Ge, Ltu, Geu}
+use Rattle.ci_isa.specs.declared.instruction.LoadKind.{LoadKind}
+use Rattle.ci_isa.specs.declared.instruction.LoadKind.TheVariants.{B, H, W, Bu, Hu}
+use Rattle.ci_isa.specs.declared.instruction.Width.{Width}
+use Rattle.ci_isa.specs.declared.instruction.Width.TheVariants.{Byte, Half, Word}
+use Rattle.ci_isa.specs.declared.instruction.Insn.{Insn}
+use Rattle.ci_isa.specs.declared.instruction.Insn.TheVariants.{Alu, AluImm, Lui, Auipc, Jal, Jalr, Branch, Load, Store, Fence, Ecall, Ebreak, Unit, Cread, Illegal}
+use Rattle.ci_isa.specs.Fields.{field, opcode, rd_field, funct3, rs1_field, rs2_field, funct7, immediate_format, store_format, branch_format, upper_format, jump_format, immediate, signed_immediate}
+
+-- ---- the codes of the operations, in funct3 and funct7
+
+-- of an operation on two registers. The form with an immediate, where there is one, has the same codes
+abbrev pub operation_codes : Op → ℕ × ℕ
+operation_codes Add = (0, 0x00)
+operation_codes Sub = (0, 0x20)
+operation_codes Sll = (1, 0x00)
+operation_codes Slt = (2, 0x00)
+operation_codes Sltu = (3, 0x00)
+operation_codes Xor = (4, 0x00)
+operation_codes Srl = (5, 0x00)
+operation_codes Sra = (5, 0x20)
+operation_codes Or = (6, 0x00)
+operation_codes And = (7, 0x00)
+operation_codes Mul = (0, 0x01)
+operation_codes Mulh = (1, 0x01)
+operation_codes Mulhsu = (2, 0x01)
+operation_codes Mulhu = (3, 0x01)
+operation_codes Div = (4, 0x01)
+operation_codes Divu = (5, 0x01)
+operation_codes Rem = (6, 0x01)
+operation_codes Remu = (7, 0x01)
+
+-- of a branch, a load and a store, in funct3
+abbrev pub condition_code : Cond → ℕ
+condition_code Eq = 0
+condition_code Ne = 1
+condition_code Lt = 4
+condition_code Ge = 5
+condition_code Ltu = 6
+condition_code Geu = 7
+
+abbrev pub load_code : LoadKind → ℕ
+load_code B = 0
+load_code H = 1
+load_code W = 2
+load_code Bu = 4
+load_code Hu = 5
+
+abbrev pub store_code : Width → ℕ
+store_code Byte = 0
+store_code Half = 1
+store_code Word = 2
+
+-- ---- the rows
+
+-- How a word holds the constant operand of an operation. Six operations have an immediate, the shifts a funct7 and the amount in the
+-- place of rs2, and the others no form with a constant.
+abbrev pub HoldsConstant : ℕ → Op → ℤ → Type 0
+HoldsConstant w Add n = signed_immediate immediate_format w ≡ n
+HoldsConstant w Slt n = signed_immediate immediate_format w ≡ n
+HoldsConstant w Sltu n = signed_immediate immediate_format w ≡ n
+HoldsConstant w Xor n = signed_immediate immediate_format w ≡ n
+HoldsConstant w Or n = signed_immediate immediate_format w ≡ n
+HoldsConstant w And n = signed_immediate immediate_format w ≡ n
+HoldsConstant w Sll n = (funct7 w ≡ 0x00) × (pos (rs2_field w) ≡ n)
+HoldsConstant w Srl n = (funct7 w ≡ 0x00) × (pos (rs2_field w) ≡ n)
+HoldsConstant w Sra n = (funct7 w ≡ 0x20) × (pos (rs2_field w) ≡ n)
+HoldsConstant w Sub n = ⊥
+HoldsConstant w Mul n = ⊥
+HoldsConstant w Mulh n = ⊥
+HoldsConstant w Mulhsu n = ⊥
+HoldsConstant w Mulhu n = ⊥
+HoldsConstant w Div n = ⊥
+HoldsConstant w Divu n = ⊥
+HoldsConstant w Rem n = ⊥
+HoldsConstant w Remu n = ⊥
+
+-- word w reads as the instruction, in the plain table
+abbrev pub Reads : ℕ → Insn → Type 0
+Reads w (Alu op rd rs1 rs2) =
+    (opcode w ≡ 0x33) × (funct3 w ≡ (operation_codes op).0) × (funct7 w ≡ (operation_codes op).1) × (rd_field w ≡ rd) × (rs1_field w ≡ rs1) × (rs2_field w ≡ rs2)
+Reads w (AluImm op rd rs1 imm) =
+    (opcode w ≡ 0x13) × (funct3 w ≡ (operation_codes op).0) × (rd_field w ≡ rd) × (rs1_field w ≡ rs1) × HoldsConstant w op imm
+Reads w (Lui rd upper) = (opcode w ≡ 0x37) × (rd_field w ≡ rd) × (immediate upper_format w ≡ upper)
+Reads w (Auipc rd upper) = (opcode w ≡ 0x17) × (rd_field w ≡ rd) × (immediate upper_format w ≡ upper)
+Reads w (Jal rd offset) = (opcode w ≡ 0x6f) × (rd_field w ≡ rd) × (signed_immediate jump_format w ≡ offset)
+Reads w (Jalr rd rs1 offset) =
+    (opcode w ≡ 0x67) × (funct3 w ≡ 0) × (rd_field w ≡ rd) × (rs1_field w ≡ rs1) × (signed_immediate immediate_format w ≡ offset)
+Reads w (Branch cond rs1 rs2 offset) =
+    (opcode w ≡ 0x63) × (funct3 w ≡ condition_code cond) × (rs1_field w ≡ rs1) × (rs2_field w ≡ rs2) × (signed_immediate branch_format w ≡ offset)
+Reads w (Load kind rd rs1 offset) =
+    (opcode w ≡ 0x03) × (funct3 w ≡ load_code kind) × (rd_field w ≡ rd) × (rs1_field w ≡ rs1) × (signed_immediate immediate_format w ≡ offset)
+Reads w (Store width rs1 rs2 offset) =
+    (opcode w ≡ 0x23) × (funct3 w ≡ store_code width) × (rs1_field w ≡ rs1) × (rs2_field w ≡ rs2) × (signed_immediate store_format w ≡ offset)
+Reads w (Fence bits rs1 rd) = (opcode w ≡ 0x0f) × (funct3 w ≡ 0) × (field w 31 20 ≡ bits) × (rs1_field w ≡ rs1) × (rd_field w ≡ rd)
+Reads w Ecall = w ≡ 0x0000_0073
+Reads w Ebreak = w ≡ 0x0010_0073
+Reads w (Unit number rd rs1 rs2 rs3) = ⊥
+Reads w (Cread rd) = ⊥
+Reads w (Illegal word) = ⊥
+
+-- the same in the extended table
+abbrev pub ReadsX : ℕ → Insn → Type 0
+ReadsX w (Unit number rd rs1 rs2 rs3) =
+    (opcode w ≡ 0x0b) × (field w 26 25 ≡ number / 8) × (funct3 w ≡ number % 8) × (rd_field w ≡ rd) × (rs1_field w ≡ rs1) × (rs2_field w ≡ rs2) × (field w 31 27 ≡ rs3)
+ReadsX w (Cread rd) = (opcode w ≡ 0x2b) × (rd_field w ≡ rd) × (field w 31 12 ≡ 0)
+ReadsX w insn = Reads w insn
+
+-- ---- what the calls promise
+
+-- word w stands for the instruction: it reads as it in the extended table, or the instruction is Illegal with this word
+abbrev pub IsWordOf : ℕ → Insn → Type 0
+IsWordOf w (Illegal word) = w ≡ word
+IsWordOf w insn = ReadsX w insn
+
+-- some word stands for the instruction
+abbrev pub IsWellFormed : Insn → Type 0
+IsWellFormed insn = (w : ℕ) × (w < 2 ^ 32) × IsWordOf w insn
+
+-- what stands at a word: the instruction that it reads as in the plain table, or the bare word where it reads as none
+abbrev pub IsInsnAt : ℕ → Insn → Type 0
+IsInsnAt w (Illegal word) = (word ≡ w) × ((insn : Insn) → ¬ Reads w insn)
+IsInsnAt w insn = Reads w insn

@@ -1,0 +1,26 @@
+//! The instructions of RV32IM and the project's own: what word each has, what it reads and writes, and of
+//! what kind it is (RISC-V Unprivileged ISA 20191213, chapters 2, 7 and 24; RV32I without Zifencei and Zicsr).
+//!
+//! There are two tables of words. The plain table has RV32IM. The extended table adds unit words in the
+//! opcode custom-0, which run a unit made from a block's instructions, and `cread` in the opcode custom-1,
+//! which reads the hidden register.
+#![tactic(auto)]
+
+pub use decoding::{decode, decode_x, insn_at};
+pub use encoding::encode;
+pub use instruction::{Cond, Insn, LoadKind, Width};
+pub use kinds::{class, is_eligible, is_terminator};
+pub use operands::{reads, writes};
+pub use register::Reg;
+
+mod decoding;
+mod encoding;
+mod fields;
+mod immediates;
+mod instruction;
+mod kinds;
+mod opcodes;
+mod operands;
+mod register;
+#[cfg(test)]
+mod tests;

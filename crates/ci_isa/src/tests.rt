@@ -1,0 +1,299 @@
+//! Words and their instructions as the tables have them. The words of RV32IM are from the assemblers of LLVM and GNU.
+ghost use Rattle.std.specs.Prelude.{◌≡◌, ◌<◌};
+
+use crate::{
+    Cond, Insn, LoadKind, Reg, Width, class, decode, decode_x, encode, insn_at, is_eligible,
+    is_terminator, reads, writes,
+};
+use ci_word::{Class, Op};
+use std::process::Abort;
+
+/// The register of this number.
+fn x(n: u8) -> Reg
+    requires { n < 32 }
+    ensures { result ≡ n }
+{
+    Reg::new(n).unwrap()
+}
+
+/// Both tables have this row.
+fn is_row(rt: &impl Abort, word: u32, insn: Insn) {
+    assert_eq!(rt; decode(word), Some(insn), "{word:08x}");
+    assert_eq!(rt; insn_at(word), insn, "{word:08x}");
+    is_extended_row(rt, word, insn);
+}
+
+/// The extended table has this row.
+fn is_extended_row(rt: &impl Abort, word: u32, insn: Insn) {
+    let found = decode_x(word);
+    assert_eq!(rt; found, Some(insn), "{word:08x}");
+    if let Some(insn) = found {
+        assert_eq!(rt; encode(&insn), word, "{word:08x}");
+    }
+}
+
+#[test]
+fn reads_operations_on_registers(rt: HostRuntime) {
+    for (op, word) in [
+        (Op::Add, 0x0073_02b3),
+        (Op::Sub, 0x4073_02b3),
+        (Op::Sll, 0x0073_12b3),
+        (Op::Slt, 0x0073_22b3),
+        (Op::Sltu, 0x0073_32b3),
+        (Op::Xor, 0x0073_42b3),
+        (Op::Srl, 0x0073_52b3),
+        (Op::Sra, 0x4073_52b3),
+        (Op::Or, 0x0073_62b3),
+        (Op::And, 0x0073_72b3),
+        (Op::Mul, 0x0273_02b3),
+        (Op::Mulh, 0x0273_12b3),
+        (Op::Mulhsu, 0x0273_22b3),
+        (Op::Mulhu, 0x0273_32b3),
+        (Op::Div, 0x0273_42b3),
+        (Op::Divu, 0x0273_52b3),
+        (Op::Rem, 0x0273_62b3),
+        (Op::Remu, 0x0273_72b3),
+    ] {
+        let insn = Insn::Alu {
+            op,
+            rd: x(5),
+            rs1: x(6),
+            rs2: x(7),
+        };
+        is_row(&rt, word, insn);
+    }
+}
+
+#[test]
+fn reads_operations_on_a_constant(rt: HostRuntime) {
+    for (op, imm, word) in [
+        (Op::Add, -1, 0xfff3_0293),
+        (Op::Slt, 2047, 0x7ff3_2293),
+        (Op::Sltu, -2048, 0x8003_3293),
+        (Op::Xor, 100, 0x0643_4293),
+        (Op::Or, -100, 0xf9c3_6293),
+        (Op::And, 255, 0x0ff3_7293),
+        (Op::Sll, 31, 0x01f3_1293),
+        (Op::Srl, 1, 0x0013_5293),
+        (Op::Sra, 17, 0x4113_5293),
+    ] {
+        let insn = Insn::AluImm {
+            op,
+            rd: x(5),
+            rs1: x(6),
+            imm,
+        };
+        is_row(&rt, word, insn);
+    }
+}
+
+#[test]
+fn reads_upper_immediates_and_jumps(rt: HostRuntime) {
+    is_row(
+        &rt,
+        0x1234_52b7,
+        Insn::Lui {
+            rd: x(5),
+            upper: 0x1234_5000,
+        },
+    );
+    is_row(
+        &rt,
+        0xffff_ff97,
+        Insn::Auipc {
+            rd: x(31),
+            upper: 0xffff_f000,
+        },
+    );
+    is_row(
+        &rt,
+        0x8000_00ef,
+        Insn::Jal {
+            rd: x(1),
+            offset: -1_048_576,
+        },
+    );
+    is_row(
+        &rt,
+        0x7fff_f06f,
+        Insn::Jal {
+            rd: x(0),
+            offset: 1_048_574,
+        },
+    );
+    is_row(
+        &rt,
+        0x0030_00ef,
+        Insn::Jal {
+            rd: x(1),
+            offset: 2050,
+        },
+    );
+    is_row(
+        &rt,
+        0xffc2_80e7,
+        Insn::Jalr {
+            rd: x(1),
+            rs1: x(5),
+            offset: -4,
+        },
+    );
+}
+
+#[test]
+fn reads_branches(rt: HostRuntime) {
+    for (cond, rs1, rs2, offset, word) in [
+        (Cond::Eq, x(1), x(2), -4096, 0x8020_8063),
+        (Cond::Ne, x(9), x(0), 4094, 0x7e04_9fe3),
+        (Cond::Lt, x(3), x(4), 2048, 0x0041_c0e3),
+        (Cond::Ge, x(3), x(4), -2, 0xfe41_dfe3),
+        (Cond::Ltu, x(3), x(4), 30, 0x0041_ef63),
+        (Cond::Geu, x(31), x(30), -2050, 0xffef_ff63),
+    ] {
+        let insn = Insn::Branch {
+            cond,
+            rs1,
+            rs2,
+            offset,
+        };
+        is_row(&rt, word, insn);
+    }
+}
+
+#[test]
+fn reads_loads_and_stores(rt: HostRuntime) {
+    for (kind, offset, word) in [
+        (LoadKind::B, -2048, 0x8001_0083),
+        (LoadKind::H, 2047, 0x7ff1_1083),
+        (LoadKind::W, 0, 0x0001_2083),
+        (LoadKind::Bu, 1, 0x0011_4083),
+        (LoadKind::Hu, 2, 0x0021_5083),
+    ] {
+        let insn = Insn::Load {
+            kind,
+            rd: x(1),
+            rs1: x(2),
+            offset,
+        };
+        is_row(&rt, word, insn);
+    }
+    for (width, offset, word) in [
+        (Width::Byte, -2048, 0x8011_0023),
+        (Width::Half, 2047, 0x7e11_1fa3),
+        (Width::Word, 16, 0x0011_2823),
+    ] {
+        let insn = Insn::Store {
+            width,
+            rs1: x(2),
+            rs2: x(1),
+            offset,
+        };
+        is_row(&rt, word, insn);
+    }
+}
+
+#[test]
+fn reads_the_environment(rt: HostRuntime) {
+    is_row(
+        &rt,
+        0x0330_000f,
+        Insn::Fence {
+            bits: 0x033,
+            rs1: x(0),
+            rd: x(0),
+        },
+    );
+    is_row(
+        &rt,
+        0x8330_000f,
+        Insn::Fence {
+            bits: 0x833,
+            rs1: x(0),
+            rd: x(0),
+        },
+    );
+    is_row(&rt, 0x0000_0073, Insn::Ecall);
+    is_row(&rt, 0x0010_0073, Insn::Ebreak);
+}
+
+#[test]
+fn reads_the_words_of_its_own(rt: HostRuntime) {
+    let first = Insn::Unit {
+        number: 0,
+        rd: x(5),
+        rs1: x(10),
+        rs2: x(11),
+        rs3: x(12),
+    };
+    is_extended_row(&rt, 0x60b5_028b, first);
+    let last = Insn::Unit {
+        number: 31,
+        rd: x(31),
+        rs1: x(1),
+        rs2: x(2),
+        rs3: x(3),
+    };
+    is_extended_row(&rt, 0x1e20_ff8b, last);
+    is_extended_row(&rt, 0x0000_032b, Insn::Cread { rd: x(6) });
+    assert_eq!(rt; decode(0x60b5_028b), None);
+    assert_eq!(rt; decode(0x0000_032b), None);
+}
+
+#[test]
+fn reads_no_other_word(rt: HostRuntime) {
+    for word in [
+        0,
+        0xffff_ffff,
+        0x0000_1067,
+        0x0000_2063,
+        0x0000_3003,
+        0x0000_3023,
+        0x0200_1013,
+        0x4000_1013,
+        0x0200_5013,
+        0x4000_1033,
+        0x0400_0033,
+        0x0000_100f,
+        0x3020_0073,
+        0x0000_102b,
+    ] {
+        assert_eq!(rt; decode_x(word), None, "{word:08x}");
+        assert_eq!(rt; insn_at(word), Insn::Illegal { word }, "{word:08x}");
+    }
+    assert_eq!(rt; encode(&insn_at(0xffff_ffff)), 0xffff_ffff);
+}
+
+#[test]
+fn knows_the_kinds(rt: HostRuntime) {
+    let no_op = insn_at(0x0000_0013);
+    assert_eq!(rt; class(&no_op), Class::Free);
+    assert!(rt; !is_eligible(&no_op));
+    assert!(rt; !is_terminator(&no_op));
+    let shift = insn_at(0x01f3_1293);
+    assert_eq!(rt; class(&shift), Class::ShiftConst);
+    assert!(rt; is_eligible(&shift));
+    let division = insn_at(0x0273_42b3);
+    assert_eq!(rt; class(&division), Class::Div);
+    assert!(rt; !is_eligible(&division));
+    let call = insn_at(0x0000_0073);
+    assert_eq!(rt; class(&call), Class::System);
+    assert!(rt; is_terminator(&call));
+}
+
+#[test]
+fn knows_the_registers(rt: HostRuntime) {
+    let call = Insn::Ecall;
+    assert_eq!(rt; reads(&call).count(), 4);
+    for register in [10, 11, 12, 17] {
+        assert!(rt; reads(&call).has(register));
+    }
+    assert_eq!(rt; writes(&call).count(), 1);
+    assert!(rt; writes(&call).has(10));
+    let no_op = insn_at(0x0000_0013);
+    assert_eq!(rt; reads(&no_op).count(), 0);
+    assert_eq!(rt; writes(&no_op).count(), 0);
+    let store = insn_at(0x0125_a823);
+    assert_eq!(rt; reads(&store).count(), 2);
+    assert!(rt; reads(&store).has(11) && reads(&store).has(18));
+    assert_eq!(rt; writes(&store).count(), 0);
+}
