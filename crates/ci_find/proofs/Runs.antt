@@ -12,7 +12,7 @@ Ends-at : (held : Files) (words : List (List ℕ)) (change : Change) (status oth
 Ends-at held words change status other e ends = subst (Ends held words change) (sym e) ends
 
 -- with the line of success, once it was put or could not be put
-pub Ends-put : (held : Files) (words : List (List ℕ)) (change : Change) (status : ℕ) (text : List ℕ) → IsDue held words 0 text → IsPut text status change.taken_before change.taken_after change.puts_before change.puts_after → Ends held words change status
+pub Ends-put : (held : Files) (words : List (List ℕ)) (change : Change) (status : ℕ) (text : List ℕ) → IsDue held words 0 text → IsPut text status change.taken_before change.taken_after change.puts_before change.puts_after change.puts_may_want_memory → Ends held words change status
 Ends-put held words change status text due (inl put) = Ends-at held words change status 0 put.0 (done due put.1)
 Ends-put held words change status text due (inr (inl fault)) =
     Ends-at held words change status 3 fault.0 (write_fault due fault.1 fault.2.0 fault.2.1)
@@ -34,7 +34,7 @@ Ends-explained held words change refusal (inr (inr is)) line =
     Ends-at held words change (status_of refusal) 12 (ap status_of is) (no_memory (subst (λ (r : Refusal). EndsWithFault change [] (line_of r)) is line))
 
 -- with a refusal, once its line was put or memory for it ran out
-pub Ends-refused : (held : Files) (words : List (List ℕ)) (change : Change) (status : ℕ) (refusal : Refusal) → Explains held words change.reads_before change.reads_after refusal → IsRefused refusal status change.taken_before change.taken_after change.puts_before change.puts_after → Ends held words change status
+pub Ends-refused : (held : Files) (words : List (List ℕ)) (change : Change) (status : ℕ) (refusal : Refusal) → Explains held words change.reads_before change.reads_after refusal → IsRefused refusal status change.taken_before change.taken_after change.puts_before change.puts_after change.puts_may_want_memory → Ends held words change status
 Ends-refused held words change status refusal explained (inl line) =
     Ends-at held words change status (status_of refusal) line.0 (Ends-explained held words change refusal explained line.1)
 Ends-refused held words change status refusal explained (inr none) = Ends-at held words change status 12 none.0 (no_memory none.1)

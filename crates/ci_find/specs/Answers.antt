@@ -1,5 +1,5 @@
 -- How a call of the program ends: its status, and what the sink took.
-use Rattle.std.specs.Prelude.{◌≡◌, ℕ, ◌<◌, ◌≤◌, ◌⊎◌, List, [], ◌++◌, length, Option, take}
+use Rattle.std.specs.Prelude.{◌≡◌, ℕ, ◌<◌, ◌≤◌, ◌⊎◌, List, [], ◌++◌, length, Option, take, Bool, IsTrue}
 use Rattle.std.specs.Prelude.{Some, None}
 use Rattle.std.specs.Option.{option_map}
 use Rattle.std.specs.FinMap as map
@@ -30,15 +30,15 @@ pub data IsDue (held : Files) (words : List (List ℕ)) : ℕ → List ℕ → T
 abbrev pub Takes : Option (List ℕ) → Option (List ℕ) → List ℕ → Type 0
 Takes before after text = after ≡ option_map (λ taken. taken ++ text) before
 
--- The sink took a fault line whole; or a fault of it came in between, and it took a front of the line; or memory ran out, and it took
--- nothing. `first` is what it took before.
-abbrev pub TakesFault : Option (List ℕ) → Option (List ℕ) → ℕ → ℕ → List ℕ → List ℕ → Type 0
-TakesFault before after faults_before faults_after first text =
+-- The sink took a fault line whole; or a fault of it came in between, and it took a front of the line; or its put wanted memory, where
+-- puts may, and it took nothing. `first` is what it took before.
+abbrev pub TakesFault : Option (List ℕ) → Option (List ℕ) → ℕ → ℕ → Bool → List ℕ → List ℕ → Type 0
+TakesFault before after faults_before faults_after may_want_memory first text =
     Takes before after (first ++ text)
     ⊎ (Rises faults_before faults_after × ((n : ℕ) × Takes before after (first ++ take n text)))
-    ⊎ Takes before after first
+    ⊎ (IsTrue may_want_memory × Takes before after first)
 
--- the counts of faults, and what the sink took, before a call and after it
+-- the counts of faults, and what the sink took, before a call and after it, and whether its puts may want memory
 pub record Change : Type 0 where
   pub reads_before : ℕ
   pub reads_after : ℕ
@@ -46,10 +46,11 @@ pub record Change : Type 0 where
   pub puts_after : ℕ
   pub taken_before : Option (List ℕ)
   pub taken_after : Option (List ℕ)
+  pub puts_may_want_memory : Bool
 
 abbrev pub EndsWithFault : Change → List ℕ → List ℕ → Type 0
 EndsWithFault change first text =
-    TakesFault change.taken_before change.taken_after change.puts_before change.puts_after first text
+    TakesFault change.taken_before change.taken_after change.puts_before change.puts_after change.puts_may_want_memory first text
 
 -- How a call ends, by its status: with what is due; with a read or a write that failed; or for want of memory. A fault line is the
 -- last that the sink takes, and before it comes at most the front of the line of success that a failed write left.

@@ -1,5 +1,5 @@
 -- The refusals of the program: their statuses, their lines and their causes.
-use Rattle.std.specs.Prelude.{◌≡◌, ℕ, ◌<◌, ◌⊎◌, List, [], length, Option, take}
+use Rattle.std.specs.Prelude.{◌≡◌, ℕ, ◌<◌, ◌⊎◌, List, [], length, Option, take, Bool}
 use Rattle.std.specs.Prelude.{None}
 use Rattle.std.specs.Option.{IsSomeAnd}
 use Rattle.std.specs.FinMap as map
@@ -44,15 +44,15 @@ Explains held words before after refusal =
     ⊎ (refusal ≡ NoMemory)
 
 -- The refusal's status, and its line was put; or memory ran out for the line, and then that is the refusal.
-abbrev pub IsRefused : Refusal → ℕ → Option (List ℕ) → Option (List ℕ) → ℕ → ℕ → Type 0
-IsRefused refusal status taken_before taken_after faults_before faults_after =
-    ((status ≡ status_of refusal) × TakesFault taken_before taken_after faults_before faults_after [] (line_of refusal))
-    ⊎ ((status ≡ 12) × TakesFault taken_before taken_after faults_before faults_after [] no_memory_line)
+abbrev pub IsRefused : Refusal → ℕ → Option (List ℕ) → Option (List ℕ) → ℕ → ℕ → Bool → Type 0
+IsRefused refusal status taken_before taken_after faults_before faults_after may_want_memory =
+    ((status ≡ status_of refusal) × TakesFault taken_before taken_after faults_before faults_after may_want_memory [] (line_of refusal))
+    ⊎ ((status ≡ 12) × TakesFault taken_before taken_after faults_before faults_after may_want_memory [] no_memory_line)
 
 -- The line of success was taken; or the sink failed to take it whole; or memory ran out in the sink.
-abbrev pub IsPut : List ℕ → ℕ → Option (List ℕ) → Option (List ℕ) → ℕ → ℕ → Type 0
-IsPut text status taken_before taken_after faults_before faults_after =
+abbrev pub IsPut : List ℕ → ℕ → Option (List ℕ) → Option (List ℕ) → ℕ → ℕ → Bool → Type 0
+IsPut text status taken_before taken_after faults_before faults_after may_want_memory =
     ((status ≡ 0) × Takes taken_before taken_after text)
     ⊎ ((status ≡ 3) × Rises faults_before faults_after
-    × ((n : ℕ) × TakesFault taken_before taken_after faults_before faults_after (take n text) write_line))
-    ⊎ ((status ≡ 12) × TakesFault taken_before taken_after faults_before faults_after [] no_memory_line)
+    × ((n : ℕ) × TakesFault taken_before taken_after faults_before faults_after may_want_memory (take n text) write_line))
+    ⊎ ((status ≡ 12) × TakesFault taken_before taken_after faults_before faults_after may_want_memory [] no_memory_line)

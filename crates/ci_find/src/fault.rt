@@ -43,7 +43,7 @@ pub enum Refusal<'a> {
 
 /// Puts the fault line of a refusal, and answers its status. Where memory for the line runs out, that is the refusal.
 pub fn refuse<O: Sink>(alloc: Global, refusal: &Refusal<'_>, out: &mut O) -> u8
-    ensures { IsRefused refusal.now result (O.taken out.old) (O.taken out.new) (O.faults out.old) (O.faults out.new) }
+    ensures { IsRefused refusal.now result (O.taken out.old) (O.taken out.new) (O.faults out.old) (O.faults out.new) O.may_want_memory }
 {
     match refusal {
         Refusal::Usage => put_fault(USAGE, "fault 1 usage\n", out),
@@ -61,7 +61,7 @@ pub fn refuse<O: Sink>(alloc: Global, refusal: &Refusal<'_>, out: &mut O) -> u8
 /// Puts the fault line of a line of success that the sink failed to take, and answers its status.
 pub fn refuse_write<O: Sink>(out: &mut O) -> u8
     ensures status { result ≡ 3 }
-    ensures taken { TakesFault (O.taken out.old) (O.taken out.new) (O.faults out.old) (O.faults out.new) [] write_line }
+    ensures taken { TakesFault (O.taken out.old) (O.taken out.new) (O.faults out.old) (O.faults out.new) O.may_want_memory [] write_line }
     ensures never_falls { O.faults out.old ≤ O.faults out.new }
 {
     put_fault(WRITE_FAULT, "fault 3 write -\n", out)
@@ -70,7 +70,7 @@ pub fn refuse_write<O: Sink>(out: &mut O) -> u8
 /// Puts the fault line of want of memory, and answers its status.
 pub fn refuse_memory<O: Sink>(out: &mut O) -> u8
     ensures status { result ≡ 12 }
-    ensures taken { TakesFault (O.taken out.old) (O.taken out.new) (O.faults out.old) (O.faults out.new) [] no_memory_line }
+    ensures taken { TakesFault (O.taken out.old) (O.taken out.new) (O.faults out.old) (O.faults out.new) O.may_want_memory [] no_memory_line }
     ensures never_falls { O.faults out.old ≤ O.faults out.new }
 {
     put_fault(NO_MEMORY, "fault 12 no memory\n", out)
@@ -79,9 +79,9 @@ pub fn refuse_memory<O: Sink>(out: &mut O) -> u8
 /// Puts a fault line, if memory was there for its text, and answers its status; else that of want of memory.
 fn put_text<O: Sink>(status: u8, text: Result<String, AllocError>, out: &mut O) -> u8
     ensures ok { IfOk text (λ text. (result ≡ status)
-        × TakesFault (O.taken out.old) (O.taken out.new) (O.faults out.old) (O.faults out.new) [] (string_bytes text)) }
+        × TakesFault (O.taken out.old) (O.taken out.new) (O.faults out.old) (O.faults out.new) O.may_want_memory [] (string_bytes text)) }
     ensures err { OnErr text ((result ≡ 12)
-        × TakesFault (O.taken out.old) (O.taken out.new) (O.faults out.old) (O.faults out.new) [] no_memory_line) }
+        × TakesFault (O.taken out.old) (O.taken out.new) (O.faults out.old) (O.faults out.new) O.may_want_memory [] no_memory_line) }
 {
     match text {
         Ok(text) => put_fault(status, text.as_str(), out),
@@ -92,7 +92,7 @@ fn put_text<O: Sink>(status: u8, text: Result<String, AllocError>, out: &mut O) 
 /// Puts a fault line, and answers its status, also where the sink fails to take the line.
 fn put_fault<O: Sink>(status: u8, line: &str, out: &mut O) -> u8
     ensures status { result ≡ status }
-    ensures taken { TakesFault (O.taken out.old) (O.taken out.new) (O.faults out.old) (O.faults out.new) [] line.now }
+    ensures taken { TakesFault (O.taken out.old) (O.taken out.new) (O.faults out.old) (O.faults out.new) O.may_want_memory [] line.now }
     ensures never_falls { O.faults out.old ≤ O.faults out.new }
 {
     let _ = out.put(line.as_bytes());

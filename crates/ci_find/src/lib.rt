@@ -46,6 +46,7 @@ pub fn run<F: Shelf, O: Sink>(alloc: Global, words: &Vec<String>, shelf: &mut F,
           puts_after = O.faults out.new;
           taken_before = O.taken out.old;
           taken_after = O.taken out.new;
+          puts_may_want_memory = O.may_want_memory;
         }) result }
     ensures untold { F.files shelf.old ≡ None → result ≡ 2 → Rises (F.read_faults shelf.old) (F.read_faults shelf.new) }
     // What is due comes.
@@ -57,6 +58,7 @@ pub fn run<F: Shelf, O: Sink>(alloc: Global, words: &Vec<String>, shelf: &mut F,
           puts_after = O.faults out.new;
           taken_before = O.taken out.old;
           taken_after = O.taken out.new;
+          puts_may_want_memory = O.may_want_memory;
         }) status) }
     // No other status comes.
     ensures statuses { Contains (0 ∷ 1 ∷ 2 ∷ 3 ∷ 4 ∷ 7 ∷ 12 ∷ []) result }
@@ -71,7 +73,7 @@ pub fn run<F: Shelf, O: Sink>(alloc: Global, words: &Vec<String>, shelf: &mut F,
 
 /// Puts the line of success, and answers the status.
 fn put_line<O: Sink>(line: &str, out: &mut O) -> u8
-    ensures { IsPut line.now result (O.taken out.old) (O.taken out.new) (O.faults out.old) (O.faults out.new) }
+    ensures { IsPut line.now result (O.taken out.old) (O.taken out.new) (O.faults out.old) (O.faults out.new) O.may_want_memory }
 {
     match out.put(line.as_bytes()) {
         Ok(()) => SUCCESS,

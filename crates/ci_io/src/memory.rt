@@ -1,5 +1,5 @@
 //! A shelf and a sink in memory that fail at the calls that they are told.
-ghost use Rattle.std.specs.Prelude.{◌≡◌, ◌≢◌, ◌≤◌, ◌↔◌, ◌++◌, [], ℕ, List, Option, Some, IfOk, OnOk, IsErrOf, vec_len};
+ghost use Rattle.std.specs.Prelude.{true, ◌≡◌, ◌≢◌, ◌≤◌, ◌↔◌, ◌++◌, [], ℕ, List, Option, Some, IfOk, OnOk, IsErrOf, vec_len};
 ghost use Rattle.std.specs.FinMap as map;
 ghost use Rattle.ci_io.specs.Counts.{raised, IsNextToFail, one_more_call};
 ghost use Rattle.ci_io.specs.Maps.{files_of};
@@ -176,6 +176,8 @@ impl Sink for MemSink {
     ghost taken = { λ sink. Some sink.taken };
 
     ghost faults = { λ sink. sink.faults };
+
+    ghost may_want_memory = { true };
 
     fn put(&mut self, bytes: &[u8]) -> Result<(), SinkErr>
         // A call fails exactly where its number is listed. Then the count rises, and no byte is taken.

@@ -1,5 +1,5 @@
 //! A sink of output bytes.
-ghost use Rattle.std.specs.Prelude.{◌≡◌, ℕ, ◌≤◌, Option, List, ◌++◌, take, OnOk, IsErrOf};
+ghost use Rattle.std.specs.Prelude.{◌≡◌, ℕ, ◌≤◌, Bool, IsTrue, Option, List, ◌++◌, take, OnOk, IsErrOf};
 ghost use Rattle.std.specs.Option.{option_map};
 ghost use Rattle.ci_io.specs.Outcomes.{Rises};
 
@@ -22,6 +22,9 @@ pub trait Sink {
     /// How many puts failed.
     ghost faults: { Self → ℕ };
 
+    /// Whether a put may want memory.
+    ghost may_want_memory: { Bool };
+
     /// Takes all the bytes.
     ///
     /// Errors: `Fault` where writing failed, and then only the first of the bytes, some or none, were taken;
@@ -30,6 +33,7 @@ pub trait Sink {
         ensures ok { OnOk result (taken self.new ≡ option_map (λ before. before ++ bytes.now) (taken self.old)) }
         ensures fault { IsErrOf result SinkErr.Fault → (n : ℕ) × (taken self.new ≡ option_map (λ before. before ++ take n bytes.now) (taken self.old)) }
         ensures no_memory { IsErrOf result SinkErr.NoMemory → taken self.new ≡ taken self.old }
+        ensures no_memory_where_wanted { IsErrOf result SinkErr.NoMemory → IsTrue may_want_memory }
         ensures fault_counted { IsErrOf result SinkErr.Fault → Rises (faults self.old) (faults self.new) }
         ensures never_falls { faults self.old ≤ faults self.new };
 }

@@ -1,5 +1,5 @@
 //! A shelf and a sink in memory that never fail.
-ghost use Rattle.std.specs.Prelude.{◌≡◌, [], Some};
+ghost use Rattle.std.specs.Prelude.{true, ◌≡◌, [], Some};
 ghost use Rattle.ci_io.specs.Maps.{files_of};
 
 use crate::held::{read_held, write_held};
@@ -110,6 +110,8 @@ impl Sink for SureSink {
     ghost taken = { λ sink. Some sink };
 
     ghost faults = { λ _. 0 };
+
+    ghost may_want_memory = { true };
 
     fn put(&mut self, bytes: &[u8]) -> Result<(), SinkErr> {
         match self.taken.extend_from_slice(bytes) {

@@ -1,7 +1,7 @@
 //! A shelf over the files of the system, and a sink over its standard output.
 //!
 //! What they do to real files and to the real output is not proved.
-ghost use Rattle.std.specs.Prelude.{◌≡◌, ◌≢◌, ◌≤◌, None, OnOk, OnErr, IfOk, IsErrOf, vec_len};
+ghost use Rattle.std.specs.Prelude.{◌≡◌, ◌≢◌, ◌≤◌, false, None, OnOk, OnErr, IfOk, IsErrOf, vec_len};
 ghost use Rattle.ci_io.specs.Counts.{raised};
 
 use crate::{Shelf, ShelfErr, Sink, SinkErr};
@@ -136,6 +136,8 @@ impl<'a, R: Print> Sink for StdSink<'a, R> {
     ghost taken = { λ _. None };
 
     ghost faults = { λ count. count };
+
+    ghost may_want_memory = { false };
 
     fn put(&mut self, bytes: &[u8]) -> Result<(), SinkErr>
         ensures never_no_memory { result ≢ Err SinkErr.NoMemory }

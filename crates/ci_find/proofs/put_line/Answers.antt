@@ -15,5 +15,5 @@ returns-in-Err-Fault g c =
     inr (inl (
       c.refuse_write.ensures.status,
       Rises-earlier _ _ _ never_falls rose c.refuse_write.ensures.never_falls,
-      (front.0, TakesFault-after _ _ _ _ _ _ _ _ taken never_falls c.refuse_write.ensures.taken),
+      (front.0, TakesFault-after _ _ _ _ _ _ _ _ _ taken never_falls c.refuse_write.ensures.taken),
     ))

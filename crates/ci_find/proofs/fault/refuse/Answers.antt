@@ -8,12 +8,12 @@ returns-in-Usage g c = rw c.in-Usage.is (inl (c.put_fault.ensures.status, c.put_
 
 pub returns-in-Read : goal.returns-in-Read
 returns-in-Read g c =
-    rw c.in-Read.is (refused_text _ _ _ _ _ _ _ _ c.read_text.ensures c.put_text.ensures.ok c.put_text.ensures.err)
+    rw c.in-Read.is (refused_text _ _ _ _ _ _ _ _ _ c.read_text.ensures c.put_text.ensures.ok c.put_text.ensures.err)
 
 pub returns-in-TooLarge : goal.returns-in-TooLarge
 returns-in-TooLarge g c =
-    rw c.in-TooLarge.is (refused_text _ _ _ _ _ _ _ _ c.too_large_text.ensures c.put_text-in-TooLarge.ensures.ok c.put_text-in-TooLarge.ensures.err)
+    rw c.in-TooLarge.is (refused_text _ _ _ _ _ _ _ _ _ c.too_large_text.ensures c.put_text-in-TooLarge.ensures.ok c.put_text-in-TooLarge.ensures.err)
 
 pub returns-in-Unsupported : goal.returns-in-Unsupported
 returns-in-Unsupported g c =
-    rw c.in-Unsupported.is (refused_text _ _ _ _ _ _ _ _ c.unsupported_text.ensures c.put_text-in-Unsupported.ensures.ok c.put_text-in-Unsupported.ensures.err)
+    rw c.in-Unsupported.is (refused_text _ _ _ _ _ _ _ _ _ c.unsupported_text.ensures c.put_text-in-Unsupported.ensures.ok c.put_text-in-Unsupported.ensures.err)
