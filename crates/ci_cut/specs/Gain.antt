@@ -17,7 +17,8 @@ abbrev pub further_words : FlowGraph → (ℕ → Bool) → ℕ
 further_words graph cut = (outputs graph cut - 1) + (if nat_lt 3 (inputs graph cut) then 1 else 0)
 
 -- Cycles saved at each run of the block: the members' latencies, less the hardware time, less a read for each further word,
--- less a filling word for each place that is left over.
+-- less a no-op for each place that is left over: software - hardware - further * read - (size - 1 - further) * pad.
+-- The formula is this project's own.
 abbrev pub gain : FlowGraph → (ℕ → Bool) → ℤ
 gain graph cut =
     let further = further_words graph cut in

@@ -1,4 +1,4 @@
--- The part of fitting that speaks of ports.
+-- For private contracts only: the part of fitting that speaks of ports.
 use Rattle.std.specs.Prelude.{ℕ, ◌≤◌, Bool}
 use Rattle.ci_cut.specs.declared.graph.Limits.{Limits}
 use Rattle.ci_cut.specs.FlowGraph.{FlowGraph}

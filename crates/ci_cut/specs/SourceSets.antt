@@ -1,4 +1,4 @@
--- Sets of sources, and the nodes on either side of a set of nodes.
+-- For private contracts only: sets of sources, and the nodes on either side of a set of nodes.
 use Rattle.std.specs.Prelude.{ℕ, Bool, true, false, not, ◌&&◌}
 use Rattle.std.specs.FinSet as set
 use Rattle.ci_cut.specs.declared.graph.Source.{Source}

@@ -20,7 +20,8 @@ struct Reached {
 
 /// The best cut of a graph of at most twelve eligible nodes, or `None` where no set that fits has a positive gain.
 ///
-/// It tries every set of eligible nodes, so its time doubles with each of them.
+/// Among equal gains it is the set that comes first when sets are compared from the last node to the first, with "in" before
+/// "out". It tries every set of eligible nodes, so its time doubles with each of them.
 pub fn best_of_all(graph: &Graph, limits: &Limits) -> Option<Row>
     requires { count_below (length graph.now.nodes) (λ k. (node_at graph.now k).eligible) ≤ 12 }
     ensures { MatchOption result (HasNoCut graph.now limits.now) (λ cut. IsBest graph.now limits.now (set.contains cut)) }

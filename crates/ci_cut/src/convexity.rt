@@ -8,6 +8,8 @@ use crate::graph::Graph;
 use ci_word::Row;
 
 /// Whether no walk along arcs leads from a member through a node outside to a member.
+///
+/// Each number of the set has to be a node.
 pub fn is_convex(graph: &Graph, cut: &Row) -> bool
     requires { AreNodes graph.now cut.now }
     ensures { IsTrue result ↔ IsConvex graph.now (set.contains cut.now) }

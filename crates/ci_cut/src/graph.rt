@@ -16,6 +16,7 @@ pub enum Source {
     Made(u8),
 }
 
+/// It only fills the unused places of a small vector.
 impl Default for Source {
     fn default() -> Source {
         Source::Entry(0)
@@ -101,7 +102,8 @@ pub struct Graph {
 }
 
 impl Model for Graph {
-    ghost use Rattle.ci_cut.specs.FlowGraph.{FlowGraph, coded_graph, IsFlowGraph};
+    ghost use Rattle.ci_cut.specs.FlowGraph.{FlowGraph, IsFlowGraph};
+    ghost use Rattle.ci_cut.specs.Stored.{coded_graph};
 
     ghost Value = { FlowGraph };
 
@@ -115,8 +117,11 @@ impl Model for Graph {
 impl Graph {
     ghost use Rattle.ci_cut.specs.FlowGraph.{IsFlowGraph};
 
-    /// The graph of these nodes. `read` and `pad` are charges in cycles, for a read of a further result and for
-    /// a word that fills a place.
+    /// The graph of these nodes. `read` and `pad` are charges in cycles, for a read of each result after the first and
+    /// for a no-op.
+    ///
+    /// It has at most 256 nodes. Arcs and sources come from earlier nodes. Latencies are at most 1000, and of eligible nodes at
+    /// least 1; delays are at most 100,000. `pad` is at most `read`, and at most the latency of each eligible node.
     pub fn new(nodes: Vec<Node>, read: u32, pad: u32) -> Graph
         requires { IsFlowGraph (record { nodes = nodes.items; read = read; pad = pad }) }
         ensures { result ≡ record { nodes = nodes.items; read = read; pad = pad } }
@@ -132,14 +137,14 @@ impl Graph {
         &self.nodes
     }
 
-    /// The cycles of a read of a further result.
+    /// The cycles of a read of a result after the first.
     pub fn read(&self) -> u32
         ensures { result ≡ self.now.read }
     {
         self.read
     }
 
-    /// The cycles of a word that fills a place.
+    /// The cycles of a no-op.
     pub fn pad(&self) -> u32
         ensures { result ≡ self.now.pad }
     {

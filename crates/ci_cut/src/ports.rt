@@ -65,6 +65,8 @@ fn read_by(graph: &Graph, cut: &Row, members: bool) -> SourceSet
 }
 
 /// How many distinct sources outside the set its members read: nodes, and registers at entry.
+///
+/// Each number of the set has to be a node.
 pub fn inputs(graph: &Graph, cut: &Row) -> u32
     requires { AreNodes graph.now cut.now }
     ensures { result ≡ terms.inputs graph.now (set.contains cut.now) }
@@ -80,6 +82,8 @@ pub fn inputs(graph: &Graph, cut: &Row) -> u32
 }
 
 /// How many members have a value that a node outside reads or that is live after the block.
+///
+/// Each number of the set has to be a node.
 pub fn outputs(graph: &Graph, cut: &Row) -> u32
     requires { AreNodes graph.now cut.now }
     ensures { result ≡ terms.outputs graph.now (set.contains cut.now) }

@@ -146,6 +146,19 @@ fn equal_operands(rt: HostRuntime) -> Result<(), Fail> {
     Ok(())
 }
 
+// xor x5, x10, x11; xor x6, x5, x12; xor x6, x6, x10; xor x6, x6, x11: five operands from outside, of three registers.
+#[test]
+fn distinct_inputs(rt: HostRuntime) -> Result<(), Fail> {
+    let first = (&[Entry(10), Entry(11)][..], &[][..], 100, true);
+    let second = (&[Made(0), Entry(12)][..], &[][..], 100, false);
+    let third = (&[Made(1), Entry(10)][..], &[][..], 100, false);
+    let last = (&[Made(2), Entry(11)][..], &[][..], 100, true);
+    let graph = graph_of(&rt, rt.alloc(), USUAL, &[first, second, third, last])?;
+    assert_eq!(rt; terms(&rt, &graph, &[0, 1, 2, 3]), (true, 3, 2));
+    assert_eq!(rt; value(&rt, &graph, &[0, 1, 2, 3]), (1, 2));
+    Ok(())
+}
+
 // add x5, x10, x11; lw x10, 0(x12); add x5, x5, x10: the load writes x10 after the first node has read it.
 #[test]
 fn write_after_a_read(rt: HostRuntime) -> Result<(), Fail> {

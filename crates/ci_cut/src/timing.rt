@@ -9,6 +9,8 @@ use crate::graph::{Graph, Source};
 use ci_word::Row;
 
 /// The hardware time of the slowest chain of members, in cycles, rounded up, and at least 1.
+///
+/// Each number of the set has to be a node.
 pub fn hardware(graph: &Graph, cut: &Row) -> u32
     requires { AreNodes graph.now cut.now }
     ensures { result ≡ terms.hardware graph.now (set.contains cut.now) }

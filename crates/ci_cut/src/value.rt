@@ -13,7 +13,10 @@ use crate::ports::{inputs, outputs};
 use crate::timing::hardware;
 use ci_word::Row;
 
-/// The cycles that the set saves at each run of the block.
+/// The cycles that the set saves at each run of the block: its latencies, less its hardware time, less a read for each
+/// further word of its use and a no-op for each other place that it leaves.
+///
+/// Each number of the set has to be a node.
 pub fn gain(graph: &Graph, cut: &Row) -> i64
     requires { AreNodes graph.now cut.now }
     ensures { result ≡ terms.gain graph.now (set.contains cut.now) }
@@ -24,7 +27,10 @@ pub fn gain(graph: &Graph, cut: &Row) -> i64
     saved - further * graph.read() as i64 - places * graph.pad() as i64
 }
 
-/// Whether the set may become an instruction under the limits.
+/// Whether the set may become an instruction under the limits: its members are eligible, it is convex, it has at most
+/// as many inputs and outputs as the limits, an output, and a place for each word of its use.
+///
+/// Each number of the set has to be a node.
 pub fn fits(graph: &Graph, limits: &Limits, cut: &Row) -> bool
     requires { AreNodes graph.now cut.now }
     ensures { IsTrue result ↔ terms.Fits graph.now limits.now (set.contains cut.now) }

@@ -16,7 +16,7 @@ use Rattle.ci_cut.specs.declared.graph.Source.TheVariants.{Made}
 use Rattle.ci_cut.specs.declared.graph.Node.{Node}
 use Rattle.ci_cut.specs.FlowGraph.{IsFlowGraph, node_at, no_node, is_source}
 use Rattle.ci_find.specs.declared.block.Operation.{Operation}
-use Rattle.ci_find.specs.Block.{no_operation, has_arc, node_of, graph_of}
+use Rattle.ci_find.specs.Block.{no_operation, has_arc_into, node_of, graph_of}
 use Rattle.ci_find.proofs.Nodes as nodes
 
 -- ---- all numbers below a bound
@@ -90,7 +90,7 @@ pub is_flow_graph : (operations : List Operation) → length operations ≤ 12 �
 is_flow_graph operations few delays = record {
   few = rw length-nodes (omega arith);
   arcs_rise = λ j k. each_node operations (λ at node. IsTrue (set.contains node.before j) → j < at)
-      (λ at there arc. ltb-true j at (and_parts (nat_lt j at) (has_arc operations at j) (sym (contains-set_below at (has_arc operations at) j) ∙ arc)).0)
+      (λ at there arc. ltb-true j at (and_parts (nat_lt j at) (has_arc_into operations at j) (sym (contains-set_below at (has_arc_into operations at) j) ∙ arc)).0)
       (λ at arc. absurd (true≢false (sym arc ∙ set.contains-empty nat_cmp j)))
       k;
   sources_rise = λ j k. each_node operations (λ at node. IsTrue (list_any (is_source (Made j)) node.sources) → j < at)

@@ -6,6 +6,7 @@ use Rattle.ci_find.specs.declared.fault.Refusal.TheVariants.{Usage, Read, TooLar
 use Rattle.ci_find.specs.Answers.{IsDue, usage, absent, too_large, unsupported, best, Change, EndsWithFault, Ends, done, refused, read_fault, write_fault, no_memory, MayHold, Answers}
 use Rattle.ci_find.specs.Refusals.{status_of, line_of, Explains, IsRefused, IsPut}
 use Rattle.ci_find.proofs.Dues.{IsDue-same}
+use Rattle.ci_find.proofs.Endings.{Rises-earlier}
 
 -- a call ends so at a status that is this one
 Ends-at : (held : Files) (words : List (List ℕ)) (change : Change) (status other : ℕ) → status ≡ other → Ends held words change other → Ends held words change status
@@ -15,7 +16,7 @@ Ends-at held words change status other e ends = subst (Ends held words change) (
 pub Ends-put : (held : Files) (words : List (List ℕ)) (change : Change) (status : ℕ) (text : List ℕ) → IsDue held words 0 text → IsPut text status change.taken_before change.taken_after change.puts_before change.puts_after change.puts_may_want_memory → Ends held words change status
 Ends-put held words change status text due (inl put) = Ends-at held words change status 0 put.0 (done due put.1)
 Ends-put held words change status text due (inr (inl fault)) =
-    Ends-at held words change status 3 fault.0 (write_fault due fault.1 fault.2.0 fault.2.1)
+    Ends-at held words change status 3 fault.0 (write_fault due fault.1.0 fault.1.1 fault.1.2 fault.1.3 fault.1.4.0 fault.1.4.1)
 Ends-put held words change status text due (inr (inr none)) = Ends-at held words change status 12 none.0 (no_memory none.1)
 
 status_of-positive : (refusal : Refusal) → 0 < status_of refusal
@@ -44,8 +45,8 @@ Answers-end : (held : Files) (words : List (List ℕ)) (change : Change) (status
 Answers-end held words change status due text (done is took) other = inl (IsDue-same held words 0 due _ text is other)
 Answers-end held words change status due text (refused is positive line) other = inl (IsDue-same held words status due _ text is other)
 Answers-end held words change status due text (read_fault reads rose line) other = inr (inr (inl (refl, rose)))
-Answers-end held words change status due text (write_fault is rose n line) other =
-    inr (inr (inr (refl, IsDue-same held words due 0 text _ other is, rose)))
+Answers-end held words change status due text (write_fault is between low rose high n line) other =
+    inr (inr (inr (refl, IsDue-same held words due 0 text _ other is, Rises-earlier _ _ _ low rose high)))
 Answers-end held words change status due text (no_memory line) other = inr (inl refl)
 
 -- what is due over the files told comes
@@ -73,5 +74,5 @@ pub Ends-status : (held : Files) (words : List (List ℕ)) (change : Change) (st
 Ends-status held words change status (done due took) = (0, lit< tt, refl)
 Ends-status held words change status (refused due positive line) = IsDue-status held words status _ due
 Ends-status held words change status (read_fault reads rose line) = (2, lit< tt, refl)
-Ends-status held words change status (write_fault due rose n line) = (3, lit< tt, refl)
+Ends-status held words change status (write_fault due between low rose high n line) = (3, lit< tt, refl)
 Ends-status held words change status (no_memory line) = (6, lit< tt, refl)

@@ -53,7 +53,8 @@ EndsWithFault change first text =
     TakesFault change.taken_before change.taken_after change.puts_before change.puts_after change.puts_may_want_memory first text
 
 -- How a call ends, by its status: with what is due; with a read or a write that failed; or for want of memory. A fault line is the
--- last that the sink takes, and before it comes at most the front of the line of success that a failed write left.
+-- last that the sink takes, and before it comes at most the front of the line of success that a failed write left. `between` is the
+-- count of faults after that write.
 pub data Ends (held : Files) (words : List (List ℕ)) (change : Change) : ℕ → Type 0 where
   done : {text : List ℕ} → IsDue held words 0 text → Takes change.taken_before change.taken_after text → Ends held words change 0
   refused :
@@ -63,8 +64,10 @@ pub data Ends (held : Files) (words : List (List ℕ)) (change : Change) : ℕ �
       {request : Request} → ReadsAs words request → Rises change.reads_before change.reads_after →
       EndsWithFault change [] (read_line request.file) → Ends held words change 2
   write_fault :
-      {text : List ℕ} → IsDue held words 0 text → Rises change.puts_before change.puts_after → (n : ℕ) →
-      EndsWithFault change (take n text) write_line → Ends held words change 3
+      {text : List ℕ} → IsDue held words 0 text → (between : ℕ) → change.puts_before ≤ between → Rises change.puts_before between →
+      between ≤ change.puts_after → (n : ℕ) →
+      TakesFault change.taken_before change.taken_after between change.puts_after change.puts_may_want_memory (take n text) write_line →
+      Ends held words change 3
   no_memory : EndsWithFault change [] no_memory_line → Ends held words change 12
 
 -- These may be the files of the shelf: those that it tells, and any where it tells none.

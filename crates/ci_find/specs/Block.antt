@@ -113,8 +113,8 @@ module _ (operations : List Operation) where
       not (nat_eq register 0) && (nat_eq (operation_at k).first register || nat_eq (operation_at k).second register)
 
   -- An arc from j into a later k: k reads what j wrote, or j reads a register that k writes, or both write the same.
-  abbrev pub has_arc : ℕ → ℕ → Bool
-  has_arc k j =
+  abbrev pub has_arc_into : ℕ → ℕ → Bool
+  has_arc_into k j =
       (list_any (is_source (Made j)) (sources k) || reads_register j (operation_at k).destination)
       || nat_eq (operation_at j).destination (operation_at k).destination
 
@@ -129,7 +129,7 @@ module _ (operations : List Operation) where
     latency = 1;
     delay = (operation_at k).delay;
     sources = sources k;
-    before = set_below k (has_arc k);
+    before = set_below k (has_arc_into k);
     live = is_live k;
   }
 

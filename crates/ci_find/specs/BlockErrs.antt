@@ -1,4 +1,4 @@
--- When the bytes of a file are refused as a block.
+-- For private contracts only: when the bytes of a file are refused as a block.
 use Rattle.std.specs.Prelude.{ℕ, List}
 use Rattle.ci_find.specs.declared.block.Operation.{Operation}
 use Rattle.ci_find.specs.declared.block.BlockErr.{BlockErr}

@@ -1,4 +1,4 @@
--- What stands at the front of words: an option, and both limits.
+-- For private contracts only: what stands at the front of words: an option, and both limits.
 use Rattle.std.specs.Prelude.{◌≡◌, ℕ, ◌≤◌, ◌⊎◌, List, [], ◌∷◌, codes}
 use Rattle.ci_find.specs.Words.{IsNumber}
 

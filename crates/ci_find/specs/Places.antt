@@ -1,4 +1,4 @@
--- What stands at a place of the words of a file.
+-- For private contracts only: what stands at a place of the words of a file.
 use Rattle.std.specs.Prelude.{◌≡◌, ℕ, ◌*◌, ◌<◌, ◌≤◌, ◌⊎◌, List, Some, None, slice_get}
 use Rattle.ci_find.specs.declared.block.Operation.{Operation}
 use Rattle.ci_find.specs.declared.block.BlockErr.{BlockErr}

@@ -1,5 +1,5 @@
--- The refusals of the program: their statuses, their lines and their causes.
-use Rattle.std.specs.Prelude.{◌≡◌, ℕ, ◌<◌, ◌⊎◌, List, [], length, Option, take, Bool}
+-- For private contracts only: the refusals of the program: their statuses, their lines and their causes.
+use Rattle.std.specs.Prelude.{◌≡◌, ℕ, ◌<◌, ◌≤◌, ◌⊎◌, List, [], length, Option, take, Bool}
 use Rattle.std.specs.Prelude.{None}
 use Rattle.std.specs.Option.{IsSomeAnd}
 use Rattle.std.specs.FinMap as map
@@ -53,6 +53,7 @@ IsRefused refusal status taken_before taken_after faults_before faults_after may
 abbrev pub IsPut : List ℕ → ℕ → Option (List ℕ) → Option (List ℕ) → ℕ → ℕ → Bool → Type 0
 IsPut text status taken_before taken_after faults_before faults_after may_want_memory =
     ((status ≡ 0) × Takes taken_before taken_after text)
-    ⊎ ((status ≡ 3) × Rises faults_before faults_after
-    × ((n : ℕ) × TakesFault taken_before taken_after faults_before faults_after may_want_memory (take n text) write_line))
+    ⊎ ((status ≡ 3)
+    × ((between : ℕ) × (faults_before ≤ between) × Rises faults_before between × (between ≤ faults_after)
+    × ((n : ℕ) × TakesFault taken_before taken_after between faults_after may_want_memory (take n text) write_line)))
     ⊎ ((status ≡ 12) × TakesFault taken_before taken_after faults_before faults_after may_want_memory [] no_memory_line)

@@ -222,7 +222,7 @@ fn earlier_with_arc(operations: &[Operation], k: usize, sources: &[Source]) -> R
     requires few { length operations.now ≤ 12 }
     requires there { k < length operations.now }
     requires sources { sources.now ≡ terms.sources operations.now k }
-    ensures { result ≡ set_below k (terms.has_arc operations.now k) }
+    ensures { result ≡ set_below k (terms.has_arc_into operations.now k) }
 {
     let mut earlier = Row::empty();
     for j in 0..k {
@@ -239,7 +239,7 @@ fn has_arc(operations: &[Operation], k: usize, sources: &[Source], j: usize) -> 
     requires there { k < length operations.now }
     requires order { j < k }
     requires sources { sources.now ≡ terms.sources operations.now k }
-    ensures { result ≡ terms.has_arc operations.now k j }
+    ensures { result ≡ terms.has_arc_into operations.now k j }
 {
     let written = operations[k].destination;
     has_node(sources, j as u8)
@@ -278,3 +278,6 @@ fn is_live(operations: &[Operation], k: usize) -> bool
     }
     true
 }
+
+#[cfg(test)]
+mod tests;

@@ -18,8 +18,6 @@ mod fault;
 mod line;
 #[cfg(test)]
 mod tests;
-#[cfg(test)]
-mod tests_block;
 mod words;
 
 /// The status of success.

@@ -1,6 +1,6 @@
 //! Worked calls, over one file `F` and a sink in memory.
 use crate::run;
-use ci_io::{SureShelf, SureSink};
+use ci_io::{MemShelf, MemSink, SureShelf, SureSink};
 use std::alloc::{AllocError, Global};
 use std::collections::BTreeMap;
 use std::process::Abort;
@@ -19,8 +19,8 @@ fn words(alloc: Global, text: &str) -> Result<Vec<String>, AllocError> {
     Ok(words)
 }
 
-/// A shelf that holds the file `F` of these bytes, or no file.
-fn shelf(alloc: Global, file: Option<&[u8]>) -> Result<SureShelf, AllocError> {
+/// The file `F` of these bytes, or no file.
+fn files(alloc: Global, file: Option<&[u8]>) -> Result<BTreeMap<String, Vec<u8>>, AllocError> {
     let mut files = BTreeMap::new(alloc);
     if let Some(bytes) = file {
         files.insert(
@@ -28,7 +28,7 @@ fn shelf(alloc: Global, file: Option<&[u8]>) -> Result<SureShelf, AllocError> {
             Vec::from_slice(alloc, bytes)?,
         )?;
     }
-    Ok(SureShelf::new(files))
+    Ok(files)
 }
 
 /// Calls the program, and asserts its status and the bytes that it put.
@@ -41,7 +41,7 @@ fn expect(
 ) -> Result<(), AllocError> {
     let alloc = rt.alloc();
     let words = words(alloc, text)?;
-    let mut shelf = shelf(alloc, file)?;
+    let mut shelf = SureShelf::new(files(alloc, file)?);
     let mut out = SureSink::new(alloc);
     let answer = run(alloc, &words, &mut shelf, &mut out);
     assert_eq!(rt; answer, status, "the status of {text}");
@@ -145,5 +145,30 @@ fn files_with_no_block(rt: HostRuntime) -> Result<(), Fail> {
     let bytes = bytes_of(rt.alloc(), &THIRTEEN)?;
     let line = "fault 7 unsupported 00000030 00b502b3\n";
     expect(&rt, Some(bytes.as_slice()), "best F", 7, line)?;
+    Ok(())
+}
+
+#[test]
+fn a_read_that_fails(rt: HostRuntime) -> Result<(), Fail> {
+    let alloc = rt.alloc();
+    let words = words(alloc, "best F")?;
+    let mut shelf = MemShelf::new(files(alloc, Some(&UNEVEN))?, vec![in alloc; 1u64]?);
+    let mut out = SureSink::new(alloc);
+    assert_eq!(rt; run(alloc, &words, &mut shelf, &mut out), 2);
+    assert_eq!(rt; out.taken(), b"fault 2 read F\n".as_slice());
+    Ok(())
+}
+
+// The put of the line of success fails, and then that of the fault line too.
+#[test]
+fn puts_that_fail(rt: HostRuntime) -> Result<(), Fail> {
+    let alloc = rt.alloc();
+    let words = words(alloc, "best F")?;
+    for (second, taken) in [(3, "fault 3 write -\n"), (2, "")] {
+        let mut shelf = SureShelf::new(files(alloc, Some(&[]))?);
+        let mut out = MemSink::new(alloc, vec![in alloc; 1u64, second]?);
+        assert_eq!(rt; run(alloc, &words, &mut shelf, &mut out), 3);
+        assert_eq!(rt; out.taken(), taken.as_bytes());
+    }
     Ok(())
 }

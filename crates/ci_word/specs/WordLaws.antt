@@ -1,4 +1,4 @@
--- What the bits of words say of the set that the words hold.
+-- Lemmas: what the bits of words say of the set that the words hold.
 use Rattle.std.specs.Prelude.{◌≡◌, ℕ, suc, zero, ◌+◌, ◌-◌, ◌*◌, ◌^◌, ◌<◌, Bool, true, false, ◌&&◌, nat_lt, nat_eq, if◌then◌else◌, List, [], ◌∷◌, length, slice_index}
 use Rattle.std.specs.FinSet as set
 use Rattle.std.specs.Int.{bit_at}

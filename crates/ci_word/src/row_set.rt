@@ -61,6 +61,7 @@ impl Row {
     /// Whether a number is in.
     pub fn has(&self, n: u8) -> bool
         ensures value { result ≡ set.contains self.now n }
+        // A caller learns here that a row's numbers are below 256.
         ensures below { (k : ℕ) → IsTrue (set.contains self.now k) → k < 256 }
     {
         (self.words[(n / 64) as usize] >> (n % 64)) & 1 == 1
@@ -83,6 +84,7 @@ impl Row {
     /// Whether some number is in both sets.
     pub fn meets(&self, other: &Row) -> bool
         ensures value { IsTrue result ↔ Meets self.now other.now }
+        // A caller learns here that a row's numbers are below 256.
         ensures below { (k : ℕ) → IsTrue (set.contains self.now k) → k < 256 }
     {
         let shared = (self.words[0] & other.words[0])
@@ -96,6 +98,7 @@ impl Row {
     pub fn count(&self) -> u32
         ensures value { result ≡ set.len self.now }
         ensures counted { result ≡ count_below 256 (set.contains self.now) }
+        // A caller learns here that a row's numbers are below 256.
         ensures below { (k : ℕ) → IsTrue (set.contains self.now k) → k < 256 }
     {
         self.words[0].count_ones()

@@ -1,7 +1,7 @@
 -- After a put that failed the fault line is put.
-use Rattle.std.proofs.Common.{Err, ap, take, inl, inr}
+use Rattle.std.proofs.Common.{Err, ap, take, inl, inr, arith}
 use Rattle.ci_find.specs.Answers.{Takes}
-use Rattle.ci_find.proofs.Endings.{Rises-earlier, TakesFault-after}
+use Rattle.ci_find.proofs.Endings.{TakesFault-after}
 use Rattle.ci_find.proofs.put_line.Goals as goal
 
 pub returns-in-Err-Fault : goal.returns-in-Err-Fault
@@ -14,6 +14,11 @@ returns-in-Err-Fault g c =
     rw (← c.as_bytes.ensures.value) front.1 in
     inr (inl (
       c.refuse_write.ensures.status,
-      Rises-earlier _ _ _ never_falls rose c.refuse_write.ensures.never_falls,
-      (front.0, TakesFault-after _ _ _ _ _ _ _ _ _ taken never_falls c.refuse_write.ensures.taken),
+      (
+        g.O.Sink.faults c.put.new.self,
+        never_falls,
+        rose,
+        c.refuse_write.ensures.never_falls,
+        (front.0, TakesFault-after _ _ _ _ _ _ _ _ _ taken (omega arith) c.refuse_write.ensures.taken),
+      ),
     ))

@@ -4,4 +4,4 @@ use Rattle.ci_find.specs.Block as terms
 use Rattle.ci_find.proofs.block.earlier_with_arc.Given as goal
 
 abbrev pub invariant-loop-j : goal.invariant-loop-j
-invariant-loop-j l = l.earlier ≡ set_below l.j (terms.has_arc l.operations l.k)
+invariant-loop-j l = l.earlier ≡ set_below l.j (terms.has_arc_into l.operations l.k)
