@@ -1,0 +1,9 @@
+pub mod Numerals
+pub mod Texts
+pub mod Assembly
+pub mod Operands
+pub mod Encodings
+pub mod Tokens
+pub mod Digits
+pub mod Shown
+pub mod RoundTrip

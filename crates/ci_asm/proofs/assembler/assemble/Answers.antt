@@ -1,0 +1,28 @@
+use Rattle.std.proofs.Common.{sym, subst}
+use Rattle.std.specs.Prelude.{IfOk, IfErr}
+use Rattle.std.proofs.lemmas.Result.{err_from_is_err_and}
+use Rattle.ci_asm.specs.Definitions.{found_in}
+use Rattle.ci_asm.specs.Programs.{lines_of, all_read, assembled, AreWordsIn, IsFaultIn}
+use Rattle.ci_asm.proofs.Assembly.{assembled-read, assembled-unread, fault_carried}
+use Rattle.ci_asm.proofs.assembler.assemble.Goals as goal
+
+pub returns-in_err-definitions-clause-fault : goal.returns-in_err-definitions-clause-fault
+returns-in_err-definitions-clause-fault c =
+    let p = err_from_is_err_and c.from_residual.result c.from_residual.ensures.1 in
+    let text = c.args.text.now in
+    let fault = subst (λ t. IsFaultIn (all_read 1 0 (lines_of t)) c.in_err-definitions.field-0.0) c.as_bytes-text.ensures.value c.in_err-definitions.ensures.fault in
+    rw (p.1, p.2) (fault_carried (all_read 1 0 (lines_of text)) (assembled text) c.in_err-definitions.field-0.0 (assembled-unread text) fault)
+
+pub returns-clause-words : goal.returns-clause-words
+returns-clause-words c =
+    let bytes = c.as_bytes-text.result.now in
+    let e = assembled-read bytes (found_in c.in_ok-definitions.definitions) c.in_ok-definitions.ensures.read c.in_ok-definitions.ensures.definitions in
+    subst (λ t. IfOk c.words_of.result (λ words. AreWordsIn words.items (assembled t))) c.as_bytes-text.ensures.value
+    (subst (λ r. IfOk c.words_of.result (λ words. AreWordsIn words.items r)) (sym e) c.words_of.ensures.words)
+
+pub returns-clause-fault : goal.returns-clause-fault
+returns-clause-fault c =
+    let bytes = c.as_bytes-text.result.now in
+    let e = assembled-read bytes (found_in c.in_ok-definitions.definitions) c.in_ok-definitions.ensures.read c.in_ok-definitions.ensures.definitions in
+    subst (λ t. IfErr c.words_of.result (IsFaultIn (assembled t))) c.as_bytes-text.ensures.value
+    (subst (λ r. IfErr c.words_of.result (IsFaultIn r)) (sym e) c.words_of.ensures.fault)

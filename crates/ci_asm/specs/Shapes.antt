@@ -1,0 +1,240 @@
+-- The table of statements: the mnemonics, their names, and the shape of each statement, slot by slot.
+use Rattle.std.specs.Prelude.{ℕ, ◌%◌, ◌==◌, Bool, true, false, ◌&&◌, if◌then◌else◌, List, [], ◌∷◌, codes, Option, nat_le, find}
+use Rattle.std.specs.Str.{bytes_eq}
+use Rattle.ci_word.specs.declared.arithmetic.Op.{Op}
+use Rattle.ci_word.specs.declared.arithmetic.Op.TheVariants.{Add, Sub, Sll, Slt, Sltu, Xor, Srl, Sra, Or, And, Mul, Mulh, Mulhsu, Mulhu, Div, Divu, Rem, Remu}
+use Rattle.ci_isa.specs.declared.instruction.Cond.{Cond}
+use Rattle.ci_isa.specs.declared.instruction.Cond.TheVariants.{Eq, Ne, Lt, Ge, Ltu, Geu}
+use Rattle.ci_isa.specs.declared.instruction.LoadKind.{LoadKind}
+use Rattle.ci_isa.specs.declared.instruction.LoadKind.TheVariants.{B, H, W, Bu, Hu}
+use Rattle.ci_isa.specs.declared.instruction.Width.{Width}
+use Rattle.ci_isa.specs.declared.instruction.Width.TheVariants.{Byte, Half, Word}
+use Rattle.ci_asm.specs.declared.numbers.Number.{Number}
+use Rattle.ci_asm.specs.declared.mnemonics.Mnemonic.{Mnemonic}
+use Rattle.ci_asm.specs.declared.mnemonics.Mnemonic.TheVariants.{Registers, Constant, Lui, Auipc, Jal, Jalr, Branch, Load, Store, Fence, Ecall, Ebreak, Custom, Cread, Data}
+use Rattle.ci_asm.specs.declared.slots.Field.{Field}
+use Rattle.ci_asm.specs.declared.slots.Field.TheVariants.{Immediate, Amount, Upper, BranchOffset, JumpOffset, FenceBits, UnitNumber, Whole}
+use Rattle.ci_asm.specs.declared.slots.Slot.{Slot}
+use Rattle.ci_asm.specs.declared.slots.Slot.TheVariants.{Rd, Rs1, Rs2, Rs3, Value, Comma, Open, Close}
+
+-- ---- the mnemonics
+
+abbrev pub operation_name : Op → List ℕ
+operation_name Add = codes "add"
+operation_name Sub = codes "sub"
+operation_name Sll = codes "sll"
+operation_name Slt = codes "slt"
+operation_name Sltu = codes "sltu"
+operation_name Xor = codes "xor"
+operation_name Srl = codes "srl"
+operation_name Sra = codes "sra"
+operation_name Or = codes "or"
+operation_name And = codes "and"
+operation_name Mul = codes "mul"
+operation_name Mulh = codes "mulh"
+operation_name Mulhsu = codes "mulhsu"
+operation_name Mulhu = codes "mulhu"
+operation_name Div = codes "div"
+operation_name Divu = codes "divu"
+operation_name Rem = codes "rem"
+operation_name Remu = codes "remu"
+
+-- of the operation with a constant. Nine operations have none, and no name here
+abbrev pub constant_name : Op → List ℕ
+constant_name Add = codes "addi"
+constant_name Slt = codes "slti"
+constant_name Sltu = codes "sltiu"
+constant_name Xor = codes "xori"
+constant_name Or = codes "ori"
+constant_name And = codes "andi"
+constant_name Sll = codes "slli"
+constant_name Srl = codes "srli"
+constant_name Sra = codes "srai"
+constant_name Sub = []
+constant_name Mul = []
+constant_name Mulh = []
+constant_name Mulhsu = []
+constant_name Mulhu = []
+constant_name Div = []
+constant_name Divu = []
+constant_name Rem = []
+constant_name Remu = []
+
+abbrev pub branch_name : Cond → List ℕ
+branch_name Eq = codes "beq"
+branch_name Ne = codes "bne"
+branch_name Lt = codes "blt"
+branch_name Ge = codes "bge"
+branch_name Ltu = codes "bltu"
+branch_name Geu = codes "bgeu"
+
+abbrev pub load_name : LoadKind → List ℕ
+load_name B = codes "lb"
+load_name H = codes "lh"
+load_name W = codes "lw"
+load_name Bu = codes "lbu"
+load_name Hu = codes "lhu"
+
+abbrev pub store_name : Width → List ℕ
+store_name Byte = codes "sb"
+store_name Half = codes "sh"
+store_name Word = codes "sw"
+
+abbrev pub name_of : Mnemonic → List ℕ
+name_of (Registers op) = operation_name op
+name_of (Constant op) = constant_name op
+name_of Lui = codes "lui"
+name_of Auipc = codes "auipc"
+name_of Jal = codes "jal"
+name_of Jalr = codes "jalr"
+name_of (Branch cond) = branch_name cond
+name_of (Load kind) = load_name kind
+name_of (Store width) = store_name width
+name_of Fence = codes "fence"
+name_of Ecall = codes "ecall"
+name_of Ebreak = codes "ebreak"
+name_of Custom = codes "ci"
+name_of Cread = codes "cread"
+name_of Data = codes ".word"
+
+-- all mnemonics
+abbrev pub mnemonics : List Mnemonic
+mnemonics =
+    Registers Add ∷ Registers Sub ∷ Registers Sll ∷ Registers Slt ∷ Registers Sltu ∷ Registers Xor ∷ Registers Srl ∷ Registers Sra ∷ Registers Or ∷ Registers And
+    ∷ Registers Mul ∷ Registers Mulh ∷ Registers Mulhsu ∷ Registers Mulhu ∷ Registers Div ∷ Registers Divu ∷ Registers Rem ∷ Registers Remu
+    ∷ Constant Add ∷ Constant Slt ∷ Constant Sltu ∷ Constant Xor ∷ Constant Or ∷ Constant And ∷ Constant Sll ∷ Constant Srl ∷ Constant Sra
+    ∷ Lui ∷ Auipc ∷ Jal ∷ Jalr
+    ∷ Branch Eq ∷ Branch Ne ∷ Branch Lt ∷ Branch Ge ∷ Branch Ltu ∷ Branch Geu
+    ∷ Load B ∷ Load H ∷ Load W ∷ Load Bu ∷ Load Hu
+    ∷ Store Byte ∷ Store Half ∷ Store Word
+    ∷ Fence ∷ Ecall ∷ Ebreak ∷ Custom ∷ Cread ∷ Data ∷ []
+
+abbrev pub is_named : List ℕ → Mnemonic → Bool
+is_named text m = bytes_eq text (name_of m)
+
+-- the mnemonic with this name
+unfoldable pub mnemonic_of : List ℕ → Option Mnemonic
+mnemonic_of text = find (is_named text) mnemonics
+
+-- ---- the fields that hold a number
+
+-- the operations with a constant
+abbrev pub has_constant : Op → Bool
+has_constant Add = true
+has_constant Slt = true
+has_constant Sltu = true
+has_constant Xor = true
+has_constant Or = true
+has_constant And = true
+has_constant Sll = true
+has_constant Srl = true
+has_constant Sra = true
+has_constant Sub = false
+has_constant Mul = false
+has_constant Mulh = false
+has_constant Mulhsu = false
+has_constant Mulhu = false
+has_constant Div = false
+has_constant Divu = false
+has_constant Rem = false
+has_constant Remu = false
+
+-- some statement has this mnemonic
+abbrev pub is_statement : Mnemonic → Bool
+is_statement (Constant op) = has_constant op
+is_statement m = true
+
+-- how far below 0 and how far above a field's numbers go
+abbrev pub lowest : Field → ℕ
+lowest Immediate = 2048
+lowest BranchOffset = 4096
+lowest JumpOffset = 1048576
+lowest Amount = 0
+lowest Upper = 0
+lowest FenceBits = 0
+lowest UnitNumber = 0
+lowest Whole = 0
+
+abbrev pub highest : Field → ℕ
+highest Immediate = 2047
+highest Amount = 31
+highest Upper = 0xfffff
+highest BranchOffset = 4094
+highest JumpOffset = 1048574
+highest FenceBits = 4095
+highest UnitNumber = 31
+highest Whole = 0xffff_ffff
+
+-- an offset: it is even, and a label may stand for it
+abbrev pub is_offset : Field → Bool
+is_offset BranchOffset = true
+is_offset JumpOffset = true
+is_offset Immediate = false
+is_offset Amount = false
+is_offset Upper = false
+is_offset FenceBits = false
+is_offset UnitNumber = false
+is_offset Whole = false
+
+-- the number lies in the field
+abbrev pub fits : Field → Number → Bool
+fits field n =
+    nat_le n.magnitude (if n.negative then lowest field else highest field) && (if is_offset field then n.magnitude % 2 == 0 else true)
+
+-- ---- the shapes
+
+abbrev pub constant_field : Op → Field
+constant_field Sll = Amount
+constant_field Srl = Amount
+constant_field Sra = Amount
+constant_field Add = Immediate
+constant_field Sub = Immediate
+constant_field Slt = Immediate
+constant_field Sltu = Immediate
+constant_field Xor = Immediate
+constant_field Or = Immediate
+constant_field And = Immediate
+constant_field Mul = Immediate
+constant_field Mulh = Immediate
+constant_field Mulhsu = Immediate
+constant_field Mulhu = Immediate
+constant_field Div = Immediate
+constant_field Divu = Immediate
+constant_field Rem = Immediate
+constant_field Remu = Immediate
+
+-- what stands behind the mnemonic
+abbrev pub slots_of : Mnemonic → List Slot
+slots_of (Registers op) = Rd ∷ Comma ∷ Rs1 ∷ Comma ∷ Rs2 ∷ []
+slots_of (Constant op) = Rd ∷ Comma ∷ Rs1 ∷ Comma ∷ Value (constant_field op) ∷ []
+slots_of Lui = Rd ∷ Comma ∷ Value Upper ∷ []
+slots_of Auipc = Rd ∷ Comma ∷ Value Upper ∷ []
+slots_of Jal = Rd ∷ Comma ∷ Value JumpOffset ∷ []
+slots_of Jalr = Rd ∷ Comma ∷ Value Immediate ∷ Open ∷ Rs1 ∷ Close ∷ []
+slots_of (Branch cond) = Rs1 ∷ Comma ∷ Rs2 ∷ Comma ∷ Value BranchOffset ∷ []
+slots_of (Load kind) = Rd ∷ Comma ∷ Value Immediate ∷ Open ∷ Rs1 ∷ Close ∷ []
+slots_of (Store width) = Rs2 ∷ Comma ∷ Value Immediate ∷ Open ∷ Rs1 ∷ Close ∷ []
+slots_of Fence = Value FenceBits ∷ Comma ∷ Rs1 ∷ Comma ∷ Rd ∷ []
+slots_of Ecall = []
+slots_of Ebreak = []
+slots_of Custom = Value UnitNumber ∷ Comma ∷ Rd ∷ Comma ∷ Rs1 ∷ Comma ∷ Rs2 ∷ Comma ∷ Rs3 ∷ []
+slots_of Cread = Rd ∷ []
+slots_of Data = Value Whole ∷ []
+
+-- the field that holds the statement's number, and one that holds 0 where the statement has none
+abbrev pub field_of : Mnemonic → Field
+field_of (Registers op) = Amount
+field_of (Constant op) = constant_field op
+field_of Lui = Upper
+field_of Auipc = Upper
+field_of Jal = JumpOffset
+field_of Jalr = Immediate
+field_of (Branch cond) = BranchOffset
+field_of (Load kind) = Immediate
+field_of (Store width) = Immediate
+field_of Fence = FenceBits
+field_of Ecall = Amount
+field_of Ebreak = Amount
+field_of Custom = UnitNumber
+field_of Cread = Amount
+field_of Data = Whole

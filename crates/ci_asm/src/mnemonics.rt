@@ -1,0 +1,215 @@
+//! The names of statements.
+ghost use Rattle.std.specs.Prelude.{◌≡◌, find};
+ghost use Rattle.ci_asm.specs.Shapes.{operation_name, constant_name, branch_name, load_name, store_name, name_of, mnemonics, is_named, mnemonic_of};
+
+use ci_isa::{Cond, LoadKind, Width};
+use ci_word::Op;
+
+/// What a statement says, but for its operands.
+#[derive(Clone, Copy, Debug, PartialEq, Eq)]
+pub(crate) enum Mnemonic {
+    /// An operation on two registers.
+    Registers(Op),
+    /// An operation on a register and a constant.
+    Constant(Op),
+    Lui,
+    Auipc,
+    Jal,
+    Jalr,
+    Branch(Cond),
+    Load(LoadKind),
+    Store(Width),
+    Fence,
+    Ecall,
+    Ebreak,
+    /// A unit word.
+    Custom,
+    Cread,
+    /// A whole word.
+    Data,
+}
+
+/// All mnemonics.
+const MNEMONICS: [Mnemonic; 51] = [
+    Mnemonic::Registers(Op::Add),
+    Mnemonic::Registers(Op::Sub),
+    Mnemonic::Registers(Op::Sll),
+    Mnemonic::Registers(Op::Slt),
+    Mnemonic::Registers(Op::Sltu),
+    Mnemonic::Registers(Op::Xor),
+    Mnemonic::Registers(Op::Srl),
+    Mnemonic::Registers(Op::Sra),
+    Mnemonic::Registers(Op::Or),
+    Mnemonic::Registers(Op::And),
+    Mnemonic::Registers(Op::Mul),
+    Mnemonic::Registers(Op::Mulh),
+    Mnemonic::Registers(Op::Mulhsu),
+    Mnemonic::Registers(Op::Mulhu),
+    Mnemonic::Registers(Op::Div),
+    Mnemonic::Registers(Op::Divu),
+    Mnemonic::Registers(Op::Rem),
+    Mnemonic::Registers(Op::Remu),
+    Mnemonic::Constant(Op::Add),
+    Mnemonic::Constant(Op::Slt),
+    Mnemonic::Constant(Op::Sltu),
+    Mnemonic::Constant(Op::Xor),
+    Mnemonic::Constant(Op::Or),
+    Mnemonic::Constant(Op::And),
+    Mnemonic::Constant(Op::Sll),
+    Mnemonic::Constant(Op::Srl),
+    Mnemonic::Constant(Op::Sra),
+    Mnemonic::Lui,
+    Mnemonic::Auipc,
+    Mnemonic::Jal,
+    Mnemonic::Jalr,
+    Mnemonic::Branch(Cond::Eq),
+    Mnemonic::Branch(Cond::Ne),
+    Mnemonic::Branch(Cond::Lt),
+    Mnemonic::Branch(Cond::Ge),
+    Mnemonic::Branch(Cond::Ltu),
+    Mnemonic::Branch(Cond::Geu),
+    Mnemonic::Load(LoadKind::B),
+    Mnemonic::Load(LoadKind::H),
+    Mnemonic::Load(LoadKind::W),
+    Mnemonic::Load(LoadKind::Bu),
+    Mnemonic::Load(LoadKind::Hu),
+    Mnemonic::Store(Width::Byte),
+    Mnemonic::Store(Width::Half),
+    Mnemonic::Store(Width::Word),
+    Mnemonic::Fence,
+    Mnemonic::Ecall,
+    Mnemonic::Ebreak,
+    Mnemonic::Custom,
+    Mnemonic::Cread,
+    Mnemonic::Data,
+];
+
+impl Mnemonic {
+    /// How the mnemonic is written.
+    pub(crate) fn name(self) -> &'static str
+        ensures { result.now ≡ name_of self }
+    {
+        match self {
+            Mnemonic::Registers(op) => operation_name(op),
+            Mnemonic::Constant(op) => constant_name(op),
+            Mnemonic::Lui => "lui",
+            Mnemonic::Auipc => "auipc",
+            Mnemonic::Jal => "jal",
+            Mnemonic::Jalr => "jalr",
+            Mnemonic::Branch(cond) => branch_name(cond),
+            Mnemonic::Load(kind) => load_name(kind),
+            Mnemonic::Store(width) => store_name(width),
+            Mnemonic::Fence => "fence",
+            Mnemonic::Ecall => "ecall",
+            Mnemonic::Ebreak => "ebreak",
+            Mnemonic::Custom => "ci",
+            Mnemonic::Cread => "cread",
+            Mnemonic::Data => ".word",
+        }
+    }
+}
+
+/// The mnemonic with this name.
+#[tactic(auto, unfolding(crate::specs::Shapes::mnemonic_of))]
+pub(crate) fn mnemonic_of(text: &[u8]) -> Option<Mnemonic>
+    ensures { result ≡ mnemonic_of text.now }
+{
+    first_named(text, &MNEMONICS)
+}
+
+/// The first of the mnemonics with this name.
+fn first_named(text: &[u8], mnemonics: &[Mnemonic]) -> Option<Mnemonic>
+    ensures { result ≡ find (is_named text.now) mnemonics.now }
+{
+    for mnemonic in mnemonics {
+        if is_named(text, *mnemonic) {
+            return Some(*mnemonic);
+        }
+    }
+    None
+}
+
+/// The text is the mnemonic's name.
+fn is_named(text: &[u8], mnemonic: Mnemonic) -> bool
+    ensures { result ≡ is_named text.now mnemonic }
+{
+    text == mnemonic.name().as_bytes()
+}
+
+fn operation_name(op: Op) -> &'static str
+    ensures { result.now ≡ operation_name op }
+{
+    match op {
+        Op::Add => "add",
+        Op::Sub => "sub",
+        Op::Sll => "sll",
+        Op::Slt => "slt",
+        Op::Sltu => "sltu",
+        Op::Xor => "xor",
+        Op::Srl => "srl",
+        Op::Sra => "sra",
+        Op::Or => "or",
+        Op::And => "and",
+        Op::Mul => "mul",
+        Op::Mulh => "mulh",
+        Op::Mulhsu => "mulhsu",
+        Op::Mulhu => "mulhu",
+        Op::Div => "div",
+        Op::Divu => "divu",
+        Op::Rem => "rem",
+        Op::Remu => "remu",
+    }
+}
+
+/// The name of the operation with a constant. Nine operations have none.
+fn constant_name(op: Op) -> &'static str
+    ensures { result.now ≡ constant_name op }
+{
+    match op {
+        Op::Add => "addi",
+        Op::Slt => "slti",
+        Op::Sltu => "sltiu",
+        Op::Xor => "xori",
+        Op::Or => "ori",
+        Op::And => "andi",
+        Op::Sll => "slli",
+        Op::Srl => "srli",
+        Op::Sra => "srai",
+        _ => "",
+    }
+}
+
+fn branch_name(cond: Cond) -> &'static str
+    ensures { result.now ≡ branch_name cond }
+{
+    match cond {
+        Cond::Eq => "beq",
+        Cond::Ne => "bne",
+        Cond::Lt => "blt",
+        Cond::Ge => "bge",
+        Cond::Ltu => "bltu",
+        Cond::Geu => "bgeu",
+    }
+}
+
+fn load_name(kind: LoadKind) -> &'static str
+    ensures { result.now ≡ load_name kind }
+{
+    match kind {
+        LoadKind::B => "lb",
+        LoadKind::H => "lh",
+        LoadKind::W => "lw",
+        LoadKind::Bu => "lbu",
+        LoadKind::Hu => "lhu",
+    }
+}
+
+fn store_name(width: Width) -> &'static str
+    ensures { result.now ≡ store_name width }
+{
+    match width {
+        Width::Byte => "sb",
+        Width::Half => "sh",
+        Width::Word => "sw",
+    }
+}

@@ -1,0 +1,90 @@
+//! Numbers in the text.
+ghost use Rattle.std.specs.Prelude.{◌≡◌, ◌^◌, ◌<◌, ◌≤◌, drop};
+ghost use Rattle.std.specs.Char.{digit_value};
+ghost use Rattle.ci_asm.specs.Tokens.{number, number_of};
+ghost use Rattle.ci_asm.specs.Statements.{signed_value};
+ghost use Rattle.ci_asm.specs.Spelling.{number_from};
+
+use crate::scanner::byte_at;
+
+/// A number: its sign and how far it is from 0. Zero may have either sign.
+#[derive(Clone, Copy, Debug, PartialEq, Eq)]
+pub(crate) struct Number {
+    pub negative: bool,
+    pub magnitude: u64,
+}
+
+/// The number that a numeral writes, if it has at most ten digits.
+#[tactic(auto, unfolding(crate::specs::Tokens::number_of))]
+pub(crate) fn number_of(text: &[u8]) -> Option<Number>
+    ensures { result ≡ number_of text.now }
+{
+    if byte_at(text, 0) == b'-' {
+        capped(true, 10, from_place(text, 1))
+    } else if byte_at(text, 1) == b'x' {
+        capped(false, 16, from_place(text, 2))
+    } else {
+        capped(false, 10, text)
+    }
+}
+
+/// The text from a place on.
+fn from_place(text: &[u8], place: usize) -> &[u8]
+    ensures { result.now ≡ drop place text.now }
+{
+    &text[place.min(text.len())..]
+}
+
+/// The number with this sign that digits of this base write, if they are at most ten.
+fn capped(negative: bool, base: u64, digits: &[u8]) -> Option<Number>
+    requires { base ≤ 16 }
+    ensures { result ≡ number negative base digits.now }
+{
+    if digits.len() > 10 {
+        return None;
+    }
+    let mut magnitude = 0;
+    for byte in digits {
+        magnitude = magnitude * base + digit_value(*byte);
+    }
+    Some(Number {
+        negative,
+        magnitude,
+    })
+}
+
+/// What a byte stands for as a digit, and 36 if it is no digit.
+fn digit_value(byte: u8) -> u64
+    ensures value { result ≡ digit_value byte }
+    ensures bound { result ≤ 36 }
+{
+    match byte {
+        b'0'..=b'9' => u64::from(byte - b'0'),
+        b'A'..=b'Z' => u64::from(byte - b'A') + 10,
+        b'a'..=b'z' => u64::from(byte - b'a') + 10,
+        _ => 36,
+    }
+}
+
+/// The number of a signed value.
+pub(crate) fn number_from(value: i32) -> Number
+    ensures { result ≡ number_from value }
+{
+    Number {
+        negative: value < 0,
+        magnitude: u64::from(value.unsigned_abs()),
+    }
+}
+
+/// The signed value of a number.
+pub(crate) fn signed_value(number: Number) -> i32
+    requires { number.magnitude < 2 ^ 31 }
+    ensures { result ≡ signed_value number }
+{
+    let magnitude = number.magnitude as i32;
+    if number.negative {
+        -magnitude
+    } else {
+        magnitude
+    }
+}

@@ -1,0 +1,203 @@
+//! The shapes of statements.
+ghost use Rattle.std.specs.Prelude.{◌≡◌};
+ghost use Rattle.ci_asm.specs.Shapes.{lowest, highest, is_offset, fits, constant_field, slots_of, field_of};
+
+use crate::mnemonics::Mnemonic;
+use crate::numbers::Number;
+use ci_word::Op;
+
+/// A field of a word that holds a number.
+#[derive(Clone, Copy, Debug, PartialEq, Eq)]
+pub(crate) enum Field {
+    /// Twelve bits with a sign.
+    Immediate,
+    /// The amount of a shift.
+    Amount,
+    /// The upper twenty bits of a word.
+    Upper,
+    /// The offset of a branch, in bytes.
+    BranchOffset,
+    /// The offset of a jump, in bytes.
+    JumpOffset,
+    /// The twelve upper bits of FENCE.
+    FenceBits,
+    /// The number of a unit.
+    UnitNumber,
+    /// A whole word.
+    Whole,
+}
+
+/// What is due at a place of a statement.
+#[derive(Clone, Copy, Debug, PartialEq, Eq)]
+pub(crate) enum Slot {
+    Rd,
+    Rs1,
+    Rs2,
+    Rs3,
+    /// A number of this field.
+    Value(Field),
+    Comma,
+    /// An opening bracket.
+    Open,
+    /// A closing bracket.
+    Close,
+}
+
+impl Field {
+    /// How far below 0 the field's numbers go.
+    fn lowest(self) -> u64
+        ensures { result ≡ lowest self }
+    {
+        match self {
+            Field::Immediate => 2048,
+            Field::BranchOffset => 4096,
+            Field::JumpOffset => 1_048_576,
+            _ => 0,
+        }
+    }
+
+    /// How far above 0 the field's numbers go.
+    fn highest(self) -> u64
+        ensures { result ≡ highest self }
+    {
+        match self {
+            Field::Immediate => 2047,
+            Field::Amount | Field::UnitNumber => 31,
+            Field::Upper => 0xfffff,
+            Field::BranchOffset => 4094,
+            Field::JumpOffset => 1_048_574,
+            Field::FenceBits => 4095,
+            Field::Whole => 0xffff_ffff,
+        }
+    }
+
+    /// Whether the field is an offset: it is even, and a label may stand for it.
+    pub(crate) fn is_offset(self) -> bool
+        ensures { result ≡ is_offset self }
+    {
+        matches!(self, Field::BranchOffset | Field::JumpOffset)
+    }
+
+    /// Whether the number lies in the field.
+    pub(crate) fn fits(self, number: Number) -> bool
+        ensures { result ≡ fits self number }
+    {
+        let most = if number.negative {
+            self.lowest()
+        } else {
+            self.highest()
+        };
+        number.magnitude <= most && (!self.is_offset() || number.magnitude % 2 == 0)
+    }
+}
+
+/// The field of the constant of an operation.
+fn constant_field(op: Op) -> Field
+    ensures { result ≡ constant_field op }
+{
+    match op {
+        Op::Sll | Op::Srl | Op::Sra => Field::Amount,
+        _ => Field::Immediate,
+    }
+}
+
+impl Mnemonic {
+    /// The field that holds the statement's number, and one that holds 0 where the statement has
+    /// none.
+    pub(crate) fn field(self) -> Field
+        ensures { result ≡ field_of self }
+    {
+        match self {
+            Mnemonic::Registers(_) | Mnemonic::Ecall | Mnemonic::Ebreak | Mnemonic::Cread => {
+                Field::Amount
+            }
+            Mnemonic::Constant(op) => constant_field(op),
+            Mnemonic::Lui | Mnemonic::Auipc => Field::Upper,
+            Mnemonic::Jal => Field::JumpOffset,
+            Mnemonic::Jalr | Mnemonic::Load(_) | Mnemonic::Store(_) => Field::Immediate,
+            Mnemonic::Branch(_) => Field::BranchOffset,
+            Mnemonic::Fence => Field::FenceBits,
+            Mnemonic::Custom => Field::UnitNumber,
+            Mnemonic::Data => Field::Whole,
+        }
+    }
+
+    /// What stands behind the mnemonic.
+    pub(crate) fn slots(self) -> &'static [Slot]
+        ensures { result.now ≡ slots_of self }
+    {
+        match self {
+            Mnemonic::Registers(_) => &[Slot::Rd, Slot::Comma, Slot::Rs1, Slot::Comma, Slot::Rs2],
+            Mnemonic::Constant(op) => match constant_field(op) {
+                Field::Amount => &[
+                    Slot::Rd,
+                    Slot::Comma,
+                    Slot::Rs1,
+                    Slot::Comma,
+                    Slot::Value(Field::Amount),
+                ],
+                _ => &[
+                    Slot::Rd,
+                    Slot::Comma,
+                    Slot::Rs1,
+                    Slot::Comma,
+                    Slot::Value(Field::Immediate),
+                ],
+            },
+            Mnemonic::Lui | Mnemonic::Auipc => &[Slot::Rd, Slot::Comma, Slot::Value(Field::Upper)],
+            Mnemonic::Jal => &[Slot::Rd, Slot::Comma, Slot::Value(Field::JumpOffset)],
+            Mnemonic::Jalr | Mnemonic::Load(_) => {
+                &[
+                    Slot::Rd,
+                    Slot::Comma,
+                    Slot::Value(Field::Immediate),
+                    Slot::Open,
+                    Slot::Rs1,
+                    Slot::Close,
+                ]
+            }
+            Mnemonic::Store(_) => {
+                &[
+                    Slot::Rs2,
+                    Slot::Comma,
+                    Slot::Value(Field::Immediate),
+                    Slot::Open,
+                    Slot::Rs1,
+                    Slot::Close,
+                ]
+            }
+            Mnemonic::Branch(_) => {
+                &[
+                    Slot::Rs1,
+                    Slot::Comma,
+                    Slot::Rs2,
+                    Slot::Comma,
+                    Slot::Value(Field::BranchOffset),
+                ]
+            }
+            Mnemonic::Fence => {
+                &[
+                    Slot::Value(Field::FenceBits),
+                    Slot::Comma,
+                    Slot::Rs1,
+                    Slot::Comma,
+                    Slot::Rd,
+                ]
+            }
+            Mnemonic::Ecall | Mnemonic::Ebreak => &[],
+            Mnemonic::Custom => &[
+                Slot::Value(Field::UnitNumber),
+                Slot::Comma,
+                Slot::Rd,
+                Slot::Comma,
+                Slot::Rs1,
+                Slot::Comma,
+                Slot::Rs2,
+                Slot::Comma,
+                Slot::Rs3,
+            ],
+            Mnemonic::Cread => &[Slot::Rd],
+            Mnemonic::Data => &[Slot::Value(Field::Whole)],
+        }
+    }
+}
