@@ -1,0 +1,10 @@
+pub mod Rules
+pub mod Rows
+pub mod Spellings
+pub mod Steps
+pub mod States
+pub mod Complete
+pub mod Sound
+pub mod Levels
+pub mod Readings
+pub mod Matches

@@ -1,0 +1,152 @@
+-- What the matches have of an argument, after one more use.
+use Rattle.std.proofs.Common.{◌≡◌, ◌∙◌, Bool, true, false, List, [], ◌∷◌, ◌++◌, codes, Option, Some, None, refl, sym, ap, subst, is_some, option_map}
+use Rattle.std.specs.Prelude.{unwrap_or}
+use Rattle.std.specs.Str.{bytes_eq}
+use Rattle.std.proofs.lemmas.Slice.Eq.{bytes_eq-Decides}
+use Rattle.clap.specs.Walk.{Row, Text, all_of, has_row, used, with_values, without}
+use Rattle.clap.specs.declared.builder.value_parser.Reading.{Reading}
+use Rattle.clap.specs.declared.builder.value_parser.Reading.TheVariants.{AsWritten}
+use Rattle.clap.specs.declared.parser.matches.ValueSource.TheVariants.{CommandLine}
+use Rattle.ci_words.specs.Words.{value_of}
+use Rattle.ci_words.proofs.Rules.{names_rule, option_rule, same_text}
+
+-- the values of the argument, with more at their end
+all_of-same : (id : Text) (how : Reading) (values : List Text) (rows : List Row) → all_of id (with_values id how CommandLine values rows) ≡ Some (unwrap_or (all_of id rows) [] ++ values)
+all_of-same id how values [] = rw (same_text id) refl
+all_of-same id how values (r ∷ rs) = go (bytes_eq r.id id) refl (all_of-same id how values rs)
+  where
+    go : (b : Bool) → bytes_eq r.id id ≡ b → all_of id (with_values id how CommandLine values rs) ≡ Some (unwrap_or (all_of id rs) [] ++ values)
+        → all_of id (with_values id how CommandLine values (r ∷ rs)) ≡ Some (unwrap_or (all_of id (r ∷ rs)) [] ++ values)
+    go true e rest = rw (e, e) refl
+    go false e rest = rw (e, e) rest
+
+-- another argument keeps its values
+all_of-other : (id other : Text) (how : Reading) (values : List Text) (rows : List Row) → bytes_eq id other ≡ false → all_of other (with_values id how CommandLine values rows) ≡ all_of other rows
+all_of-other id other how values [] apart = rw apart refl
+all_of-other id other how values (r ∷ rs) apart = go (bytes_eq r.id id) (bytes_eq r.id other) refl refl (all_of-other id other how values rs apart)
+  where
+    go : (b c : Bool) → bytes_eq r.id id ≡ b → bytes_eq r.id other ≡ c → all_of other (with_values id how CommandLine values rs) ≡ all_of other rs
+        → all_of other (with_values id how CommandLine values (r ∷ rs)) ≡ all_of other (r ∷ rs)
+    go true true e f rest =
+        let is : r.id ≡ id = (bytes_eq-Decides r.id id).0 e in
+        let bad : true ≡ false = sym f ∙ (ap (λ t. bytes_eq t other) is ∙ apart) in
+        cc
+    go true false e f rest = rw (e, f) refl
+    go false true e f rest = rw (e, f) refl
+    go false false e f rest = rw (e, f) rest
+
+-- an argument has a row where it has values
+pub has_row-all : (id : Text) (rows : List Row) → has_row id rows ≡ is_some (all_of id rows)
+has_row-all id [] = refl
+has_row-all id (r ∷ rs) = go (bytes_eq r.id id) refl (has_row-all id rs)
+  where
+    go : (b : Bool) → bytes_eq r.id id ≡ b → has_row id rs ≡ is_some (all_of id rs) → has_row id (r ∷ rs) ≡ is_some (all_of id (r ∷ rs))
+    go true e rest = rw e refl
+    go false e rest = rw e rest
+
+-- where it has none, nothing is taken out
+without_none : (id : Text) (rows : List Row) → has_row id rows ≡ false → without id rows ≡ rows
+without_none id [] none = refl
+without_none id (r ∷ rs) none = go (bytes_eq r.id id) refl (λ rest. without_none id rs rest)
+  where
+    go : (b : Bool) → bytes_eq r.id id ≡ b → (has_row id rs ≡ false → without id rs ≡ rs) → without id (r ∷ rs) ≡ r ∷ rs
+    go true e rest =
+        let bad : true ≡ false = rw e at none in
+        cc
+    go false e rest = rw e (ap (λ tail. r ∷ tail) (rest (rw e at none)))
+
+-- ---- options that are given
+
+-- one more option, which was not given, has its value
+pub value_of-push_same : (name value : Text) (given : List (Text × Text)) → value_of name given ≡ None → value_of name (given ++ (name, value) ∷ []) ≡ Some value
+value_of-push_same name value [] none = rw (same_text name) refl
+value_of-push_same name value (o ∷ os) none = go (bytes_eq o.0 name) refl (λ rest. value_of-push_same name value os rest)
+  where
+    go : (b : Bool) → bytes_eq o.0 name ≡ b → (value_of name os ≡ None → value_of name (os ++ (name, value) ∷ []) ≡ Some value)
+        → value_of name ((o ∷ os) ++ (name, value) ∷ []) ≡ Some value
+    go true e rest =
+        let bad : Some o.1 ≡ None = rw e at none in
+        cc
+    go false e rest = rw e (rest (rw e at none))
+
+-- another option keeps its value
+pub value_of-push_other : (name other value : Text) (given : List (Text × Text)) → bytes_eq name other ≡ false → value_of other (given ++ (name, value) ∷ []) ≡ value_of other given
+value_of-push_other name other value [] apart = rw apart refl
+value_of-push_other name other value (o ∷ os) apart = go (bytes_eq o.0 other) refl (value_of-push_other name other value os apart)
+  where
+    go : (b : Bool) → bytes_eq o.0 other ≡ b → value_of other (os ++ (name, value) ∷ []) ≡ value_of other os → value_of other ((o ∷ os) ++ (name, value) ∷ []) ≡ value_of other (o ∷ os)
+    go true e rest = rw e refl
+    go false e rest = rw e rest
+
+-- ---- matches of names and options
+
+-- no values at all, or a list of some
+abbrev pub listed : List Text → Option (List Text)
+listed [] = None
+listed (name ∷ names) = Some (name ∷ names)
+
+-- the matches have these names, and of each option the value that is given
+pub record AreOf (rows : List Row) (names : List Text) (given : List (Text × Text)) : Type 0 where
+  pub of_names : all_of (codes "names") rows ≡ listed names
+  pub of_option : (name : Text) → bytes_eq (codes "names") name ≡ false → all_of name rows ≡ option_map (λ value. value ∷ []) (value_of name given)
+
+-- one more at the end of what is listed
+listed-push : (names : List Text) (name : Text) → Some (unwrap_or (listed names) [] ++ name ∷ []) ≡ listed (names ++ name ∷ [])
+listed-push [] name = refl
+listed-push (x ∷ xs) name = refl
+
+-- nothing is found at first
+pub no_rows : AreOf [] [] []
+no_rows = record { of_names = refl; of_option = λ name apart. refl }
+
+-- one more name
+pub AreOf-name : (rows : List Row) (names : List Text) (given : List (Text × Text)) (name : Text) → AreOf rows names given → AreOf (used names_rule (name ∷ []) rows) (names ++ name ∷ []) given
+AreOf-name rows names given name are = record {
+  of_names = all_of-same (codes "names") _ (name ∷ []) rows ∙ (ap (λ o. Some (unwrap_or o [] ++ name ∷ [])) are.of_names ∙ listed-push names name);
+  of_option = λ other apart. all_of-other (codes "names") other _ (name ∷ []) rows apart ∙ are.of_option other apart;
+}
+
+-- a value in a list of one
+is_some-map : (o : Option Text) → is_some (option_map (λ value. value ∷ []) o) ≡ is_some o
+is_some-map None = refl
+is_some-map (Some value) = refl
+
+-- an option has a row where it is given
+pub has_row-given : (rows : List Row) (names : List Text) (given : List (Text × Text)) (name : Text) → AreOf rows names given → bytes_eq (codes "names") name ≡ false
+    → has_row name rows ≡ is_some (value_of name given)
+has_row-given rows names given name are apart = has_row-all name rows ∙ (ap is_some (are.of_option name apart) ∙ is_some-map (value_of name given))
+
+-- a test of two texts that fails fails the other way round
+pub apart_flipped : (a b : Text) → bytes_eq a b ≡ false → bytes_eq b a ≡ false
+apart_flipped a b apart = go (bytes_eq b a) refl
+  where
+    go : (t : Bool) → bytes_eq b a ≡ t → t ≡ false
+    go true e =
+        let is : b ≡ a = (bytes_eq-Decides b a).0 e in
+        let bad : true ≡ false = sym (ap (bytes_eq a) is ∙ same_text a) ∙ apart in
+        cc
+    go false e = refl
+
+-- one more option, which was not given before
+pub AreOf-option : (rows : List Row) (names : List Text) (given : List (Text × Text)) (name value : Text) → AreOf rows names given → bytes_eq (codes "names") name ≡ false
+    → value_of name given ≡ None → AreOf (used (option_rule name) (value ∷ []) rows) names (given ++ (name, value) ∷ [])
+AreOf-option rows names given name value are apart new =
+    let none : has_row name rows ≡ false = has_row-given rows names given name are apart ∙ ap is_some new in
+    let kept : without name rows ≡ rows = without_none name rows none in
+    record {
+      of_names = ap (λ rs. all_of (codes "names") (with_values name AsWritten CommandLine (value ∷ []) rs)) kept
+          ∙ (all_of-other name (codes "names") AsWritten (value ∷ []) rows (apart_flipped (codes "names") name apart) ∙ are.of_names);
+      of_option = λ other far. ap (λ rs. all_of other (with_values name AsWritten CommandLine (value ∷ []) rs)) kept ∙ go other far (bytes_eq name other) refl;
+    }
+  where
+    at_name : all_of name (with_values name AsWritten CommandLine (value ∷ []) rows) ≡ option_map (λ v. v ∷ []) (value_of name (given ++ (name, value) ∷ []))
+    at_name = all_of-same name AsWritten (value ∷ []) rows
+        ∙ (ap (λ o. Some (unwrap_or o [] ++ value ∷ [])) (are.of_option name apart ∙ ap (option_map (λ v. v ∷ [])) new) ∙ ap (option_map (λ v. v ∷ [])) (sym (value_of-push_same name value given new)))
+
+    go : (other : Text) → bytes_eq (codes "names") other ≡ false → (b : Bool) → bytes_eq name other ≡ b
+        → all_of other (with_values name AsWritten CommandLine (value ∷ []) rows) ≡ option_map (λ v. v ∷ []) (value_of other (given ++ (name, value) ∷ []))
+    go other far true e =
+        subst (λ t. all_of t (with_values name AsWritten CommandLine (value ∷ []) rows) ≡ option_map (λ v. v ∷ []) (value_of t (given ++ (name, value) ∷ [])))
+        ((bytes_eq-Decides name other).0 e) at_name
+    go other far false e = all_of-other name other AsWritten (value ∷ []) rows e
+        ∙ (are.of_option other far ∙ ap (option_map (λ v. v ∷ [])) (sym (value_of-push_other name other value given e)))

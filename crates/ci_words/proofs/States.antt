@@ -1,0 +1,215 @@
+-- What is held between two words, and which names and options it stands for.
+use Rattle.std.proofs.Common.{◌≡◌, ◌≢◌, ◌∙◌, ◌≤◌, ◌+◌, ℕ, Bool, true, false, List, [], ◌∷◌, ◌++◌, codes, Option, Some, None, refl, sym, ap, subst, arith, is_some}
+use Rattle.std.specs.Prelude.{Contains, count_by, if◌then◌else◌}
+use Rattle.std.proofs.lemmas.List.Sums.{sum_by-append, sum_by-cons}
+use Rattle.std.specs.Option.{option_map_or}
+use Rattle.std.specs.Str.{bytes_eq}
+use Rattle.std.proofs.lemmas.Slice.Eq.{bytes_eq-Decides}
+use Rattle.clap.specs.Lexer.{long_of, name_and_value}
+use Rattle.clap.specs.Kinds.{Kinds, or_else}
+use Rattle.clap.specs.Walk.{Held, Row, Text, has_row, reacted, settled, used, used_by_id}
+use Rattle.clap.specs.Faults.{react_fault, settle_fault, use_fault}
+use Rattle.clap.specs.declared.error.kind.ErrorKind.TheVariants as kind
+use Rattle.clap.proofs.CutLemmas.{Lacks}
+use Rattle.clap.proofs.LexerLemmas.{name_and_value-at, name_and_value-without}
+use Rattle.ci_words.specs.Words.{is_named, value_of}
+use Rattle.ci_words.proofs.Rules.{id_known, option_rule, rules, same_text}
+use Rattle.ci_words.proofs.Rows.{AreOf, AreOf-name, AreOf-option, has_row-given}
+use Rattle.ci_words.proofs.Steps.{named}
+
+-- ---- faults in turn
+
+-- the first of two has no fault where both have none
+pub first_none : (a b : Kinds) → or_else a b ≡ [] → a ≡ []
+first_none [] b none = refl
+first_none (k ∷ ks) b none = none
+
+-- nor has the second
+pub second_none : (a b : Kinds) → or_else a b ≡ [] → b ≡ []
+second_none [] b none = none
+second_none (k ∷ ks) b none =
+    let bad : k ∷ ks ≡ [] = none in
+    cc
+
+-- where neither has a fault, both have none
+pub both_none : (a b : Kinds) → a ≡ [] → b ≡ [] → or_else a b ≡ []
+both_none a b first second = ap (λ k. or_else k b) first ∙ second
+
+-- ---- one use of an option
+
+-- an option that has no row may be used
+use_free : (option value : Text) (rows : List Row) → has_row option rows ≡ false → use_fault false (option_rule option) (value ∷ []) rows ≡ []
+use_free option value rows free = rw free refl
+
+-- and only such a one
+use_taken : (option value : Text) (rows : List Row) → use_fault false (option_rule option) (value ∷ []) rows ≡ [] → has_row option rows ≡ false
+use_taken option value rows none = go (has_row option rows) refl
+  where
+    go : (b : Bool) → has_row option rows ≡ b → b ≡ false
+    go true e =
+        let bad : kind.ArgumentConflict ∷ [] ≡ [] = rw e at none in
+        cc
+    go false e = refl
+
+-- an option of a command: not the argument of the names, not empty, without `=`
+pub record IsOption (option : Text) : Type 0 where
+  pub apart : bytes_eq (codes "names") option ≡ false
+  pub first : ℕ
+  pub others : Text
+  pub filled : option ≡ first ∷ others
+  pub no_equals : Lacks 61 option
+
+-- `--NAME` is an option without a value
+pub long_of-opened : (option : Text) → IsOption option → (bytes_eq (codes "--" ++ option) (codes "--") ≡ false) × (long_of (codes "--" ++ option) ≡ Some (option, None))
+long_of-opened option is = (
+  ap (λ t. bytes_eq (codes "--" ++ t) (codes "--")) is.filled,
+  ap (λ t. long_of (codes "--" ++ t)) is.filled ∙ ap (λ p. Some p) (sym (ap name_and_value is.filled) ∙ name_and_value-without option is.no_equals),
+)
+
+-- `--NAME=VALUE` is an option with its value
+pub long_of-joined : (option value : Text) → IsOption option → (bytes_eq (codes "--" ++ (option ++ (codes "=" ++ value))) (codes "--") ≡ false)
+    × (long_of (codes "--" ++ (option ++ (codes "=" ++ value))) ≡ Some (option, Some value))
+long_of-joined option value is = (
+  ap (λ t. bytes_eq (codes "--" ++ (t ++ (codes "=" ++ value))) (codes "--")) is.filled,
+  ap (λ t. long_of (codes "--" ++ (t ++ (codes "=" ++ value)))) is.filled
+      ∙ ap (λ p. Some p) (sym (ap (λ t. name_and_value (t ++ (codes "=" ++ value))) is.filled) ∙ name_and_value-at option value is.no_equals),
+)
+
+-- ---- options that are given once
+
+-- each option stands at most once
+abbrev pub AreOnce : List (Text × Text) → Type 0
+AreOnce given = (name : Text) → count_by (is_named name) given ≤ 1
+
+-- the options of two lists together
+pub count-append : (name : Text) (a b : List (Text × Text)) → count_by (is_named name) (a ++ b) ≡ count_by (is_named name) a + count_by (is_named name) b
+count-append name a b = sum_by-append (λ o. if is_named name o then 1 else 0) a b
+
+-- the first option and the rest
+pub count-cons : (name : Text) (o : Text × Text) (os : List (Text × Text)) (b : Bool) → bytes_eq o.0 name ≡ b → count_by (is_named name) (o ∷ os) ≡ (if b then 1 else 0) + count_by (is_named name) os
+count-cons name o os b e = sum_by-cons (λ x. if is_named name x then 1 else 0) o os ∙ ap (λ t. (if t then 1 else 0) + count_by (is_named name) os) e
+
+-- an option that is not given is counted nowhere
+pub uncounted : (name : Text) (given : List (Text × Text)) → value_of name given ≡ None → count_by (is_named name) given ≡ 0
+uncounted name [] none = refl
+uncounted name (o ∷ os) none = go (bytes_eq o.0 name) refl (λ rest. uncounted name os rest)
+  where
+    go : (b : Bool) → bytes_eq o.0 name ≡ b → (value_of name os ≡ None → count_by (is_named name) os ≡ 0) → count_by (is_named name) (o ∷ os) ≡ 0
+    go true e rest =
+        let bad : Some o.1 ≡ None = rw e at none in
+        cc
+    go false e rest = omega (arith, count-cons name o os false e, rest (rw e at none))
+
+-- an option that is given is counted
+pub counted : (name value : Text) (given : List (Text × Text)) → value_of name given ≡ Some value → 1 ≤ count_by (is_named name) given
+counted name value [] some = cc
+counted name value (o ∷ os) some = go (bytes_eq o.0 name) refl (λ rest. counted name value os rest)
+  where
+    go : (b : Bool) → bytes_eq o.0 name ≡ b → (value_of name os ≡ Some value → 1 ≤ count_by (is_named name) os) → 1 ≤ count_by (is_named name) (o ∷ os)
+    go true e rest = omega (arith, count-cons name o os true e)
+    go false e rest = omega (arith, count-cons name o os false e, rest (rw e at some))
+
+-- one more option that was not given before
+pub AreOnce-push : (given : List (Text × Text)) (name value : Text) → AreOnce given → value_of name given ≡ None → AreOnce (given ++ (name, value) ∷ [])
+AreOnce-push given name value once new other = go (bytes_eq name other) refl
+  where
+    go : (b : Bool) → bytes_eq name other ≡ b → count_by (is_named other) (given ++ (name, value) ∷ []) ≤ 1
+    go true e =
+        let is : name ≡ other = (bytes_eq-Decides name other).0 e in
+        let none : count_by (is_named other) given ≡ 0 = uncounted other given (ap (λ n. value_of n given) (sym is) ∙ new) in
+        let one : count_by (is_named other) ((name, value) ∷ []) ≡ 1 = rw e refl in
+        omega (arith, count-append other given ((name, value) ∷ []), none, one)
+    go false e =
+        let none : count_by (is_named other) ((name, value) ∷ []) ≡ 0 = rw e refl in
+        omega (arith, count-append other given ((name, value) ∷ []), once other, none)
+
+-- an option that is given once was not given before
+pub new_option : (given : List (Text × Text)) (name value : Text) (rest : List (Text × Text)) → AreOnce (given ++ (name, value) ∷ rest) → value_of name given ≡ None
+new_option given name value rest once = go (value_of name given) refl
+  where
+    go : (o : Option Text) → value_of name given ≡ o → o ≡ None
+    go None e = refl
+    go (Some v) e =
+        let here : count_by (is_named name) ((name, value) ∷ rest) ≡ 1 + count_by (is_named name) rest = count-cons name (name, value) rest true (same_text name) in
+        absurd (omega (arith, count-append name given ((name, value) ∷ rest), once name, counted name v given e, here))
+
+-- ---- what is held
+
+module _ (known : List Text) where
+  -- nothing is amiss in what waits, and with it the matches are these names and options
+  pub record Holds (h : Held) (names : List Text) (given : List (Text × Text)) : Type 0 where
+    pub settles : settle_fault (rules known) false h ≡ []
+    pub stands : AreOf (settled (rules known) h).rows names given
+    pub skips : h.skip ≡ 0
+
+  -- an option that waits for its value
+  abbrev pub opened : List Row → Text → Held
+  opened rows option = record { rows = rows; pending = Some (option, []); skip = 0 }
+
+  -- an option with its value that is not used yet
+  abbrev pub filled : List Row → Text → Text → Held
+  filled rows option value = record { rows = rows; pending = Some (option, value ∷ []); skip = 0 }
+
+  -- one more name
+  pub Holds-named : (h : Held) (names : List Text) (given : List (Text × Text)) (word : Text) → Holds h names given → Holds (named (rules known) word h) (names ++ word ∷ []) given
+  Holds-named h names given word holds = record {
+    settles = refl;
+    stands = AreOf-name (settled (rules known) h).rows names given word holds.stands;
+    skips = holds.skips;
+  }
+
+  module _ (rows : List Row) (names : List Text) (given : List (Text × Text)) (option value : Text) (apart : bytes_eq (codes "names") option ≡ false) (among : Contains known option) where
+    -- the fault of an option with its value, once it is used
+    filled_fault : settle_fault (rules known) false (filled rows option value) ≡ use_fault false (option_rule option) (value ∷ []) rows
+    filled_fault = ap (λ o. option_map_or (λ a. use_fault false a (value ∷ []) rows) o []) (id_known known option apart among)
+
+    -- and its row
+    filled_rows : (settled (rules known) (filled rows option value)).rows ≡ used (option_rule option) (value ∷ []) rows
+    filled_rows = ap (λ o. used_by_id o (value ∷ []) rows) (id_known known option apart among)
+
+    -- one more option, whose value waits
+    pub Holds-filled : AreOf rows names given → value_of option given ≡ None → Holds (filled rows option value) names (given ++ (option, value) ∷ [])
+    Holds-filled are new = record {
+      settles = filled_fault ∙ use_free option value rows (has_row-given rows names given option are apart ∙ ap is_some new);
+      stands = subst (λ rs. AreOf rs names (given ++ (option, value) ∷ [])) (sym filled_rows) (AreOf-option rows names given option value are apart new);
+      skips = refl;
+    }
+
+    -- an option that is used without a fault was not given before
+    pub filled_new : AreOf rows names given → settle_fault (rules known) false (filled rows option value) ≡ [] → value_of option given ≡ None
+    filled_new are none = is_none (value_of option given) (sym (has_row-given rows names given option are apart) ∙ use_taken option value rows (sym filled_fault ∙ none))
+      where
+        is_none : (o : Option Text) → is_some o ≡ false → o ≡ None
+        is_none None e = refl
+        is_none (Some v) e = cc
+
+    -- an option without a value is a fault
+    pub opened_fault : settle_fault (rules known) false (opened rows option) ≢ []
+    opened_fault none =
+        let shown : settle_fault (rules known) false (opened rows option) ≡ use_fault false (option_rule option) [] rows =
+        ap (λ o. option_map_or (λ a. use_fault false a [] rows) o []) (id_known known option apart among) in
+        let bad : kind.InvalidValue ∷ [] ≡ [] = sym shown ∙ none in
+        cc
+
+  module _ (h : Held) (names : List Text) (given : List (Text × Text)) (option value : Text) (apart : bytes_eq (codes "names") option ≡ false) where
+    -- one more option, which is used at once
+    pub Holds-reacted : Holds h names given → value_of option given ≡ None
+        → (react_fault (rules known) false (option_rule option) (value ∷ []) h ≡ []) × Holds (reacted (rules known) (option_rule option) (value ∷ []) h) names (given ++ (option, value) ∷ [])
+    Holds-reacted holds new = (
+      both_none _ _ holds.settles
+          (use_free option value (settled (rules known) h).rows (has_row-given (settled (rules known) h).rows names given option holds.stands apart ∙ ap is_some new)),
+      record {
+        settles = refl;
+        stands = AreOf-option (settled (rules known) h).rows names given option value holds.stands apart new;
+        skips = holds.skips;
+      },
+    )
+
+    -- it was not given before, where this is no fault
+    pub reacted_new : AreOf (settled (rules known) h).rows names given → react_fault (rules known) false (option_rule option) (value ∷ []) h ≡ [] → value_of option given ≡ None
+    reacted_new are none = is_none (value_of option given)
+        (sym (has_row-given (settled (rules known) h).rows names given option are apart) ∙ use_taken option value (settled (rules known) h).rows (second_none (settle_fault (rules known) false h) _ none))
+      where
+        is_none : (o : Option Text) → is_some o ≡ false → o ≡ None
+        is_none None e = refl
+        is_none (Some v) e = cc

@@ -1,0 +1,111 @@
+//! Words that read as a command, and words that do not.
+use crate::{Command, WordsErr, read_words};
+use std::alloc::{AllocError, Global};
+use std::process::Abort;
+use std::test::Fail;
+
+/// The words of a line, by blanks: `''` is the empty word.
+fn words(alloc: Global, line: &str) -> Result<Vec<String>, AllocError> {
+    let mut words = Vec::new(alloc);
+    for word in line.split(' ') {
+        if word == "''" {
+            words.push(String::new(alloc))?;
+        } else if !word.is_empty() {
+            words.push(String::from_str(alloc, word)?)?;
+        }
+    }
+    Ok(words)
+}
+
+/// The command of the words in short: its name, the names in it and the limits.
+fn shown(alloc: Global, line: &str) -> Result<String, AllocError> {
+    let words = words(alloc, line)?;
+    match read_words(alloc, &words) {
+        Ok(Command::Best { file, limits }) => {
+            format!(in alloc; "best {file} {} {}", limits.inputs, limits.outputs)
+        }
+        Ok(Command::Asm { text, out }) => format!(in alloc; "asm {text} {out}"),
+        Ok(Command::Dis { file }) => format!(in alloc; "dis {file}"),
+        Err(WordsErr::NoReading) => String::from_str(alloc, "none"),
+        Err(WordsErr::NoMemory) => Err(AllocError),
+    }
+}
+
+/// Asserts what the line reads as, in short.
+fn expect(rt: &(impl Abort + AllocGlobal), line: &str, wanted: &str) -> Result<(), AllocError> {
+    let text = shown(rt.alloc(), line)?;
+    assert_eq!(rt; text.as_str(), wanted, "the reading of {line}");
+    Ok(())
+}
+
+#[test]
+fn options_stand_anywhere(rt: HostRuntime) -> Result<(), Fail> {
+    expect(&rt, "best F", "best F 3 2")?;
+    expect(&rt, "best F --in=3", "best F 3 2")?;
+    expect(&rt, "best --in 2 F", "best F 2 2")?;
+    expect(&rt, "best F --out 1 --in 3", "best F 3 1")?;
+    expect(&rt, "best --out=1 F --in 03", "best F 3 1")?;
+    expect(&rt, "best F --in 0000000002", "best F 2 2")?;
+    expect(&rt, "best -- F", "best F 3 2")?;
+    expect(&rt, "best --in 1 -- F", "best F 1 2")?;
+    expect(&rt, "best F --", "best F 3 2")?;
+    Ok(())
+}
+
+#[test]
+fn words_with_no_reading(rt: HostRuntime) -> Result<(), Fail> {
+    expect(&rt, "", "none")?;
+    expect(&rt, "foo", "none")?;
+    expect(&rt, "best", "none")?;
+    expect(&rt, "best ''", "none")?;
+    expect(&rt, "best -", "none")?;
+    expect(&rt, "best -x", "none")?;
+    expect(&rt, "best F G", "none")?;
+    expect(&rt, "best F -- G", "none")?;
+    expect(&rt, "best F -- --in", "none")?;
+    expect(&rt, "best -- -F", "none")?;
+    expect(&rt, "dis -- F --", "none")?;
+    expect(&rt, "best F --help", "none")?;
+    expect(&rt, "best F -h", "none")?;
+    expect(&rt, "best help", "best help 3 2")?;
+    Ok(())
+}
+
+#[test]
+fn options_with_no_reading(rt: HostRuntime) -> Result<(), Fail> {
+    expect(&rt, "best F --in", "none")?;
+    expect(&rt, "best F --in=", "none")?;
+    expect(&rt, "best F --in ''", "none")?;
+    expect(&rt, "best F --in --", "none")?;
+    expect(&rt, "best F --in -- 3", "none")?;
+    expect(&rt, "best F --in --out", "none")?;
+    expect(&rt, "best F --in --out 1", "none")?;
+    expect(&rt, "best F --in -1", "none")?;
+    expect(&rt, "best F --in=-1", "none")?;
+    expect(&rt, "best F --in 0", "none")?;
+    expect(&rt, "best F --in 4", "none")?;
+    expect(&rt, "best F --out 3", "none")?;
+    expect(&rt, "best F --in +3", "none")?;
+    expect(&rt, "best F --in 00000000003", "none")?;
+    expect(&rt, "best F --in 4294967299", "none")?;
+    expect(&rt, "best F --in 2 --in 2", "none")?;
+    expect(&rt, "best F --in=2 --in=2", "none")?;
+    expect(&rt, "best F --inn 2", "none")?;
+    expect(&rt, "best F --=2", "none")?;
+    Ok(())
+}
+
+#[test]
+fn names_of_asm_and_dis(rt: HostRuntime) -> Result<(), Fail> {
+    expect(&rt, "asm A B", "asm A B")?;
+    expect(&rt, "asm A -- B", "asm A B")?;
+    expect(&rt, "asm A ./A", "asm A ./A")?;
+    expect(&rt, "asm A A", "none")?;
+    expect(&rt, "asm A", "none")?;
+    expect(&rt, "asm A B C", "none")?;
+    expect(&rt, "asm A B --in 3", "none")?;
+    expect(&rt, "dis F", "dis F")?;
+    expect(&rt, "dis F G", "none")?;
+    expect(&rt, "dis", "none")?;
+    Ok(())
+}
