@@ -1,11 +1,12 @@
 mod Dues
 mod Endings
 mod Fields
+mod Finishes
 mod Graphs
 mod HexDigits
+mod Listed
 mod Members
 mod Nodes
-mod Readings
 mod Runs
 mod Shelves
 mod Spelling

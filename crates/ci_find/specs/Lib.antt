@@ -1,8 +1,9 @@
-pub mod Words
-pub mod Fronts
 pub mod Block
 pub mod BlockErrs
 pub mod Places
 pub mod Lines
+pub mod Listings
+pub mod Texts
 pub mod Answers
 pub mod Refusals
+pub mod Steps

@@ -26,15 +26,22 @@ usage_line = line (codes "fault 1 usage")
 abbrev pub read_line : List ℕ → List ℕ
 read_line name = line (codes "fault 2 read " ++ name)
 
--- standard output is written as a hyphen
-abbrev pub write_line : List ℕ
-write_line = line (codes "fault 3 write -")
+abbrev pub write_line : List ℕ → List ℕ
+write_line name = line (codes "fault 3 write " ++ name)
+
+-- standard output's name
+abbrev pub sink_name : List ℕ
+sink_name = codes "-"
 
 abbrev pub too_large_line : List ℕ → List ℕ
 too_large_line name = line (codes "fault 4 too large " ++ name)
 
 abbrev pub unsupported_line : ℕ → ℕ → List ℕ
 unsupported_line position word = line (codes "fault 7 unsupported " ++ hex position ++ codes " " ++ hex word)
+
+abbrev pub bad_asm_line : ℕ → ℕ → ℕ → List ℕ
+bad_asm_line kind line_number column =
+    line (codes "fault 13 asm " ++ decimal kind ++ codes " " ++ decimal line_number ++ codes " " ++ decimal column)
 
 abbrev pub no_memory_line : List ℕ
 no_memory_line = line (codes "fault 12 no memory")

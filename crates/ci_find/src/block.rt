@@ -86,7 +86,7 @@ fn operation_at(bytes: &[u8], place: usize) -> Result<Operation, BlockErr>
 }
 
 /// The word at this place, counted in words.
-fn word_at(bytes: &[u8], place: usize) -> u32
+pub(crate) fn word_at(bytes: &[u8], place: usize) -> u32
     requires { 4 * place + 4 ≤ length bytes.now }
     ensures { slice_get (terms.words_of bytes.now) place ≡ Some result }
 {

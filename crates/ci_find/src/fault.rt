@@ -2,7 +2,7 @@
 ghost use Rattle.std.specs.Prelude.{◌≡◌, ℕ, ◌≤◌, [], IfOk, OnErr};
 ghost use Rattle.std.specs.String.{string_bytes};
 ghost use Rattle.ci_find.specs.Answers.{TakesFault};
-ghost use Rattle.ci_find.specs.Lines.{hex, read_line, write_line, too_large_line, unsupported_line, no_memory_line};
+ghost use Rattle.ci_find.specs.Lines.{hex, read_line, write_line, sink_name, too_large_line, unsupported_line, bad_asm_line, no_memory_line};
 ghost use Rattle.ci_find.specs.Refusals.{IsRefused};
 
 use ci_io::Sink;
@@ -14,7 +14,7 @@ pub const USAGE: u8 = 1;
 /// The status where the file isn't there, or reading it failed.
 pub const READ_FAULT: u8 = 2;
 
-/// The status where the sink failed to take the line.
+/// The status where writing a file failed, or the sink failed to take the text.
 pub const WRITE_FAULT: u8 = 3;
 
 /// The status where the file is longer than its limit.
@@ -26,7 +26,10 @@ pub const UNSUPPORTED: u8 = 7;
 /// The status where memory ran out.
 pub const NO_MEMORY: u8 = 12;
 
-/// Why there is no line of success.
+/// The status where the file holds no assembler text.
+pub const BAD_ASM: u8 = 13;
+
+/// Why there is no success.
 #[derive(Drop)]
 pub enum Refusal<'a> {
     /// The words have no reading.
@@ -37,6 +40,8 @@ pub enum Refusal<'a> {
     TooLarge(&'a str),
     /// The file holds no block, for the word at this offset, or for its length and 0.
     Unsupported { position: u32, word: u32 },
+    /// The file holds no assembler text, by a fault of this kind at this line and column.
+    BadAsm { kind: u8, line: u32, column: u32 },
     /// Memory ran out.
     NoMemory,
 }
@@ -54,14 +59,19 @@ pub fn refuse<O: Sink>(alloc: Global, refusal: &Refusal<'_>, out: &mut O) -> u8
             unsupported_text(alloc, *position, *word),
             out,
         ),
+        Refusal::BadAsm { kind, line, column } => put_text(
+            BAD_ASM,
+            bad_asm_text(alloc, *kind, *line, *column),
+            out,
+        ),
         Refusal::NoMemory => refuse_memory(out),
     }
 }
 
-/// Puts the fault line of a line of success that the sink failed to take, and answers its status.
+/// Puts the fault line of a text of success that the sink failed to take, and answers its status.
 pub fn refuse_write<O: Sink>(out: &mut O) -> u8
     ensures status { result ≡ 3 }
-    ensures taken { TakesFault (O.taken out.old) (O.taken out.new) (O.faults out.old) (O.faults out.new) O.may_want_memory [] write_line }
+    ensures taken { TakesFault (O.taken out.old) (O.taken out.new) (O.faults out.old) (O.faults out.new) O.may_want_memory [] (write_line sink_name) }
     ensures never_falls { O.faults out.old ≤ O.faults out.new }
 {
     put_fault(WRITE_FAULT, "fault 3 write -\n", out)
@@ -90,7 +100,7 @@ fn put_text<O: Sink>(status: u8, text: Result<String, AllocError>, out: &mut O) 
 }
 
 /// Puts a fault line, and answers its status, also where the sink fails to take the line.
-fn put_fault<O: Sink>(status: u8, line: &str, out: &mut O) -> u8
+pub fn put_fault<O: Sink>(status: u8, line: &str, out: &mut O) -> u8
     ensures status { result ≡ status }
     ensures taken { TakesFault (O.taken out.old) (O.taken out.new) (O.faults out.old) (O.faults out.new) O.may_want_memory [] line.now }
     ensures never_falls { O.faults out.old ≤ O.faults out.new }
@@ -122,8 +132,26 @@ fn unsupported_text(alloc: Global, position: u32, word: u32) -> Result<String, A
     format!(in alloc; "fault 7 unsupported {position} {word}\n")
 }
 
+/// The fault line of a file that could not be written.
+pub fn write_text(alloc: Global, name: &str) -> Result<String, AllocError>
+    ensures { IfOk result (λ text. string_bytes text ≡ write_line name.now) }
+{
+    format!(in alloc; "fault 3 write {name}\n")
+}
+
+/// The fault line of a file that holds no assembler text.
+fn bad_asm_text(alloc: Global, kind: u8, line: u32, column: u32) -> Result<String, AllocError>
+    ensures { IfOk result (λ text. string_bytes text ≡ bad_asm_line kind line column) }
+{
+    let mut text = String::from_str(alloc, "fault 13 asm")?;
+    write!(text, " {kind}")?;
+    write!(text, " {line}")?;
+    writeln!(text, " {column}")?;
+    Ok(text)
+}
+
 /// Eight hex digits.
-fn hex_text(alloc: Global, number: u32) -> Result<String, AllocError>
+pub fn hex_text(alloc: Global, number: u32) -> Result<String, AllocError>
     ensures { IfOk result (λ text. string_bytes text ≡ hex number) }
 {
     format!(in alloc; "{number:08x}")

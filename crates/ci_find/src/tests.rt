@@ -73,6 +73,9 @@ const PAIRS: [u32; 4] = [0x00B502B3, 0x00C282B3, 0x00E68333, 0x00F30333];
 /// Half a word.
 const UNEVEN: [u8; 2] = [0x13, 0x05];
 
+/// A unit word, a read of the hidden register, and a word of neither table.
+const CUSTOM: [u32; 3] = [0x60B5028B, 0x0000032B, 0xFFFFFFFF];
+
 /// A sum, and the word that only fills a place.
 const NO_RESULT: [u8; 8] = [0xB3, 0x02, 0xB5, 0x00, 0x13, 0x00, 0x00, 0x00];
 
@@ -81,9 +84,11 @@ const THIRTEEN: [u32; 13] = [0x00B502B3; 13];
 
 #[test]
 fn blocks(rt: HostRuntime) -> Result<(), Fail> {
-    let rows: [(&[u32], &str, &str); 7] = [
+    let rows: [(&[u32], &str, &str); 9] = [
         (&SUMS, "best F --in 3 --out 1", "cut 0 1 gain 1\n"),
         (&SUMS, "best F --in 2 --out 1", "no cut\n"),
+        (&SUMS, "best --out=1 F --in 3", "cut 0 1 gain 1\n"),
+        (&SUMS, "best --in=3 -- F", "cut 0 1 gain 1\n"),
         (&[], "best F", "no cut\n"),
         (&CONSTANT, "best F --in 2 --out 1", "no cut\n"),
         (&CONSTANT, "best F --in 2 --out 2", "no cut\n"),
@@ -113,7 +118,10 @@ fn words_with_no_reading(rt: HostRuntime) -> Result<(), Fail> {
         "best",
         "best F --in 4",
         "best F --in 2 --in 2",
-        "best F --out 1 --in 3",
+        "asm A A",
+        "asm A",
+        "dis",
+        "dis F --in 3",
         "best -F",
         "best F --in ''",
     ];
@@ -130,6 +138,8 @@ fn files_not_read(rt: HostRuntime) -> Result<(), Fail> {
     let long = vec![in rt.alloc(); 0u8; 1025]?;
     let line = "fault 4 too large F\n";
     expect(&rt, Some(long.as_slice()), "best F", 4, line)?;
+    expect(&rt, None, "asm F OUT", 2, "fault 2 read F\n")?;
+    expect(&rt, None, "dis F", 2, "fault 2 read F\n")?;
     Ok(())
 }
 
@@ -170,5 +180,86 @@ fn puts_that_fail(rt: HostRuntime) -> Result<(), Fail> {
         assert_eq!(rt; run(alloc, &words, &mut shelf, &mut out), 3);
         assert_eq!(rt; out.taken(), taken.as_bytes());
     }
+    Ok(())
+}
+
+/// Assembles the text `F` to `OUT`, and asserts the status, the bytes that the sink took, and those of `OUT`, if it is there.
+fn expect_assembly(
+    rt: &(impl Abort + AllocGlobal),
+    text: &[u8],
+    status: u8,
+    line: &str,
+    written: Option<&[u8]>,
+) -> Result<(), AllocError> {
+    let alloc = rt.alloc();
+    let words = words(alloc, "asm F OUT")?;
+    let mut shelf = SureShelf::new(files(alloc, Some(text))?);
+    let mut out = SureSink::new(alloc);
+    assert_eq!(rt; run(alloc, &words, &mut shelf, &mut out), status);
+    assert_eq!(rt; out.taken(), line.as_bytes());
+    let found = shelf.files().get("OUT").map(|bytes| bytes.as_slice());
+    assert_eq!(rt; found, written);
+    Ok(())
+}
+
+#[test]
+fn texts(rt: HostRuntime) -> Result<(), Fail> {
+    let rows: [(&str, &[u8]); 3] = [
+        ("add x5, x10, x11\n", &[0xB3, 0x02, 0xB5, 0x00]),
+        ("T: bne x9, x0, T\n", &[0x63, 0x90, 0x04, 0x00]),
+        ("", &[]),
+    ];
+    for (text, bytes) in rows {
+        expect_assembly(&rt, text.as_bytes(), 0, "", Some(bytes))?;
+    }
+    Ok(())
+}
+
+#[test]
+fn texts_with_faults(rt: HostRuntime) -> Result<(), Fail> {
+    let rows: [(&[u8], &str); 3] = [
+        (b"add x5, x10\n", "fault 13 asm 3 1 12\n"),
+        (b"foo\n", "fault 13 asm 2 1 1\n"),
+        (&[0xFF], "fault 13 asm 1 1 1\n"),
+    ];
+    for (text, line) in rows {
+        expect_assembly(&rt, text, 13, line, None)?;
+    }
+    Ok(())
+}
+
+#[test]
+fn listings(rt: HostRuntime) -> Result<(), Fail> {
+    let bytes = bytes_of(rt.alloc(), &CUSTOM)?;
+    let rows: [(&[u8], &str); 4] = [
+        (&[0xB3, 0x02, 0xB5, 0x00], "00b502b3 add x5, x10, x11\n"),
+        (
+            bytes.as_slice(),
+            "60b5028b ci 0, x5, x10, x11, x12\n0000032b cread x6\nffffffff .word 0xffffffff\n",
+        ),
+        (&UNEVEN, ""),
+        (
+            &[0xB3, 0x02, 0xB5, 0x00, 0x13],
+            "00b502b3 add x5, x10, x11\n",
+        ),
+    ];
+    for (bytes, text) in rows {
+        expect(&rt, Some(bytes), "dis F", 0, text)?;
+    }
+    Ok(())
+}
+
+// The second call of the shelf is the write of `OUT`.
+#[test]
+fn a_write_that_fails(rt: HostRuntime) -> Result<(), Fail> {
+    let alloc = rt.alloc();
+    let words = words(alloc, "asm F OUT")?;
+    let mut shelf = MemShelf::new(
+        files(alloc, Some(b"add x5, x10, x11\n"))?,
+        vec![in alloc; 2u64]?,
+    );
+    let mut out = SureSink::new(alloc);
+    assert_eq!(rt; run(alloc, &words, &mut shelf, &mut out), 3);
+    assert_eq!(rt; out.taken(), b"fault 3 write OUT\n".as_slice());
     Ok(())
 }

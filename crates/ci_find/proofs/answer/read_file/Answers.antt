@@ -1,5 +1,5 @@
 -- What the shelf answers holds of the files that it tells, or else of files that serve.
-use Rattle.std.proofs.Common.{◌≡◌, ℕ, ◌<◌, Some, None, Err, length, replicate, refl, sym, ap, subst, inl, inr, arith}
+use Rattle.std.proofs.Common.{◌≡◌, ℕ, ◌+◌, ◌<◌, Some, None, Err, length, replicate, refl, sym, ap, subst, inl, inr, arith}
 use Rattle.std.specs.Option.{IsSomeAnd}
 use Rattle.std.specs.FinMap as map
 use Rattle.std.proofs.Math.ListN.{length-replicate}
@@ -26,11 +26,12 @@ returns-in-Err-Fault-clause-refused g c =
 pub returns-in-Err-TooLarge-clause-refused : goal.returns-in-Err-TooLarge-clause-refused
 returns-in-Err-TooLarge-clause-refused g c =
     let name = c.args.name.now in
-    let zeros = replicate 1025 0 in
-    let longer : 1024 < length zeros = omega (arith, length-replicate {A = ℕ} 1025 0) in
-    let shown = subst (λ file. IsSomeAnd file (λ bytes. 1024 < length bytes)) (sym (get-one_file name zeros)) longer in
+    let limit = c.args.limit in
+    let zeros = replicate (limit + 1) 0 in
+    let longer : limit < length zeros = omega (arith, length-replicate {A = ℕ} (limit + 1) 0) in
+    let shown = subst (λ file. IsSomeAnd file (λ bytes. limit < length bytes)) (sym (get-one_file name zeros)) longer in
     let of_the_file = rw c.in-Err-TooLarge.field-0-is at c.in-Err-TooLarge.ensures.of_the_file in
-    held_or _ (λ held. IsSomeAnd (map.get held name) (λ bytes. 1024 < length bytes)) _ (λ held told. (refl, told)) of_the_file (one_file name zeros) (refl, shown)
+    held_or _ (λ held. IsSomeAnd (map.get held name) (λ bytes. limit < length bytes)) _ (λ held told. (refl, told)) of_the_file (one_file name zeros) (refl, shown)
 
 pub returns-in-Err-NoMemory-clause-refused : goal.returns-in-Err-NoMemory-clause-refused
 returns-in-Err-NoMemory-clause-refused g c = held_any _ _ (λ held. tt)

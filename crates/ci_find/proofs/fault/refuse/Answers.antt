@@ -17,3 +17,7 @@ returns-in-TooLarge g c =
 pub returns-in-Unsupported : goal.returns-in-Unsupported
 returns-in-Unsupported g c =
     rw c.in-Unsupported.is (refused_text _ _ _ _ _ _ _ _ _ c.unsupported_text.ensures c.put_text-in-Unsupported.ensures.ok c.put_text-in-Unsupported.ensures.err)
+
+pub returns-in-BadAsm : goal.returns-in-BadAsm
+returns-in-BadAsm g c =
+    rw c.in-BadAsm.is (refused_text _ _ _ _ _ _ _ _ _ c.bad_asm_text.ensures c.put_text-in-BadAsm.ensures.ok c.put_text-in-BadAsm.ensures.err)

@@ -8,7 +8,7 @@ use Rattle.ci_find.specs.Block.{graph_of}
 use Rattle.ci_find.specs.Lines.{cut_line}
 use Rattle.ci_cut.proofs.NodeLaws.{few_eligible}
 use Rattle.ci_find.proofs.Graphs.{length-nodes}
-use Rattle.ci_find.proofs.answer.best_cut_line.Goals as goal
+use Rattle.ci_find.proofs.best.best_cut_line.Goals as goal
 
 pub best_of_all-requires : goal.best_of_all-requires
 best_of_all-requires c =
