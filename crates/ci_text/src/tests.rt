@@ -1,0 +1,40 @@
+//! `add x5, x10, x11`, whose word is 00B502B3.
+use crate::bytes::{bytes_of_words, word_at};
+use crate::hex::{hex_text, push_hex};
+use std::test::Fail;
+
+const WORD: u32 = 0x00B5_02B3;
+
+const BYTES: [u8; 4] = [0xB3, 0x02, 0xB5, 0x00];
+
+#[test]
+fn digits_behind_a_text(rt: HostRuntime) -> Result<(), Fail> {
+    let mut text = String::from_str(rt.alloc(), "word ")?;
+    push_hex(&mut text, WORD)?;
+    assert_eq!(rt; text.as_str(), "word 00b502b3");
+    Ok(())
+}
+
+#[test]
+fn digits_alone(rt: HostRuntime) -> Result<(), Fail> {
+    assert_eq!(rt; hex_text(rt.alloc(), WORD)?.as_str(), "00b502b3");
+    assert_eq!(rt; hex_text(rt.alloc(), 0x9876_ACDF)?.as_str(), "9876acdf");
+    Ok(())
+}
+
+#[test]
+fn words_as_bytes(rt: HostRuntime) -> Result<(), Fail> {
+    let bytes = bytes_of_words(rt.alloc(), &[WORD, 0x0403_0201])?;
+    assert_eq!(rt;
+        bytes.as_slice(),
+        [0xB3, 0x02, 0xB5, 0x00, 1, 2, 3, 4].as_slice()
+    );
+    Ok(())
+}
+
+#[test]
+fn words_of_bytes(rt: HostRuntime) {
+    let bytes = [0xFF, 0xFF, 0xFF, 0xFF, 0xB3, 0x02, 0xB5, 0x00, 0x13];
+    assert_eq!(rt; word_at(&BYTES, 0), WORD);
+    assert_eq!(rt; word_at(&bytes, 1), WORD);
+}
