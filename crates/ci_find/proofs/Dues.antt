@@ -1,111 +1,160 @@
--- What is due to the words.
-use Rattle.std.proofs.Common.{◌≡◌, ℕ, ◌<◌, ◌≤◌, ◌⊎◌, inl, inr, List, length, Option, Some, None, refl, sym, ap, subst, ◌∙◌, arith}
-use Rattle.std.specs.Option.{IsSomeAnd}
-use Rattle.std.specs.FinMap as map
+-- What is due to the words over the files that a shelf tells: one status.
+use Rattle.std.proofs.Common.{◌≡◌, ℕ, ◌≤◌, ◌<◌, ◌⊎◌, inl, inr, List, [], ◌∷◌, Option, Some, None, length, refl, sym, ap, subst, ◌∙◌, arith}
 use Rattle.ci_io.specs.Outcomes.{Files}
 use Rattle.ci_words.specs.Words.{Reading, ReadsAs, HasNoReading, best, asm, dis}
-use Rattle.ci_find.specs.declared.fault.Refusal.{Refusal}
-use Rattle.ci_find.specs.declared.fault.Refusal.TheVariants.{Usage, Read, TooLarge, Unsupported, BadAsm, NoMemory}
-use Rattle.ci_find.specs.Lines.{read_line, too_large_line}
-use Rattle.ci_find.specs.Answers.{file_of, limit_of, Success, IsMade, IsRejected, IsRefusal, usage, absent, too_large, rejected, IsDue}
-use Rattle.ci_find.specs.Refusals.{IsReadRefusal, IsUnmade, Explains, OneReading}
+use Rattle.ci_find.specs.Commands.{inputs_of, IsMade, IsUnmade}
+use Rattle.ci_find.specs.Endings.{IsDone, IsRefusal, usage, file, unmade, IsDue}
+use Rattle.ci_find.specs.Forms.{Form, any_bytes, assembler_text, IsWellFormed, IsMalformed}
+use Rattle.ci_find.specs.Inputs.{Input, IsGood, AreRead, IsRefusedFile, absent, too_large, malformed, IsFileRefusal}
+use Rattle.ci_find.specs.Refusals.{OneReading}
+use Rattle.ci_find.specs.Success.{Success}
+use Rattle.ci_find.specs.Texts.{IsText, IsBadText}
 use Rattle.ci_find.proofs.Spelling.{block_or_unsupported}
 
--- an option that has some value with a fact is that value
-some_and : {X : Type 0} (option : Option X) (P : X → Type 0) → IsSomeAnd option P → (x : X) × (option ≡ Some x) × P x
-some_and None P h = absurd h
-some_and (Some x) P h = (x, refl, h)
+-- ---- one file
 
--- ---- why the words are refused
+-- a text that assembles has no fault
+text_or_fault : (bytes words : List ℕ) (kind line column : ℕ) → IsText bytes words → IsBadText bytes kind line column → ⊥
+text_or_fault bytes words kind line column text (inl bad) = bad.0 text.encoded
+text_or_fault bytes words kind line column text (inr bad) =
+    let read = text.assembles in
+    let clash = sym read.1 ∙ bad.1 in
+    absurd cc
 
--- why the file gives no bytes is why the words are refused
-pub Explains-read : (held : Files) (words : List (List ℕ)) (before after : ℕ) (reading : Reading) (refusal : Refusal) → ReadsAs words reading → IsReadRefusal held (file_of reading) (limit_of reading) before after refusal → Explains held words before after refusal
-Explains-read held words before after reading Usage reads h = absurd h
-Explains-read held words before after reading (Read name) reads (e, inl none) =
-    inl (subst (λ file. IsRefusal held words 2 (read_line file)) (sym e) (absent reading reads none))
-Explains-read held words before after reading (Read name) reads (e, inr rose) = inr (inl (reading, reads, ap read_line e, refl, rose))
-Explains-read held words before after reading (TooLarge name) reads (e, longer) =
-    let file = some_and (map.get held (file_of reading)) (λ bytes. limit_of reading < length bytes) longer in
-    inl (subst (λ name. IsRefusal held words 4 (too_large_line name)) (sym e) (too_large reading reads file.1 file.2))
-Explains-read held words before after reading (Unsupported position word) reads h = absurd h
-Explains-read held words before after reading (BadAsm kind line column) reads h = absurd h
-Explains-read held words before after reading NoMemory reads h = inr (inr refl)
+-- what is well formed is not malformed
+formed_or_not : (form : Form) (bytes : List ℕ) (status : ℕ) (text : List ℕ) → IsWellFormed form bytes → IsMalformed form bytes status text → ⊥
+formed_or_not any_bytes bytes status text good bad = bad
+formed_or_not assembler_text bytes status text good bad = text_or_fault bytes good.0 bad.0 bad.1 bad.2 good.1 bad.3
 
--- why nothing is made of its bytes is why the words are refused
-pub Explains-unmade : (held : Files) (words : List (List ℕ)) (before after : ℕ) (reading : Reading) (bytes : List ℕ) (refusal : Refusal) → ReadsAs words reading → map.get held (file_of reading) ≡ Some bytes → length bytes ≤ limit_of reading → IsUnmade reading bytes refusal → Explains held words before after refusal
-Explains-unmade held words before after reading bytes refusal reads there within (inl is) = inl (rejected reading reads there within is)
-Explains-unmade held words before after reading bytes refusal reads there within (inr none) = inr (inr none)
+-- bytes are malformed with one status
+malformed_once : (form : Form) (bytes : List ℕ) (first second : ℕ) (text other : List ℕ) → IsMalformed form bytes first text → IsMalformed form bytes second other → first ≡ second
+malformed_once any_bytes bytes first second text other a b = absurd a
+malformed_once assembler_text bytes first second text other a b = a.4 ∙ sym b.4
+
+-- ---- the files of a shelf that tells them
+
+module _ (held : Files) where
+  -- a name has one file
+  same_bytes : (bytes other : List ℕ) (found : Option (List ℕ)) → found ≡ Some bytes → found ≡ Some other → bytes ≡ other
+  same_bytes bytes other found a b = let both : Some bytes ≡ Some other = sym a ∙ b in cc
+
+  good_once : (input : Input) (bytes other : List ℕ) → IsGood (Some held) input bytes → IsGood (Some held) input other → bytes ≡ other
+  good_once input bytes other a b = same_bytes bytes other _ a.there b.there
+
+  -- a file with which nothing is wrong is not refused
+  good_or_refused : (input : Input) (bytes : List ℕ) (status : ℕ) (text : List ℕ) → IsGood (Some held) input bytes → IsRefusedFile (Some held) input status text → ⊥
+  good_or_refused input bytes status text good (absent none) = let both : None ≡ Some bytes = sym none ∙ good.there in absurd cc
+  good_or_refused input bytes status text good (too_large other there longer) =
+      let same = ap length (same_bytes bytes other _ good.there there) in
+      absurd (omega (arith, same, good.within_limit))
+  good_or_refused input bytes status text good (malformed {status = s} {text = t} other there within bad) =
+      formed_or_not input.form other s t (subst (IsWellFormed input.form) (same_bytes bytes other _ good.there there) good.well_formed) bad
+
+  -- a file is refused with one status
+  refused_once : (input : Input) (first second : ℕ) (text other : List ℕ) → IsRefusedFile (Some held) input first text → IsRefusedFile (Some held) input second other → first ≡ second
+  refused_once input first second text other (absent a) (absent b) = refl
+  refused_once input first second text other (absent a) (too_large bytes there longer) = let both : None ≡ Some bytes = sym a ∙ there in absurd cc
+  refused_once input first second text other (absent a) (malformed bytes there within bad) = let both : None ≡ Some bytes = sym a ∙ there in absurd cc
+  refused_once input first second text other (too_large bytes there longer) (absent b) = let both : None ≡ Some bytes = sym b ∙ there in absurd cc
+  refused_once input first second text other (too_large bytes there longer) (too_large more found larger) = refl
+  refused_once input first second text other (too_large bytes there longer) (malformed more found within bad) =
+      let same = ap length (same_bytes bytes more _ there found) in
+      absurd (omega (arith, same, longer, within))
+  refused_once input first second text other (malformed bytes there within bad) (absent b) = let both : None ≡ Some bytes = sym b ∙ there in absurd cc
+  refused_once input first second text other (malformed bytes there within bad) (too_large more found larger) =
+      let same = ap length (same_bytes bytes more _ there found) in
+      absurd (omega (arith, same, larger, within))
+  refused_once input first second text other (malformed {status = s} {text = t} bytes there within bad) (malformed {status = s'} {text = t'} more found under worse) =
+      malformed_once input.form more s s' t t' (subst (λ b. IsMalformed input.form b s t) (same_bytes bytes more _ there found) bad) worse
+
+  -- the files hold one list of bytes
+  read_once : (inputs : List Input) (read other : List (List ℕ)) → AreRead (Some held) inputs read → AreRead (Some held) inputs other → read ≡ other
+  read_once [] [] [] a b = refl
+  read_once [] [] (y ∷ other) a b = absurd b
+  read_once [] (x ∷ read) other a b = absurd a
+  read_once (input ∷ inputs) [] other a b = absurd a
+  read_once (input ∷ inputs) (x ∷ read) [] a b = absurd b
+  read_once (input ∷ inputs) (x ∷ read) (y ∷ other) a b =
+      let first = good_once input x y a.0 b.0 in
+      let others = read_once inputs read other a.1 b.1 in
+      cc
+
+  -- files that are all read are not refused
+  read_or_refused : (inputs : List Input) (read : List (List ℕ)) (status : ℕ) (text : List ℕ) → AreRead (Some held) inputs read → IsFileRefusal (Some held) inputs status text → ⊥
+  read_or_refused [] read status text a b = b
+  read_or_refused (input ∷ inputs) [] status text a b = a
+  read_or_refused (input ∷ inputs) (x ∷ read) status text a (inl b) = good_or_refused input x status text a.0 b
+  read_or_refused (input ∷ inputs) (x ∷ read) status text a (inr b) = read_or_refused inputs read status text a.1 b.2
+
+  -- files are refused with one status
+  refusal_once : (inputs : List Input) (first second : ℕ) (text other : List ℕ) → IsFileRefusal (Some held) inputs first text → IsFileRefusal (Some held) inputs second other → first ≡ second
+  refusal_once [] first second text other a b = absurd a
+  refusal_once (input ∷ inputs) first second text other (inl a) (inl b) = refused_once input first second text other a b
+  refusal_once (input ∷ inputs) first second text other (inl a) (inr b) = absurd (good_or_refused input b.0 first text b.1 a)
+  refusal_once (input ∷ inputs) first second text other (inr a) (inl b) = absurd (good_or_refused input a.0 second other a.1 b)
+  refusal_once (input ∷ inputs) first second text other (inr a) (inr b) = refusal_once inputs first second text other a.2 b.2
+
+-- ---- the commands
+
+-- of what something is made is not refused
+made_or_unmade : (reading : Reading) (read : List (List ℕ)) (success : Success) (status : ℕ) (text : List ℕ) → IsMade reading read success → IsUnmade reading read status text → ⊥
+made_or_unmade (best name inputs outputs) read success status text made is =
+    let same : made.bytes ≡ is.bytes = let lists : made.bytes ∷ [] ≡ is.bytes ∷ [] = sym made.read_is ∙ is.read_is in cc in
+    block_or_unsupported is.bytes made.operations is.position is.word is.unsupported (rw (← same) made.block)
+made_or_unmade (asm name out) read success status text made is = is
+made_or_unmade (dis name) read success status text made is = is
+
+-- it is refused with one status
+unmade_once : (reading : Reading) (read : List (List ℕ)) (first second : ℕ) (text other : List ℕ) → IsUnmade reading read first text → IsUnmade reading read second other → first ≡ second
+unmade_once (best name inputs outputs) read first second text other a b = a.status_is ∙ sym b.status_is
+unmade_once (asm name out) read first second text other a b = absurd a
+unmade_once (dis name) read first second text other a b = absurd a
 
 -- ---- one status is due
 
--- bytes are refused with one status
-rejected_status : (reading : Reading) (bytes : List ℕ) (first second : ℕ) (text other : List ℕ) → IsRejected reading bytes first text → IsRejected reading bytes second other → first ≡ second
-rejected_status (best file inputs outputs) bytes first second text other a b = a.3 ∙ sym b.3
-rejected_status (asm name out) bytes first second text other a b = a.4 ∙ sym b.4
-rejected_status (dis file) bytes first second text other a b = absurd a
+-- the status that is due to a reading
+abbrev ReadingStatus : Files → Reading → ℕ → Type 0
+ReadingStatus held reading status =
+    ((text : List ℕ) × IsFileRefusal (Some held) (inputs_of reading) status text)
+    ⊎ ((read : List (List ℕ)) × AreRead (Some held) (inputs_of reading) read × ((text : List ℕ) × IsUnmade reading read status text))
+    ⊎ ((read : List (List ℕ)) × AreRead (Some held) (inputs_of reading) read × ((success : Success) × IsMade reading read success) × (status ≡ 0))
 
--- bytes of which something is made are not refused
-made_or_rejected : (reading : Reading) (bytes : List ℕ) (success : Success) (status : ℕ) (text : List ℕ) → IsMade reading bytes success → IsRejected reading bytes status text → ⊥
-made_or_rejected (best file inputs outputs) bytes success status text made is =
-    block_or_unsupported bytes made.0.0 is.0 is.1 is.2 made.0.2
-made_or_rejected (asm name out) bytes success status text made (kind, line, column, inl bad, positive, spelt) = bad.0 made.1.1.0
-made_or_rejected (asm name out) bytes success status text made (kind, line, column, inr bad, positive, spelt) =
-    let read = made.1.1.1.1.1 in
-    let clash = sym read ∙ bad.1 in
-    absurd cc
-made_or_rejected (dis file) bytes success status text made is = is
+module _ (held : Files) (reading : Reading) where
+  reading_once : (first second : ℕ) → ReadingStatus held reading first → ReadingStatus held reading second → first ≡ second
+  reading_once first second (inl a) (inl b) = refusal_once held (inputs_of reading) first second a.0 b.0 a.1 b.1
+  reading_once first second (inl a) (inr (inl b)) = absurd (read_or_refused held (inputs_of reading) b.0 first a.0 b.1 a.1)
+  reading_once first second (inl a) (inr (inr b)) = absurd (read_or_refused held (inputs_of reading) b.0 first a.0 b.1 a.1)
+  reading_once first second (inr (inl a)) (inl b) = absurd (read_or_refused held (inputs_of reading) a.0 second b.0 a.1 b.1)
+  reading_once first second (inr (inl a)) (inr (inl b)) =
+      unmade_once reading b.0 first second a.2.0 b.2.0 (subst (λ read. IsUnmade reading read first a.2.0) (read_once held (inputs_of reading) a.0 b.0 a.1 b.1) a.2.1) b.2.1
+  reading_once first second (inr (inl a)) (inr (inr b)) =
+      absurd (made_or_unmade reading b.0 b.2.0 first a.2.0 b.2.1 (subst (λ read. IsUnmade reading read first a.2.0) (read_once held (inputs_of reading) a.0 b.0 a.1 b.1) a.2.1))
+  reading_once first second (inr (inr a)) (inl b) = absurd (read_or_refused held (inputs_of reading) a.0 second b.0 a.1 b.1)
+  reading_once first second (inr (inr a)) (inr (inl b)) =
+      absurd (made_or_unmade reading a.0 a.2.0 second b.2.0 a.2.1 (subst (λ read. IsUnmade reading read second b.2.0) (read_once held (inputs_of reading) b.0 a.0 b.1 a.1) b.2.1))
+  reading_once first second (inr (inr a)) (inr (inr b)) = a.3 ∙ sym b.3
 
--- the status that is due over a file, or over none
-abbrev FileStatus : Reading → Option (List ℕ) → ℕ → Type 0
-FileStatus reading None status = status ≡ 2
-FileStatus reading (Some bytes) status =
-    ((limit_of reading < length bytes) × (status ≡ 4))
-    ⊎ ((length bytes ≤ limit_of reading) × ((text : List ℕ) × IsRejected reading bytes status text))
-    ⊎ ((length bytes ≤ limit_of reading) × ((success : Success) × IsMade reading bytes success) × (status ≡ 0))
+-- the status that is due to words: that of their reading, or 1 where they have none
+abbrev WordsStatus : Files → List (List ℕ) → ℕ → Type 0
+WordsStatus held words status =
+    (HasNoReading words × (status ≡ 1)) ⊎ ((reading : Reading) × ReadsAs words reading × ReadingStatus held reading status)
 
--- a file has one status
-FileStatus-same : (reading : Reading) (file : Option (List ℕ)) (first second : ℕ) → FileStatus reading file first → FileStatus reading file second → first ≡ second
-FileStatus-same reading None first second a b = cc
-FileStatus-same reading (Some bytes) first second (inl a) (inl b) = omega arith
-FileStatus-same reading (Some bytes) first second (inl a) (inr (inl b)) = absurd (omega arith)
-FileStatus-same reading (Some bytes) first second (inl a) (inr (inr b)) = absurd (omega arith)
-FileStatus-same reading (Some bytes) first second (inr (inl a)) (inl b) = absurd (omega arith)
-FileStatus-same reading (Some bytes) first second (inr (inl a)) (inr (inl b)) = rejected_status reading bytes first second a.1.0 b.1.0 a.1.1 b.1.1
-FileStatus-same reading (Some bytes) first second (inr (inl a)) (inr (inr b)) = absurd (made_or_rejected reading bytes b.1.0 first a.1.0 b.1.1 a.1.1)
-FileStatus-same reading (Some bytes) first second (inr (inr a)) (inl b) = absurd (omega arith)
-FileStatus-same reading (Some bytes) first second (inr (inr a)) (inr (inl b)) = absurd (made_or_rejected reading bytes a.1.0 second b.1.0 a.1.1 b.1.1)
-FileStatus-same reading (Some bytes) first second (inr (inr a)) (inr (inr b)) = omega arith
+refusal_status : (held : Files) (words : List (List ℕ)) (status : ℕ) (text : List ℕ) → IsRefusal (Some held) words status text → WordsStatus held words status
+refusal_status held words status text (usage none) = inl (none, refl)
+refusal_status held words status text (file {text = t} reading reads refused) = inr (reading, reads, inl (t, refused))
+refusal_status held words status text (unmade {text = t} reading read reads files is) = inr (reading, reads, inr (inl (read, files, (t, is))))
 
--- the status that is due: 1, or that of the file of the reading
-abbrev Status : Files → List (List ℕ) → ℕ → Type 0
-Status held words status =
-    (HasNoReading words × (status ≡ 1))
-    ⊎ ((reading : Reading) × ReadsAs words reading × FileStatus reading (map.get held (file_of reading)) status)
+due_status : (held : Files) (words : List (List ℕ)) (status : ℕ) → IsDue (Some held) words status → WordsStatus held words status
+due_status held words status (inl (zero, (success, is))) = inr (is.reading, is.reads, inr (inr (is.read, is.files, (success, is.made), zero)))
+due_status held words status (inr (text, is)) = refusal_status held words status text is
 
-Status-refusal : (held : Files) (words : List (List ℕ)) (status : ℕ) (text : List ℕ) → IsRefusal held words status text → Status held words status
-Status-refusal held words status text (usage none) = inl (none, refl)
-Status-refusal held words status text (absent reading reads none) =
-    inr (reading, reads, subst (λ file. FileStatus reading file 2) (sym none) refl)
-Status-refusal held words status text (too_large reading reads there longer) =
-    inr (reading, reads, subst (λ file. FileStatus reading file 4) (sym there) (inl (longer, refl)))
-Status-refusal held words status text (rejected reading reads there within is) =
-    inr (reading, reads, subst (λ file. FileStatus reading file status) (sym there) (inr (inl (within, (text, is)))))
+words_once : (held : Files) (words : List (List ℕ)) (first second : ℕ) → OneReading words → WordsStatus held words first → WordsStatus held words second → first ≡ second
+words_once held words first second one (inl a) (inl b) = a.1 ∙ sym b.1
+words_once held words first second one (inl a) (inr b) = absurd (a.0 b.0 b.1)
+words_once held words first second one (inr a) (inl b) = absurd (b.0 a.0 a.1)
+words_once held words first second one (inr a) (inr b) =
+    reading_once held b.0 first second (subst (λ reading. ReadingStatus held reading first) (one a.0 b.0 a.1 b.1) a.2) b.2
 
-Status-due : (held : Files) (words : List (List ℕ)) (status : ℕ) → IsDue held words status → Status held words status
-Status-due held words status (inl (e, (success, is))) =
-    inr (is.reading, is.reads, subst (λ file. FileStatus is.reading file status) (sym is.there) (inr (inr (is.within_limit, (success, is.made), e))))
-Status-due held words status (inr (text, is)) = Status-refusal held words status text is
-
-Status-same : (held : Files) (words : List (List ℕ)) (first second : ℕ) → OneReading words → Status held words first → Status held words second → first ≡ second
-Status-same held words first second one (inl a) (inl b) = cc
-Status-same held words first second one (inl a) (inr b) = absurd (a.0 b.0 b.1)
-Status-same held words first second one (inr a) (inl b) = absurd (b.0 a.0 a.1)
-Status-same held words first second one (inr a) (inr b) =
-    let same = one b.0 a.0 b.1 a.1 in
-    let other = subst (λ (reading : Reading). FileStatus reading (map.get held (file_of reading)) second) same b.2 in
-    FileStatus-same a.0 (map.get held (file_of a.0)) first second a.2 other
-
--- one status is due to words with one reading
-pub IsDue-same : (held : Files) (words : List (List ℕ)) (first second : ℕ) → OneReading words → IsDue held words first → IsDue held words second → first ≡ second
-IsDue-same held words first second one a b =
-    Status-same held words first second one (Status-due held words first a) (Status-due held words second b)
+-- one status is due
+pub IsDue-same : (held : Files) (words : List (List ℕ)) (first second : ℕ) → OneReading words → IsDue (Some held) words first → IsDue (Some held) words second → first ≡ second
+IsDue-same held words first second one a b = words_once held words first second one (due_status held words first a) (due_status held words second b)

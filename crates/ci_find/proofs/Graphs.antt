@@ -15,7 +15,7 @@ use Rattle.ci_word.proofs.NumberLaws.{numbers_below-zero, numbers_below-suc}
 use Rattle.ci_cut.specs.declared.graph.Source.TheVariants.{Made}
 use Rattle.ci_cut.specs.declared.graph.Node.{Node}
 use Rattle.ci_cut.specs.FlowGraph.{IsFlowGraph, node_at, no_node, is_source}
-use Rattle.ci_find.specs.declared.block.Operation.{Operation}
+use Rattle.ci_find.specs.declared.commands.best.block.Operation.{Operation}
 use Rattle.ci_find.specs.Block.{no_operation, has_arc_into, node_of, graph_of}
 use Rattle.ci_find.proofs.Nodes as nodes
 

@@ -1,14 +1,13 @@
--- Listings, and the bytes of words, as they grow at their end.
+-- Listings as they grow at their end.
 use Rattle.std.specs.Prelude.{◌≡◌, ℕ, ◌+◌, ◌/◌, ◌<◌, ◌≤◌, List, [], ◌∷◌, ◌++◌, length, slice_get, Some}
 use Rattle.std.specs.Int.{to_le_bytes, w32}
 use Rattle.std.proofs.Common.{refl, sym, ap, subst, ◌∙◌, append_assoc, append-nil, get_or, take}
 use Rattle.std.proofs.lemmas.List.{take_more, take_all}
 use Rattle.std.proofs.lemmas.Grind.{flat_map-append}
 use Rattle.std.proofs.lemmas.Option.{slice_get_within, get_or_from_slice_get}
-use Rattle.ci_find.specs.Block.{words_of}
-use Rattle.ci_find.specs.Texts.{bytes_of}
-use Rattle.ci_find.specs.Listings.{IsTextOf, IsListing, listed}
-use Rattle.ci_find.proofs.Spelling.{length-words_of}
+use Rattle.ci_text.specs.Bytes.{words_of_bytes}
+use Rattle.ci_find.specs.DisCommand.{IsTextOf, IsListing, listed}
+use Rattle.ci_text.proofs.ByteLaws.{length-words_of_bytes}
 
 -- one line more, for one word more
 pub IsListing-push : (words : List ℕ) (text : List ℕ) (word : ℕ) (shown : List ℕ) → IsListing words text → IsTextOf word shown → IsListing (words ++ word ∷ []) (text ++ listed word shown)
@@ -34,13 +33,6 @@ listing_more words place word text after shown there before is joined =
         ∙ ap (λ w. take place words ++ (w ∷ [])) (get_or_from_slice_get words place word 0 there)
 
 -- the listing of the words up to the last is that of all
-pub listing_all : (bytes : List ℕ) (place : ℕ) (text : List ℕ) → length bytes / 4 ≤ place → IsListing (take place (words_of bytes)) text → IsListing (words_of bytes) text
+pub listing_all : (bytes : List ℕ) (place : ℕ) (text : List ℕ) → length bytes / 4 ≤ place → IsListing (take place (words_of_bytes bytes)) text → IsListing (words_of_bytes bytes) text
 listing_all bytes place text all before =
-    subst (λ words. IsListing words text) (take_all place (words_of bytes) (rw length-words_of all)) before
-
--- the bytes of the words up to a place, and of the word there
-pub bytes_more : (words : List ℕ) (place : ℕ) → place < length words → bytes_of (take (place + 1) words) ≡ bytes_of (take place words) ++ to_le_bytes w32 (get_or words place 0)
-bytes_more words place within =
-    ap bytes_of (take_more words place 0 within)
-    ∙ flat_map-append (to_le_bytes w32) (take place words) (get_or words place 0 ∷ [])
-    ∙ ap (λ last. bytes_of (take place words) ++ last) (append-nil (to_le_bytes w32 (get_or words place 0)))
+    subst (λ words. IsListing words text) (take_all place (words_of_bytes bytes) (rw length-words_of_bytes all)) before

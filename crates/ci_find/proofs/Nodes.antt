@@ -11,7 +11,7 @@ use Rattle.ci_word.specs.Numbers.{numbers_below, set_below, some_below}
 use Rattle.ci_word.proofs.NumberLaws.{some_below_iff, numbers_below-zero, numbers_below-suc}
 use Rattle.ci_cut.specs.declared.graph.Source.TheVariants.{Made}
 use Rattle.ci_cut.specs.FlowGraph.{is_source}
-use Rattle.ci_find.specs.declared.block.Operation.{Operation}
+use Rattle.ci_find.specs.declared.commands.best.block.Operation.{Operation}
 use Rattle.ci_find.specs.Block.{operation_at, latest_writer, source_from, operand_source, sources, is_live}
 
 -- ---- the latest writer of a register

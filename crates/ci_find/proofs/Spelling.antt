@@ -5,42 +5,14 @@ use Rattle.std.proofs.Common.{refl, sym, ap, ◌∙◌, inl, inr, arith, get_or,
 use Rattle.std.proofs.lemmas.List.{get_or-append-add, get_or-take, length-map, map-append, take_more, take_all}
 use Rattle.std.proofs.lemmas.List.Elements.{All-push}
 use Rattle.std.proofs.lemmas.Option.{slice_get-map, slice_get_within, get_or_from_slice_get, slice_get-get_or}
-use Rattle.ci_find.specs.declared.block.Operation.{Operation}
-use Rattle.ci_find.specs.Block.{words_of, operation_of, IsBlock, IsUnsupported, IsFirstUnsupported}
-use Rattle.ci_find.specs.declared.block.BlockErr.{BlockErr}
-use Rattle.ci_find.specs.declared.block.BlockErr.TheVariants.{Unsupported, NoMemory}
+use Rattle.ci_find.specs.declared.commands.best.block.Operation.{Operation}
+use Rattle.ci_text.specs.Bytes.{words_of_bytes}
+use Rattle.ci_text.proofs.ByteLaws.{length-words_of_bytes}
+use Rattle.ci_find.specs.Block.{operation_of, IsBlock, IsUnsupported, IsFirstUnsupported}
+use Rattle.ci_find.specs.declared.commands.best.block.BlockErr.{BlockErr}
+use Rattle.ci_find.specs.declared.commands.best.block.BlockErr.TheVariants.{Unsupported, NoMemory}
 use Rattle.ci_find.specs.BlockErrs.{IsCauseOf}
 use Rattle.ci_find.specs.Places.{IsOperationAt, IsWrongAt, IsNoOperationAt}
-
--- ---- words by their places
-
--- past the first four bytes
-past_word : (a b c d : ℕ) (bytes : List ℕ) (i n : ℕ) → i ≡ 4 + n → get_or (a ∷ b ∷ c ∷ d ∷ bytes) i 0 ≡ get_or bytes n 0
-past_word a b c d bytes i n is = ap (λ j. get_or (a ∷ b ∷ c ∷ d ∷ bytes) j 0) is ∙ get_or-append-add (a ∷ b ∷ c ∷ d ∷ []) bytes n 0
-
--- the four bytes from i on, as a word
-abbrev word_from : List ℕ → ℕ → ℕ
-word_from bytes i = get_or bytes i 0 + get_or bytes (i + 1) 0 * 256 + get_or bytes (i + 2) 0 * 65536 + get_or bytes (i + 3) 0 * 16777216
-
--- the word at a place is made of the four bytes there
-pub words_of-at : (bytes : List ℕ) (place word : ℕ) → 4 * place + 4 ≤ length bytes → word ≡ word_from bytes (4 * place) → slice_get (words_of bytes) place ≡ Some word
-words_of-at [] place word within is = absurd (omega arith)
-words_of-at (a ∷ []) place word within is = absurd (omega arith)
-words_of-at (a ∷ b ∷ []) place word within is = absurd (omega arith)
-words_of-at (a ∷ b ∷ c ∷ []) place word within is = absurd (omega arith)
-words_of-at (a ∷ b ∷ c ∷ d ∷ bytes) zero word within is = ap Some (let same : a + 2 ^ 8 * b + 2 ^ 16 * c + 2 ^ 24 * d ≡ word = omega arith in same)
-words_of-at (a ∷ b ∷ c ∷ d ∷ bytes) (suc place) word within is =
-    let byte : (n i : ℕ) → i ≡ 4 + n → get_or (a ∷ b ∷ c ∷ d ∷ bytes) i 0 ≡ get_or bytes n 0 = λ n i e. past_word a b c d bytes i n e in
-    words_of-at bytes place word (omega arith)
-    (omega (arith, is, byte (4 * place) (4 * suc place) (omega arith), byte (4 * place + 1) (4 * suc place + 1) (omega arith), byte (4 * place + 2) (4 * suc place + 2) (omega arith), byte (4 * place + 3) (4 * suc place + 3) (omega arith)))
-
--- whole words take four bytes each
-pub length-words_of : (bytes : List ℕ) → length (words_of bytes) ≡ length bytes / 4
-length-words_of [] = refl
-length-words_of (a ∷ []) = refl
-length-words_of (a ∷ b ∷ []) = refl
-length-words_of (a ∷ b ∷ c ∷ []) = refl
-length-words_of (a ∷ b ∷ c ∷ d ∷ bytes) = omega (arith, length-words_of bytes)
 
 -- ---- words that are these operations
 
@@ -66,17 +38,17 @@ pub block_or_unsupported : (bytes : List ℕ) (operations : List Operation) (pos
 block_or_unsupported bytes operations position word (inl (uneven, at, none)) block = uneven block.whole_words
 block_or_unsupported bytes operations position word (inr first) block =
     elim first.wrong [
-      | inl none ↦ let spelt = spelt_at (words_of bytes) operations first.place word block.each first.there in let clash : None ≡ Some spelt.0 = sym none ∙ spelt.1 in cc
+      | inl none ↦ let spelt = spelt_at (words_of_bytes bytes) operations first.place word block.each first.there in let clash : None ≡ Some spelt.0 = sym none ∙ spelt.1 in cc
       | inr twelve ↦
-          let count : length (words_of bytes) ≡ length operations = sym (length-map (words_of bytes) operation_of) ∙ ap length block.each ∙ length-map operations Some in
-          omega (arith, block.few, slice_get_within (words_of bytes) first.place word first.there)
+          let count : length (words_of_bytes bytes) ≡ length operations = sym (length-map (words_of_bytes bytes) operation_of) ∙ ap length block.each ∙ length-map operations Some in
+          omega (arith, block.few, slice_get_within (words_of_bytes bytes) first.place word first.there)
     ]
 
 -- ---- the words below a place, read
 
 -- each word below the place is the operation there, and none is past the twelfth
 pub record IsReadTo (bytes : List ℕ) (operations : List Operation) (place : ℕ) : Type 0 where
-  pub each : map operation_of (take place (words_of bytes)) ≡ map Some operations
+  pub each : map operation_of (take place (words_of_bytes bytes)) ≡ map Some operations
   pub count : length operations ≡ place
   pub early : place ≤ 12
   pub delays : All (λ operation. operation.delay ≤ 400) operations
@@ -88,8 +60,8 @@ read_none bytes = record { each = refl; count = refl; early = omega arith; delay
 -- one operation more
 pub read_more : (bytes : List ℕ) (operations : List Operation) (place : ℕ) (operation : Operation) → IsReadTo bytes operations place → IsOperationAt bytes place operation → operation.delay ≤ 400 → IsReadTo bytes (operations ++ operation ∷ []) (place + 1)
 read_more bytes operations place operation before here fast = record {
-  each = ap (map operation_of) (take_more (words_of bytes) place 0 within)
-      ∙ map-append operation_of (take place (words_of bytes)) (get_or (words_of bytes) place 0 ∷ [])
+  each = ap (map operation_of) (take_more (words_of_bytes bytes) place 0 within)
+      ∙ map-append operation_of (take place (words_of_bytes bytes)) (get_or (words_of_bytes bytes) place 0 ∷ [])
       ∙ (λ i. before.each i ++ (last i ∷ []))
       ∙ sym (map-append Some operations (operation ∷ []));
   count = length-append operations (operation ∷ []) ∙ ap (λ n. n + 1) before.count;
@@ -97,18 +69,18 @@ read_more bytes operations place operation before here fast = record {
   delays = All-push (λ o. o.delay ≤ 400) operations operation before.delays fast;
 }
   where
-    within : place < length (words_of bytes)
-    within = slice_get_within (words_of bytes) place here.word here.there
+    within : place < length (words_of_bytes bytes)
+    within = slice_get_within (words_of_bytes bytes) place here.word here.there
 
-    last : operation_of (get_or (words_of bytes) place 0) ≡ Some operation
-    last = ap operation_of (get_or_from_slice_get (words_of bytes) place here.word 0 here.there) ∙ here.spelt
+    last : operation_of (get_or (words_of_bytes bytes) place 0) ≡ Some operation
+    last = ap operation_of (get_or_from_slice_get (words_of_bytes bytes) place here.word 0 here.there) ∙ here.spelt
 
 -- all of them are a block
 pub read_all : (bytes : List ℕ) (operations : List Operation) (place : ℕ) → length bytes % 4 ≡ 0 → length bytes / 4 ≤ place → IsReadTo bytes operations place → IsBlock bytes operations
 read_all bytes operations place whole all read = record {
   whole_words = whole;
   few = omega (arith, read.count, read.early);
-  each = ap (map operation_of) (sym (take_all place (words_of bytes) (rw length-words_of all))) ∙ read.each;
+  each = ap (map operation_of) (sym (take_all place (words_of_bytes bytes) (rw length-words_of_bytes all))) ∙ read.each;
 }
 
 -- a wrong word after them is the first
@@ -120,16 +92,16 @@ read_wrong bytes operations place position word whole read here = record {
   there = here.there;
   wrong = elim here.wrong [ inl none ↦ inl none | inr late ↦ inr (omega (arith, read.early)) ];
   at_most = read.early;
-  before = λ k below. ap is_some (spelt_at (take place (words_of bytes)) operations k (get_or (words_of bytes) k 0) read.each (there k below)).1;
+  before = λ k below. ap is_some (spelt_at (take place (words_of_bytes bytes)) operations k (get_or (words_of_bytes bytes) k 0) read.each (there k below)).1;
 }
   where
-    count : length (take place (words_of bytes)) ≡ place
-    count = sym (length-map (take place (words_of bytes)) operation_of) ∙ ap length read.each ∙ length-map operations Some ∙ read.count
+    count : length (take place (words_of_bytes bytes)) ≡ place
+    count = sym (length-map (take place (words_of_bytes bytes)) operation_of) ∙ ap length read.each ∙ length-map operations Some ∙ read.count
 
-    there : (k : ℕ) → k < place → slice_get (take place (words_of bytes)) k ≡ Some (get_or (words_of bytes) k 0)
+    there : (k : ℕ) → k < place → slice_get (take place (words_of_bytes bytes)) k ≡ Some (get_or (words_of_bytes bytes) k 0)
     there k below =
-        slice_get-get_or (take place (words_of bytes)) k 0 (omega (arith, count))
-        ∙ ap Some (get_or-take place (words_of bytes) k 0 below)
+        slice_get-get_or (take place (words_of_bytes bytes)) k 0 (omega (arith, count))
+        ∙ ap Some (get_or-take place (words_of_bytes bytes) k 0 below)
 
 -- so it is the cause of a refusal
 pub refusal_is_cause : (bytes : List ℕ) (operations : List Operation) (place : ℕ) (error : BlockErr) → length bytes % 4 ≡ 0 → IsReadTo bytes operations place → IsNoOperationAt bytes place error → IsCauseOf bytes error

@@ -3,12 +3,13 @@ use Rattle.std.specs.Prelude.{◌≡◌, ◌≢◌, ℕ, zero, suc, ◌+◌, ◌
 use Rattle.std.specs.Prelude.{Some, None}
 use Rattle.std.specs.Option.{option_map}
 use Rattle.std.specs.List.{list_any}
+use Rattle.ci_text.specs.Bytes.{words_of_bytes}
 use Rattle.ci_word.specs.Numbers.{numbers_below, set_below, some_below}
 use Rattle.ci_cut.specs.declared.graph.Source.{Source}
 use Rattle.ci_cut.specs.declared.graph.Source.TheVariants.{Entry, Made}
 use Rattle.ci_cut.specs.declared.graph.Node.{Node}
 use Rattle.ci_cut.specs.FlowGraph.{FlowGraph, is_source}
-use Rattle.ci_find.specs.declared.block.Operation.{Operation}
+use Rattle.ci_find.specs.declared.commands.best.block.Operation.{Operation}
 
 -- bits high to low of a word
 abbrev pub field : ℕ → ℕ → ℕ → ℕ
@@ -54,29 +55,21 @@ abbrev pub operation_of : ℕ → Option Operation
 operation_of word =
     if nat_eq (field word 11 7) 0 then None else option_map (operation_in_form word) (find (has_form word) forms)
 
--- the words of four bytes each, the lowest byte first; a rest of fewer bytes is left out
-abbrev pub words_of : List ℕ → List ℕ
-words_of [] = []
-words_of (a ∷ []) = []
-words_of (a ∷ b ∷ []) = []
-words_of (a ∷ b ∷ c ∷ []) = []
-words_of (a ∷ b ∷ c ∷ d ∷ bytes) = (a + 2 ^ 8 * b + 2 ^ 16 * c + 2 ^ 24 * d) ∷ words_of bytes
-
 -- the bytes are the words of these operations, of which there are at most twelve
 pub record IsBlock (bytes : List ℕ) (operations : List Operation) : Type 0 where
   pub whole_words : length bytes % 4 ≡ 0
   pub few : length operations ≤ 12
-  pub each : map operation_of (words_of bytes) ≡ map Some operations
+  pub each : map operation_of (words_of_bytes bytes) ≡ map Some operations
 
 -- the first word that is no operation, or the thirteenth, with its offset in bytes
 pub record IsFirstUnsupported (bytes : List ℕ) (position word : ℕ) : Type 0 where
   pub whole_words : length bytes % 4 ≡ 0
   pub place : ℕ
   pub offset : position ≡ 4 * place
-  pub there : slice_get (words_of bytes) place ≡ Some word
+  pub there : slice_get (words_of_bytes bytes) place ≡ Some word
   pub wrong : (operation_of word ≡ None) ⊎ (place ≡ 12)
   pub at_most : place ≤ 12
-  pub before : (k : ℕ) → k < place → IsSome (operation_of (slice_index_or (words_of bytes) k 0))
+  pub before : (k : ℕ) → k < place → IsSome (operation_of (slice_index_or (words_of_bytes bytes) k 0))
 
 -- Why bytes are no block: their number is no multiple of four, and then it is the position and the word is 0; or a word.
 abbrev pub IsUnsupported : List ℕ → ℕ → ℕ → Type 0

@@ -1,8 +1,8 @@
 -- For private contracts only: when the bytes of a file are refused as a block.
 use Rattle.std.specs.Prelude.{ℕ, List}
-use Rattle.ci_find.specs.declared.block.Operation.{Operation}
-use Rattle.ci_find.specs.declared.block.BlockErr.{BlockErr}
-use Rattle.ci_find.specs.declared.block.BlockErr.TheVariants.{Unsupported, NoMemory}
+use Rattle.ci_find.specs.declared.commands.best.block.Operation.{Operation}
+use Rattle.ci_find.specs.declared.commands.best.block.BlockErr.{BlockErr}
+use Rattle.ci_find.specs.declared.commands.best.block.BlockErr.TheVariants.{Unsupported, NoMemory}
 use Rattle.ci_find.specs.Block.{IsBlock, IsUnsupported}
 
 -- They are no block, for this reason. Want of memory says nothing of them.

@@ -1,24 +1,14 @@
 -- The lines that the program prints.
-use Rattle.std.specs.Prelude.{◌≡◌, ℕ, ◌+◌, ◌/◌, ◌%◌, ◌^◌, ◌⊎◌, Bool, nat_lt, if◌then◌else◌, List, [], ◌∷◌, ◌++◌, length, map, codes}
+use Rattle.std.specs.Prelude.{◌≡◌, ℕ, ◌⊎◌, Bool, List, ◌++◌, length, codes}
 use Rattle.std.specs.List.{flat_map}
 use Rattle.std.specs.Fmt.{decimal, signed_decimal}
+use Rattle.ci_text.specs.Lines.{line}
+use Rattle.ci_text.specs.Hex.{eight_hex_digits}
 use Rattle.ci_word.specs.Numbers.{numbers_below}
 use Rattle.ci_cut.specs.declared.graph.Limits.{Limits}
 use Rattle.ci_cut.specs.FlowGraph.{FlowGraph}
 use Rattle.ci_cut.specs.Gain.{gain}
 use Rattle.ci_cut.specs.Best.{IsBest, HasNoCut}
-
--- the text, ended by a newline
-abbrev pub line : List ℕ → List ℕ
-line text = text ++ 10 ∷ []
-
--- a lower-case hex digit
-abbrev pub hex_digit : ℕ → ℕ
-hex_digit d = if nat_lt d 10 then 48 + d else 87 + d
-
--- eight hex digits
-abbrev pub hex : ℕ → List ℕ
-hex n = map (λ place. hex_digit (n / 16 ^ place % 16)) (7 ∷ 6 ∷ 5 ∷ 4 ∷ 3 ∷ 2 ∷ 1 ∷ 0 ∷ [])
 
 abbrev pub usage_line : List ℕ
 usage_line = line (codes "fault 1 usage")
@@ -37,7 +27,7 @@ abbrev pub too_large_line : List ℕ → List ℕ
 too_large_line name = line (codes "fault 4 too large " ++ name)
 
 abbrev pub unsupported_line : ℕ → ℕ → List ℕ
-unsupported_line position word = line (codes "fault 7 unsupported " ++ hex position ++ codes " " ++ hex word)
+unsupported_line position word = line (codes "fault 7 unsupported " ++ eight_hex_digits position ++ codes " " ++ eight_hex_digits word)
 
 abbrev pub bad_asm_line : ℕ → ℕ → ℕ → List ℕ
 bad_asm_line kind line_number column =
@@ -46,7 +36,7 @@ bad_asm_line kind line_number column =
 abbrev pub no_memory_line : List ℕ
 no_memory_line = line (codes "fault 12 no memory")
 
--- the members in rising order, and the gain
+-- the members in ascending order, and the gain
 abbrev pub cut_line : FlowGraph → (ℕ → Bool) → List ℕ
 cut_line graph cut =
     line (codes "cut" ++ flat_map (λ k. codes " " ++ decimal k) (numbers_below (length graph.nodes) cut)

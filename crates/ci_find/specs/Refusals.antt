@@ -1,17 +1,17 @@
 -- For private contracts only: the refusals of the program: their statuses, their lines and their causes.
-use Rattle.std.specs.Prelude.{◌≡◌, ℕ, ◌<◌, ◌⊎◌, List, [], length, Option, Bool}
-use Rattle.std.specs.Prelude.{None}
-use Rattle.std.specs.Option.{IsSomeAnd}
-use Rattle.std.specs.FinMap as map
-use Rattle.ci_io.specs.Outcomes.{Files, Rises}
+use Rattle.std.specs.Prelude.{◌≡◌, ℕ, ◌⊎◌, Bool, IsTrue, List, Option, ⊤}
+use Rattle.ci_io.specs.Outcomes.{Files, Rises, ShelfState, SinkState}
 use Rattle.ci_asm.specs.declared.faults.AsmFault.{AsmFault}
 use Rattle.ci_asm.specs.declared.faults.AsmFault.TheVariants as asm_fault
-use Rattle.ci_words.specs.Words.{Reading, ReadsAs}
-use Rattle.ci_find.specs.declared.fault.Refusal.{Refusal}
-use Rattle.ci_find.specs.declared.fault.Refusal.TheVariants.{Usage, Read, TooLarge, Unsupported, BadAsm, NoMemory}
+use Rattle.ci_words.specs.Words.{Reading, ReadsAs, HasNoReading}
+use Rattle.ci_find.specs.declared.faults.Refusal.{Refusal}
+use Rattle.ci_find.specs.declared.faults.Refusal.TheVariants.{Usage, Read, TooLarge, Unsupported, BadAsm, NoMemory}
+use Rattle.ci_find.specs.Commands.{inputs_of, IsMade, IsUnmade}
+use Rattle.ci_find.specs.Endings.{IsPut}
+use Rattle.ci_find.specs.Inputs.{Input, AreRead, IsFileRefusal, IsDueName}
 use Rattle.ci_find.specs.Lines.{usage_line, read_line, too_large_line, unsupported_line, bad_asm_line, no_memory_line}
+use Rattle.ci_find.specs.Success.{Success}
 use Rattle.ci_find.specs.Texts.{IsBadText}
-use Rattle.ci_find.specs.Answers.{file_of, IsRejected, IsRefusal, TakesFault}
 
 abbrev pub status_of : Refusal → ℕ
 status_of Usage = 1
@@ -29,40 +29,64 @@ line_of (Unsupported position word) = unsupported_line position word
 line_of (BadAsm kind line column) = bad_asm_line kind line column
 line_of NoMemory = no_memory_line
 
--- Why the file of a name gives no bytes: no file has the name, or a read failed; or it is longer than its limit. Want of memory says
--- nothing of it, and no other refusal comes.
-abbrev pub IsReadRefusal : Files → List ℕ → ℕ → ℕ → ℕ → Refusal → Type 0
-IsReadRefusal held file limit before after Usage = ⊥
-IsReadRefusal held file limit before after (Read name) = (name.now ≡ file) × ((map.get held file ≡ None) ⊎ Rises before after)
-IsReadRefusal held file limit before after (TooLarge name) =
-    (name.now ≡ file) × IsSomeAnd (map.get held file) (λ bytes. limit < length bytes)
-IsReadRefusal held file limit before after (Unsupported position word) = ⊥
-IsReadRefusal held file limit before after (BadAsm kind line column) = ⊥
-IsReadRefusal held file limit before after NoMemory = Unit {0}
+-- what is known while files are read: those that the shelf tells, of which names a read may fail, and the count of reads that failed,
+-- before and after
+pub record Reads : Type 0 where
+  pub told : Option Files
+  pub may_fail : List ℕ → Bool
+  pub faults_before : ℕ
+  pub faults_after : ℕ
+
+abbrev pub reads_between : (List ℕ → Bool) → ShelfState → ShelfState → Reads
+reads_between may_fail before after =
+    record { told = before.files; may_fail = may_fail; faults_before = before.read_faults; faults_after = after.read_faults }
+
+-- reading one of the files failed, and nothing is wrong with those before it
+pub record IsReadFault (reads : Reads) (inputs : List Input) (refusal : Refusal) : Type 0 where
+  pub name : List ℕ
+  pub due : IsDueName reads.told inputs name
+  pub may_fail : IsTrue (reads.may_fail name)
+  pub counted : Rises reads.faults_before reads.faults_after
+  pub status_is : status_of refusal ≡ 2
+  pub line_is : line_of refusal ≡ read_line name
+
+-- why the files of a command are not read: one of them is refused, or reading it failed, or memory ran out
+abbrev pub AreUnread : Reads → List Input → Refusal → Type 0
+AreUnread reads inputs refusal =
+    IsFileRefusal reads.told inputs (status_of refusal) (line_of refusal) ⊎ IsReadFault reads inputs refusal ⊎ (refusal ≡ NoMemory)
+
+-- what a command makes of its files
+pub record Makes (told : Option Files) (reading : Reading) (success : Success) : Type 0 where
+  pub read : List (List ℕ)
+  pub files : AreRead told (inputs_of reading) read
+  pub made : IsMade reading read success
+
+-- the refusal of a command whose files are all read
+pub record IsUnmadeFor (told : Option Files) (reading : Reading) (refusal : Refusal) : Type 0 where
+  pub read : List (List ℕ)
+  pub files : AreRead told (inputs_of reading) read
+  pub unmade : IsUnmade reading read (status_of refusal) (line_of refusal)
+
+-- why a command makes nothing
+abbrev pub MakesNothing : Reads → Reading → Refusal → Type 0
+MakesNothing reads reading refusal = AreUnread reads (inputs_of reading) refusal ⊎ IsUnmadeFor reads.told reading refusal
+
+-- why the words are refused: they have no reading, or their command makes nothing, or memory ran out
+abbrev pub Explains : Reads → List (List ℕ) → Refusal → Type 0
+Explains reads words refusal =
+    (HasNoReading words × (refusal ≡ Usage)) ⊎ ((reading : Reading) × ReadsAs words reading × MakesNothing reads reading refusal)
+    ⊎ (refusal ≡ NoMemory)
 
 -- why a text has no words: its first fault, or memory ran out
 abbrev pub IsTextFault : List ℕ → AsmFault → Type 0
 IsTextFault text (asm_fault.Bad kind line column) = IsBadText text kind line column
-IsTextFault text asm_fault.NoMemory = Unit {0}
-
--- why a command makes nothing of the bytes of its file: it refuses them, or memory ran out
-abbrev pub IsUnmade : Reading → List ℕ → Refusal → Type 0
-IsUnmade reading bytes refusal = IsRejected reading bytes (status_of refusal) (line_of refusal) ⊎ (refusal ≡ NoMemory)
-
--- Why the words are refused: the refusal is due, or a read of their file failed, or memory ran out.
-abbrev pub Explains : Files → List (List ℕ) → ℕ → ℕ → Refusal → Type 0
-Explains held words before after refusal =
-    IsRefusal held words (status_of refusal) (line_of refusal)
-    ⊎ ((reading : Reading) × ReadsAs words reading × (line_of refusal ≡ read_line (file_of reading)) × (status_of refusal ≡ 2)
-    × Rises before after)
-    ⊎ (refusal ≡ NoMemory)
+IsTextFault text asm_fault.NoMemory = ⊤
 
 -- the words have at most one reading
 abbrev pub OneReading : List (List ℕ) → Type 0
 OneReading words = (first second : Reading) → ReadsAs words first → ReadsAs words second → first ≡ second
 
 -- The refusal's status, and its line was put; or memory ran out for the line, and then that is the refusal.
-abbrev pub IsRefused : Refusal → ℕ → Option (List ℕ) → Option (List ℕ) → ℕ → ℕ → Bool → Type 0
-IsRefused refusal status taken_before taken_after faults_before faults_after may_want_memory =
-    ((status ≡ status_of refusal) × TakesFault taken_before taken_after faults_before faults_after may_want_memory [] (line_of refusal))
-    ⊎ ((status ≡ 12) × TakesFault taken_before taken_after faults_before faults_after may_want_memory [] no_memory_line)
+abbrev pub IsRefused : Refusal → ℕ → SinkState → SinkState → Type 0
+IsRefused refusal status before after =
+    ((status ≡ status_of refusal) × IsPut before after (line_of refusal)) ⊎ ((status ≡ 12) × IsPut before after no_memory_line)

@@ -1,10 +1,10 @@
-//! From a success to the end of the call: the write of its file, and the put of its text.
-ghost use Rattle.std.specs.Prelude.{◌≡◌, ◌≤◌, OnOk, IfErr};
-ghost use Rattle.ci_find.specs.Answers.{IsWritten};
-ghost use Rattle.ci_find.specs.Steps.{IsFinished, IsPut, IsUnwrittenFor, success_of, written_of};
+//! From a success to the end of the call: the writes of its files, and the put of its text.
+ghost use Rattle.std.specs.Prelude.{◌≡◌, ◌≤◌, [], ◌∷◌, map, OnOk, IfErr};
+ghost use Rattle.ci_find.specs.Endings.{AreWritten, Finishes, changed};
+ghost use Rattle.ci_find.specs.Steps.{AreUnwritten, IsUnwrittenFile, IsTextPut, success_of, written_of};
 
-use crate::answer::{Success, Written};
-use crate::fault::{WRITE_FAULT, put_fault, refuse_memory, refuse_write, write_text};
+use crate::commands::{Success, Written};
+use crate::faults::{WRITE_FAULT, put_fault, refuse_memory, refuse_write, write_text};
 use ci_io::{Shelf, ShelfErr, Sink, SinkErr};
 use std::alloc::{AllocError, Global};
 
@@ -16,7 +16,7 @@ const SUCCESS: u8 = 0;
 pub enum WriteErr {
     /// The write failed. This is its fault line.
     Fault(String),
-    /// Memory ran out, and no file changed.
+    /// Memory ran out, and this file did not change.
     NoMemory,
 }
 
@@ -38,43 +38,44 @@ pub fn finish<F: Shelf, O: Sink>(
     shelf: &mut F,
     out: &mut O,
 ) -> u8
-    ensures finished { IsFinished (success_of success.now) (record {
-      files_before = F.files shelf.old;
-      files_after = F.files shelf.new;
-      reads_before = F.read_faults shelf.old;
-      reads_after = F.read_faults shelf.new;
-      writes_before = F.write_faults shelf.old;
-      writes_after = F.write_faults shelf.new;
-      puts_before = O.faults out.old;
-      puts_after = O.faults out.new;
-      taken_before = O.taken out.old;
-      taken_after = O.taken out.new;
-      puts_may_want_memory = O.may_want_memory;
-    }) result }
-    ensures no_read { F.read_faults shelf.new ≡ F.read_faults shelf.old }
-    ensures never_falls { F.write_faults shelf.old ≤ F.write_faults shelf.new }
+    ensures finished { Finishes (changed (F.state shelf.old) (F.state shelf.new) (O.state out.old) (O.state out.new))
+        (success_of success.now) result }
+    ensures no_read { (F.state shelf.new).read_faults ≡ (F.state shelf.old).read_faults }
 {
-    match write_file(alloc, &success.written, shelf) {
+    match write_files(alloc, success.writes.as_slice(), shelf) {
         Ok(()) => put_success(success.text.as_str(), out),
         Err(WriteErr::Fault(line)) => put_fault(WRITE_FAULT, line.as_str(), out),
         Err(WriteErr::NoMemory) => refuse_memory(out),
     }
 }
 
-/// Writes the file, if there is one. Its fault line is made before, so that no want of memory comes after a failed write.
-fn write_file<F: Shelf>(
+/// Writes the files, in order, up to the first that can't be written.
+fn write_files<F: Shelf>(
     alloc: Global,
-    written: &Option<Written<'_>>,
+    writes: &[Written<'_>],
     shelf: &mut F,
 ) -> Result<(), WriteErr>
-    ensures ok { OnOk result (IsWritten (written_of written.now) (F.files shelf.old) (F.files shelf.new) (F.write_faults shelf.old) (F.write_faults shelf.new)) }
-    ensures err { IfErr result (IsUnwrittenFor (written_of written.now) (F.files shelf.old) (F.files shelf.new) (F.write_faults shelf.old) (F.write_faults shelf.new)) }
-    ensures no_read { F.read_faults shelf.new ≡ F.read_faults shelf.old }
-    ensures never_falls { F.write_faults shelf.old ≤ F.write_faults shelf.new }
+    ensures written { OnOk result (AreWritten (F.state shelf.old) (F.state shelf.new) (map written_of writes.now)) }
+    ensures none { map written_of writes.now ≡ [] → (F.state shelf.new).write_faults ≡ (F.state shelf.old).write_faults }
+    ensures unwritten { IfErr result (AreUnwritten (map written_of writes.now) (F.state shelf.old) (F.state shelf.new)) }
+    ensures no_read { (F.state shelf.new).read_faults ≡ (F.state shelf.old).read_faults }
 {
-    let Some(file) = written else {
-        return Ok(());
-    };
+    for file in writes {
+        match write_file(alloc, file, shelf) {
+            Ok(()) => {}
+            Err(error) => return Err(error),
+        }
+    }
+    Ok(())
+}
+
+/// Writes the file. Its fault line is made before, so that memory doesn't run out after a failed write.
+fn write_file<F: Shelf>(alloc: Global, file: &Written<'_>, shelf: &mut F) -> Result<(), WriteErr>
+    ensures written { OnOk result (AreWritten (F.state shelf.old) (F.state shelf.new) (written_of file.now ∷ [])) }
+    ensures unwritten { IfErr result (IsUnwrittenFile (written_of file.now) (F.state shelf.old) (F.state shelf.new)) }
+    ensures no_read { (F.state shelf.new).read_faults ≡ (F.state shelf.old).read_faults }
+    ensures never_falls { (F.state shelf.old).write_faults ≤ (F.state shelf.new).write_faults }
+{
     let line = write_text(alloc, file.name)?;
     match shelf.write(alloc, file.name, file.bytes.as_slice()) {
         Ok(()) => Ok(()),
@@ -88,7 +89,7 @@ fn write_file<F: Shelf>(
 
 /// Puts the text of success, unless it is empty, and answers the status.
 fn put_success<O: Sink>(text: &str, out: &mut O) -> u8
-    ensures { IsPut text.now result (O.taken out.old) (O.taken out.new) (O.faults out.old) (O.faults out.new) O.may_want_memory }
+    ensures { IsTextPut text.now (O.state out.old) (O.state out.new) result }
 {
     if text.is_empty() {
         return SUCCESS;

@@ -1,27 +1,22 @@
 //! The commands of the program.
 #![tactic(auto)]
 
-ghost use Rattle.std.specs.Prelude.{◌≡◌, ℕ, List, [], ◌∷◌, None, IfSome, Contains, map};
+ghost use Rattle.std.specs.Prelude.{◌≡◌, ℕ, List, [], ◌∷◌, Some, IfSome, Contains, map};
 ghost use Rattle.std.specs.String.{string_bytes};
-ghost use Rattle.ci_io.specs.Outcomes.{Files, Rises};
-ghost use Rattle.ci_find.specs.Answers.{IsDue, Ends, MayHold, Answers};
+ghost use Rattle.ci_find.specs.Endings.{IsDue, changed, Ends, Answers};
 
-use answer::find_success;
 use ci_io::{Shelf, Sink};
-use fault::refuse;
+use commands::make;
+use faults::refuse;
 use finish::finish;
 use std::alloc::Global;
 
-mod answer;
-mod best;
-mod block;
-mod fault;
+mod commands;
+mod faults;
 mod finish;
-mod line;
-mod listing;
+mod inputs;
 #[cfg(test)]
 mod tests;
-mod texts;
 
 /// Runs the command that the words name, over the files of a shelf, and answers the program's status.
 ///
@@ -41,41 +36,17 @@ mod texts;
 /// - 12, `fault 12 no memory`: memory ran out.
 /// - 13, `fault 13 asm KIND LINE COLUMN`: the file holds no assembler text. Where it isn't UTF-8 the numbers are 1 1 1.
 pub fn run<F: Shelf, O: Sink>(alloc: Global, words: &Vec<String>, shelf: &mut F, out: &mut O) -> u8
-    // It ends as it has to for files that the shelf may hold: those that it tells.
-    ensures ends { (held : Files) × MayHold (F.files shelf.old) held × Ends held (map string_bytes words.now.items)
-        (record {
-          files_before = F.files shelf.old;
-          files_after = F.files shelf.new;
-          reads_before = F.read_faults shelf.old;
-          reads_after = F.read_faults shelf.new;
-          writes_before = F.write_faults shelf.old;
-          writes_after = F.write_faults shelf.new;
-          puts_before = O.faults out.old;
-          puts_after = O.faults out.new;
-          taken_before = O.taken out.old;
-          taken_after = O.taken out.new;
-          puts_may_want_memory = O.may_want_memory;
-        }) result }
-    ensures untold { F.files shelf.old ≡ None → result ≡ 2 → Rises (F.read_faults shelf.old) (F.read_faults shelf.new) }
+    // It ends as it has to, over the files that the shelf tells.
+    ensures ends { Ends F.read_may_fail (map string_bytes words.now.items)
+        (changed (F.state shelf.old) (F.state shelf.new) (O.state out.old) (O.state out.new)) result }
     // What is due comes.
-    ensures due { IfSome (F.files shelf.old) (λ held. (status : ℕ) → IsDue held (map string_bytes words.now.items) status
-        → Answers result (record {
-          files_before = F.files shelf.old;
-          files_after = F.files shelf.new;
-          reads_before = F.read_faults shelf.old;
-          reads_after = F.read_faults shelf.new;
-          writes_before = F.write_faults shelf.old;
-          writes_after = F.write_faults shelf.new;
-          puts_before = O.faults out.old;
-          puts_after = O.faults out.new;
-          taken_before = O.taken out.old;
-          taken_after = O.taken out.new;
-          puts_may_want_memory = O.may_want_memory;
-        }) status) }
+    ensures due { IfSome (F.state shelf.old).files (λ held. (status : ℕ)
+        → IsDue (Some held) (map string_bytes words.now.items) status
+        → Answers (changed (F.state shelf.old) (F.state shelf.new) (O.state out.old) (O.state out.new)) status result) }
     // No other status comes.
     ensures statuses { Contains (0 ∷ 1 ∷ 2 ∷ 3 ∷ 4 ∷ 7 ∷ 12 ∷ 13 ∷ []) result }
 {
-    match find_success(alloc, words, shelf) {
+    match make(alloc, words, shelf) {
         Ok(success) => finish(alloc, &success, shelf, out),
         Err(refusal) => refuse(alloc, &refusal, out),
     }

@@ -134,12 +134,26 @@ fn words_with_no_reading(rt: HostRuntime) -> Result<(), Fail> {
 
 #[test]
 fn files_not_read(rt: HostRuntime) -> Result<(), Fail> {
-    expect(&rt, None, "best F", 2, "fault 2 read F\n")?;
-    let long = vec![in rt.alloc(); 0u8; 1025]?;
+    for text in ["best F", "asm F OUT", "dis F"] {
+        expect(&rt, None, text, 2, "fault 2 read F\n")?;
+    }
+    Ok(())
+}
+
+// One byte more than each limit. A text of empty lines up to its limit has no words.
+#[test]
+fn files_too_large(rt: HostRuntime) -> Result<(), Fail> {
     let line = "fault 4 too large F\n";
-    expect(&rt, Some(long.as_slice()), "best F", 4, line)?;
-    expect(&rt, None, "asm F OUT", 2, "fault 2 read F\n")?;
-    expect(&rt, None, "dis F", 2, "fault 2 read F\n")?;
+    for (text, limit) in [
+        ("best F", 1024),
+        ("asm F OUT", 1_048_576),
+        ("dis F", 1_048_576),
+    ] {
+        let long = vec![in rt.alloc(); 10u8; limit + 1]?;
+        expect(&rt, Some(long.as_slice()), text, 4, line)?;
+    }
+    let longest = vec![in rt.alloc(); 10u8; 1_048_576]?;
+    expect(&rt, Some(longest.as_slice()), "asm F OUT", 0, "")?;
     Ok(())
 }
 

@@ -9,6 +9,18 @@ use Rattle.std.specs.FinMap as map
 abbrev pub Files : Type 0
 Files = map.FinMap (slice_cmp nat_cmp) (List ℕ)
 
+-- what is known of a shelf: its files by name, where it tells them, and how many reads and how many writes failed
+pub record ShelfState : Type 0 where
+  pub files : Option Files
+  pub read_faults : ℕ
+  pub write_faults : ℕ
+
+-- What is known of a sink: the bytes that it took, where it tells them, how many puts failed, and how many ran out of memory.
+pub record SinkState : Type 0 where
+  pub taken : Option (List ℕ)
+  pub faults : ℕ
+  pub memory_faults : ℕ
+
 -- A count of faults rose. A counter stays at its last value once it has reached it, and may have risen there.
 abbrev pub Rises : ℕ → ℕ → Type 0
 Rises before after = (before < after) ⊎ (after ≡ 2 ^ 64 - 1)

@@ -28,11 +28,11 @@ pub struct MemShelf {
 
 impl Model for MemShelf {
     ghost use Rattle.ci_io.specs.Maps.{files_of};
-    ghost use Rattle.ci_io.specs.MemoryStates.{ShelfState, shelf_state_code};
+    ghost use Rattle.ci_io.specs.MemoryStates.{MemoryShelf, memory_shelf_code};
 
-    ghost Value = { ShelfState };
+    ghost Value = { MemoryShelf };
 
-    ghost coded = { shelf_state_code };
+    ghost coded = { memory_shelf_code };
 
     ghost view = { λ shelf. record {
       files = files_of shelf.files;
@@ -46,9 +46,8 @@ impl MemShelf {
     /// A shelf that holds these files, on which the calls of these numbers are to fail.
     pub fn new(files: BTreeMap<String, Vec<u8>>, failing: Vec<u64>) -> MemShelf
         ensures holds { result.files ≡ files_of files }
-        ensures told { ⟦<MemShelf as Shelf>⟧.files result ≡ Some (files_of files) }
-        ensures no_read_fault { ⟦<MemShelf as Shelf>⟧.read_faults result ≡ 0 }
-        ensures no_write_fault { ⟦<MemShelf as Shelf>⟧.write_faults result ≡ 0 }
+        ensures told { ⟦<MemShelf as Shelf>⟧.state result
+            ≡ record { files = Some (files_of files); read_faults = 0; write_faults = 0 } }
         ensures calls { result.calls ≡ record { made = 0; failing = failing.items } }
     {
         MemShelf {
@@ -62,18 +61,20 @@ impl MemShelf {
     /// The files that the shelf holds now.
     pub fn files(&self) -> &BTreeMap<String, Vec<u8>>
         ensures holds { files_of result.now ≡ self.now.files }
-        ensures told { ⟦<MemShelf as Shelf>⟧.files self.now ≡ Some (files_of result.now) }
+        ensures told { (⟦<MemShelf as Shelf>⟧.state self.now).files ≡ Some (files_of result.now) }
     {
         &self.files
     }
 }
 
 impl Shelf for MemShelf {
-    ghost files = { λ shelf. Some shelf.files };
+    ghost state = { λ shelf. record {
+      files = Some shelf.files;
+      read_faults = shelf.read_faults;
+      write_faults = shelf.write_faults;
+    } };
 
-    ghost read_faults = { λ shelf. shelf.read_faults };
-
-    ghost write_faults = { λ shelf. shelf.write_faults };
+    ghost read_may_fail = { λ _. true };
 
     fn read(&mut self, alloc: Global, name: &str, limit: u64) -> Result<Vec<u8>, ShelfErr>
         ensures of_the_file { IsReadOf self.old.files name.now limit result }
@@ -130,21 +131,27 @@ impl Shelf for MemShelf {
 
 /// A sink in memory, on which the calls of `put` fail whose numbers it is told. They are numbered from 1.
 ///
-/// Contracts see it as the bytes taken, its count of faults, and its calls. The count rises only by the calls that
-/// fail, and both numbers stay at their last value.
+/// Contracts see it as the bytes taken, its counts of faults and of puts that ran out of memory, and its calls. The count of
+/// faults rises only by the calls that are to fail, and each number stays at its last value.
 #[derive(Drop)]
 pub struct MemSink {
     taken: Vec<u8>,
     calls: Calls,
     faults: u64,
+    memory_faults: u64,
 }
 
 impl Model for MemSink {
-    ghost use Rattle.ci_io.specs.MemoryStates.{SinkState};
+    ghost use Rattle.ci_io.specs.MemoryStates.{MemoryOutput};
 
-    ghost Value = { SinkState };
+    ghost Value = { MemoryOutput };
 
-    ghost view = { λ sink. record { taken = sink.taken.items; faults = sink.faults; calls = sink.calls } };
+    ghost view = { λ sink. record {
+      taken = sink.taken.items;
+      faults = sink.faults;
+      memory_faults = sink.memory_faults;
+      calls = sink.calls;
+    } };
 }
 
 impl MemSink {
@@ -152,32 +159,33 @@ impl MemSink {
     /// the bytes that it takes.
     pub fn new(alloc: Global, failing: Vec<u64>) -> MemSink
         ensures empty { result.taken ≡ [] }
-        ensures told { ⟦<MemSink as Sink>⟧.taken result ≡ Some [] }
-        ensures no_fault { ⟦<MemSink as Sink>⟧.faults result ≡ 0 }
+        ensures told { ⟦<MemSink as Sink>⟧.state result
+            ≡ record { taken = Some []; faults = 0; memory_faults = 0 } }
         ensures calls { result.calls ≡ record { made = 0; failing = failing.items } }
     {
         MemSink {
             taken: Vec::new(alloc),
             calls: Calls::new(failing),
             faults: 0,
+            memory_faults: 0,
         }
     }
 
     /// The bytes that the sink has taken so far.
     pub fn taken(&self) -> &[u8]
         ensures bytes { result.now ≡ self.now.taken }
-        ensures told { ⟦<MemSink as Sink>⟧.taken self.now ≡ Some result.now }
+        ensures told { (⟦<MemSink as Sink>⟧.state self.now).taken ≡ Some result.now }
     {
         self.taken.as_slice()
     }
 }
 
 impl Sink for MemSink {
-    ghost taken = { λ sink. Some sink.taken };
-
-    ghost faults = { λ sink. sink.faults };
-
-    ghost may_want_memory = { true };
+    ghost state = { λ sink. record {
+      taken = Some sink.taken;
+      faults = sink.faults;
+      memory_faults = sink.memory_faults;
+    } };
 
     fn put(&mut self, bytes: &[u8]) -> Result<(), SinkErr>
         // A call fails exactly where its number is listed. Then the count rises, and no byte is taken.
@@ -192,6 +200,7 @@ impl Sink for MemSink {
         } }
         ensures after_no_memory { IsErrOf result SinkErr.NoMemory → self.new ≡ record self.old {
           calls = one_more_call self.old.calls;
+          memory_faults = raised self.old.memory_faults;
         } }
         ensures never_falls { self.old.faults ≤ self.new.faults }
     {
@@ -201,7 +210,10 @@ impl Sink for MemSink {
         }
         match self.taken.extend_from_slice(bytes) {
             Ok(()) => Ok(()),
-            Err(_) => Err(SinkErr::NoMemory),
+            Err(_) => {
+                self.memory_faults = self.memory_faults.saturating_add(1);
+                Err(SinkErr::NoMemory)
+            }
         }
     }
 }

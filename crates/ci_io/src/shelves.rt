@@ -1,7 +1,7 @@
 //! A shelf of files.
-ghost use Rattle.std.specs.Prelude.{◌≡◌, ◌≢◌, ℕ, ◌≤◌, List, Option, None, Some, IfSome, IfOk, OnOk, OnErr, IsErrOf, vec_len};
+ghost use Rattle.std.specs.Prelude.{◌≡◌, ◌≢◌, ℕ, ◌≤◌, Bool, IsTrue, List, Option, None, Some, IfSome, IfOk, OnOk, OnErr, IsErrOf, vec_len};
 ghost use Rattle.std.specs.Option.{option_map};
-ghost use Rattle.ci_io.specs.Outcomes.{Files, Rises, with_file};
+ghost use Rattle.ci_io.specs.Outcomes.{ShelfState, Rises, with_file};
 ghost use Rattle.ci_io.specs.Reads.{IsReadOf};
 
 use std::alloc::Global;
@@ -23,41 +23,48 @@ pub enum ShelfErr {
 ///
 /// A shelf may tell its files, as one in memory does. Of one over real files nothing is known.
 pub trait Shelf {
-    /// The files by name, where the shelf tells them.
-    ghost files: { Self → Option Files };
+    /// The files by name, where the shelf tells them, and how many reads and how many writes failed.
+    ghost state: { Self → ShelfState };
 
-    /// How many reads failed.
-    ghost read_faults: { Self → ℕ };
-
-    /// How many writes failed.
-    ghost write_faults: { Self → ℕ };
+    /// Whether reading the file of a name may fail.
+    ghost read_may_fail: { List ℕ → Bool };
 
     /// Reads the whole file of a name. No file changes.
     ///
-    /// Errors: `Absent` where the shelf tells its files and none has the name; `TooLarge` where the file has
-    /// more than `limit` bytes; `Fault` where reading failed; `NoMemory`.
+    /// # Errors
+    ///
+    /// `Absent` where the shelf tells its files and none has the name; `TooLarge` where the file has more than `limit`
+    /// bytes; `Fault` where reading failed; `NoMemory`.
     fn read(&mut self, alloc: Global, name: &str, limit: u64) -> Result<Vec<u8>, ShelfErr>
         // Where the shelf tells its files, the answer is that of the name's file.
-        ensures of_the_file { IfSome (files self.old) (λ held. IsReadOf held name.now limit result) }
+        ensures of_the_file { IfSome (state self.old).files (λ held. IsReadOf held name.now limit result) }
         ensures within_limit { IfOk result (λ bytes. vec_len bytes ≤ limit) }
-        ensures absent_where_told { IsErrOf result ShelfErr.Absent → files self.old ≢ None }
-        ensures fault_counted { IsErrOf result ShelfErr.Fault → Rises (read_faults self.old) (read_faults self.new) }
-        ensures absent_not_counted { IsErrOf result ShelfErr.Absent → read_faults self.new ≡ read_faults self.old }
-        ensures never_falls { read_faults self.old ≤ read_faults self.new }
-        ensures files_stay { files self.new ≡ files self.old }
-        ensures writes_stay { write_faults self.new ≡ write_faults self.old };
+        ensures absent_where_told { IsErrOf result ShelfErr.Absent → (state self.old).files ≢ None }
+        ensures fault_where_it_may { IsErrOf result ShelfErr.Fault → IsTrue (read_may_fail name.now) }
+        ensures fault_counted { IsErrOf result ShelfErr.Fault
+            → Rises (state self.old).read_faults (state self.new).read_faults }
+        ensures absent_not_counted { IsErrOf result ShelfErr.Absent
+            → (state self.new).read_faults ≡ (state self.old).read_faults }
+        ensures never_falls { (state self.old).read_faults ≤ (state self.new).read_faults }
+        ensures files_stay { (state self.new).files ≡ (state self.old).files }
+        ensures writes_stay { (state self.new).write_faults ≡ (state self.old).write_faults };
 
     /// Makes the name hold exactly these bytes. All other files stay.
     ///
-    /// Errors: `Fault` where writing failed, and then the name holds any bytes or nothing; `NoMemory`, and
-    /// then no file changed. No other error comes.
+    /// # Errors
+    ///
+    /// `Fault` where writing failed, and then the name holds any bytes or nothing; `NoMemory`, and then no file changed.
+    /// No other error comes.
     fn write(&mut self, alloc: Global, name: &str, bytes: &[u8]) -> Result<(), ShelfErr>
-        ensures ok { OnOk result (files self.new ≡ option_map (with_file name.now (Some bytes.now)) (files self.old)) }
-        ensures fault { IsErrOf result ShelfErr.Fault → (content : Option (List ℕ)) × (files self.new ≡ option_map (with_file name.now content) (files self.old)) }
-        ensures no_memory { IsErrOf result ShelfErr.NoMemory → files self.new ≡ files self.old }
+        ensures ok { OnOk result ((state self.new).files
+            ≡ option_map (with_file name.now (Some bytes.now)) (state self.old).files) }
+        ensures fault { IsErrOf result ShelfErr.Fault → (content : Option (List ℕ))
+            × ((state self.new).files ≡ option_map (with_file name.now content) (state self.old).files) }
+        ensures no_memory { IsErrOf result ShelfErr.NoMemory → (state self.new).files ≡ (state self.old).files }
         ensures never_absent { result ≢ Err ShelfErr.Absent }
         ensures never_too_large { result ≢ Err ShelfErr.TooLarge }
-        ensures fault_counted { IsErrOf result ShelfErr.Fault → Rises (write_faults self.old) (write_faults self.new) }
-        ensures never_falls { write_faults self.old ≤ write_faults self.new }
-        ensures reads_stay { read_faults self.new ≡ read_faults self.old };
+        ensures fault_counted { IsErrOf result ShelfErr.Fault
+            → Rises (state self.old).write_faults (state self.new).write_faults }
+        ensures never_falls { (state self.old).write_faults ≤ (state self.new).write_faults }
+        ensures reads_stay { (state self.new).read_faults ≡ (state self.old).read_faults };
 }

@@ -1,5 +1,6 @@
 //! A shelf and a sink in memory that never fail.
-ghost use Rattle.std.specs.Prelude.{true, ◌≡◌, [], Some};
+ghost use Rattle.std.specs.Prelude.{false, ◌≡◌, ◌≤◌, ◌++◌, [], Some, OnOk, OnErr, IsErrOf};
+ghost use Rattle.ci_io.specs.Counts.{raised};
 ghost use Rattle.ci_io.specs.Maps.{files_of};
 
 use crate::held::{read_held, write_held};
@@ -8,7 +9,7 @@ use std::alloc::Global;
 use std::collections::BTreeMap;
 use std::marker::Model;
 
-/// A shelf of files in memory, on which no call fails but for want of memory.
+/// A shelf of files in memory, on which no call fails, unless memory runs out.
 ///
 /// Contracts see it as the files by name.
 #[derive(Drop)]
@@ -34,9 +35,8 @@ impl SureShelf {
     /// A shelf that holds these files.
     pub fn new(files: BTreeMap<String, Vec<u8>>) -> SureShelf
         ensures holds { result ≡ files_of files }
-        ensures told { ⟦<SureShelf as Shelf>⟧.files result ≡ Some (files_of files) }
-        ensures no_read_fault { ⟦<SureShelf as Shelf>⟧.read_faults result ≡ 0 }
-        ensures no_write_fault { ⟦<SureShelf as Shelf>⟧.write_faults result ≡ 0 }
+        ensures told { ⟦<SureShelf as Shelf>⟧.state result
+            ≡ record { files = Some (files_of files); read_faults = 0; write_faults = 0 } }
     {
         SureShelf { files }
     }
@@ -44,18 +44,16 @@ impl SureShelf {
     /// The files that the shelf holds now.
     pub fn files(&self) -> &BTreeMap<String, Vec<u8>>
         ensures holds { files_of result.now ≡ self.now }
-        ensures told { ⟦<SureShelf as Shelf>⟧.files self.now ≡ Some (files_of result.now) }
+        ensures told { (⟦<SureShelf as Shelf>⟧.state self.now).files ≡ Some (files_of result.now) }
     {
         &self.files
     }
 }
 
 impl Shelf for SureShelf {
-    ghost files = { λ shelf. Some shelf };
+    ghost state = { λ shelf. record { files = Some shelf; read_faults = 0; write_faults = 0 } };
 
-    ghost read_faults = { λ _. 0 };
-
-    ghost write_faults = { λ _. 0 };
+    ghost read_may_fail = { λ _. false };
 
     fn read(&mut self, alloc: Global, name: &str, limit: u64) -> Result<Vec<u8>, ShelfErr> {
         read_held(alloc, &self.files, name, limit)
@@ -69,54 +67,59 @@ impl Shelf for SureShelf {
     }
 }
 
-/// A sink in memory, on which no call fails but for want of memory.
+/// A sink in memory, on which no call fails, unless memory runs out.
 ///
-/// Contracts see it as the bytes taken.
+/// Contracts see it as the bytes taken and the count of puts that ran out of memory, which stays at its last value.
 #[derive(Drop)]
 pub struct SureSink {
     taken: Vec<u8>,
+    memory_faults: u64,
 }
 
 impl Model for SureSink {
-    ghost use Rattle.std.specs.Prelude.{ℕ, List};
+    ghost use Rattle.ci_io.specs.MemoryStates.{SureOutput};
 
-    ghost Value = { List ℕ };
+    ghost Value = { SureOutput };
 
-    ghost view = { λ sink. sink.taken.items };
+    ghost view = { λ sink. record { taken = sink.taken.items; memory_faults = sink.memory_faults } };
 }
 
 impl SureSink {
     /// A sink that has taken nothing. It keeps the allocator for the bytes that it takes.
     pub fn new(alloc: Global) -> SureSink
-        ensures empty { result ≡ [] }
-        ensures told { ⟦<SureSink as Sink>⟧.taken result ≡ Some [] }
-        ensures no_fault { ⟦<SureSink as Sink>⟧.faults result ≡ 0 }
+        ensures empty { result.taken ≡ [] }
+        ensures told { ⟦<SureSink as Sink>⟧.state result
+            ≡ record { taken = Some []; faults = 0; memory_faults = 0 } }
     {
         SureSink {
             taken: Vec::new(alloc),
+            memory_faults: 0,
         }
     }
 
     /// The bytes that the sink has taken so far.
     pub fn taken(&self) -> &[u8]
-        ensures bytes { result.now ≡ self.now }
-        ensures told { ⟦<SureSink as Sink>⟧.taken self.now ≡ Some result.now }
+        ensures bytes { result.now ≡ self.now.taken }
+        ensures told { (⟦<SureSink as Sink>⟧.state self.now).taken ≡ Some result.now }
     {
         self.taken.as_slice()
     }
 }
 
 impl Sink for SureSink {
-    ghost taken = { λ sink. Some sink };
-
-    ghost faults = { λ _. 0 };
-
-    ghost may_want_memory = { true };
+    ghost state = { λ sink. record {
+      taken = Some sink.taken;
+      faults = 0;
+      memory_faults = sink.memory_faults;
+    } };
 
     fn put(&mut self, bytes: &[u8]) -> Result<(), SinkErr> {
         match self.taken.extend_from_slice(bytes) {
             Ok(()) => Ok(()),
-            Err(_) => Err(SinkErr::NoMemory),
+            Err(_) => {
+                self.memory_faults = self.memory_faults.saturating_add(1);
+                Err(SinkErr::NoMemory)
+            }
         }
     }
 }

@@ -1,7 +1,7 @@
 //! A shelf over the files of the system, and a sink over its standard output.
 //!
 //! What they do to real files and to the real output is not proved.
-ghost use Rattle.std.specs.Prelude.{◌≡◌, ◌≢◌, ◌≤◌, false, None, OnOk, OnErr, IfOk, IsErrOf, vec_len};
+ghost use Rattle.std.specs.Prelude.{◌≡◌, ◌≢◌, ◌≤◌, true, None, OnOk, OnErr, IfOk, IsErrOf, vec_len};
 ghost use Rattle.ci_io.specs.Counts.{raised};
 
 use crate::{Shelf, ShelfErr, Sink, SinkErr};
@@ -34,9 +34,8 @@ impl<'a, R: Files> FileShelf<'a, R> {
     /// The shelf of the runtime's files, with no fault so far.
     pub fn new(rt: &'a R) -> FileShelf<'a, R>
         ensures counts { result ≡ record { reads = 0; writes = 0 } }
-        ensures untold { ⟦<FileShelf<'a, R> as Shelf>⟧.files result ≡ None }
-        ensures no_read_fault { ⟦<FileShelf<'a, R> as Shelf>⟧.read_faults result ≡ 0 }
-        ensures no_write_fault { ⟦<FileShelf<'a, R> as Shelf>⟧.write_faults result ≡ 0 }
+        ensures untold { ⟦<FileShelf<'a, R> as Shelf>⟧.state result
+            ≡ record { files = None; read_faults = 0; write_faults = 0 } }
     {
         FileShelf {
             rt,
@@ -47,11 +46,13 @@ impl<'a, R: Files> FileShelf<'a, R> {
 }
 
 impl<'a, R: Files> Shelf for FileShelf<'a, R> {
-    ghost files = { λ _. None };
+    ghost state = { λ counts. record {
+      files = None;
+      read_faults = counts.reads;
+      write_faults = counts.writes;
+    } };
 
-    ghost read_faults = { λ counts. counts.reads };
-
-    ghost write_faults = { λ counts. counts.writes };
+    ghost read_may_fail = { λ _. true };
 
     fn read(&mut self, alloc: Global, name: &str, limit: u64) -> Result<Vec<u8>, ShelfErr>
         ensures within_limit { IfOk result (λ bytes. vec_len bytes ≤ limit) }
@@ -125,19 +126,15 @@ impl<'a, R: Print> StdSink<'a, R> {
     /// The sink over the runtime's standard output, with no fault so far.
     pub fn new(rt: &'a R) -> StdSink<'a, R>
         ensures count { result ≡ 0 }
-        ensures untold { ⟦<StdSink<'a, R> as Sink>⟧.taken result ≡ None }
-        ensures no_fault { ⟦<StdSink<'a, R> as Sink>⟧.faults result ≡ 0 }
+        ensures untold { ⟦<StdSink<'a, R> as Sink>⟧.state result
+            ≡ record { taken = None; faults = 0; memory_faults = 0 } }
     {
         StdSink { rt, faults: 0 }
     }
 }
 
 impl<'a, R: Print> Sink for StdSink<'a, R> {
-    ghost taken = { λ _. None };
-
-    ghost faults = { λ count. count };
-
-    ghost may_want_memory = { false };
+    ghost state = { λ count. record { taken = None; faults = count; memory_faults = 0 } };
 
     fn put(&mut self, bytes: &[u8]) -> Result<(), SinkErr>
         ensures never_no_memory { result ≢ Err SinkErr.NoMemory }

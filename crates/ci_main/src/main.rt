@@ -1,15 +1,21 @@
 //! The program: hands the words and the system's files and output to `ci_find::run`.
 #![tactic(auto)]
 
+ghost use Rattle.std.specs.Prelude.{map};
+ghost use Rattle.std.specs.String.{string_bytes};
+ghost use Rattle.std.specs.Process.{exit_status};
+ghost use Rattle.ci_find.specs.Endings.{changed, Ends};
+
 use ci_find::run;
-use ci_io::{FileShelf, StdSink};
+use ci_io::{FileShelf, Shelf, Sink, StdSink};
+use std::alloc::Global;
 use std::process::ExitCode;
 use std::{env, io};
 
 /// The status where the system doesn't give the words.
 const NO_WORDS: u8 = 16;
 
-/// The status where it doesn't for want of memory.
+/// The status where it doesn't because memory ran out.
 const NO_MEMORY: u8 = 12;
 
 fn main(rt: HostRuntime) -> ExitCode {
@@ -17,7 +23,7 @@ fn main(rt: HostRuntime) -> ExitCode {
         Ok(words) => {
             let mut shelf = FileShelf::new(&rt);
             let mut out = StdSink::new(&rt);
-            ExitCode::from(run(rt.alloc(), &words, &mut shelf, &mut out))
+            exit_code(rt.alloc(), &words, &mut shelf, &mut out)
         }
         Err(error) if error.kind() == io::ErrorKind::OutOfMemory => ExitCode::from(NO_MEMORY),
         Err(_) => ExitCode::from(NO_WORDS),
@@ -28,4 +34,17 @@ fn main(rt: HostRuntime) -> ExitCode {
 fn words(rt: &HostRuntime) -> io::Result<Vec<String>> {
     let words = env::args(rt)?.skip(1).collect(rt.alloc())?;
     Ok(words)
+}
+
+/// Runs the command that the words name, and answers the exit code of its status.
+fn exit_code<F: Shelf, O: Sink>(
+    alloc: Global,
+    words: &Vec<String>,
+    shelf: &mut F,
+    out: &mut O,
+) -> ExitCode
+    ensures { Ends F.read_may_fail (map string_bytes words.now.items)
+        (changed (F.state shelf.old) (F.state shelf.new) (O.state out.old) (O.state out.new)) (exit_status result) }
+{
+    ExitCode::from(run(alloc, words, shelf, out))
 }

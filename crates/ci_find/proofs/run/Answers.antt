@@ -1,38 +1,38 @@
 -- A call ends with the success that is due or with a refusal.
-use Rattle.std.proofs.Common.{◌≡◌, inl, inr}
-use Rattle.ci_find.specs.declared.fault.Refusal.TheVariants.{NoMemory}
-use Rattle.ci_find.proofs.Runs.{Ends-finished, Ends-refused, Ends-status, Answers-due, refused_no_memory}
+use Rattle.std.proofs.Common.{◌≡◌, inl, inr, refl}
+use Rattle.ci_find.specs.declared.faults.Refusal.TheVariants.{NoMemory}
+use Rattle.ci_find.specs.Endings.{changed, finished}
+use Rattle.ci_find.proofs.Runs.{Ends-refused, Ends-status, Answers-due, refused_no_memory}
+use Rattle.ci_find.proofs.Writes.{Finishes-earlier}
 use Rattle.ci_find.proofs.run.Goals as goal
 
 pub returns-in-Ok-clause-ends : goal.returns-in-Ok-clause-ends
 returns-in-Ok-clause-ends g c =
-    let found = c.in-Ok.ensures.done in
-    let finished = rw (c.in-Ok.ensures.files_stay, c.in-Ok.ensures.no_write) at c.finish.ensures.finished in
-    (found.0, found.1, Ends-finished _ _ _ _ _ found.2 finished)
+    let change = changed (g.F.Shelf.state c.make.new.shelf) (g.F.Shelf.state c.finish.new.shelf) (g.O.Sink.state c.args.out.now) (g.O.Sink.state c.finish.new.out) in
+    finished c.in-Ok.ensures.done (Finishes-earlier change (g.F.Shelf.state c.args.shelf.now) c.in-Ok.ensures.files_stay c.in-Ok.ensures.no_write _ _ c.finish.ensures.finished)
 
 pub returns-in-Ok-clause-due : goal.returns-in-Ok-clause-due
 returns-in-Ok-clause-due g c =
     elim c.in-Ok.ensures.one_reading [
       | inl none ↦ absurd cc
-      | inr one ↦ Answers-due _ _ _ _ (inr one) (returns-in-Ok-clause-ends g c)
+      | inr one ↦ Answers-due _ _ _ _ (inr one) (returns-in-Ok-clause-ends g c) _ refl
     ]
 
 pub returns-in-Ok-clause-statuses : goal.returns-in-Ok-clause-statuses
-returns-in-Ok-clause-statuses g c = let ends = returns-in-Ok-clause-ends g c in Ends-status ends.0 _ _ _ ends.2
+returns-in-Ok-clause-statuses g c = Ends-status _ _ _ _ (returns-in-Ok-clause-ends g c)
 
 pub returns-in-Err-clause-ends : goal.returns-in-Err-clause-ends
 returns-in-Err-clause-ends g c =
-    let refused = c.in-Err.ensures.refused in
-    (refused.0, refused.1, Ends-refused _ _ _ _ _ refused.2 (c.in-Err.ensures.files_stay, c.in-Err.ensures.no_write) c.refuse.ensures)
+    Ends-refused _ _ _ _ _ c.in-Err.ensures.refused (record { same_files = c.in-Err.ensures.files_stay; same_count = c.in-Err.ensures.no_write }) c.refuse.ensures
 
 pub returns-in-Err-clause-due : goal.returns-in-Err-clause-due
 returns-in-Err-clause-due g c =
     elim c.in-Err.ensures.one_reading [
       | inl none ↦
           let is : c.in-Err.refusal ≡ NoMemory = cc in
-          Answers-due _ _ _ _ (inl (refused_no_memory c.in-Err.refusal _ _ _ _ _ _ is c.refuse.ensures)) (returns-in-Err-clause-ends g c)
-      | inr one ↦ Answers-due _ _ _ _ (inr one) (returns-in-Err-clause-ends g c)
+          Answers-due _ _ _ _ (inl (refused_no_memory c.in-Err.refusal _ _ _ is c.refuse.ensures)) (returns-in-Err-clause-ends g c) _ refl
+      | inr one ↦ Answers-due _ _ _ _ (inr one) (returns-in-Err-clause-ends g c) _ refl
     ]
 
 pub returns-in-Err-clause-statuses : goal.returns-in-Err-clause-statuses
-returns-in-Err-clause-statuses g c = let ends = returns-in-Err-clause-ends g c in Ends-status ends.0 _ _ _ ends.2
+returns-in-Err-clause-statuses g c = Ends-status _ _ _ _ (returns-in-Err-clause-ends g c)

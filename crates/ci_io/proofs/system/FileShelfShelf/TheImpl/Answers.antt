@@ -1,5 +1,5 @@
 -- A shelf that tells no file owes only what its counts do.
-use Rattle.std.proofs.Common.{◌≡◌, Option, None, refl}
+use Rattle.std.proofs.Common.{◌≡◌, Option, None, refl, rules}
 use Rattle.ci_io.specs.Outcomes.{Files}
 use Rattle.ci_io.proofs.Raised.{Rises-raised, OnErr-IsErrOf, OnOk-always}
 use Rattle.ci_io.proofs.system.FileShelfShelf.TheImpl.Goals as goal
@@ -9,6 +9,7 @@ read-tells g c = record {
   of_the_file = tt;
   within_limit = c.ensures.within_limit;
   absent_where_told = λ absent. absurd (c.ensures.never_absent absent);
+  fault_where_it_may = λ _. search rules;
   fault_counted = λ fault. Rises-raised _ _ (c.ensures.after_fault fault);
   absent_not_counted = λ absent. absurd (c.ensures.never_absent absent);
   never_falls = c.ensures.never_falls;

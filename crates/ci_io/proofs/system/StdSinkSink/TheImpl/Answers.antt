@@ -8,7 +8,7 @@ put-tells g c = record {
   ok = OnOk-always c.result (◌≡◌ {A = Option (List ℕ)} None None) refl;
   fault = λ _. (0, refl);
   no_memory = λ _. refl;
-  no_memory_where_wanted = λ none. absurd (c.ensures.never_no_memory none);
+  no_memory_counted = λ none. absurd (c.ensures.never_no_memory none);
   fault_counted = λ fault. Rises-raised _ _ (OnErr-IsErrOf c.result _ _ c.ensures.after_fault fault);
   never_falls = c.ensures.never_falls;
 }

@@ -1,0 +1,19 @@
+-- The listing of the words that the file holds.
+use Rattle.std.proofs.Common.{[], ◌∷◌, map, ap, refl}
+use Rattle.ci_find.specs.Steps.{written_of}
+use Rattle.ci_find.proofs.Makes.{one_read}
+use Rattle.ci_find.proofs.commands.dis.make.Goals as goal
+
+pub returns-clause-made : goal.returns-clause-made
+returns-clause-made g c =
+    let bytes = c.in_ok-bytes.bytes.items in
+    record {
+      read = bytes ∷ [];
+      files = one_read _ _ bytes c.in_ok-bytes.ensures.there c.in_ok-bytes.ensures.within_limit tt;
+      made = record {
+        bytes = bytes;
+        read_is = refl;
+        listing = rw c.as_slice.ensures.value at c.in-Ok.ensures;
+        writes_none = ap (map written_of) c.new.ensures.items;
+      };
+    }

@@ -1,0 +1,20 @@
+-- The command `asm`: the words of an assembler text.
+use Rattle.std.specs.Prelude.{◌≡◌, ℕ, List, [], ◌∷◌}
+use Rattle.ci_text.specs.Bytes.{bytes_of_words}
+use Rattle.ci_find.specs.Forms.{assembler_text}
+use Rattle.ci_find.specs.Inputs.{Input}
+use Rattle.ci_find.specs.Success.{Success}
+use Rattle.ci_find.specs.Texts.{IsText}
+
+-- the text
+abbrev pub asm_inputs : List ℕ → List Input
+asm_inputs text = record { name = text; limit = 1048576; form = assembler_text } ∷ []
+
+-- it writes the words that the text assembles to, and puts nothing
+pub record IsAsmMade (out : List ℕ) (read : List (List ℕ)) (success : Success) : Type 0 where
+  pub bytes : List ℕ
+  pub words : List ℕ
+  pub read_is : read ≡ bytes ∷ []
+  pub text : IsText bytes words
+  pub writes_words : success.writes ≡ record { name = out; bytes = bytes_of_words words } ∷ []
+  pub puts_nothing : success.text ≡ []

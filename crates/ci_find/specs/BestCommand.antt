@@ -1,0 +1,35 @@
+-- The command `best`: the best cut of a block.
+use Rattle.std.specs.Prelude.{◌≡◌, ℕ, List, [], ◌∷◌}
+use Rattle.ci_cut.specs.declared.graph.Limits.{Limits}
+use Rattle.ci_find.specs.declared.commands.best.block.Operation.{Operation}
+use Rattle.ci_find.specs.Block.{IsBlock, IsUnsupported, graph_of}
+use Rattle.ci_find.specs.Forms.{any_bytes}
+use Rattle.ci_find.specs.Inputs.{Input}
+use Rattle.ci_find.specs.Lines.{IsBestLine, unsupported_line}
+use Rattle.ci_find.specs.Success.{Success}
+
+-- the words of the block
+abbrev pub best_inputs : List ℕ → List Input
+best_inputs file = record { name = file; limit = 1024; form = any_bytes } ∷ []
+
+-- it puts the line of the best cut of the block within the limits
+pub record IsBestMade (inputs outputs : ℕ) (read : List (List ℕ)) (success : Success) : Type 0 where
+  pub bytes : List ℕ
+  pub operations : List Operation
+  pub limits : Limits
+  pub read_is : read ≡ bytes ∷ []
+  pub block : IsBlock bytes operations
+  pub inputs_are : limits.inputs ≡ inputs
+  pub outputs_are : limits.outputs ≡ outputs
+  pub line : IsBestLine (graph_of operations) limits success.text
+  pub writes_none : success.writes ≡ []
+
+-- the status and the fault line where the bytes are no block
+pub record IsBestRefused (read : List (List ℕ)) (status : ℕ) (text : List ℕ) : Type 0 where
+  pub bytes : List ℕ
+  pub position : ℕ
+  pub word : ℕ
+  pub read_is : read ≡ bytes ∷ []
+  pub unsupported : IsUnsupported bytes position word
+  pub status_is : status ≡ 7
+  pub text_is : text ≡ unsupported_line position word

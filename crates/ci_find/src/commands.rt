@@ -1,0 +1,69 @@
+//! The commands: what each makes of its files, or why it makes nothing.
+ghost use Rattle.std.specs.Prelude.{◌≡◌, ◌⊎◌, IfOk, IfErr, IsErrOf, map};
+ghost use Rattle.std.specs.String.{string_bytes};
+ghost use Rattle.ci_words.specs.Commands.{reading_of};
+ghost use Rattle.ci_find.specs.Endings.{IsDone};
+ghost use Rattle.ci_find.specs.Refusals.{Explains, Makes, MakesNothing, OneReading, reads_between};
+ghost use Rattle.ci_find.specs.Steps.{success_of};
+
+use crate::faults::Refusal;
+use ci_io::Shelf;
+use ci_words::{Command, WordsErr, read_words};
+use std::alloc::Global;
+
+mod asm;
+mod best;
+mod dis;
+
+/// What a command does where nothing is refused and nothing fails: it writes these files, in order, and then puts the text.
+#[derive(Drop)]
+pub struct Success<'a> {
+    pub writes: Vec<Written<'a>>,
+    pub text: String,
+}
+
+/// A file that a command writes.
+#[derive(Drop)]
+pub struct Written<'a> {
+    pub name: &'a str,
+    pub bytes: Vec<u8>,
+}
+
+/// The success that is due to the words, over the files of the shelf.
+pub fn make<'a, F: Shelf>(
+    alloc: Global,
+    words: &'a Vec<String>,
+    shelf: &mut F,
+) -> Result<Success<'a>, Refusal<'a>>
+    ensures done { IfOk result (λ success.
+        IsDone (F.state shelf.old).files (map string_bytes words.now.items) (success_of success)) }
+    ensures refused { IfErr result (Explains (reads_between F.read_may_fail (F.state shelf.old) (F.state shelf.new)) (map string_bytes words.now.items)) }
+    ensures one_reading { IsErrOf result Refusal.NoMemory ⊎ OneReading (map string_bytes words.now.items) }
+    ensures files_stay { (F.state shelf.new).files ≡ (F.state shelf.old).files }
+    ensures no_write { (F.state shelf.new).write_faults ≡ (F.state shelf.old).write_faults }
+{
+    match read_words(alloc, words.as_slice()) {
+        Ok(command) => make_command(alloc, &command, shelf),
+        Err(WordsErr::NoReading) => Err(Refusal::Usage),
+        Err(WordsErr::NoMemory) => Err(Refusal::NoMemory),
+    }
+}
+
+/// What the command makes of its files.
+fn make_command<'a, F: Shelf>(
+    alloc: Global,
+    command: &Command<'a>,
+    shelf: &mut F,
+) -> Result<Success<'a>, Refusal<'a>>
+    ensures made { IfOk result (λ success.
+        Makes (F.state shelf.old).files (reading_of command.now) (success_of success)) }
+    ensures refused { IfErr result (MakesNothing (reads_between F.read_may_fail (F.state shelf.old) (F.state shelf.new)) (reading_of command.now)) }
+    ensures files_stay { (F.state shelf.new).files ≡ (F.state shelf.old).files }
+    ensures no_write { (F.state shelf.new).write_faults ≡ (F.state shelf.old).write_faults }
+{
+    match command {
+        Command::Best { file, limits } => best::make(alloc, *file, limits, shelf),
+        Command::Asm { text, out } => asm::make(alloc, *text, *out, shelf),
+        Command::Dis { file } => dis::make(alloc, *file, shelf),
+    }
+}

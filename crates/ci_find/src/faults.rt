@@ -1,0 +1,150 @@
+//! Why a call of the program is refused, and the fault lines that say it.
+ghost use Rattle.std.specs.Prelude.{◌≡◌, IfOk, OnErr};
+ghost use Rattle.std.specs.String.{string_bytes};
+ghost use Rattle.ci_find.specs.Endings.{IsPut};
+ghost use Rattle.ci_find.specs.Lines.{read_line, write_line, sink_name, too_large_line, unsupported_line, bad_asm_line, no_memory_line};
+ghost use Rattle.ci_find.specs.Refusals.{IsRefused};
+
+use ci_io::Sink;
+use ci_text::push_hex;
+use std::alloc::{AllocError, Global};
+
+/// The status where the words have no reading.
+pub const USAGE: u8 = 1;
+
+/// The status where the file isn't there, or reading it failed.
+pub const READ_FAULT: u8 = 2;
+
+/// The status where writing a file failed, or the sink failed to take the text.
+pub const WRITE_FAULT: u8 = 3;
+
+/// The status where the file is longer than its limit.
+pub const TOO_LARGE: u8 = 4;
+
+/// The status where the file holds no block.
+pub const UNSUPPORTED: u8 = 7;
+
+/// The status where memory ran out.
+pub const NO_MEMORY: u8 = 12;
+
+/// The status where the file holds no assembler text.
+pub const BAD_ASM: u8 = 13;
+
+/// Why there is no success.
+#[derive(Drop)]
+pub enum Refusal<'a> {
+    /// The words have no reading.
+    Usage,
+    /// The file of this name isn't there, or reading it failed.
+    Read(&'a str),
+    /// The file of this name is longer than its limit.
+    TooLarge(&'a str),
+    /// The file holds no block, for the word at this offset, or for its length and 0.
+    Unsupported { position: u32, word: u32 },
+    /// The file holds no assembler text, by a fault of this kind at this line and column.
+    BadAsm { kind: u8, line: u32, column: u32 },
+    /// Memory ran out.
+    NoMemory,
+}
+
+/// Puts the fault line of a refusal, and answers its status. Where memory for the line runs out, that is the refusal.
+pub fn refuse<O: Sink>(alloc: Global, refusal: &Refusal<'_>, out: &mut O) -> u8
+    ensures { IsRefused refusal.now result (O.state out.old) (O.state out.new) }
+{
+    match refusal {
+        Refusal::Usage => put_fault(USAGE, "fault 1 usage\n", out),
+        Refusal::Read(name) => put_text(READ_FAULT, read_text(alloc, name), out),
+        Refusal::TooLarge(name) => put_text(TOO_LARGE, too_large_text(alloc, name), out),
+        Refusal::Unsupported { position, word } => put_text(
+            UNSUPPORTED,
+            unsupported_text(alloc, *position, *word),
+            out,
+        ),
+        Refusal::BadAsm { kind, line, column } => put_text(
+            BAD_ASM,
+            bad_asm_text(alloc, *kind, *line, *column),
+            out,
+        ),
+        Refusal::NoMemory => refuse_memory(out),
+    }
+}
+
+/// Puts the fault line of a text of success that the sink failed to take, and answers its status.
+pub fn refuse_write<O: Sink>(out: &mut O) -> u8
+    ensures status { result ≡ 3 }
+    ensures put { IsPut (O.state out.old) (O.state out.new) (write_line sink_name) }
+{
+    put_fault(WRITE_FAULT, "fault 3 write -\n", out)
+}
+
+/// Puts the fault line where memory ran out, and answers its status.
+pub fn refuse_memory<O: Sink>(out: &mut O) -> u8
+    ensures status { result ≡ 12 }
+    ensures put { IsPut (O.state out.old) (O.state out.new) no_memory_line }
+{
+    put_fault(NO_MEMORY, "fault 12 no memory\n", out)
+}
+
+/// Puts a fault line, if memory was there for its text, and answers its status; else that of memory that ran out.
+fn put_text<O: Sink>(status: u8, text: Result<String, AllocError>, out: &mut O) -> u8
+    ensures ok { IfOk text (λ text. (result ≡ status) × IsPut (O.state out.old) (O.state out.new) (string_bytes text)) }
+    ensures err { OnErr text ((result ≡ 12) × IsPut (O.state out.old) (O.state out.new) no_memory_line) }
+{
+    match text {
+        Ok(text) => put_fault(status, text.as_str(), out),
+        Err(AllocError) => refuse_memory(out),
+    }
+}
+
+/// Puts a fault line, and answers its status, also where the sink fails to take the line.
+pub fn put_fault<O: Sink>(status: u8, line: &str, out: &mut O) -> u8
+    ensures status { result ≡ status }
+    ensures put { IsPut (O.state out.old) (O.state out.new) line.now }
+{
+    let _ = out.put(line.as_bytes());
+    status
+}
+
+/// The fault line of a file that isn't there, or that could not be read.
+fn read_text(alloc: Global, name: &str) -> Result<String, AllocError>
+    ensures { IfOk result (λ text. string_bytes text ≡ read_line name.now) }
+{
+    format!(in alloc; "fault 2 read {name}\n")
+}
+
+/// The fault line of a file that is longer than its limit.
+fn too_large_text(alloc: Global, name: &str) -> Result<String, AllocError>
+    ensures { IfOk result (λ text. string_bytes text ≡ too_large_line name.now) }
+{
+    format!(in alloc; "fault 4 too large {name}\n")
+}
+
+/// The fault line of a file that holds no block.
+fn unsupported_text(alloc: Global, position: u32, word: u32) -> Result<String, AllocError>
+    ensures { IfOk result (λ text. string_bytes text ≡ unsupported_line position word) }
+{
+    let mut text = String::from_str(alloc, "fault 7 unsupported ")?;
+    push_hex(&mut text, position)?;
+    text.push(' ')?;
+    push_hex(&mut text, word)?;
+    text.push('\n')?;
+    Ok(text)
+}
+
+/// The fault line of a file that could not be written.
+pub fn write_text(alloc: Global, name: &str) -> Result<String, AllocError>
+    ensures { IfOk result (λ text. string_bytes text ≡ write_line name.now) }
+{
+    format!(in alloc; "fault 3 write {name}\n")
+}
+
+/// The fault line of a file that holds no assembler text.
+fn bad_asm_text(alloc: Global, kind: u8, line: u32, column: u32) -> Result<String, AllocError>
+    ensures { IfOk result (λ text. string_bytes text ≡ bad_asm_line kind line column) }
+{
+    let mut text = String::from_str(alloc, "fault 13 asm")?;
+    write!(text, " {kind}")?;
+    write!(text, " {line}")?;
+    writeln!(text, " {column}")?;
+    Ok(text)
+}
