@@ -1,9 +1,14 @@
 #!/usr/bin/env python3
 """Compares `rumtsafi dis` with GNU objdump, and `rumtsafi asm` with the bytes that `dis` read.
 
-A C program is compiled for RV32IM by GCC, and the words of its text go through both. Every word has to read the same, once
-the two ways of writing are brought to one; and the text of `dis` has to assemble to the same bytes again. It ends with status 0
-where all agree, and where the tools are missing, with a line that says so.
+    compare_with_objdump.py [PROGRAM]
+
+PROGRAM is the built program; with none it is the script at the top of the repository, which builds the program if need
+be.
+
+A C program is compiled for RV32IM by GCC, and the words of its text go through both. Every word has to read the same,
+once the two ways of writing are brought to one; and the text of `dis` has to assemble to the same bytes again. It ends
+with status 0 where all agree, and where the tools are missing, with a line that says so.
 """
 import os
 import re
@@ -13,7 +18,7 @@ import sys
 import tempfile
 
 HERE = os.path.dirname(os.path.abspath(__file__))
-RUMTSAFI = os.path.join(HERE, "..", "rumtsafi")
+RUMTSAFI = os.path.abspath(sys.argv[1] if len(sys.argv) > 1 else os.path.join(HERE, "..", "rumtsafi"))
 TOOLS = {name: f"riscv64-unknown-elf-{name}" for name in ("gcc", "objcopy", "objdump")}
 TARGET = ["-march=rv32im", "-mabi=ilp32", "-O2", "-ffreestanding", "-nostdlib", "-nostartfiles"]
 BRANCHES = {"beq", "bne", "blt", "bge", "bltu", "bgeu", "jal"}
