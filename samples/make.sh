@@ -1,6 +1,7 @@
 #!/usr/bin/env bash
 # Makes sha256_round.bin anew from sha256_round.c: the words of its one basic block, without the return at its end.
-# It needs Debian's package gcc-riscv64-unknown-elf. The file beside it was made by its version 12.2.0; another may emit other words.
+# It needs Debian's package gcc-riscv64-unknown-elf. The file beside it was made by its version 12.2.0; another may emit
+# other words.
 set -eu
 cd "$(dirname "$0")"
 object=$(mktemp)
