@@ -4,9 +4,9 @@ use Rattle.std.proofs.lemmas.Int.{ints}
 use Rattle.std.proofs.lemmas.Bool.Decides.{nat_tests}
 use Rattle.ci_word.specs.declared.arithmetic.Op.{Op}
 use Rattle.ci_word.specs.declared.arithmetic.Op.TheVariants.{Add, Sub, Sll, Slt, Sltu, Xor, Srl, Sra, Or, And, Mul, Mulh, Mulhsu, Mulhu, Div, Divu, Rem, Remu}
-use Rattle.ci_isa.specs.Table.{IsWellFormed}
+use Rattle.ci_isa.specs.Table.{constant_form, IsWellFormed}
 use Rattle.ci_isa.proofs.WellFormed as isa
-use Rattle.ci_isa.proofs.WellFormed.{IsOfWidth, IsEven, ConstantFits, FieldsFit}
+use Rattle.ci_isa.specs.FieldBounds.{IsOfWidth, IsEven, ConstantFits, FieldsFit}
 use Rattle.ci_asm.specs.declared.numbers.Number.{Number}
 use Rattle.ci_asm.specs.declared.mnemonics.Mnemonic.{Mnemonic}
 use Rattle.ci_asm.specs.declared.mnemonics.Mnemonic.TheVariants.{Registers, Constant, Lui, Auipc, Jal, Jalr, Branch, Load, Store, Fence, Ecall, Ebreak, Custom, Cread, Data}
@@ -77,7 +77,7 @@ amount_between n ok = by n.negative n.magnitude (fits_near Amount n ok)
 
 -- ---- instructions
 
-constant_fits : (op : Op) (n : Number) → is_statement (Constant op) ≡ true → fits (field_of (Constant op)) n ≡ true → ConstantFits op (signed_value n)
+constant_fits : (op : Op) (n : Number) → is_statement (Constant op) ≡ true → fits (field_of (Constant op)) n ≡ true → ConstantFits (constant_form op) (signed_value n)
 constant_fits Add n named ok = width_12 n ok
 constant_fits Slt n named ok = width_12 n ok
 constant_fits Sltu n named ok = width_12 n ok

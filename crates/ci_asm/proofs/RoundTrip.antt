@@ -6,8 +6,9 @@ use Rattle.ci_word.specs.declared.arithmetic.Op.{Op}
 use Rattle.ci_word.specs.declared.arithmetic.Op.TheVariants.{Add, Sub, Sll, Slt, Sltu, Xor, Srl, Sra, Or, And, Mul, Mulh, Mulhsu, Mulhu, Div, Divu, Rem, Remu}
 use Rattle.ci_isa.specs.declared.instruction.Insn.{Insn}
 use Rattle.ci_isa.specs.declared.instruction.Insn.TheVariants as insn
-use Rattle.ci_isa.specs.Table.{IsWellFormed}
-use Rattle.ci_isa.proofs.WellFormed.{IsOfWidth, IsEven, ConstantFits, FieldsFit, fields_fit}
+use Rattle.ci_isa.specs.Table.{constant_form, IsWellFormed}
+use Rattle.ci_isa.specs.FieldBounds.{IsOfWidth, IsEven, ConstantFits, FieldsFit}
+use Rattle.ci_isa.proofs.WellFormed.{fields_fit}
 use Rattle.ci_asm.specs.declared.numbers.Number.{Number}
 use Rattle.ci_asm.specs.declared.mnemonics.Mnemonic.TheVariants.{Constant}
 use Rattle.ci_asm.specs.declared.slots.Field.{Field}
@@ -98,7 +99,7 @@ constant_statement op rd rs1 imm a b named ok sign = record {
   gives = ap (insn.AluImm op rd rs1) (signed_again imm);
 }
 
-constant_of : (op : Op) (rd rs1 : ℕ) (imm : ℤ) → rd < 32 → rs1 < 32 → ConstantFits op imm → IsStatementOf (insn.AluImm op rd rs1 imm) (statement_of (insn.AluImm op rd rs1 imm))
+constant_of : (op : Op) (rd rs1 : ℕ) (imm : ℤ) → rd < 32 → rs1 < 32 → ConstantFits (constant_form op) imm → IsStatementOf (insn.AluImm op rd rs1 imm) (statement_of (insn.AluImm op rd rs1 imm))
 constant_of Add rd rs1 imm a b fit = constant_statement Add rd rs1 imm a b refl (fits_12 imm fit) tt
 constant_of Slt rd rs1 imm a b fit = constant_statement Slt rd rs1 imm a b refl (fits_12 imm fit) tt
 constant_of Sltu rd rs1 imm a b fit = constant_statement Sltu rd rs1 imm a b refl (fits_12 imm fit) tt

@@ -1,5 +1,5 @@
 -- What a row answers is what the word reads as.
-use Rattle.std.proofs.Common.{◌≡◌, ℕ, Bool, ◌||◌, List, [], ◌∷◌, Option, Some, None, pos, refl, sym, arith}
+use Rattle.std.proofs.Common.{◌≡◌, ℕ, ◌<◌, ◌^◌, Bool, ◌||◌, List, [], ◌∷◌, Option, Some, None, pos, refl, sym, arith}
 use Rattle.std.specs.Prelude.{⊤, if◌then◌else◌, ◌==◌, IfSome, option_map, find}
 use Rattle.std.specs.List.{AllByRecursion}
 use Rattle.std.proofs.lemmas.Bool.{cond_both, eqb-true}
@@ -12,7 +12,7 @@ use Rattle.ci_isa.specs.declared.instruction.Width.TheVariants.{Byte, Half, Word
 use Rattle.ci_isa.specs.declared.instruction.Insn.{Insn}
 use Rattle.ci_isa.specs.declared.instruction.Insn.TheVariants.{Alu, AluImm, Lui, Auipc, Jal, Jalr, Branch, Load, Store, Fence, Ecall, Ebreak, Unit, Cread, Illegal}
 use Rattle.ci_isa.specs.Fields.{field, opcode, rd_field, funct3, rs1_field, rs2_field, funct7, immediate_format, store_format, branch_format, upper_format, jump_format, immediate, signed_immediate}
-use Rattle.ci_isa.specs.Table.{operation_codes, condition_code, load_code, store_code, HoldsConstant, Reads, ReadsX}
+use Rattle.ci_isa.specs.Table.{operation_codes, condition_code, load_code, store_code, constant_form, HoldsConstant, HasFieldsOf, HasFieldsOfX, Reads, ReadsX}
 use Rattle.ci_isa.specs.Decoding.{condition_at, load_at, width_at, operation_among, base_at, other_at, product_at, immediate_at, operation_at, shift_at, jump_row, branch_row, load_row, store_row, immediate_row, shift_row, constant_row, operation_row, fence_row, environment_row, unit_row, hidden_row, plain_row, extended_row}
 
 -- ---- choices
@@ -38,28 +38,28 @@ tested n m x y P hit miss = cond_both (n == m) x y (λ o. IfSome o P) (λ e. hit
 
 -- ---- the rows of the plain table
 
-jump_found : (w : ℕ) → opcode w ≡ 0x67 → IfSome (jump_row w) (Reads w)
+jump_found : (w : ℕ) → opcode w ≡ 0x67 → IfSome (jump_row w) (HasFieldsOf w)
 unfolding jump_row
-jump_found w e = tested (funct3 w) 0 (Some (Jalr (rd_field w) (rs1_field w) (signed_immediate immediate_format w))) None (Reads w) (λ h. (e, h, refl, refl, refl)) tt
+jump_found w e = tested (funct3 w) 0 (Some (Jalr (rd_field w) (rs1_field w) (signed_immediate immediate_format w))) None (HasFieldsOf w) (λ h. (e, h, refl, refl, refl)) tt
 
-branch_found : (w : ℕ) → opcode w ≡ 0x63 → IfSome (branch_row w) (Reads w)
+branch_found : (w : ℕ) → opcode w ≡ 0x63 → IfSome (branch_row w) (HasFieldsOf w)
 unfolding branch_row
 branch_found w e =
-    mapped (λ cond. Branch cond (rs1_field w) (rs2_field w) (signed_immediate branch_format w)) (condition_at (funct3 w)) (λ cond. (funct3 w ≡ condition_code cond) × ⊤) (Reads w)
+    mapped (λ cond. Branch cond (rs1_field w) (rs2_field w) (signed_immediate branch_format w)) (condition_at (funct3 w)) (λ cond. (funct3 w ≡ condition_code cond) × ⊤) (HasFieldsOf w)
     (by_code condition_code (λ _. ⊤) (funct3 w) (Eq ∷ Ne ∷ Lt ∷ Ge ∷ Ltu ∷ Geu ∷ []) (tt, (tt, (tt, (tt, (tt, (tt, tt)))))))
     (λ cond h. (e, h.0, refl, refl, refl))
 
-load_found : (w : ℕ) → opcode w ≡ 0x03 → IfSome (load_row w) (Reads w)
+load_found : (w : ℕ) → opcode w ≡ 0x03 → IfSome (load_row w) (HasFieldsOf w)
 unfolding load_row
 load_found w e =
-    mapped (λ kind. Load kind (rd_field w) (rs1_field w) (signed_immediate immediate_format w)) (load_at (funct3 w)) (λ kind. (funct3 w ≡ load_code kind) × ⊤) (Reads w)
+    mapped (λ kind. Load kind (rd_field w) (rs1_field w) (signed_immediate immediate_format w)) (load_at (funct3 w)) (λ kind. (funct3 w ≡ load_code kind) × ⊤) (HasFieldsOf w)
     (by_code load_code (λ _. ⊤) (funct3 w) (B ∷ H ∷ W ∷ Bu ∷ Hu ∷ []) (tt, (tt, (tt, (tt, (tt, tt))))))
     (λ kind h. (e, h.0, refl, refl, refl))
 
-store_found : (w : ℕ) → opcode w ≡ 0x23 → IfSome (store_row w) (Reads w)
+store_found : (w : ℕ) → opcode w ≡ 0x23 → IfSome (store_row w) (HasFieldsOf w)
 unfolding store_row
 store_found w e =
-    mapped (λ width. Store width (rs1_field w) (rs2_field w) (signed_immediate store_format w)) (width_at (funct3 w)) (λ width. (funct3 w ≡ store_code width) × ⊤) (Reads w)
+    mapped (λ width. Store width (rs1_field w) (rs2_field w) (signed_immediate store_format w)) (width_at (funct3 w)) (λ width. (funct3 w ≡ store_code width) × ⊤) (HasFieldsOf w)
     (by_code store_code (λ _. ⊤) (funct3 w) (Byte ∷ Half ∷ Word ∷ []) (tt, (tt, (tt, tt))))
     (λ width h. (e, h.0, refl, refl, refl))
 
@@ -67,91 +67,99 @@ store_found w e =
 among : (P : Op → Type 0) (operations : List Op) (n : ℕ) → AllByRecursion P operations → IfSome (operation_among operations n) (λ op. (n ≡ (operation_codes op).0) × P op)
 among P operations n all = by_code (λ op. (operation_codes op).0) P n operations all
 
-immediate_found : (w : ℕ) → opcode w ≡ 0x13 → IfSome (immediate_row w) (Reads w)
+immediate_found : (w : ℕ) → opcode w ≡ 0x13 → IfSome (immediate_row w) (HasFieldsOf w)
 unfolding immediate_row
 immediate_found w e =
-    let P = λ (op : Op). HoldsConstant w op (signed_immediate immediate_format w) in
-    mapped (λ op. AluImm op (rd_field w) (rs1_field w) (signed_immediate immediate_format w)) (immediate_at (funct3 w)) (λ op. (funct3 w ≡ (operation_codes op).0) × P op) (Reads w)
+    let P = λ (op : Op). HoldsConstant w (constant_form op) (operation_codes op).1 (signed_immediate immediate_format w) in
+    mapped (λ op. AluImm op (rd_field w) (rs1_field w) (signed_immediate immediate_format w)) (immediate_at (funct3 w)) (λ op. (funct3 w ≡ (operation_codes op).0) × P op) (HasFieldsOf w)
     (among P (Add ∷ Slt ∷ Sltu ∷ Xor ∷ Or ∷ And ∷ []) (funct3 w) (refl, (refl, (refl, (refl, (refl, (refl, tt)))))))
     (λ op h. (e, h.0, refl, refl, h.1))
 
-shift_found : (w : ℕ) → opcode w ≡ 0x13 → IfSome (shift_row w) (Reads w)
+shift_found : (w : ℕ) → opcode w ≡ 0x13 → IfSome (shift_row w) (HasFieldsOf w)
 unfolding shift_row
 shift_found w e =
-    let P = λ (op : Op). HoldsConstant w op (pos (rs2_field w)) in
+    let P = λ (op : Op). HoldsConstant w (constant_form op) (operation_codes op).1 (pos (rs2_field w)) in
     let Q = λ (op : Op). (funct3 w ≡ (operation_codes op).0) × P op in
-    mapped (λ op. AluImm op (rd_field w) (rs1_field w) (pos (rs2_field w))) (shift_at (funct3 w) (funct7 w)) Q (Reads w)
+    mapped (λ op. AluImm op (rd_field w) (rs1_field w) (pos (rs2_field w))) (shift_at (funct3 w) (funct7 w)) Q (HasFieldsOf w)
     (tested (funct7 w) 0x00 (operation_among (Sll ∷ Srl ∷ []) (funct3 w)) _ Q (λ h. among P (Sll ∷ Srl ∷ []) (funct3 w) ((h, refl), ((h, refl), tt)))
     (tested (funct7 w) 0x20 (operation_among (Sra ∷ []) (funct3 w)) None Q (λ h. among P (Sra ∷ []) (funct3 w) ((h, refl), tt)) tt))
     (λ op h. (e, h.0, refl, refl, h.1))
 
-constant_found : (w : ℕ) → opcode w ≡ 0x13 → IfSome (constant_row w) (Reads w)
+constant_found : (w : ℕ) → opcode w ≡ 0x13 → IfSome (constant_row w) (HasFieldsOf w)
 unfolding constant_row
-constant_found w e = chosen (funct3 w == 1 || funct3 w == 5) (shift_row w) (immediate_row w) (Reads w) (shift_found w e) (immediate_found w e)
+constant_found w e = chosen (funct3 w == 1 || funct3 w == 5) (shift_row w) (immediate_row w) (HasFieldsOf w) (shift_found w e) (immediate_found w e)
 
-operation_found : (w : ℕ) → opcode w ≡ 0x33 → IfSome (operation_row w) (Reads w)
+operation_found : (w : ℕ) → opcode w ≡ 0x33 → IfSome (operation_row w) (HasFieldsOf w)
 unfolding operation_row
 operation_found w e =
     let P = λ (op : Op). funct7 w ≡ (operation_codes op).1 in
     let Q = λ (op : Op). (funct3 w ≡ (operation_codes op).0) × P op in
-    mapped (λ op. Alu op (rd_field w) (rs1_field w) (rs2_field w)) (operation_at (funct3 w) (funct7 w)) Q (Reads w)
+    mapped (λ op. Alu op (rd_field w) (rs1_field w) (rs2_field w)) (operation_at (funct3 w) (funct7 w)) Q (HasFieldsOf w)
     (tested (funct7 w) 0x00 (base_at (funct3 w)) _ Q (λ h. among P (Add ∷ Sll ∷ Slt ∷ Sltu ∷ Xor ∷ Srl ∷ Or ∷ And ∷ []) (funct3 w) (h, (h, (h, (h, (h, (h, (h, (h, tt)))))))))
     (tested (funct7 w) 0x20 (other_at (funct3 w)) _ Q (λ h. among P (Sub ∷ Sra ∷ []) (funct3 w) (h, (h, tt)))
     (tested (funct7 w) 0x01 (product_at (funct3 w)) None Q (λ h. among P (Mul ∷ Mulh ∷ Mulhsu ∷ Mulhu ∷ Div ∷ Divu ∷ Rem ∷ Remu ∷ []) (funct3 w) (h, (h, (h, (h, (h, (h, (h, (h, tt))))))))) tt)))
     (λ op h. (e, h.0, h.1, refl, refl, refl))
 
-fence_found : (w : ℕ) → opcode w ≡ 0x0f → IfSome (fence_row w) (Reads w)
+fence_found : (w : ℕ) → opcode w ≡ 0x0f → IfSome (fence_row w) (HasFieldsOf w)
 unfolding fence_row
-fence_found w e = tested (funct3 w) 0 (Some (Fence (field w 31 20) (rs1_field w) (rd_field w))) None (Reads w) (λ h. (e, h, refl, refl, refl)) tt
+fence_found w e = tested (funct3 w) 0 (Some (Fence (field w 31 20) (rs1_field w) (rd_field w))) None (HasFieldsOf w) (λ h. (e, h, refl, refl, refl)) tt
 
-environment_found : (w : ℕ) → IfSome (environment_row w) (Reads w)
+environment_found : (w : ℕ) → IfSome (environment_row w) (HasFieldsOf w)
 unfolding environment_row
-environment_found w = tested w 0x0000_0073 (Some Ecall) _ (Reads w) (λ h. h) (tested w 0x0010_0073 (Some Ebreak) None (Reads w) (λ h. h) tt)
+environment_found w = tested w 0x0000_0073 (Some Ecall) _ (HasFieldsOf w) (λ h. h) (tested w 0x0010_0073 (Some Ebreak) None (HasFieldsOf w) (λ h. h) tt)
 
-pub plain_found : (w : ℕ) → IfSome (plain_row w) (Reads w)
+plain_found : (w : ℕ) → IfSome (plain_row w) (HasFieldsOf w)
 unfolding plain_row
 plain_found w =
-    tested (opcode w) 0x37 (Some (Lui (rd_field w) (immediate upper_format w))) _ (Reads w) (λ e. (e, refl, refl))
-    (tested (opcode w) 0x17 (Some (Auipc (rd_field w) (immediate upper_format w))) _ (Reads w) (λ e. (e, refl, refl))
-    (tested (opcode w) 0x6f (Some (Jal (rd_field w) (signed_immediate jump_format w))) _ (Reads w) (λ e. (e, refl, refl))
-    (tested (opcode w) 0x67 (jump_row w) _ (Reads w) (jump_found w)
-    (tested (opcode w) 0x63 (branch_row w) _ (Reads w) (branch_found w)
-    (tested (opcode w) 0x03 (load_row w) _ (Reads w) (load_found w)
-    (tested (opcode w) 0x23 (store_row w) _ (Reads w) (store_found w)
-    (tested (opcode w) 0x13 (constant_row w) _ (Reads w) (constant_found w)
-    (tested (opcode w) 0x33 (operation_row w) _ (Reads w) (operation_found w)
-    (tested (opcode w) 0x0f (fence_row w) (environment_row w) (Reads w) (fence_found w) (environment_found w))))))))))
+    tested (opcode w) 0x37 (Some (Lui (rd_field w) (immediate upper_format w))) _ (HasFieldsOf w) (λ e. (e, refl, refl))
+    (tested (opcode w) 0x17 (Some (Auipc (rd_field w) (immediate upper_format w))) _ (HasFieldsOf w) (λ e. (e, refl, refl))
+    (tested (opcode w) 0x6f (Some (Jal (rd_field w) (signed_immediate jump_format w))) _ (HasFieldsOf w) (λ e. (e, refl, refl))
+    (tested (opcode w) 0x67 (jump_row w) _ (HasFieldsOf w) (jump_found w)
+    (tested (opcode w) 0x63 (branch_row w) _ (HasFieldsOf w) (branch_found w)
+    (tested (opcode w) 0x03 (load_row w) _ (HasFieldsOf w) (load_found w)
+    (tested (opcode w) 0x23 (store_row w) _ (HasFieldsOf w) (store_found w)
+    (tested (opcode w) 0x13 (constant_row w) _ (HasFieldsOf w) (constant_found w)
+    (tested (opcode w) 0x33 (operation_row w) _ (HasFieldsOf w) (operation_found w)
+    (tested (opcode w) 0x0f (fence_row w) (environment_row w) (HasFieldsOf w) (fence_found w) (environment_found w))))))))))
 
 -- ---- the extended table
 
--- what reads in the plain table reads so in the extended one
-pub in_extended : (w : ℕ) (insn : Insn) → Reads w insn → ReadsX w insn
-in_extended w (Alu op rd rs1 rs2) reads = reads
-in_extended w (AluImm op rd rs1 imm) reads = reads
-in_extended w (Lui rd upper) reads = reads
-in_extended w (Auipc rd upper) reads = reads
-in_extended w (Jal rd offset) reads = reads
-in_extended w (Jalr rd rs1 offset) reads = reads
-in_extended w (Branch cond rs1 rs2 offset) reads = reads
-in_extended w (Load kind rd rs1 offset) reads = reads
-in_extended w (Store width rs1 rs2 offset) reads = reads
-in_extended w (Fence bits rs1 rd) reads = reads
-in_extended w Ecall reads = reads
-in_extended w Ebreak reads = reads
-in_extended w (Unit number rd rs1 rs2 rs3) reads = absurd reads
-in_extended w (Cread rd) reads = absurd reads
-in_extended w (Illegal word) reads = absurd reads
+-- the fields of a row of the plain table are those of the extended one
+pub in_extended : (w : ℕ) (insn : Insn) → HasFieldsOf w insn → HasFieldsOfX w insn
+in_extended w (Alu op rd rs1 rs2) fields = fields
+in_extended w (AluImm op rd rs1 imm) fields = fields
+in_extended w (Lui rd upper) fields = fields
+in_extended w (Auipc rd upper) fields = fields
+in_extended w (Jal rd offset) fields = fields
+in_extended w (Jalr rd rs1 offset) fields = fields
+in_extended w (Branch cond rs1 rs2 offset) fields = fields
+in_extended w (Load kind rd rs1 offset) fields = fields
+in_extended w (Store width rs1 rs2 offset) fields = fields
+in_extended w (Fence bits rs1 rd) fields = fields
+in_extended w Ecall fields = fields
+in_extended w Ebreak fields = fields
+in_extended w (Unit number rd rs1 rs2 rs3) fields = absurd fields
+in_extended w (Cread rd) fields = absurd fields
+in_extended w (Illegal word) fields = absurd fields
 
-unit_found : (w : ℕ) → opcode w ≡ 0x0b → IfSome (unit_row w) (ReadsX w)
+unit_found : (w : ℕ) → opcode w ≡ 0x0b → IfSome (unit_row w) (HasFieldsOfX w)
 unfolding unit_row
 unit_found w e = (e, omega arith, omega arith, refl, refl, refl, refl)
 
-hidden_found : (w : ℕ) → opcode w ≡ 0x2b → IfSome (hidden_row w) (ReadsX w)
+hidden_found : (w : ℕ) → opcode w ≡ 0x2b → IfSome (hidden_row w) (HasFieldsOfX w)
 unfolding hidden_row
-hidden_found w e = tested (field w 31 12) 0 (Some (Cread (rd_field w))) None (ReadsX w) (λ h. (e, refl, h)) tt
+hidden_found w e = tested (field w 31 12) 0 (Some (Cread (rd_field w))) None (HasFieldsOfX w) (λ h. (e, refl, h)) tt
 
-pub extended_found : (w : ℕ) → IfSome (extended_row w) (ReadsX w)
+extended_found : (w : ℕ) → IfSome (extended_row w) (HasFieldsOfX w)
 unfolding extended_row
 extended_found w =
-    tested (opcode w) 0x0b (unit_row w) _ (ReadsX w) (unit_found w)
-    (tested (opcode w) 0x2b (hidden_row w) (plain_row w) (ReadsX w) (hidden_found w) (IfSome_then (plain_row w) (plain_found w) (in_extended w)))
+    tested (opcode w) 0x0b (unit_row w) _ (HasFieldsOfX w) (unit_found w)
+    (tested (opcode w) 0x2b (hidden_row w) (plain_row w) (HasFieldsOfX w) (hidden_found w) (IfSome_then (plain_row w) (plain_found w) (in_extended w)))
+
+-- ---- what the calls answer
+
+pub plain_reads : (w : ℕ) → w < 2 ^ 32 → IfSome (plain_row w) (Reads w)
+plain_reads w below = IfSome_then (plain_row w) (plain_found w) (λ insn fields. (below, fields))
+
+pub extended_reads : (w : ℕ) → w < 2 ^ 32 → IfSome (extended_row w) (ReadsX w)
+extended_reads w below = IfSome_then (extended_row w) (extended_found w) (λ insn fields. (below, fields))

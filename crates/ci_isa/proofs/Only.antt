@@ -12,7 +12,7 @@ use Rattle.ci_isa.specs.declared.instruction.Width.TheVariants.{Byte, Half, Word
 use Rattle.ci_isa.specs.declared.instruction.Insn.{Insn}
 use Rattle.ci_isa.specs.declared.instruction.Insn.TheVariants.{Alu, AluImm, Lui, Auipc, Jal, Jalr, Branch, Load, Store, Fence, Ecall, Ebreak, Unit, Cread, Illegal}
 use Rattle.ci_isa.specs.Fields.{field, rd_field, funct3, rs1_field, rs2_field, funct7, immediate_format, store_format, branch_format, signed_immediate}
-use Rattle.ci_isa.specs.Table.{operation_codes, condition_code, load_code, store_code, HoldsConstant, Reads, ReadsX, IsWordOf, IsWellFormed}
+use Rattle.ci_isa.specs.Table.{operation_codes, condition_code, load_code, store_code, constant_form, HoldsConstant, HasFieldsOf, HasFieldsOfX, Reads, ReadsX, IsWordOf, IsWellFormed}
 use Rattle.ci_isa.specs.Decoding.{condition_at, load_at, width_at, immediate_at, operation_at, shift_at, jump_row, branch_row, load_row, store_row, immediate_row, shift_row, constant_row, operation_row, fence_row, environment_row, unit_row, hidden_row, plain_row, extended_row}
 use Rattle.ci_isa.proofs.Found.{in_extended}
 
@@ -100,7 +100,7 @@ shift_only w op rd rs1 imm known code d a held =
     ap (option_map (λ op. AluImm op (rd_field w) (rs1_field w) (pos (rs2_field w)))) ((λ i. shift_at (code i) (held.0 i)) ∙ known)
     ∙ (λ i. Some (AluImm op (d i) (a i) (held.1 i)))
 
-constant_only : (w : ℕ) (op : Op) (rd rs1 : ℕ) (imm : ℤ) → funct3 w ≡ (operation_codes op).0 → rd_field w ≡ rd → rs1_field w ≡ rs1 → HoldsConstant w op imm → constant_row w ≡ Some (AluImm op rd rs1 imm)
+constant_only : (w : ℕ) (op : Op) (rd rs1 : ℕ) (imm : ℤ) → funct3 w ≡ (operation_codes op).0 → rd_field w ≡ rd → rs1_field w ≡ rs1 → HoldsConstant w (constant_form op) (operation_codes op).1 imm → constant_row w ≡ Some (AluImm op rd rs1 imm)
 unfolding constant_row
 constant_only w Add rd rs1 imm code d a held = rw code (immediate_only w Add rd rs1 imm refl code d a held)
 constant_only w Sub rd rs1 imm code d a held = absurd held
@@ -125,7 +125,7 @@ fence_only : (w bits rs1 rd : ℕ) → funct3 w ≡ 0 → field w 31 20 ≡ bits
 unfolding fence_row
 fence_only w bits rs1 rd code b a d = rw code (λ i. Some (Fence (b i) (a i) (d i)))
 
-pub plain_only : (w : ℕ) (insn : Insn) → Reads w insn → plain_row w ≡ Some insn
+plain_only : (w : ℕ) (insn : Insn) → HasFieldsOf w insn → plain_row w ≡ Some insn
 unfolding plain_row environment_row
 plain_only w (Alu op rd rs1 rs2) r = rw r.0 (operation_only w op rd rs1 rs2 r.1 r.2 r.3 r.4 r.5)
 plain_only w (AluImm op rd rs1 imm) r = rw r.0 (constant_only w op rd rs1 imm r.1 r.2 r.3 r.4)
@@ -155,7 +155,7 @@ hidden_only : (w rd : ℕ) → rd_field w ≡ rd → field w 31 12 ≡ 0 → hid
 unfolding hidden_row
 hidden_only w rd d zero = rw zero (λ i. Some (Cread (d i)))
 
-pub extended_only : (w : ℕ) (insn : Insn) → ReadsX w insn → extended_row w ≡ Some insn
+extended_only : (w : ℕ) (insn : Insn) → HasFieldsOfX w insn → extended_row w ≡ Some insn
 unfolding extended_row
 extended_only w (Alu op rd rs1 rs2) r = rw r.0 (plain_only w (Alu op rd rs1 rs2) r)
 extended_only w (AluImm op rd rs1 imm) r = rw r.0 (plain_only w (AluImm op rd rs1 imm) r)
@@ -180,9 +180,15 @@ pub none_read : (answer : Option Insn) (R : Insn → Type 0) → ((insn : Insn) 
 none_read None R only = λ insn reads. let e = only insn reads in cc
 none_read (Some found) R only = tt
 
+pub only_plain : (w : ℕ) (insn : Insn) → Reads w insn → plain_row w ≡ Some insn
+only_plain w insn reads = plain_only w insn reads.1
+
+pub only_extended : (w : ℕ) (insn : Insn) → ReadsX w insn → extended_row w ≡ Some insn
+only_extended w insn reads = extended_only w insn reads.1
+
 -- what a word reads as is well formed
-pub read_well_formed : (w : ℕ) (insn : Insn) → w < 2 ^ 32 → ReadsX w insn → IsWellFormed insn
-read_well_formed w insn below reads = (w, below, stands_for insn reads)
+pub read_well_formed : (w : ℕ) (insn : Insn) → ReadsX w insn → IsWellFormed insn
+read_well_formed w insn reads = (w, stands_for insn reads)
   where
     stands_for : (insn : Insn) → ReadsX w insn → IsWordOf w insn
     stands_for (Alu op rd rs1 rs2) reads = reads
@@ -199,12 +205,12 @@ read_well_formed w insn below reads = (w, below, stands_for insn reads)
     stands_for Ebreak reads = reads
     stands_for (Unit number rd rs1 rs2 rs3) reads = reads
     stands_for (Cread rd) reads = reads
-    stands_for (Illegal word) reads = absurd reads
+    stands_for (Illegal word) reads = absurd reads.1
 
-pub plain_well_formed : (w : ℕ) (insn : Insn) → w < 2 ^ 32 → Reads w insn → IsWellFormed insn
-plain_well_formed w insn below reads = read_well_formed w insn below (in_extended w insn reads)
+pub plain_well_formed : (w : ℕ) (insn : Insn) → Reads w insn → IsWellFormed insn
+plain_well_formed w insn reads = read_well_formed w insn (reads.0, in_extended w insn reads.1)
 
 -- the bare word in place of no instruction is well formed
 pub word_well_formed : (answer : Option Insn) (word : ℕ) → word < 2 ^ 32 → IfSome answer IsWellFormed → IsWellFormed (unwrap_or answer (Illegal word))
-word_well_formed None word below given = (word, below, refl)
+word_well_formed None word below given = (word, (below, refl))
 word_well_formed (Some insn) word below given = given

@@ -1,6 +1,6 @@
--- The bounds on an instruction's fields: some word stands for the instruction exactly where they hold.
-use Rattle.std.proofs.Common.{◌≡◌, ℕ, suc, ◌+◌, ◌-◌, ◌*◌, ◌/◌, ◌%◌, ◌^◌, ◌<◌, ◌≤◌, ℤ, pos, negsuc, neg_ℤ, ◌-ℤ◌, ◌≤ℤ◌, ◌<ℤ◌, refl, sym, ap, subst, ◌∙◌, arith, lit<}
-use Rattle.std.specs.Prelude.{⊤, unsigned_abs, nat_lt}
+-- Some word stands for an instruction exactly where its fields are within their bounds.
+use Rattle.std.proofs.Common.{◌≡◌, ℕ, suc, ◌+◌, ◌-◌, ◌*◌, ◌/◌, ◌%◌, ◌^◌, ◌<◌, ◌≤◌, ℤ, pos, negsuc, ◌-ℤ◌, ◌≤ℤ◌, ◌<ℤ◌, refl, sym, ap, subst, ◌∙◌, arith, lit<}
+use Rattle.std.specs.Prelude.{nat_lt}
 use Rattle.std.proofs.lemmas.Bool.{lt-ltb, le-ltb, ltb-true, ltb-false, cond_both}
 use Rattle.std.proofs.lemmas.Int.{ints}
 use Rattle.std.proofs.lemmas.Nat.{pow-add}
@@ -16,54 +16,8 @@ use Rattle.ci_isa.specs.declared.instruction.Width.TheVariants.{Byte, Half, Word
 use Rattle.ci_isa.specs.declared.instruction.Insn.{Insn}
 use Rattle.ci_isa.specs.declared.instruction.Insn.TheVariants.{Alu, AluImm, Lui, Auipc, Jal, Jalr, Branch, Load, Store, Fence, Ecall, Ebreak, Unit, Cread, Illegal}
 use Rattle.ci_isa.specs.Fields.{field, opcode, rd_field, funct3, rs1_field, rs2_field, funct7, immediate_format, store_format, branch_format, upper_format, jump_format, immediate, signed_immediate}
-use Rattle.ci_isa.specs.Table.{operation_codes, condition_code, load_code, store_code, HoldsConstant, IsWellFormed}
-
--- ---- the bounds
-
--- a number of so many bits in two's complement
-abbrev pub IsOfWidth : ℕ → ℤ → Type 0
-IsOfWidth width z = (neg_ℤ (pos (2 ^ (width - 1))) ≤ℤ z) × (z <ℤ pos (2 ^ (width - 1)))
-
-abbrev pub IsEven : ℤ → Type 0
-IsEven z = unsigned_abs z % 2 ≡ 0
-
--- a constant that the operation has a form for
-abbrev pub ConstantFits : Op → ℤ → Type 0
-ConstantFits Add n = IsOfWidth 12 n
-ConstantFits Slt n = IsOfWidth 12 n
-ConstantFits Sltu n = IsOfWidth 12 n
-ConstantFits Xor n = IsOfWidth 12 n
-ConstantFits Or n = IsOfWidth 12 n
-ConstantFits And n = IsOfWidth 12 n
-ConstantFits Sll n = (pos 0 ≤ℤ n) × (n <ℤ pos 32)
-ConstantFits Srl n = (pos 0 ≤ℤ n) × (n <ℤ pos 32)
-ConstantFits Sra n = (pos 0 ≤ℤ n) × (n <ℤ pos 32)
-ConstantFits Sub n = ⊥
-ConstantFits Mul n = ⊥
-ConstantFits Mulh n = ⊥
-ConstantFits Mulhsu n = ⊥
-ConstantFits Mulhu n = ⊥
-ConstantFits Div n = ⊥
-ConstantFits Divu n = ⊥
-ConstantFits Rem n = ⊥
-ConstantFits Remu n = ⊥
-
-abbrev pub FieldsFit : Insn → Type 0
-FieldsFit (Alu op rd rs1 rs2) = (rd < 32) × (rs1 < 32) × (rs2 < 32)
-FieldsFit (AluImm op rd rs1 imm) = (rd < 32) × (rs1 < 32) × ConstantFits op imm
-FieldsFit (Lui rd upper) = (rd < 32) × (upper < 2 ^ 32) × (upper % 2 ^ 12 ≡ 0)
-FieldsFit (Auipc rd upper) = (rd < 32) × (upper < 2 ^ 32) × (upper % 2 ^ 12 ≡ 0)
-FieldsFit (Jal rd offset) = (rd < 32) × IsOfWidth 21 offset × IsEven offset
-FieldsFit (Jalr rd rs1 offset) = (rd < 32) × (rs1 < 32) × IsOfWidth 12 offset
-FieldsFit (Branch cond rs1 rs2 offset) = (rs1 < 32) × (rs2 < 32) × IsOfWidth 13 offset × IsEven offset
-FieldsFit (Load kind rd rs1 offset) = (rd < 32) × (rs1 < 32) × IsOfWidth 12 offset
-FieldsFit (Store width rs1 rs2 offset) = (rs1 < 32) × (rs2 < 32) × IsOfWidth 12 offset
-FieldsFit (Fence bits rs1 rd) = (bits < 2 ^ 12) × (rs1 < 32) × (rd < 32)
-FieldsFit Ecall = ⊤
-FieldsFit Ebreak = ⊤
-FieldsFit (Unit number rd rs1 rs2 rs3) = (number < 32) × (rd < 32) × (rs1 < 32) × (rs2 < 32) × (rs3 < 32)
-FieldsFit (Cread rd) = rd < 32
-FieldsFit (Illegal word) = word < 2 ^ 32
+use Rattle.ci_isa.specs.Table.{operation_codes, condition_code, load_code, store_code, ConstantForm, SignedImmediate, ShiftAmount, NoForm, constant_form, HoldsConstant, IsWellFormed}
+use Rattle.ci_isa.specs.FieldBounds.{IsOfWidth, IsEven, ConstantFits, FieldsFit}
 
 -- ---- numbers in two's complement
 
@@ -264,78 +218,63 @@ amount_held : (n : ℤ) (code : ℕ) → code < 2 ^ 7 → (pos 0 ≤ℤ n) × (n
 amount_held (pos n) code h_code fits = (n, code, omega (arith, ints, fits.1), h_code, λ w at_b at_f. (at_f, ap pos at_b))
 amount_held (negsuc n) code h_code fits = absurd (omega (arith, ints, fits.0))
 
-constant_held : (op : Op) (n : ℤ) → ConstantFits op n → InFields rs2_field (λ w. HoldsConstant w op n)
-constant_held Add n fits = immediate_held n fits
-constant_held Sub n fits = absurd fits
-constant_held Sll n fits = amount_held n 0x00 (lit< tt) fits
-constant_held Slt n fits = immediate_held n fits
-constant_held Sltu n fits = immediate_held n fits
-constant_held Xor n fits = immediate_held n fits
-constant_held Srl n fits = amount_held n 0x00 (lit< tt) fits
-constant_held Sra n fits = amount_held n 0x20 (lit< tt) fits
-constant_held Or n fits = immediate_held n fits
-constant_held And n fits = immediate_held n fits
-constant_held Mul n fits = absurd fits
-constant_held Mulh n fits = absurd fits
-constant_held Mulhsu n fits = absurd fits
-constant_held Mulhu n fits = absurd fits
-constant_held Div n fits = absurd fits
-constant_held Divu n fits = absurd fits
-constant_held Rem n fits = absurd fits
-constant_held Remu n fits = absurd fits
+constant_held : (form : ConstantForm) (code : ℕ) (n : ℤ) → code < 2 ^ 7 → ConstantFits form n → InFields rs2_field (λ w. HoldsConstant w form code n)
+constant_held SignedImmediate code n h_code fits = immediate_held n fits
+constant_held ShiftAmount code n h_code fits = amount_held n code h_code fits
+constant_held NoForm code n h_code fits = absurd fits
 
 -- ---- what fits is well formed
 
-upper_word : (code rd upper : ℕ) → code < 2 ^ 7 → rd < 32 → upper < 2 ^ 32 → upper % 2 ^ 12 ≡ 0 → (w : ℕ) × (w < 2 ^ 32) × ((opcode w ≡ code) × (rd_field w ≡ rd) × (immediate upper_format w ≡ upper))
+upper_word : (code rd upper : ℕ) → code < 2 ^ 7 → rd < 32 → upper < 2 ^ 32 → upper % 2 ^ 12 ≡ 0 → (w : ℕ) × ((w < 2 ^ 32) × ((opcode w ≡ code) × (rd_field w ≡ rd) × (immediate upper_format w ≡ upper)))
 upper_word code rd upper h_code h_rd h_upper zeros =
     let made = with_upper_fields code rd (upper / 2 ^ 12) h_code h_rd (omega arith) in
-    (made.0, made.1.below, (made.1.at_opcode, made.1.at_rd, omega (arith, made.1.at_upper)))
+    (made.0, (made.1.below, (made.1.at_opcode, made.1.at_rd, omega (arith, made.1.at_upper))))
 
-immediate_word : (code rd c rs1 : ℕ) (n : ℤ) → code < 2 ^ 7 → rd < 32 → c < 2 ^ 3 → rs1 < 32 → IsOfWidth 12 n → (w : ℕ) × (w < 2 ^ 32) × ((opcode w ≡ code) × (funct3 w ≡ c) × (rd_field w ≡ rd) × (rs1_field w ≡ rs1) × (signed_immediate immediate_format w ≡ n))
+immediate_word : (code rd c rs1 : ℕ) (n : ℤ) → code < 2 ^ 7 → rd < 32 → c < 2 ^ 3 → rs1 < 32 → IsOfWidth 12 n → (w : ℕ) × ((w < 2 ^ 32) × ((opcode w ≡ code) × (funct3 w ≡ c) × (rd_field w ≡ rd) × (rs1_field w ≡ rs1) × (signed_immediate immediate_format w ≡ n)))
 immediate_word code rd c rs1 n h_code h_rd h_c h_rs1 fits =
     let held = immediate_held n fits in
     let made = with_fields code rd c rs1 held.0 held.1 h_code h_rd h_c h_rs1 held.2 held.3 in
-    (made.0, made.1.below, (made.1.at_opcode, made.1.at_funct3, made.1.at_rd, made.1.at_rs1, held.4 made.0 made.1.at_rs2 made.1.at_funct7))
+    (made.0, (made.1.below, (made.1.at_opcode, made.1.at_funct3, made.1.at_rd, made.1.at_rs1, held.4 made.0 made.1.at_rs2 made.1.at_funct7)))
 
 pub well_formed : (insn : Insn) → FieldsFit insn → IsWellFormed insn
 well_formed (Alu op rd rs1 rs2) fits =
     let codes = operation_codes_fit op in
     let made = with_fields 0x33 rd (operation_codes op).0 rs1 rs2 (operation_codes op).1 (lit< tt) fits.0 codes.0 fits.1 fits.2 codes.1 in
-    (made.0, made.1.below, (made.1.at_opcode, made.1.at_funct3, made.1.at_funct7, made.1.at_rd, made.1.at_rs1, made.1.at_rs2))
+    (made.0, (made.1.below, (made.1.at_opcode, made.1.at_funct3, made.1.at_funct7, made.1.at_rd, made.1.at_rs1, made.1.at_rs2)))
 well_formed (AluImm op rd rs1 imm) fits =
-    let held = constant_held op imm fits.2 in
+    let held = constant_held (constant_form op) (operation_codes op).1 imm (operation_codes_fit op).1 fits.2 in
     let made = with_fields 0x13 rd (operation_codes op).0 rs1 held.0 held.1 (lit< tt) fits.0 (operation_codes_fit op).0 fits.1 held.2 held.3 in
-    (made.0, made.1.below, (made.1.at_opcode, made.1.at_funct3, made.1.at_rd, made.1.at_rs1, held.4 made.0 made.1.at_rs2 made.1.at_funct7))
+    (made.0, (made.1.below, (made.1.at_opcode, made.1.at_funct3, made.1.at_rd, made.1.at_rs1, held.4 made.0 made.1.at_rs2 made.1.at_funct7)))
 well_formed (Lui rd upper) fits = upper_word 0x37 rd upper (lit< tt) fits.0 fits.1 fits.2
 well_formed (Auipc rd upper) fits = upper_word 0x17 rd upper (lit< tt) fits.0 fits.1 fits.2
 well_formed (Jal rd offset) fits =
     let held = jump_held offset fits.1 fits.2 in
     let made = with_upper_fields 0x6f rd held.0 (lit< tt) fits.0 held.1 in
-    (made.0, made.1.below, (made.1.at_opcode, made.1.at_rd, held.2 made.0 made.1.at_upper))
+    (made.0, (made.1.below, (made.1.at_opcode, made.1.at_rd, held.2 made.0 made.1.at_upper)))
 well_formed (Jalr rd rs1 offset) fits = immediate_word 0x67 rd 0 rs1 offset (lit< tt) fits.0 (lit< tt) fits.1 fits.2
 well_formed (Branch cond rs1 rs2 offset) fits =
     let held = branch_held offset fits.2 fits.3 in
     let made = with_fields 0x63 held.0 (condition_code cond) rs1 rs2 held.1 (lit< tt) held.2 (condition_code_fits cond) fits.0 fits.1 held.3 in
-    (made.0, made.1.below, (made.1.at_opcode, made.1.at_funct3, made.1.at_rs1, made.1.at_rs2, held.4 made.0 made.1.at_rd made.1.at_funct7))
+    (made.0, (made.1.below, (made.1.at_opcode, made.1.at_funct3, made.1.at_rs1, made.1.at_rs2, held.4 made.0 made.1.at_rd made.1.at_funct7)))
 well_formed (Load kind rd rs1 offset) fits = immediate_word 0x03 rd (load_code kind) rs1 offset (lit< tt) fits.0 (load_code_fits kind) fits.1 fits.2
 well_formed (Store width rs1 rs2 offset) fits =
     let held = store_held offset fits.2 in
     let made = with_fields 0x23 held.0 (store_code width) rs1 rs2 held.1 (lit< tt) held.2 (store_code_fits width) fits.0 fits.1 held.3 in
-    (made.0, made.1.below, (made.1.at_opcode, made.1.at_funct3, made.1.at_rs1, made.1.at_rs2, held.4 made.0 made.1.at_rd made.1.at_funct7))
+    (made.0, (made.1.below, (made.1.at_opcode, made.1.at_funct3, made.1.at_rs1, made.1.at_rs2, held.4 made.0 made.1.at_rd made.1.at_funct7)))
 well_formed (Fence bits rs1 rd) fits =
     let made = with_fields 0x0f rd 0 rs1 (bits % 32) (bits / 32) (lit< tt) fits.2 (lit< tt) fits.1 (omega arith) (omega (arith, fits.0)) in
-    (made.0, made.1.below, (made.1.at_opcode, made.1.at_funct3, omega (arith, made.1.at_rs2, made.1.at_funct7), made.1.at_rs1, made.1.at_rd))
-well_formed Ecall fits = (0x0000_0073, lit< tt, refl)
-well_formed Ebreak fits = (0x0010_0073, lit< tt, refl)
+    (made.0, (made.1.below, (made.1.at_opcode, made.1.at_funct3, omega (arith, made.1.at_rs2, made.1.at_funct7), made.1.at_rs1, made.1.at_rd)))
+well_formed Ecall fits = (0x0000_0073, (lit< tt, refl))
+well_formed Ebreak fits = (0x0010_0073, (lit< tt, refl))
 well_formed (Unit number rd rs1 rs2 rs3) fits =
     let made = with_fields 0x0b rd (number % 8) rs1 rs2 (rs3 * 4 + number / 8) (lit< tt) fits.1 (omega arith) fits.2 fits.3 (omega (arith, fits.0, fits.4)) in
     let high : field made.0 26 25 ≡ number / 8 = omega (arith, fits.0, made.1.at_funct7) in
     let top : field made.0 31 27 ≡ rs3 = omega (arith, fits.0, made.1.at_funct7) in
-    (made.0, made.1.below, (made.1.at_opcode, high, made.1.at_funct3, made.1.at_rd, made.1.at_rs1, made.1.at_rs2, top))
+    (made.0, (made.1.below, (made.1.at_opcode, high, made.1.at_funct3, made.1.at_rd, made.1.at_rs1, made.1.at_rs2, top)))
 well_formed (Cread rd) fits =
     let made = with_upper_fields 0x2b rd 0 (lit< tt) fits (lit< tt) in
-    (made.0, made.1.below, (made.1.at_opcode, made.1.at_rd, made.1.at_upper))
-well_formed (Illegal word) fits = (word, fits, refl)
+    (made.0, (made.1.below, (made.1.at_opcode, made.1.at_rd, made.1.at_upper)))
+well_formed (Illegal word) fits = (word, (fits, refl))
 
 -- ---- what is well formed fits
 
@@ -345,49 +284,34 @@ immediate_fits w n is = subst (IsOfWidth 12) is (of_width 12 (immediate immediat
 amount_fits : (b : ℕ) (n : ℤ) → b < 32 → pos b ≡ n → (pos 0 ≤ℤ n) × (n <ℤ pos 32)
 amount_fits b n below is = subst (λ n. (pos 0 ≤ℤ n) × (n <ℤ pos 32)) is (omega (arith, ints), omega (arith, ints))
 
-constant_fits : (w : ℕ) (op : Op) (n : ℤ) → HoldsConstant w op n → ConstantFits op n
-constant_fits w Add n held = immediate_fits w n held
-constant_fits w Sub n held = absurd held
-constant_fits w Sll n held = amount_fits (rs2_field w) n (omega arith) held.1
-constant_fits w Slt n held = immediate_fits w n held
-constant_fits w Sltu n held = immediate_fits w n held
-constant_fits w Xor n held = immediate_fits w n held
-constant_fits w Srl n held = amount_fits (rs2_field w) n (omega arith) held.1
-constant_fits w Sra n held = amount_fits (rs2_field w) n (omega arith) held.1
-constant_fits w Or n held = immediate_fits w n held
-constant_fits w And n held = immediate_fits w n held
-constant_fits w Mul n held = absurd held
-constant_fits w Mulh n held = absurd held
-constant_fits w Mulhsu n held = absurd held
-constant_fits w Mulhu n held = absurd held
-constant_fits w Div n held = absurd held
-constant_fits w Divu n held = absurd held
-constant_fits w Rem n held = absurd held
-constant_fits w Remu n held = absurd held
+constant_fits : (w : ℕ) (form : ConstantForm) (code : ℕ) (n : ℤ) → HoldsConstant w form code n → ConstantFits form n
+constant_fits w SignedImmediate code n held = immediate_fits w n held
+constant_fits w ShiftAmount code n held = amount_fits (rs2_field w) n (omega arith) held.1
+constant_fits w NoForm code n held = absurd held
 
 pub fields_fit : (insn : Insn) → IsWellFormed insn → FieldsFit insn
-fields_fit (Alu op rd rs1 rs2) (w, below, r) = (omega (arith, r.3), omega (arith, r.4), omega (arith, r.5))
-fields_fit (AluImm op rd rs1 imm) (w, below, r) = (omega (arith, r.2), omega (arith, r.3), constant_fits w op imm r.4)
-fields_fit (Lui rd upper) (w, below, r) = (omega (arith, r.1), omega (arith, r.2), omega (arith, r.2))
-fields_fit (Auipc rd upper) (w, below, r) = (omega (arith, r.1), omega (arith, r.2), omega (arith, r.2))
-fields_fit (Jal rd offset) (w, below, r) = (
+fields_fit (Alu op rd rs1 rs2) (w, (below, r)) = (omega (arith, r.3), omega (arith, r.4), omega (arith, r.5))
+fields_fit (AluImm op rd rs1 imm) (w, (below, r)) = (omega (arith, r.2), omega (arith, r.3), constant_fits w (constant_form op) (operation_codes op).1 imm r.4)
+fields_fit (Lui rd upper) (w, (below, r)) = (omega (arith, r.1), omega (arith, r.2), omega (arith, r.2))
+fields_fit (Auipc rd upper) (w, (below, r)) = (omega (arith, r.1), omega (arith, r.2), omega (arith, r.2))
+fields_fit (Jal rd offset) (w, (below, r)) = (
   omega (arith, r.1),
   subst (IsOfWidth 21) r.2 (of_width 21 (immediate jump_format w) (lit< tt) (omega arith)),
   subst IsEven r.2 (even_of_width 21 (immediate jump_format w) (lit< tt) (omega arith) (omega arith)),
 )
-fields_fit (Jalr rd rs1 offset) (w, below, r) = (omega (arith, r.2), omega (arith, r.3), immediate_fits w offset r.4)
-fields_fit (Branch cond rs1 rs2 offset) (w, below, r) = (
+fields_fit (Jalr rd rs1 offset) (w, (below, r)) = (omega (arith, r.2), omega (arith, r.3), immediate_fits w offset r.4)
+fields_fit (Branch cond rs1 rs2 offset) (w, (below, r)) = (
   omega (arith, r.2),
   omega (arith, r.3),
   subst (IsOfWidth 13) r.4 (of_width 13 (immediate branch_format w) (lit< tt) (omega arith)),
   subst IsEven r.4 (even_of_width 13 (immediate branch_format w) (lit< tt) (omega arith) (omega arith)),
 )
-fields_fit (Load kind rd rs1 offset) (w, below, r) = (omega (arith, r.2), omega (arith, r.3), immediate_fits w offset r.4)
-fields_fit (Store width rs1 rs2 offset) (w, below, r) =
+fields_fit (Load kind rd rs1 offset) (w, (below, r)) = (omega (arith, r.2), omega (arith, r.3), immediate_fits w offset r.4)
+fields_fit (Store width rs1 rs2 offset) (w, (below, r)) =
     (omega (arith, r.2), omega (arith, r.3), subst (IsOfWidth 12) r.4 (of_width 12 (immediate store_format w) (lit< tt) (omega arith)))
-fields_fit (Fence bits rs1 rd) (w, below, r) = (omega (arith, r.2), omega (arith, r.3), omega (arith, r.4))
-fields_fit Ecall (w, below, r) = tt
-fields_fit Ebreak (w, below, r) = tt
-fields_fit (Unit number rd rs1 rs2 rs3) (w, below, r) = (omega (arith, r.1), omega (arith, r.3), omega (arith, r.4), omega (arith, r.5), omega (arith, r.6))
-fields_fit (Cread rd) (w, below, r) = omega (arith, r.1)
-fields_fit (Illegal word) (w, below, r) = omega (arith, r)
+fields_fit (Fence bits rs1 rd) (w, (below, r)) = (omega (arith, r.2), omega (arith, r.3), omega (arith, r.4))
+fields_fit Ecall (w, (below, r)) = tt
+fields_fit Ebreak (w, (below, r)) = tt
+fields_fit (Unit number rd rs1 rs2 rs3) (w, (below, r)) = (omega (arith, r.1), omega (arith, r.3), omega (arith, r.4), omega (arith, r.5), omega (arith, r.6))
+fields_fit (Cread rd) (w, (below, r)) = omega (arith, r.1)
+fields_fit (Illegal word) (w, (below, r)) = omega (arith, r)

@@ -1,4 +1,5 @@
 pub mod Decoding
 pub mod Effects
+pub mod FieldBounds
 pub mod Fields
 pub mod Table

@@ -58,71 +58,92 @@ store_code Byte = 0
 store_code Half = 1
 store_code Word = 2
 
+-- ---- the register-immediate forms
+
+-- How the register-immediate form of an operation holds its constant: as a signed immediate of twelve bits, or as a
+-- shift amount in the place of rs2, with a funct7; or the operation has no such form.
+pub data ConstantForm : Type 0 where
+  SignedImmediate : ConstantForm
+  ShiftAmount : ConstantForm
+  NoForm : ConstantForm
+
+abbrev pub constant_form : Op → ConstantForm
+constant_form Add = SignedImmediate
+constant_form Slt = SignedImmediate
+constant_form Sltu = SignedImmediate
+constant_form Xor = SignedImmediate
+constant_form Or = SignedImmediate
+constant_form And = SignedImmediate
+constant_form Sll = ShiftAmount
+constant_form Srl = ShiftAmount
+constant_form Sra = ShiftAmount
+constant_form op = NoForm
+
+-- how a word holds the constant n, in a form with this funct7
+abbrev pub HoldsConstant : ℕ → ConstantForm → ℕ → ℤ → Type 0
+HoldsConstant w SignedImmediate code n = signed_immediate immediate_format w ≡ n
+HoldsConstant w ShiftAmount code n = (funct7 w ≡ code) × (pos (rs2_field w) ≡ n)
+HoldsConstant w NoForm code n = ⊥
+
 -- ---- the rows
 
--- How a word holds the constant operand of an operation. Six operations have an immediate, the shifts a funct7 and the amount in the
--- place of rs2, and the others no form with a constant.
-abbrev pub HoldsConstant : ℕ → Op → ℤ → Type 0
-HoldsConstant w Add n = signed_immediate immediate_format w ≡ n
-HoldsConstant w Slt n = signed_immediate immediate_format w ≡ n
-HoldsConstant w Sltu n = signed_immediate immediate_format w ≡ n
-HoldsConstant w Xor n = signed_immediate immediate_format w ≡ n
-HoldsConstant w Or n = signed_immediate immediate_format w ≡ n
-HoldsConstant w And n = signed_immediate immediate_format w ≡ n
-HoldsConstant w Sll n = (funct7 w ≡ 0x00) × (pos (rs2_field w) ≡ n)
-HoldsConstant w Srl n = (funct7 w ≡ 0x00) × (pos (rs2_field w) ≡ n)
-HoldsConstant w Sra n = (funct7 w ≡ 0x20) × (pos (rs2_field w) ≡ n)
-HoldsConstant w Sub n = ⊥
-HoldsConstant w Mul n = ⊥
-HoldsConstant w Mulh n = ⊥
-HoldsConstant w Mulhsu n = ⊥
-HoldsConstant w Mulhu n = ⊥
-HoldsConstant w Div n = ⊥
-HoldsConstant w Divu n = ⊥
-HoldsConstant w Rem n = ⊥
-HoldsConstant w Remu n = ⊥
-
--- word w reads as the instruction, in the plain table
-abbrev pub Reads : ℕ → Insn → Type 0
-Reads w (Alu op rd rs1 rs2) =
-    (opcode w ≡ 0x33) × (funct3 w ≡ (operation_codes op).0) × (funct7 w ≡ (operation_codes op).1) × (rd_field w ≡ rd) × (rs1_field w ≡ rs1) × (rs2_field w ≡ rs2)
-Reads w (AluImm op rd rs1 imm) =
-    (opcode w ≡ 0x13) × (funct3 w ≡ (operation_codes op).0) × (rd_field w ≡ rd) × (rs1_field w ≡ rs1) × HoldsConstant w op imm
-Reads w (Lui rd upper) = (opcode w ≡ 0x37) × (rd_field w ≡ rd) × (immediate upper_format w ≡ upper)
-Reads w (Auipc rd upper) = (opcode w ≡ 0x17) × (rd_field w ≡ rd) × (immediate upper_format w ≡ upper)
-Reads w (Jal rd offset) = (opcode w ≡ 0x6f) × (rd_field w ≡ rd) × (signed_immediate jump_format w ≡ offset)
-Reads w (Jalr rd rs1 offset) =
-    (opcode w ≡ 0x67) × (funct3 w ≡ 0) × (rd_field w ≡ rd) × (rs1_field w ≡ rs1) × (signed_immediate immediate_format w ≡ offset)
-Reads w (Branch cond rs1 rs2 offset) =
-    (opcode w ≡ 0x63) × (funct3 w ≡ condition_code cond) × (rs1_field w ≡ rs1) × (rs2_field w ≡ rs2) × (signed_immediate branch_format w ≡ offset)
-Reads w (Load kind rd rs1 offset) =
-    (opcode w ≡ 0x03) × (funct3 w ≡ load_code kind) × (rd_field w ≡ rd) × (rs1_field w ≡ rs1) × (signed_immediate immediate_format w ≡ offset)
-Reads w (Store width rs1 rs2 offset) =
-    (opcode w ≡ 0x23) × (funct3 w ≡ store_code width) × (rs1_field w ≡ rs1) × (rs2_field w ≡ rs2) × (signed_immediate store_format w ≡ offset)
-Reads w (Fence bits rs1 rd) = (opcode w ≡ 0x0f) × (funct3 w ≡ 0) × (field w 31 20 ≡ bits) × (rs1_field w ≡ rs1) × (rd_field w ≡ rd)
-Reads w Ecall = w ≡ 0x0000_0073
-Reads w Ebreak = w ≡ 0x0010_0073
-Reads w (Unit number rd rs1 rs2 rs3) = ⊥
-Reads w (Cread rd) = ⊥
-Reads w (Illegal word) = ⊥
+-- the fields of word w are those of the instruction, in the plain table
+abbrev pub HasFieldsOf : ℕ → Insn → Type 0
+HasFieldsOf w (Alu op rd rs1 rs2) =
+    (opcode w ≡ 0x33) × (funct3 w ≡ (operation_codes op).0) × (funct7 w ≡ (operation_codes op).1)
+    × (rd_field w ≡ rd) × (rs1_field w ≡ rs1) × (rs2_field w ≡ rs2)
+HasFieldsOf w (AluImm op rd rs1 imm) =
+    (opcode w ≡ 0x13) × (funct3 w ≡ (operation_codes op).0) × (rd_field w ≡ rd) × (rs1_field w ≡ rs1)
+    × HoldsConstant w (constant_form op) (operation_codes op).1 imm
+HasFieldsOf w (Lui rd upper) = (opcode w ≡ 0x37) × (rd_field w ≡ rd) × (immediate upper_format w ≡ upper)
+HasFieldsOf w (Auipc rd upper) = (opcode w ≡ 0x17) × (rd_field w ≡ rd) × (immediate upper_format w ≡ upper)
+HasFieldsOf w (Jal rd offset) = (opcode w ≡ 0x6f) × (rd_field w ≡ rd) × (signed_immediate jump_format w ≡ offset)
+HasFieldsOf w (Jalr rd rs1 offset) =
+    (opcode w ≡ 0x67) × (funct3 w ≡ 0) × (rd_field w ≡ rd) × (rs1_field w ≡ rs1)
+    × (signed_immediate immediate_format w ≡ offset)
+HasFieldsOf w (Branch cond rs1 rs2 offset) =
+    (opcode w ≡ 0x63) × (funct3 w ≡ condition_code cond) × (rs1_field w ≡ rs1) × (rs2_field w ≡ rs2)
+    × (signed_immediate branch_format w ≡ offset)
+HasFieldsOf w (Load kind rd rs1 offset) =
+    (opcode w ≡ 0x03) × (funct3 w ≡ load_code kind) × (rd_field w ≡ rd) × (rs1_field w ≡ rs1)
+    × (signed_immediate immediate_format w ≡ offset)
+HasFieldsOf w (Store width rs1 rs2 offset) =
+    (opcode w ≡ 0x23) × (funct3 w ≡ store_code width) × (rs1_field w ≡ rs1) × (rs2_field w ≡ rs2)
+    × (signed_immediate store_format w ≡ offset)
+HasFieldsOf w (Fence bits rs1 rd) =
+    (opcode w ≡ 0x0f) × (funct3 w ≡ 0) × (field w 31 20 ≡ bits) × (rs1_field w ≡ rs1) × (rd_field w ≡ rd)
+HasFieldsOf w Ecall = w ≡ 0x0000_0073
+HasFieldsOf w Ebreak = w ≡ 0x0010_0073
+HasFieldsOf w (Unit number rd rs1 rs2 rs3) = ⊥
+HasFieldsOf w (Cread rd) = ⊥
+HasFieldsOf w (Illegal word) = ⊥
 
 -- the same in the extended table
-abbrev pub ReadsX : ℕ → Insn → Type 0
-ReadsX w (Unit number rd rs1 rs2 rs3) =
-    (opcode w ≡ 0x0b) × (field w 26 25 ≡ number / 8) × (funct3 w ≡ number % 8) × (rd_field w ≡ rd) × (rs1_field w ≡ rs1) × (rs2_field w ≡ rs2) × (field w 31 27 ≡ rs3)
-ReadsX w (Cread rd) = (opcode w ≡ 0x2b) × (rd_field w ≡ rd) × (field w 31 12 ≡ 0)
-ReadsX w insn = Reads w insn
+abbrev pub HasFieldsOfX : ℕ → Insn → Type 0
+HasFieldsOfX w (Unit number rd rs1 rs2 rs3) =
+    (opcode w ≡ 0x0b) × (field w 26 25 ≡ number / 8) × (funct3 w ≡ number % 8)
+    × (rd_field w ≡ rd) × (rs1_field w ≡ rs1) × (rs2_field w ≡ rs2) × (field w 31 27 ≡ rs3)
+HasFieldsOfX w (Cread rd) = (opcode w ≡ 0x2b) × (rd_field w ≡ rd) × (field w 31 12 ≡ 0)
+HasFieldsOfX w insn = HasFieldsOf w insn
 
 -- ---- what the calls promise
 
+-- w is a word, and reads as the instruction in the plain table
+abbrev pub Reads : ℕ → Insn → Type 0
+Reads w insn = (w < 2 ^ 32) × HasFieldsOf w insn
+
+-- the same in the extended table
+abbrev pub ReadsX : ℕ → Insn → Type 0
+ReadsX w insn = (w < 2 ^ 32) × HasFieldsOfX w insn
+
 -- word w stands for the instruction: it reads as it in the extended table, or the instruction is Illegal with this word
 abbrev pub IsWordOf : ℕ → Insn → Type 0
-IsWordOf w (Illegal word) = w ≡ word
+IsWordOf w (Illegal word) = (w < 2 ^ 32) × (w ≡ word)
 IsWordOf w insn = ReadsX w insn
 
 -- some word stands for the instruction
 abbrev pub IsWellFormed : Insn → Type 0
-IsWellFormed insn = (w : ℕ) × (w < 2 ^ 32) × IsWordOf w insn
+IsWellFormed insn = (w : ℕ) × IsWordOf w insn
 
 -- what stands at a word: the instruction that it reads as in the plain table, or the bare word where it reads as none
 abbrev pub IsInsnAt : ℕ → Insn → Type 0

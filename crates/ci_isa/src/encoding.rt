@@ -1,8 +1,10 @@
 //! From instructions to words.
-ghost use Rattle.std.specs.Prelude.{◌≡◌, ℕ, ◌^◌, ◌<◌};
+ghost use Rattle.std.specs.Prelude.{◌≡◌, ℕ, ◌^◌, ◌<◌, ◌↔◌, IsTrue};
 ghost use Rattle.ci_isa.specs.Fields as fields;
 ghost use Rattle.ci_isa.specs.Fields.{field, immediate_format, signed_immediate};
-ghost use Rattle.ci_isa.specs.Table.{operation_codes, condition_code, load_code, store_code, Reads, ReadsX, IsWordOf, IsWellFormed};
+ghost use Rattle.ci_isa.specs.declared.instruction.Insn.{Insn};
+ghost use Rattle.ci_isa.specs.FieldBounds.{FieldsFit};
+ghost use Rattle.ci_isa.specs.Table.{operation_codes, constant_form, ShiftAmount, condition_code, load_code, store_code, Reads, ReadsX, IsWordOf, IsWellFormed};
 
 use crate::immediates::{
     branch_high_bits, branch_low_bits, immediate_bits, jump_bits, store_high_bits, store_low_bits,
@@ -20,7 +22,7 @@ use ci_word::Op;
 pub fn encode(insn: &Insn) -> u32
     requires { IsWellFormed insn.now }
     ensures reads_back { IsWordOf result insn.now }
-    ensures only { (w : ℕ) → w < 2 ^ 32 → IsWordOf w insn.now → w ≡ result }
+    ensures only { (w : ℕ) → IsWordOf w insn.now → w ≡ result }
 {
     match *insn {
         Insn::Alu { op, rd, rs1, rs2 } => operation_word(op, rd, rs1, rs2),
@@ -62,9 +64,15 @@ pub fn encode(insn: &Insn) -> u32
     }
 }
 
+/// The law of well-formed instructions: some word stands for an instruction exactly where its fields are within
+/// their bounds (RISC-V Unprivileged ISA 20191213, sections 2.2 and 2.3). Nothing happens when it runs.
+pub fn well_formed_where_fields_fit()
+    ensures { (insn : Insn) → IsWellFormed insn ↔ FieldsFit insn }
+{}
+
 /// The word of an operation on two registers.
 fn operation_word(op: Op, rd: Reg, rs1: Reg, rs2: Reg) -> u32
-    ensures { (w : ℕ) → w < 2 ^ 32 → Reads w (Insn.Alu op rd rs1 rs2) → w ≡ result }
+    ensures { (w : ℕ) → Reads w (Insn.Alu op rd rs1 rs2) → w ≡ result }
 {
     word_of_fields(
         OP,
@@ -78,34 +86,39 @@ fn operation_word(op: Op, rd: Reg, rs1: Reg, rs2: Reg) -> u32
 
 /// The word of an operation on a register and a constant.
 fn constant_word(op: Op, rd: Reg, rs1: Reg, imm: i32) -> u32
-    ensures { (w : ℕ) → w < 2 ^ 32 → Reads w (Insn.AluImm op rd rs1 imm) → w ≡ result }
+    ensures { (w : ℕ) → Reads w (Insn.AluImm op rd rs1 imm) → w ≡ result }
 {
-    match op {
-        Op::Sll | Op::Srl | Op::Sra => {
-            let amount = imm.cast_unsigned();
-            word_of_fields(
-                OP_IMM,
-                number(rd),
-                funct3(op),
-                number(rs1),
-                amount,
-                funct7(op),
-            )
-        }
-        _ => immediate_word(OP_IMM, rd, funct3(op), rs1, imm),
+    if !is_shift(op) {
+        return immediate_word(OP_IMM, rd, funct3(op), rs1, imm);
     }
+    let amount = imm.cast_unsigned();
+    word_of_fields(
+        OP_IMM,
+        number(rd),
+        funct3(op),
+        number(rs1),
+        amount,
+        funct7(op),
+    )
+}
+
+/// Whether the constant of a register-immediate form is a shift amount.
+fn is_shift(op: Op) -> bool
+    ensures { IsTrue result ↔ (constant_form op ≡ ShiftAmount) }
+{
+    matches!(op, Op::Sll | Op::Srl | Op::Sra)
 }
 
 /// The word of JAL.
 fn jump_word(rd: Reg, offset: i32) -> u32
-    ensures { (w : ℕ) → w < 2 ^ 32 → Reads w (Insn.Jal rd offset) → w ≡ result }
+    ensures { (w : ℕ) → Reads w (Insn.Jal rd offset) → w ≡ result }
 {
     upper_word(JAL, rd, jump_bits(offset))
 }
 
 /// The word of a branch.
 fn branch_word(cond: Cond, rs1: Reg, rs2: Reg, offset: i32) -> u32
-    ensures { (w : ℕ) → w < 2 ^ 32 → Reads w (Insn.Branch cond rs1 rs2 offset) → w ≡ result }
+    ensures { (w : ℕ) → Reads w (Insn.Branch cond rs1 rs2 offset) → w ≡ result }
 {
     word_of_fields(
         BRANCH,
@@ -119,7 +132,7 @@ fn branch_word(cond: Cond, rs1: Reg, rs2: Reg, offset: i32) -> u32
 
 /// The word of a store.
 fn store_word(width: Width, rs1: Reg, rs2: Reg, offset: i32) -> u32
-    ensures { (w : ℕ) → w < 2 ^ 32 → Reads w (Insn.Store width rs1 rs2 offset) → w ≡ result }
+    ensures { (w : ℕ) → Reads w (Insn.Store width rs1 rs2 offset) → w ≡ result }
 {
     word_of_fields(
         STORE,
@@ -133,7 +146,7 @@ fn store_word(width: Width, rs1: Reg, rs2: Reg, offset: i32) -> u32
 
 /// The word of a unit.
 fn unit_word(unit: u8, rd: Reg, rs1: Reg, rs2: Reg, rs3: Reg) -> u32
-    ensures { (w : ℕ) → w < 2 ^ 32 → ReadsX w (Insn.Unit unit rd rs1 rs2 rs3) → w ≡ result }
+    ensures { (w : ℕ) → ReadsX w (Insn.Unit unit rd rs1 rs2 rs3) → w ≡ result }
 {
     let unit = u32::from(unit);
     let high = number(rs3) << 2 | unit / 8;
@@ -175,7 +188,7 @@ fn immediate_word(opcode: u32, rd: Reg, funct3: u32, rs1: Reg, immediate: i32) -
 
 /// The word of FENCE.
 fn fence_word(bits: u16, rs1: Reg, rd: Reg) -> u32
-    ensures { (w : ℕ) → w < 2 ^ 32 → Reads w (Insn.Fence bits rs1 rd) → w ≡ result }
+    ensures { (w : ℕ) → Reads w (Insn.Fence bits rs1 rd) → w ≡ result }
 {
     let high = u32::from(bits);
     word_of_fields(MISC_MEM, number(rd), 0, number(rs1), high & 31, high >> 5)

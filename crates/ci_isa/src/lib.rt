@@ -7,7 +7,7 @@
 #![tactic(auto)]
 
 pub use decoding::{decode, decode_x, insn_at};
-pub use encoding::encode;
+pub use encoding::{encode, well_formed_where_fields_fit};
 pub use instruction::{Cond, Insn, LoadKind, Width};
 pub use kinds::{class, is_eligible, is_terminator};
 pub use operands::{reads, writes};
