@@ -3,7 +3,7 @@ use Rattle.std.proofs.Common.{◌≡◌, ℕ, zero, suc, ◌<◌, ◌≤◌, max
 use Rattle.std.proofs.lemmas.Bool.{and_parts, and_from, cases_Bool, cases_eq, cases_lt}
 use Rattle.ci_cut.specs.declared.graph.Source.TheVariants.{Made}
 use Rattle.ci_cut.specs.FlowGraph.{FlowGraph, IsFlowGraph, reads}
-use Rattle.ci_cut.specs.Hardware.{falling_lists, is_chain, delay_along, greatest, greatest_delay, hardware}
+use Rattle.ci_cut.specs.Hardware.{descending_lists, is_chain, delay_along, greatest, critical_path_delay, hardware}
 
 -- ---- the greatest value of a function on the elements that pass a test
 
@@ -55,34 +55,34 @@ greatest_of-mono p q f more (x ∷ xs) =
       | inr fails ↦ omega (arith, ap (λ b. cond b (f x) 0) fails)
     ]
 
--- ---- lists in which the numbers fall
+-- ---- lists of descending numbers
 
 -- each number is below the one before it, and the first is below n
-abbrev pub IsFallingBelow : ℕ → List ℕ → Type 0
-IsFallingBelow n [] = Unit {0}
-IsFallingBelow n (a ∷ rest) = (a < n) × IsFallingBelow a rest
+abbrev pub IsDescendingBelow : ℕ → List ℕ → Type 0
+IsDescendingBelow n [] = Unit {0}
+IsDescendingBelow n (a ∷ rest) = (a < n) × IsDescendingBelow a rest
 
-greatest_of-falling_lists-suc : (p : List ℕ → Bool) (f : List ℕ → ℕ) (n : ℕ) → greatest_of p f (falling_lists (suc n)) ≡ max (greatest_of p f (falling_lists n)) (greatest_of (λ xs. p (n ∷ xs)) (λ xs. f (n ∷ xs)) (falling_lists n))
-unfolding falling_lists
-greatest_of-falling_lists-suc p f n =
-    greatest_of-append p f (falling_lists n) (map (λ xs. n ∷ xs) (falling_lists n))
-    ∙ ap (max (greatest_of p f (falling_lists n))) (greatest_of-map p f (λ xs. n ∷ xs) (falling_lists n))
+greatest_of-descending_lists-suc : (p : List ℕ → Bool) (f : List ℕ → ℕ) (n : ℕ) → greatest_of p f (descending_lists (suc n)) ≡ max (greatest_of p f (descending_lists n)) (greatest_of (λ xs. p (n ∷ xs)) (λ xs. f (n ∷ xs)) (descending_lists n))
+unfolding descending_lists
+greatest_of-descending_lists-suc p f n =
+    greatest_of-append p f (descending_lists n) (map (λ xs. n ∷ xs) (descending_lists n))
+    ∙ ap (max (greatest_of p f (descending_lists n))) (greatest_of-map p f (λ xs. n ∷ xs) (descending_lists n))
 
--- a falling list that passes has at most the greatest value
-falling_at_most : (n : ℕ) (p : List ℕ → Bool) (f : List ℕ → ℕ) (xs : List ℕ) → IsFallingBelow n xs → IsTrue (p xs) → f xs ≤ greatest_of p f (falling_lists n)
-unfolding falling_lists
-falling_at_most zero p f [] falls passes = omega (arith, greatest_of-cons (p []) f [] [], ap (λ b. cond b (f []) 0) passes)
-falling_at_most zero p f (a ∷ rest) falls passes = absurd (omega arith)
-falling_at_most (suc n) p f [] falls passes = omega (arith, greatest_of-falling_lists-suc p f n, falling_at_most n p f [] tt passes)
-falling_at_most (suc n) p f (a ∷ rest) falls passes =
-    let step = greatest_of-falling_lists-suc p f n in
+-- a descending list that passes has at most the greatest value
+descending_at_most : (n : ℕ) (p : List ℕ → Bool) (f : List ℕ → ℕ) (xs : List ℕ) → IsDescendingBelow n xs → IsTrue (p xs) → f xs ≤ greatest_of p f (descending_lists n)
+unfolding descending_lists
+descending_at_most zero p f [] descends passes = omega (arith, greatest_of-cons (p []) f [] [], ap (λ b. cond b (f []) 0) passes)
+descending_at_most zero p f (a ∷ rest) descends passes = absurd (omega arith)
+descending_at_most (suc n) p f [] descends passes = omega (arith, greatest_of-descending_lists-suc p f n, descending_at_most n p f [] tt passes)
+descending_at_most (suc n) p f (a ∷ rest) descends passes =
+    let step = greatest_of-descending_lists-suc p f n in
     elim (cases_eq a n) [
       | inl same ↦
-          let bound = falling_at_most n (λ xs. p (n ∷ xs)) (λ xs. f (n ∷ xs)) rest (subst (λ k. IsFallingBelow k rest) same falls.1) (subst (λ k. IsTrue (p (k ∷ rest))) same passes) in
+          let bound = descending_at_most n (λ xs. p (n ∷ xs)) (λ xs. f (n ∷ xs)) rest (subst (λ k. IsDescendingBelow k rest) same descends.1) (subst (λ k. IsTrue (p (k ∷ rest))) same passes) in
           omega (arith, ap (λ k. f (k ∷ rest)) same)
       | inr differ ↦
           let below : a < n = omega arith in
-          let bound = falling_at_most n p f (a ∷ rest) (below, falls.1) passes in
+          let bound = descending_at_most n p f (a ∷ rest) (below, descends.1) passes in
           omega arith
     ]
 
@@ -99,12 +99,12 @@ chain_parts graph cut k m rest is_one =
     let parts = and_parts (cut k && reads graph k (Made m)) (is_chain graph cut (m ∷ rest)) is_one in
     ((and_parts (cut k) (reads graph k (Made m)) parts.0).1, parts.1)
 
--- In a chain the numbers fall, since a node reads earlier nodes alone.
-chain_falls : (graph : FlowGraph) (cut : ℕ → Bool) → IsFlowGraph graph → (chain : List ℕ) (a n : ℕ) → a < n → IsTrue (is_chain graph cut (a ∷ chain)) → IsFallingBelow n (a ∷ chain)
-chain_falls graph cut kept [] a n below is_one = (below, tt)
-chain_falls graph cut kept (b ∷ chain) a n below is_one =
+-- In a chain the numbers descend, since a node reads earlier nodes alone.
+chain_descends : (graph : FlowGraph) (cut : ℕ → Bool) → IsFlowGraph graph → (chain : List ℕ) (a n : ℕ) → a < n → IsTrue (is_chain graph cut (a ∷ chain)) → IsDescendingBelow n (a ∷ chain)
+chain_descends graph cut kept [] a n below is_one = (below, tt)
+chain_descends graph cut kept (b ∷ chain) a n below is_one =
     let parts = chain_parts graph cut a b chain is_one in
-    (below, chain_falls graph cut kept chain b a (kept.sources_rise b a parts.0) parts.1)
+    (below, chain_descends graph cut kept chain b a (kept.sources_rise b a parts.0) parts.1)
 
 -- the first node of a chain is a member
 pub chain_first : (graph : FlowGraph) (cut : ℕ → Bool) (a : ℕ) (chain : List ℕ) → IsTrue (is_chain graph cut (a ∷ chain)) → IsTrue (cut a)
@@ -114,16 +114,16 @@ chain_first graph cut a (b ∷ chain) is_one =
     (and_parts (cut a) (reads graph a (Made b)) parts.0).0
 
 -- no chain of members of a set of nodes has more than the greatest delay
-pub delay_along-le : (graph : FlowGraph) (cut : ℕ → Bool) → IsFlowGraph graph → ((k : ℕ) → IsTrue (cut k) → k < length graph.nodes) → (chain : List ℕ) → IsTrue (is_chain graph cut chain) → delay_along graph chain ≤ greatest_delay graph cut
-delay_along-le graph cut kept are_nodes [] is_one = falling_at_most (length graph.nodes) (is_chain graph cut) (delay_along graph) [] tt is_one
+pub delay_along-le : (graph : FlowGraph) (cut : ℕ → Bool) → IsFlowGraph graph → ((k : ℕ) → IsTrue (cut k) → k < length graph.nodes) → (chain : List ℕ) → IsTrue (is_chain graph cut chain) → delay_along graph chain ≤ critical_path_delay graph cut
+delay_along-le graph cut kept are_nodes [] is_one = descending_at_most (length graph.nodes) (is_chain graph cut) (delay_along graph) [] tt is_one
 delay_along-le graph cut kept are_nodes (a ∷ chain) is_one =
-    falling_at_most (length graph.nodes) (is_chain graph cut) (delay_along graph) (a ∷ chain)
-    (chain_falls graph cut kept chain a (length graph.nodes) (are_nodes a (chain_first graph cut a chain is_one)) is_one)
+    descending_at_most (length graph.nodes) (is_chain graph cut) (delay_along graph) (a ∷ chain)
+    (chain_descends graph cut kept chain a (length graph.nodes) (are_nodes a (chain_first graph cut a chain is_one)) is_one)
     is_one
 
 -- some chain has the greatest delay
-pub greatest_delay-reached : (graph : FlowGraph) (cut : ℕ → Bool) → (chain : List ℕ) × IsTrue (is_chain graph cut chain) × (delay_along graph chain ≡ greatest_delay graph cut)
-greatest_delay-reached graph cut = greatest_of-reached (is_chain graph cut) (delay_along graph) [] refl refl (falling_lists (length graph.nodes))
+pub critical_path_delay-reached : (graph : FlowGraph) (cut : ℕ → Bool) → (chain : List ℕ) × IsTrue (is_chain graph cut chain) × (delay_along graph chain ≡ critical_path_delay graph cut)
+critical_path_delay-reached graph cut = greatest_of-reached (is_chain graph cut) (delay_along graph) [] refl refl (descending_lists (length graph.nodes))
 
 -- a chain of members is one of a greater set's members
 is_chain-more : (graph : FlowGraph) (cut other : ℕ → Bool) → ((k : ℕ) → IsTrue (cut k) → IsTrue (other k)) → (chain : List ℕ) → IsTrue (is_chain graph cut chain) → IsTrue (is_chain graph other chain)
@@ -134,9 +134,9 @@ is_chain-more graph cut other more (a ∷ b ∷ chain) is_one =
     chain_onward graph other a b chain (more a (chain_first graph cut a (b ∷ chain) is_one)) parts.0 (is_chain-more graph cut other more (b ∷ chain) parts.1)
 
 -- a greater set has no less delay, and no less hardware time
-pub greatest_delay-mono : (graph : FlowGraph) (cut other : ℕ → Bool) → ((k : ℕ) → IsTrue (cut k) → IsTrue (other k)) → greatest_delay graph cut ≤ greatest_delay graph other
-greatest_delay-mono graph cut other more =
-    greatest_of-mono (is_chain graph cut) (is_chain graph other) (delay_along graph) (is_chain-more graph cut other more) (falling_lists (length graph.nodes))
+pub critical_path_delay-mono : (graph : FlowGraph) (cut other : ℕ → Bool) → ((k : ℕ) → IsTrue (cut k) → IsTrue (other k)) → critical_path_delay graph cut ≤ critical_path_delay graph other
+critical_path_delay-mono graph cut other more =
+    greatest_of-mono (is_chain graph cut) (is_chain graph other) (delay_along graph) (is_chain-more graph cut other more) (descending_lists (length graph.nodes))
 
 pub hardware-mono : (graph : FlowGraph) (cut other : ℕ → Bool) → ((k : ℕ) → IsTrue (cut k) → IsTrue (other k)) → hardware graph cut ≤ hardware graph other
-hardware-mono graph cut other more = omega (arith, greatest_delay-mono graph cut other more)
+hardware-mono graph cut other more = omega (arith, critical_path_delay-mono graph cut other more)

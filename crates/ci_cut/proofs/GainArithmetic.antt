@@ -3,15 +3,11 @@ use Rattle.std.proofs.Common.{◌≡◌, ℕ, ◌*◌, ◌^◌, ◌<◌, ◌≤�
 use Rattle.std.specs.Prelude.{unsigned_abs}
 use Rattle.std.proofs.lemmas.Int.{ints, to_z_pos, to_z-of_z, unsigned_abs-mul, fits_signed_from_abs}
 use Rattle.std.proofs.lemmas.Nat.{mul-le}
+use Rattle.ci_cut.specs.Gain.{saved_cycles}
 
 -- the places that are left over
 abbrev pub places_of : ℕ → ℕ → ℤ
 places_of size further = (pos size -ℤ pos 1) -ℤ pos further
-
--- the gain of a set with these latencies, hardware time, further words and size, under these charges
-abbrev pub gain_of : ℕ → ℕ → ℕ → ℕ → ℕ → ℕ → ℤ
-gain_of software hardware further read size pad =
-    ((pos software -ℤ pos hardware) -ℤ pos (further * read)) -ℤ (places_of size further *ℤ pos pad)
 
 module _ (further read : ℕ) (few : further ≤ 256) (read_fits : read < 2 ^ 32) where
   pub reads_is : to_z w64 further *ℤ to_z w64 read ≡ pos (further * read)
@@ -80,7 +76,7 @@ module _ (software hardware further read : ℕ) (software_most : software ≤ 25
     pads_back_are : pads_back ≡ places_of size further *ℤ pos pad
     pads_back_are = to_z-of_z w64 _ (pads_fit size further pad size_few few pad_fits) ∙ pads_are size further pad size_few few pad_fits
 
-    less_pads_is : to_z w64 (of_z w64 less_reads) -ℤ pads_back ≡ gain_of software hardware further read size pad
+    less_pads_is : to_z w64 (of_z w64 less_reads) -ℤ pads_back ≡ saved_cycles read pad software hardware further size
     less_pads_is =
         ap (λ z. z -ℤ pads_back) (to_z-of_z w64 less_reads less_reads_fits ∙ less_reads_is)
         ∙ ap (λ z. ((pos software -ℤ pos hardware) -ℤ pos (further * read)) -ℤ z) pads_back_are
@@ -91,5 +87,5 @@ module _ (software hardware further read : ℕ) (software_most : software ≤ 25
         (difference_fits software hardware (further * read) (places_of size further *ℤ pos pad) software_most hardware_most reads_most (pads_most size further pad size_few few pad_fits))
 
     -- what the code computes is the gain of these numbers
-    pub gain_is : to_z w64 (of_z w64 (to_z w64 (of_z w64 less_reads) -ℤ pads_back)) ≡ gain_of software hardware further read size pad
+    pub gain_is : to_z w64 (of_z w64 (to_z w64 (of_z w64 less_reads) -ℤ pads_back)) ≡ saved_cycles read pad software hardware further size
     gain_is = to_z-of_z w64 _ less_pads_fits ∙ less_pads_is

@@ -1,12 +1,13 @@
 -- Sums and counts over the members of a set of nodes, one node more, and how great they are.
-use Rattle.std.proofs.Common.{◌≡◌, ℕ, ◌+◌, ◌≤◌, Bool, true, false, cond, length, nat_lt, ap, ◌∙◌, add-one, arith}
+use Rattle.std.proofs.Common.{◌≡◌, ℕ, ◌+◌, ◌≤◌, Bool, true, false, cond, length, nat_lt, ap, ◌∙◌, add-one, arith, IsTrue}
 use Rattle.ci_word.specs.Numbers.{sum_below}
 use Rattle.ci_word.proofs.NumberLaws.{sum_below-suc, count_below-le}
-use Rattle.ci_cut.specs.FlowGraph.{FlowGraph, IsFlowGraph}
-use Rattle.ci_cut.specs.Ports.{size, inputs, is_output}
-use Rattle.ci_cut.specs.Gain.{software, further_words, gain}
+use Rattle.ci_cut.specs.declared.graph.Limits.{Limits}
+use Rattle.ci_cut.specs.FlowGraph.{FlowGraph, IsFlowGraph, node_at}
+use Rattle.ci_cut.specs.Walks.{IsConvex}
+use Rattle.ci_cut.specs.Ports.{size, inputs, outputs, is_output}
+use Rattle.ci_cut.specs.Gain.{saved_cycles, further_words_of, software, further_words, gain, Fits}
 use Rattle.ci_cut.specs.Hardware.{hardware}
-use Rattle.ci_cut.proofs.GainArithmetic.{gain_of}
 
 -- one member more
 pub sum_below-member : (n : ℕ) (p : ℕ → Bool) (f : ℕ → ℕ) → p n ≡ true → sum_below (n + 1) p f ≡ sum_below n p f + f n
@@ -23,10 +24,39 @@ one_at_most : (b : Bool) → cond b 1 0 ≤ 1
 one_at_most true = omega arith
 one_at_most false = omega arith
 
+-- the further words by the ports
+pub further_is : (graph : FlowGraph) (cut : ℕ → Bool) (ins outs : ℕ) → ins ≡ inputs graph cut → outs ≡ outputs graph cut → {further : ℕ} → further ≡ further_words_of ins outs → further ≡ further_words graph cut
+further_is graph cut ins outs a b is = is ∙ (λ i. further_words_of (a i) (b i))
+
 -- the further words are few
 pub further_words-le : (graph : FlowGraph) (cut : ℕ → Bool) → IsFlowGraph graph → further_words graph cut ≤ 256
 further_words-le graph cut kept = omega (arith, kept.few, one_at_most (nat_lt 3 (inputs graph cut)), count_below-le (length graph.nodes) (is_output graph cut))
 
 -- the gain by its parts
-pub gain_from_parts : (graph : FlowGraph) (cut : ℕ → Bool) (saved time further read members pad : ℕ) → saved ≡ software graph cut → time ≡ hardware graph cut → further ≡ further_words graph cut → read ≡ graph.read → members ≡ size graph cut → pad ≡ graph.pad → gain_of saved time further read members pad ≡ gain graph cut
-gain_from_parts graph cut saved time further read members pad a b c d e f = cc
+pub gain_from_parts : (graph : FlowGraph) (cut : ℕ → Bool) (read pad saved time further members : ℕ) → read ≡ graph.read → pad ≡ graph.pad → saved ≡ software graph cut → time ≡ hardware graph cut → further ≡ further_words graph cut → members ≡ size graph cut → saved_cycles read pad saved time further members ≡ gain graph cut
+gain_from_parts graph cut read pad saved time further members a b c d e f = λ i. saved_cycles (a i) (b i) (c i) (d i) (e i) (f i)
+
+-- ---- what fits
+
+-- no more inputs and outputs than the limits, an output, and a place for each word of a use
+abbrev pub AreWithin : Limits → ℕ → ℕ → ℕ → Type 0
+AreWithin limits ins outs members = (ins ≤ limits.inputs) × (1 ≤ outs) × (outs ≤ limits.outputs) × (1 + further_words_of ins outs ≤ members)
+
+-- a set's ports and size are within the limits, as numbers that are theirs
+module _ (graph : FlowGraph) (limits : Limits) (cut : ℕ → Bool) (ins outs members : ℕ) (a : ins ≡ inputs graph cut) (b : outs ≡ outputs graph cut) (m : members ≡ size graph cut) where
+  same_words : further_words_of ins outs ≡ further_words graph cut
+  same_words = λ i. further_words_of (a i) (b i)
+
+  pub fits_from_parts : ((k : ℕ) → IsTrue (cut k) → IsTrue (node_at graph k).eligible) → IsConvex graph cut → AreWithin limits ins outs members → Fits graph limits cut
+  fits_from_parts eligible convex within = record {
+    eligible = eligible;
+    convex = convex;
+    inputs_within = omega (arith, within.0);
+    has_output = omega (arith, within.1);
+    outputs_within = omega (arith, within.2);
+    room = omega (arith, within.3, same_words);
+  }
+
+  pub within_from_fits : Fits graph limits cut → AreWithin limits ins outs members
+  within_from_fits fits =
+      (omega (arith, fits.inputs_within), omega (arith, fits.has_output), omega (arith, fits.outputs_within), omega (arith, fits.room, same_words))

@@ -6,7 +6,9 @@ pub mod GreatestAt
 pub mod LongestChains
 pub mod NodeLaws
 pub mod PortLaws
+pub mod SavedCycles
 pub mod SetLaws
+pub mod SettledInputs
 pub mod SourceSetLaws
 pub mod Tries
 pub mod WalkLaws

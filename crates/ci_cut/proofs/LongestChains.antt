@@ -6,9 +6,9 @@ use Rattle.std.proofs.lemmas.List.Sums.{sum_by-cons}
 use Rattle.ci_cut.specs.declared.graph.Source.{Source}
 use Rattle.ci_cut.specs.declared.graph.Node.{Node}
 use Rattle.ci_cut.specs.FlowGraph.{FlowGraph, IsFlowGraph, node_at}
-use Rattle.ci_cut.specs.Hardware.{is_chain, delay_along, greatest_delay}
+use Rattle.ci_cut.specs.Hardware.{is_chain, delay_along, critical_path_delay}
 use Rattle.ci_cut.specs.ChainDelays.{IsGreatestAt}
-use Rattle.ci_cut.proofs.Chains.{chain_onward, chain_parts, chain_first, delay_along-le, greatest_delay-reached}
+use Rattle.ci_cut.proofs.Chains.{chain_onward, chain_parts, chain_first, delay_along-le, critical_path_delay-reached}
 
 -- the delay of a chain's first node, and of the rest
 delay_along-cons : (graph : FlowGraph) (k : ℕ) (rest : List ℕ) → delay_along graph (k ∷ rest) ≡ (node_at graph k).delay + delay_along graph rest
@@ -19,8 +19,8 @@ pub record IsLongestFrom (graph : FlowGraph) (cut : ℕ → Bool) (k delay : ℕ
   pub bound : (rest : List ℕ) → IsTrue (is_chain graph cut (k ∷ rest)) → delay_along graph (k ∷ rest) ≤ delay
   pub reached : (rest : List ℕ) × IsTrue (is_chain graph cut (k ∷ rest)) × (delay_along graph (k ∷ rest) ≡ delay)
 
--- Of the nodes below n, each member has in the list the greatest delay of a chain that begins there, and the rest have 0.
--- The greatest of these delays is that of some chain. The list has a place for each node.
+-- Of the nodes below n, each member has in the list the greatest delay of a chain that begins there, and the rest
+-- have 0. The greatest of these delays is that of some chain. The list has a place for each node.
 pub record AreDelaysBelow (graph : FlowGraph) (cut : ℕ → Bool) (n : ℕ) (delays : List ℕ) (most : ℕ) : Type 0 where
   pub size : length delays ≡ 256
   pub longest : (k : ℕ) → k < n → IsTrue (cut k) → IsLongestFrom graph cut k (slice_index delays k)
@@ -149,14 +149,14 @@ all_bounded graph cut are_nodes delays most done (a ∷ rest) is_one =
     let below = are_nodes a inside in
     omega (arith, (done.longest a below inside).bound rest is_one, done.bound a below)
 
--- the greatest of the delays is then that of the slowest chain
-pub all_done : (graph : FlowGraph) (cut : ℕ → Bool) → IsFlowGraph graph → ((k : ℕ) → IsTrue (cut k) → k < length graph.nodes) → (delays : List ℕ) (most : ℕ) → AreDelaysBelow graph cut (length graph.nodes) delays most → most ≡ greatest_delay graph cut
+-- the greatest of the delays is then that of the longest chain
+pub all_done : (graph : FlowGraph) (cut : ℕ → Bool) → IsFlowGraph graph → ((k : ℕ) → IsTrue (cut k) → k < length graph.nodes) → (delays : List ℕ) (most : ℕ) → AreDelaysBelow graph cut (length graph.nodes) delays most → most ≡ critical_path_delay graph cut
 all_done graph cut kept are_nodes delays most done =
-    let slowest = greatest_delay-reached graph cut in
+    let longest = critical_path_delay-reached graph cut in
     omega (
       arith,
       delay_along-le graph cut kept are_nodes done.reached.0 done.reached.1,
       done.reached.2,
-      all_bounded graph cut are_nodes delays most done slowest.0 slowest.1,
-      slowest.2,
+      all_bounded graph cut are_nodes delays most done longest.0 longest.1,
+      longest.2,
     )

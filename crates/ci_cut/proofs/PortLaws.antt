@@ -1,15 +1,16 @@
 -- What is read by the nodes below a number, and what is counted over them.
-use Rattle.std.proofs.Common.{◌≡◌, ℕ, ◌+◌, Bool, true, false, not, ◌&&◌, ◌||◌, if◌then◌else◌, refl, ap, sym, arith, add-one, length}
+use Rattle.std.proofs.Common.{◌≡◌, ℕ, ◌+◌, ◌≤◌, IsTrue, Bool, true, false, not, ◌&&◌, ◌||◌, if◌then◌else◌, refl, ap, sym, arith, add-one, length}
 use Rattle.std.proofs.Math.Bool.{beq, or-false}
 use Rattle.std.specs.List.{list_any}
 use Rattle.ci_word.specs.Numbers.{count_below, some_below}
-use Rattle.ci_word.proofs.NumberLaws.{count_below-suc, some_below-suc}
+use Rattle.std.proofs.lemmas.Bool.{and_parts, and_from}
+use Rattle.ci_word.proofs.NumberLaws.{count_below-suc, count_below-mono, some_below-suc, some_below_iff}
 use Rattle.ci_cut.specs.declared.graph.Source.{Source}
-use Rattle.ci_cut.specs.declared.graph.Source.TheVariants.{Made}
+use Rattle.ci_cut.specs.declared.graph.Source.TheVariants.{Entry, Made}
 use Rattle.ci_cut.specs.declared.graph.Node.{Node}
 use Rattle.ci_cut.specs.FlowGraph.{FlowGraph, node_at, is_source, reads}
 use Rattle.ci_cut.specs.SourceSets.{is_reader, is_read_below}
-use Rattle.ci_cut.specs.Ports.{is_input, is_output}
+use Rattle.ci_cut.specs.Ports.{is_read_by, inputs_from, is_outside, is_output}
 
 -- one number more
 some_below-more : (k : ℕ) (p : ℕ → Bool) → some_below (k + 1) p ≡ (some_below k p || p k)
@@ -31,26 +32,51 @@ on_side cut true k = elim (cut k) as (λ b. b ≡ beq b true) [ true ↦ refl | 
 on_side cut false k = elim (cut k) as (λ b. not b ≡ beq b false) [ true ↦ refl | false ↦ refl ]
 
 module _ (graph : FlowGraph) (cut : ℕ → Bool) (members : Bool) (k : ℕ) (has : Bool) (has_is : has ≡ cut k) where
-  read_more : (source : Source) → is_read_below (k + 1) graph cut members source ≡ (is_read_below k graph cut members source || (beq has members && reads graph k source))
+  read_more : (source : Source) → is_read_below (k + 1) graph (is_reader cut members) source ≡ (is_read_below k graph (is_reader cut members) source || (beq has members && reads graph k source))
   read_more source = rw (some_below-more k (λ j. is_reader cut members j && reads graph j source), on_side cut members k, ← has_is)
 
   -- the sources of a node on that side are read
   pub read_here : (node : Node) (source : Source) (old new : Bool) → node_at graph k ≡ node → beq has members ≡ true →
-      old ≡ is_read_below k graph cut members source → new ≡ (old || list_any (is_source source) node.sources) →
-      new ≡ is_read_below (k + 1) graph cut members source
+      old ≡ is_read_below k graph (is_reader cut members) source → new ≡ (old || list_any (is_source source) node.sources) →
+      new ≡ is_read_below (k + 1) graph (is_reader cut members) source
   read_here node source old new here same so_far more = rw (read_more source, same, here, ← so_far) more
 
   -- and those of another node are not
   pub not_read_here : (source : Source) (old : Bool) → beq has members ≡ false →
-      old ≡ is_read_below k graph cut members source → old ≡ is_read_below (k + 1) graph cut members source
+      old ≡ is_read_below k graph (is_reader cut members) source → old ≡ is_read_below (k + 1) graph (is_reader cut members) source
   not_read_here source old other so_far = rw (read_more source, other, ← so_far) (sym (or-false old))
 
+-- a source outside the set that some member reads
+abbrev pub is_input : FlowGraph → (ℕ → Bool) → Source → Bool
+is_input graph cut source = is_outside cut source && is_read_by graph cut source
+
 -- whether a node is an input or an output, by what is read
-pub is_input-made : (graph : FlowGraph) (cut : ℕ → Bool) (k : ℕ) (read : Bool) → read ≡ is_read_below (length graph.nodes) graph cut true (Made k) →
+pub is_input-made : (graph : FlowGraph) (cut : ℕ → Bool) (k : ℕ) (read : Bool) → read ≡ is_read_by graph cut (Made k) →
     is_input graph cut (Made k) ≡ (not (cut k) && read)
 is_input-made graph cut k read read_is = ap (λ r. not (cut k) && r) (sym read_is)
 
 pub is_output-at : (graph : FlowGraph) (cut : ℕ → Bool) (k : ℕ) (node : Node) (read wanted : Bool) → node_at graph k ≡ node →
-    read ≡ is_read_below (length graph.nodes) graph cut false (Made k) → wanted ≡ (node.live || read) →
+    read ≡ is_read_by graph (λ j. not (cut j)) (Made k) → wanted ≡ (node.live || read) →
     is_output graph cut k ≡ (cut k && wanted)
 is_output-at graph cut k node read wanted here read_is wanted_is = rw (here, ← read_is, ← wanted_is)
+
+-- ---- more sources and readers
+
+module _ (graph : FlowGraph) (readers more : ℕ → Bool) (more_read : (k : ℕ) → IsTrue (readers k) → IsTrue (more k)) where
+  is_read_by-mono : (source : Source) → IsTrue (is_read_by graph readers source) → IsTrue (is_read_by graph more source)
+  is_read_by-mono source read =
+      let found = (some_below_iff (length graph.nodes) (λ k. readers k && reads graph k source)).0 read in
+      let parts = and_parts (readers found.0) (reads graph found.0 source) found.2 in
+      (some_below_iff (length graph.nodes) (λ k. more k && reads graph k source)).1
+      (found.0, found.1, and_from (more found.0) (reads graph found.0 source) (more_read found.0 parts.0) parts.1)
+
+  -- where more sources count as outside, and more nodes read, there are no fewer inputs
+  pub inputs_from-mono : (outside further : Source → Bool) → ((source : Source) → IsTrue (outside source) → IsTrue (further source)) → inputs_from graph outside readers ≤ inputs_from graph further more
+  inputs_from-mono outside further still =
+      let both : (source : Source) → IsTrue (outside source && is_read_by graph readers source) → IsTrue (further source && is_read_by graph more source) =
+      λ source input. let parts = and_parts (outside source) (is_read_by graph readers source) input in and_from (further source) (is_read_by graph more source) (still source parts.0) (is_read_by-mono source parts.1) in
+      omega (
+        arith,
+        count_below-mono 256 (λ r. outside (Entry r) && is_read_by graph readers (Entry r)) (λ r. further (Entry r) && is_read_by graph more (Entry r)) (λ r _. both (Entry r)),
+        count_below-mono (length graph.nodes) (λ k. outside (Made k) && is_read_by graph readers (Made k)) (λ k. further (Made k) && is_read_by graph more (Made k)) (λ k _. both (Made k)),
+      )

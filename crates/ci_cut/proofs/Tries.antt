@@ -6,7 +6,6 @@ use Rattle.std.specs.FinSet as set
 use Rattle.std.proofs.lemmas.Int.{ints}
 use Rattle.std.proofs.lemmas.Bool.{cases_eq}
 use Rattle.std.proofs.lemmas.Bool.Decides.{nat_tests}
-use Rattle.std.proofs.lemmas.List.{get_or_past, get_or_default}
 use Rattle.ci_cut.specs.declared.choice.Reached.{Reached}
 use Rattle.ci_cut.specs.declared.graph.Limits.{Limits}
 use Rattle.ci_cut.specs.declared.graph.Node.{Node}
@@ -14,6 +13,7 @@ use Rattle.ci_cut.specs.FlowGraph.{FlowGraph, node_at}
 use Rattle.ci_cut.specs.Gain.{Fits, gain}
 use Rattle.ci_cut.specs.Best.{ComesBefore, IsBest, HasNoCut}
 use Rattle.ci_cut.specs.Tried.{Agrees, IsBetterFrom}
+use Rattle.ci_cut.proofs.NodeLaws.{node_in-within, node_in-past}
 
 -- sets that agree from 0 on are one
 pub agree_all : (s t : ℕ → Bool) → Agrees 0 s t → s ≡ t
@@ -200,12 +200,12 @@ module _ (graph : FlowGraph) (limits : Limits) (n k count : ℕ) (cut : set.FinS
 pub eligible_read : (graph : FlowGraph) (nodes : List Node) (k : ℕ) (d : Node) → nodes ≡ graph.nodes → k < length graph.nodes
     → (get_or nodes k d).eligible ≡ (node_at graph k).eligible
 eligible_read graph nodes k d is below =
-    ap (λ xs. (get_or xs k d).eligible) is ∙ ap (λ node. node.eligible) (get_or_default graph.nodes k d _ below)
+    ap (λ xs. (get_or xs k d).eligible) is ∙ ap (λ node. node.eligible) (sym (node_in-within graph.nodes k d below))
 
 -- a set that fits has nodes alone
 pub agree_past : (graph : FlowGraph) (limits : Limits) (other : ℕ → Bool) → Fits graph limits other → Agrees (length graph.nodes) other (set.contains (set.empty {R = nat_cmp}))
 agree_past graph limits other fits j past =
-    not_in graph limits j (ap (λ node. node.eligible) (get_or_past graph.nodes j _ past)) other fits ∙ sym (set.contains-empty nat_cmp j)
+    not_in graph limits j (ap (λ node. node.eligible) (node_in-past graph.nodes j past)) other fits ∙ sym (set.contains-empty nat_cmp j)
 
 -- all sets of nodes have been tried, from nothing reached on
 pub best_of_tries : (graph : FlowGraph) (limits : Limits) (result : Reached)

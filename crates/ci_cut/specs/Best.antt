@@ -4,7 +4,8 @@ use Rattle.ci_cut.specs.declared.graph.Limits.{Limits}
 use Rattle.ci_cut.specs.FlowGraph.{FlowGraph}
 use Rattle.ci_cut.specs.Gain.{Fits, gain}
 
--- sets compared from the last node to the first, with "in" before "out": at the greatest number in which they differ, the first has it
+-- sets compared from the last node to the first, with "in" before "out": at the greatest number in which they differ,
+-- the first has it
 pub record ComesBefore (first second : ℕ → Bool) : Type 0 where
   pub place : ℕ
   pub in_first : first place ≡ true

@@ -7,8 +7,8 @@ use Rattle.ci_cut.specs.declared.graph.Source.{Source}
 use Rattle.ci_cut.specs.declared.graph.Source.TheVariants.{Entry, Made}
 use Rattle.ci_cut.specs.declared.graph.Node.{Node}
 
--- the nodes, numbered from 0 in the order of the block, and two charges, in cycles: a read of each result after the first, and a
--- no-op, which fills a place of the block
+-- the nodes, numbered from 0 in the order of the block, and two charges, in cycles: a read of each result after the
+-- first, and a no-op, which fills a place of the block
 pub record FlowGraph : Type 0 where
   pub nodes : List Node
   pub read : ℕ
@@ -18,8 +18,12 @@ pub record FlowGraph : Type 0 where
 abbrev pub no_node : Node
 no_node = record { eligible = false; latency = 0; delay = 0; sources = []; before = set.empty; live = false }
 
+-- the nodes of a list by their numbers
+abbrev pub node_in : List Node → ℕ → Node
+node_in nodes k = slice_index_or nodes k no_node
+
 abbrev pub node_at : FlowGraph → ℕ → Node
-node_at graph k = slice_index_or graph.nodes k no_node
+node_at graph k = node_in graph.nodes k
 
 abbrev pub is_source : Source → Source → Bool
 is_source (Entry r) (Entry s) = nat_eq r s
@@ -35,8 +39,8 @@ reads graph k source = list_any (is_source source) (node_at graph k).sources
 abbrev pub HasArc : FlowGraph → ℕ → ℕ → Type 0
 HasArc graph j k = IsTrue (set.contains (node_at graph k).before j)
 
--- What a graph keeps. Arcs and sources come from earlier nodes. A no-op costs no more than a read, and no more than a node that may
--- be a member.
+-- What a graph keeps. Arcs and sources come from earlier nodes. A no-op costs no more than a read, and no more than a
+-- node that may be a member.
 pub record IsFlowGraph (graph : FlowGraph) : Type 0 where
   pub few : length graph.nodes ≤ 256
   pub arcs_rise : (j k : ℕ) → HasArc graph j k → j < k

@@ -1,4 +1,4 @@
--- What a cut gains, and when it fits.
+-- What a cut gains, and when it fits. The formula of the gain is this project's own.
 use Rattle.std.specs.Prelude.{ℕ, ◌+◌, ◌-◌, ◌*◌, ◌≤◌, nat_lt, Bool, ℤ, pos, ◌-ℤ◌, ◌*ℤ◌, IsTrue, length, if◌then◌else◌}
 use Rattle.ci_word.specs.Numbers.{sum_below}
 use Rattle.ci_cut.specs.declared.graph.Limits.{Limits}
@@ -7,23 +7,33 @@ use Rattle.ci_cut.specs.Walks.{IsConvex}
 use Rattle.ci_cut.specs.Ports.{size, inputs, outputs}
 use Rattle.ci_cut.specs.Hardware.{hardware}
 
+-- ---- by numbers alone
+
+-- The words that a use takes beside its first: one to read each output after the first, and one to pass operands where
+-- there are more than three inputs.
+abbrev pub further_words_of : ℕ → ℕ → ℕ
+further_words_of inputs outputs = (outputs - 1) + (if nat_lt 3 inputs then 1 else 0)
+
+-- Cycles saved at each run of the block: the software latency, less the hardware time, less a read for each further
+-- word, less a no-op for each place that is left over:
+-- software - hardware - further * read - (size - 1 - further) * pad.
+abbrev pub saved_cycles : ℕ → ℕ → ℕ → ℕ → ℕ → ℕ → ℤ
+saved_cycles read pad software hardware further size =
+    ((pos software -ℤ pos hardware) -ℤ pos (further * read)) -ℤ (((pos size -ℤ pos 1) -ℤ pos further) *ℤ pos pad)
+
+-- ---- of a set of nodes
+
 -- the software latencies of the members together, in cycles
 abbrev pub software : FlowGraph → (ℕ → Bool) → ℕ
 software graph cut = sum_below (length graph.nodes) cut (λ k. (node_at graph k).latency)
 
--- The words that a use takes beside its first: one to read each result after the first, and one to pass operands where there
--- are more than three inputs.
 abbrev pub further_words : FlowGraph → (ℕ → Bool) → ℕ
-further_words graph cut = (outputs graph cut - 1) + (if nat_lt 3 (inputs graph cut) then 1 else 0)
+further_words graph cut = further_words_of (inputs graph cut) (outputs graph cut)
 
--- Cycles saved at each run of the block: the members' latencies, less the hardware time, less a read for each further word,
--- less a no-op for each place that is left over: software - hardware - further * read - (size - 1 - further) * pad.
--- The formula is this project's own.
 abbrev pub gain : FlowGraph → (ℕ → Bool) → ℤ
 gain graph cut =
-    let further = further_words graph cut in
-    ((pos (software graph cut) -ℤ pos (hardware graph cut)) -ℤ pos (further * graph.read))
-    -ℤ (((pos (size graph cut) -ℤ pos 1) -ℤ pos further) *ℤ pos graph.pad)
+    saved_cycles graph.read graph.pad
+    (software graph cut) (hardware graph cut) (further_words graph cut) (size graph cut)
 
 -- the set may become an instruction under these limits
 pub record Fits (graph : FlowGraph) (limits : Limits) (cut : ℕ → Bool) : Type 0 where

@@ -1,12 +1,12 @@
--- The hardware time of a set of nodes: that of its slowest chain, in whole cycles.
+-- The hardware time of a set of nodes: the delay of its critical path, in whole cycles.
 use Rattle.std.specs.Prelude.{ℕ, zero, suc, ◌+◌, ◌/◌, max, Bool, true, ◌&&◌, List, [], ◌∷◌, ◌++◌, length, map, filter, sum_by}
 use Rattle.ci_cut.specs.declared.graph.Source.TheVariants.{Made}
 use Rattle.ci_cut.specs.FlowGraph.{FlowGraph, node_at, reads}
 
--- all lists of numbers below n in which the numbers fall
-unfoldable pub falling_lists : ℕ → List (List ℕ)
-falling_lists zero = [] ∷ []
-falling_lists (suc n) = falling_lists n ++ map (λ numbers. n ∷ numbers) (falling_lists n)
+-- all lists of descending numbers below n
+unfoldable pub descending_lists : ℕ → List (List ℕ)
+descending_lists zero = [] ∷ []
+descending_lists (suc n) = descending_lists n ++ map (λ numbers. n ∷ numbers) (descending_lists n)
 
 -- members of the set, each of which reads the value of the next
 abbrev pub is_chain : FlowGraph → (ℕ → Bool) → List ℕ → Bool
@@ -22,11 +22,12 @@ abbrev pub greatest : List ℕ → ℕ
 greatest [] = 0
 greatest (x ∷ xs) = max x (greatest xs)
 
--- The greatest sum of delays along a chain. A node reads only earlier nodes, so in each chain the numbers fall.
-abbrev pub greatest_delay : FlowGraph → (ℕ → Bool) → ℕ
-greatest_delay graph cut =
-    greatest (map (delay_along graph) (filter (is_chain graph cut) (falling_lists (length graph.nodes))))
+-- The delay of the critical path: the greatest sum of delays along a chain. A node reads only earlier nodes, so each
+-- chain is a list of descending numbers.
+abbrev pub critical_path_delay : FlowGraph → (ℕ → Bool) → ℕ
+critical_path_delay graph cut =
+    greatest (map (delay_along graph) (filter (is_chain graph cut) (descending_lists (length graph.nodes))))
 
 -- in cycles, rounded up, and at least one
 abbrev pub hardware : FlowGraph → (ℕ → Bool) → ℕ
-hardware graph cut = max 1 ((greatest_delay graph cut + 999) / 1000)
+hardware graph cut = max 1 ((critical_path_delay graph cut + 999) / 1000)

@@ -7,5 +7,4 @@ pub mod Gain
 pub mod Best
 pub mod SourceSets
 pub mod ChainDelays
-pub mod PortLimits
 pub mod Tried

@@ -17,6 +17,6 @@ abbrev pub is_reader : (ℕ → Bool) → Bool → ℕ → Bool
 is_reader cut true k = cut k
 is_reader cut false k = not (cut k)
 
--- some node below n reads the source, a member if members are meant, or else none
-abbrev pub is_read_below : ℕ → FlowGraph → (ℕ → Bool) → Bool → Source → Bool
-is_read_below n graph cut members source = some_below n (λ k. is_reader cut members k && reads graph k source)
+-- some of these nodes below n reads the source
+abbrev pub is_read_below : ℕ → FlowGraph → (ℕ → Bool) → Source → Bool
+is_read_below n graph readers source = some_below n (λ k. readers k && reads graph k source)

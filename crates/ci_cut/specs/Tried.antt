@@ -1,4 +1,5 @@
--- For private contracts only: what is known once every set has been tried that fits and agrees with a cut from some node on.
+-- For private contracts only: what is known once every set has been tried that fits and agrees with a cut from some
+-- node on.
 use Rattle.std.specs.Prelude.{◌≡◌, ℕ, ◌≤◌, Bool, ℤ, ◌≤ℤ◌, ◌<ℤ◌, ◌⊎◌, Some}
 use Rattle.std.specs.Ordering.{nat_cmp}
 use Rattle.std.specs.FinSet as set
@@ -13,8 +14,10 @@ Agrees k s t = (j : ℕ) → k ≤ j → s j ≡ t j
 abbrev pub NoneGainsMore : ((ℕ → Bool) → Type 0) → ((ℕ → Bool) → ℤ) → ℕ → (ℕ → Bool) → ℤ → Type 0
 NoneGainsMore Fits gain k cut most = (other : ℕ → Bool) → Fits other → Agrees k other cut → gain other ≤ℤ most
 
--- this set is tried and gains more than the least; no set that is tried gains more, and none of those that gain as much comes before
-pub record IsBestFrom (Fits : (ℕ → Bool) → Type 0) (gain : (ℕ → Bool) → ℤ) (k : ℕ) (cut : ℕ → Bool) (least : ℤ) (best : ℕ → Bool) : Type 0 where
+-- this set is tried and gains more than the least; no set that is tried gains more, and none of those that gain as
+-- much comes before
+pub record IsBestFrom (Fits : (ℕ → Bool) → Type 0) (gain : (ℕ → Bool) → ℤ) (k : ℕ) (cut : ℕ → Bool) (least : ℤ)
+    (best : ℕ → Bool) : Type 0 where
   pub fits : Fits best
   pub agrees : Agrees k best cut
   pub more : least <ℤ gain best

@@ -8,7 +8,7 @@ ghost use Rattle.ci_cut.specs.Best.{IsBest, HasNoCut};
 ghost use Rattle.ci_cut.specs.Tried.{IsBetterFrom};
 
 use crate::graph::{Graph, Limits};
-use crate::value::{fits, gain};
+use crate::value::{fitting_ports, gain_by_ports};
 use ci_word::Row;
 
 /// The best cut among the sets tried so far, and what it gains; with no cut its gain is 0.
@@ -20,11 +20,12 @@ struct Reached {
 
 /// The best cut of a graph of at most twelve eligible nodes, or `None` where no set that fits has a positive gain.
 ///
-/// Among equal gains it is the set that comes first when sets are compared from the last node to the first, with "in" before
-/// "out". It tries every set of eligible nodes, so its time doubles with each of them.
+/// Among equal gains it is the set that comes first when sets are compared from the last node to the first, with "in"
+/// before "out". It tries every set of eligible nodes, so its time doubles with each of them.
 pub fn best_of_all(graph: &Graph, limits: &Limits) -> Option<Row>
     requires { count_below (length graph.now.nodes) (λ k. (node_at graph.now k).eligible) ≤ 12 }
-    ensures { MatchOption result (HasNoCut graph.now limits.now) (λ cut. IsBest graph.now limits.now (set.contains cut)) }
+    ensures { MatchOption result (HasNoCut graph.now limits.now)
+        (λ cut. IsBest graph.now limits.now (set.contains cut)) }
 {
     let reached = Reached { cut: None, gain: 0 };
     try_below(graph, limits, graph.nodes().len(), Row::empty(), reached).cut
@@ -40,7 +41,8 @@ fn try_below(
 ) -> Reached
     requires are_nodes { undecided ≤ length graph.now.nodes }
     requires decided { (k : ℕ) → IsTrue (set.contains cut k) → (undecided ≤ k) × (k < length graph.now.nodes) }
-    ensures { IsBetterFrom (terms.Fits graph.now limits.now) (terms.gain graph.now) undecided (set.contains cut) reached result }
+    ensures { IsBetterFrom (terms.Fits graph.now limits.now) (terms.gain graph.now) undecided (set.contains cut)
+        reached result }
 {
     if undecided == 0 {
         return better(graph, limits, cut, reached);
@@ -58,12 +60,13 @@ fn try_below(
 /// The set, if it fits and gains more than what was reached, else what was reached.
 fn better(graph: &Graph, limits: &Limits, cut: Row, reached: Reached) -> Reached
     requires { AreNodes graph.now cut }
-    ensures { IsBetterFrom (terms.Fits graph.now limits.now) (terms.gain graph.now) 0 (set.contains cut) reached result }
+    ensures { IsBetterFrom (terms.Fits graph.now limits.now) (terms.gain graph.now) 0 (set.contains cut)
+        reached result }
 {
-    if !fits(graph, limits, &cut) {
+    let Some(ports) = fitting_ports(graph, limits, &cut) else {
         return reached;
-    }
-    let gain = gain(graph, &cut);
+    };
+    let gain = gain_by_ports(graph, &cut, &ports);
     if gain > reached.gain {
         Reached {
             cut: Some(cut),

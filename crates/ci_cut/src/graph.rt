@@ -48,7 +48,7 @@ impl Sources {
         }
     }
 
-    /// Puts a source at the end. Of want of memory nothing changes.
+    /// Puts a source at the end. An Err is out of memory, and nothing changes.
     pub fn push(&mut self, source: Source) -> Result<(), AllocError>
         ensures ok { OnOk result (self.new ≡ self.old ++ source ∷ []) }
         ensures err { OnErr result (self.new ≡ self.old) }
@@ -120,8 +120,9 @@ impl Graph {
     /// The graph of these nodes. `read` and `pad` are charges in cycles, for a read of each result after the first and
     /// for a no-op.
     ///
-    /// It has at most 256 nodes. Arcs and sources come from earlier nodes. Latencies are at most 1000, and of eligible nodes at
-    /// least 1; delays are at most 100,000. `pad` is at most `read`, and at most the latency of each eligible node.
+    /// It has at most 256 nodes. Arcs and sources come from earlier nodes. Latencies are at most 1000, and of
+    /// eligible nodes at least 1; delays are at most 100,000. `pad` is at most `read`, and at most the latency of
+    /// each eligible node.
     pub fn new(nodes: Vec<Node>, read: u32, pad: u32) -> Graph
         requires { IsFlowGraph (record { nodes = nodes.items; read = read; pad = pad }) }
         ensures { result ≡ record { nodes = nodes.items; read = read; pad = pad } }

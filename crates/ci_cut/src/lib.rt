@@ -5,7 +5,7 @@ pub use choice::best_of_all;
 pub use convexity::is_convex;
 pub use graph::{Graph, Limits, Node, Source, Sources};
 pub use ports::{inputs, outputs};
-pub use timing::{hardware, hardware_is_the_slowest_chain};
+pub use timing::{hardware, hardware_is_the_critical_path};
 pub use value::{fits, gain};
 
 mod choice;

@@ -1,14 +1,58 @@
 //! The inputs and outputs of a set of nodes.
-ghost use Rattle.std.specs.Prelude.{◌≡◌, ◌||◌, false, length};
+ghost use Rattle.std.specs.Prelude.{◌≡◌, ◌↔◌, ◌+◌, ◌≤◌, ◌||◌, false, length, IsTrue};
 ghost use Rattle.std.specs.FinSet as set;
 ghost use Rattle.std.specs.List.{list_any};
 ghost use Rattle.ci_cut.specs.declared.graph.Source.{Source};
 ghost use Rattle.ci_cut.specs.Ports as terms;
 ghost use Rattle.ci_cut.specs.FlowGraph.{AreNodes, is_source};
-ghost use Rattle.ci_cut.specs.SourceSets.{holds, is_read_below};
+ghost use Rattle.ci_cut.specs.Gain.{further_words_of};
+ghost use Rattle.ci_cut.specs.SourceSets.{holds, is_reader, is_read_below};
 
-use crate::graph::{Graph, Source};
+use crate::graph::{Graph, Limits, Source};
 use ci_word::Row;
+
+/// How many inputs and outputs a set of nodes has.
+#[derive(Drop)]
+pub struct Ports {
+    pub inputs: u32,
+    pub outputs: u32,
+}
+
+impl Ports {
+    /// The words that a use takes beside its first.
+    pub fn further_words(&self) -> u32
+        ensures { result ≡ further_words_of self.now.inputs self.now.outputs }
+    {
+        self.outputs.saturating_sub(1) + u32::from(self.inputs > 3)
+    }
+
+    /// Whether there are no more inputs and outputs than the limits, an output, and in a set of this size a place for
+    /// each word of a use.
+    pub fn are_within(&self, limits: &Limits, size: u32) -> bool
+        ensures { IsTrue result
+            ↔ (self.now.inputs ≤ limits.now.inputs) × (1 ≤ self.now.outputs) × (self.now.outputs ≤ limits.now.outputs)
+            × (1 + further_words_of self.now.inputs self.now.outputs ≤ size) }
+    {
+        self.inputs <= u32::from(limits.inputs)
+            && 1 <= self.outputs
+            && self.outputs <= u32::from(limits.outputs)
+            && self.further_words() < size
+    }
+}
+
+/// The ports of a set of nodes.
+///
+/// Each number of the set has to be a node.
+pub fn ports_of(graph: &Graph, cut: &Row) -> Ports
+    requires { AreNodes graph.now cut.now }
+    ensures inputs { result.inputs ≡ terms.inputs graph.now (set.contains cut.now) }
+    ensures outputs { result.outputs ≡ terms.outputs graph.now (set.contains cut.now) }
+{
+    Ports {
+        inputs: inputs(graph, cut),
+        outputs: outputs(graph, cut),
+    }
+}
 
 /// A set of sources.
 #[derive(Drop)]
@@ -42,7 +86,8 @@ impl SourceSet {
 
     /// Puts sources in.
     fn extend(&mut self, sources: &[Source])
-        ensures { (other : Source) → holds self.new other ≡ (holds self.old other || list_any (is_source other) sources.now) }
+        ensures { (other : Source) →
+            holds self.new other ≡ (holds self.old other || list_any (is_source other) sources.now) }
     {
         for source in sources {
             self.insert(*source);
@@ -53,7 +98,7 @@ impl SourceSet {
 /// The sources that the members of a set read, or those that the other nodes read.
 fn read_by(graph: &Graph, cut: &Row, members: bool) -> SourceSet
     ensures { let nodes = length graph.now.nodes in (source : Source) →
-        holds result source ≡ is_read_below nodes graph.now (set.contains cut.now) members source }
+        holds result source ≡ is_read_below nodes graph.now (is_reader (set.contains cut.now) members) source }
 {
     let mut read = SourceSet::empty();
     for (k, node) in graph.nodes().iter().enumerate() {

@@ -250,8 +250,8 @@ fn nothing_in_nothing(rt: HostRuntime) -> Result<(), Fail> {
     Ok(())
 }
 
-// Three additions under charges of 2 cycles for a read and 1 for a filling word. Where the first is live beside the last,
-// their use takes a read and one filling word; where the last alone is, two filling words.
+// Three additions under charges of 2 cycles for a read and 1 for a filling word. Where the first is live beside the
+// last, their use takes a read and one filling word; where the last alone is, two filling words.
 #[test]
 fn gain_under_charges(rt: HostRuntime) -> Result<(), Fail> {
     let dear = Charges { read: 2, pad: 1 };

@@ -1,15 +1,14 @@
 //! What a set of nodes gains as an instruction, and whether it fits.
-ghost use Rattle.std.specs.Prelude.{◌≡◌, ◌↔◌, ℕ, ◌+◌, ◌≤◌, IsTrue, length, slice_index_or};
+ghost use Rattle.std.specs.Prelude.{◌≡◌, ◌↔◌, ℕ, ◌+◌, ◌≤◌, IsTrue, IsSome, IfSome, length};
 ghost use Rattle.std.specs.FinSet as set;
 ghost use Rattle.ci_word.specs.Numbers.{sum_below};
 ghost use Rattle.ci_cut.specs.Gain as terms;
-ghost use Rattle.ci_cut.specs.Ports as ports;
-ghost use Rattle.ci_cut.specs.PortLimits.{ArePortsWithin};
-ghost use Rattle.ci_cut.specs.FlowGraph.{AreNodes, no_node, node_at};
+ghost use Rattle.ci_cut.specs.Ports as counts;
+ghost use Rattle.ci_cut.specs.FlowGraph.{AreNodes, node_in, node_at};
 
 use crate::convexity::is_convex;
 use crate::graph::{Graph, Limits, Node};
-use crate::ports::{inputs, outputs};
+use crate::ports::{Ports, ports_of};
 use crate::timing::hardware;
 use ci_word::Row;
 
@@ -21,8 +20,18 @@ pub fn gain(graph: &Graph, cut: &Row) -> i64
     requires { AreNodes graph.now cut.now }
     ensures { result ≡ terms.gain graph.now (set.contains cut.now) }
 {
+    gain_by_ports(graph, cut, &ports_of(graph, cut))
+}
+
+/// The gain of a set that has these ports.
+pub(crate) fn gain_by_ports(graph: &Graph, cut: &Row, ports: &Ports) -> i64
+    requires are_nodes { AreNodes graph.now cut.now }
+    requires inputs { ports.now.inputs ≡ counts.inputs graph.now (set.contains cut.now) }
+    requires outputs { ports.now.outputs ≡ counts.outputs graph.now (set.contains cut.now) }
+    ensures { result ≡ terms.gain graph.now (set.contains cut.now) }
+{
     let saved = software(graph.nodes(), cut) as i64 - hardware(graph, cut) as i64;
-    let further = further_words(graph, cut) as i64;
+    let further = ports.further_words() as i64;
     let places = cut.count() as i64 - 1 - further;
     saved - further * graph.read() as i64 - places * graph.pad() as i64
 }
@@ -35,18 +44,31 @@ pub fn fits(graph: &Graph, limits: &Limits, cut: &Row) -> bool
     requires { AreNodes graph.now cut.now }
     ensures { IsTrue result ↔ terms.Fits graph.now limits.now (set.contains cut.now) }
 {
-    are_eligible(graph, cut)
-        && is_convex(graph, cut)
-        && are_ports_within(graph, limits, cut)
-        && has_room(graph, cut)
+    fitting_ports(graph, limits, cut).is_some()
+}
+
+/// The ports of the set, if it fits under the limits.
+pub(crate) fn fitting_ports(graph: &Graph, limits: &Limits, cut: &Row) -> Option<Ports>
+    requires { AreNodes graph.now cut.now }
+    ensures fits { IsSome result ↔ terms.Fits graph.now limits.now (set.contains cut.now) }
+    ensures inputs { IfSome result (λ ports. ports.inputs ≡ counts.inputs graph.now (set.contains cut.now)) }
+    ensures outputs { IfSome result (λ ports. ports.outputs ≡ counts.outputs graph.now (set.contains cut.now)) }
+{
+    if !are_eligible(graph, cut) || !is_convex(graph, cut) {
+        return None;
+    }
+    let ports = ports_of(graph, cut);
+    if !ports.are_within(limits, cut.count()) {
+        return None;
+    }
+    Some(ports)
 }
 
 /// The software latencies of the members together, in cycles.
 fn software(nodes: &[Node], cut: &Row) -> u32
     requires few { length nodes.now ≤ 256 }
-    requires latency_most { (k : ℕ) → (slice_index_or nodes.now k no_node).latency ≤ 1000 }
-    ensures value { result ≡ sum_below (length nodes.now) (set.contains cut.now)
-        (λ k. (slice_index_or nodes.now k no_node).latency) }
+    requires latency_most { (k : ℕ) → (node_in nodes.now k).latency ≤ 1000 }
+    ensures value { result ≡ sum_below (length nodes.now) (set.contains cut.now) (λ k. (node_in nodes.now k).latency) }
     ensures most { result ≤ 256000 }
 {
     let mut sum = 0;
@@ -56,34 +78,6 @@ fn software(nodes: &[Node], cut: &Row) -> u32
         }
     }
     sum
-}
-
-/// The words that a use takes beside its first.
-fn further_words(graph: &Graph, cut: &Row) -> u32
-    requires { AreNodes graph.now cut.now }
-    ensures { result ≡ terms.further_words graph.now (set.contains cut.now) }
-{
-    let passed = if inputs(graph, cut) > 3 { 1 } else { 0 };
-    outputs(graph, cut).saturating_sub(1) + passed
-}
-
-/// Whether the set has no more inputs and outputs than the limits, and an output.
-fn are_ports_within(graph: &Graph, limits: &Limits, cut: &Row) -> bool
-    requires { AreNodes graph.now cut.now }
-    ensures { IsTrue result ↔ ArePortsWithin graph.now limits.now (set.contains cut.now) }
-{
-    let outputs = outputs(graph, cut);
-    inputs(graph, cut) <= limits.inputs as u32 && 1 <= outputs && outputs <= limits.outputs as u32
-}
-
-/// Whether there is a place for each word that a use takes.
-fn has_room(graph: &Graph, cut: &Row) -> bool
-    requires { AreNodes graph.now cut.now }
-    ensures { IsTrue result
-        ↔ (1 + terms.further_words graph.now (set.contains cut.now)
-        ≤ ports.size graph.now (set.contains cut.now)) }
-{
-    further_words(graph, cut) < cut.count()
 }
 
 /// Whether each member is eligible.

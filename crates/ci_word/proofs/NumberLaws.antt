@@ -3,8 +3,10 @@ use Rattle.std.specs.Prelude.{◌≡◌, ℕ, suc, zero, ◌+◌, ◌*◌, ◌<�
 use Rattle.std.specs.Ordering.{nat_cmp}
 use Rattle.std.specs.Cmp.{nat_cmp_total, unsigned_tied}
 use Rattle.std.specs.FinSet as set
-use Rattle.std.proofs.Common.{refl, sym, ap, ◌∙◌, inl, inr, arith, lit<, zero-le, le_refl, lt-suc_self, add-zero, add-suc, add_assoc, append-nil, length-append, true≢false}
+use Rattle.std.proofs.Common.{refl, sym, ap, ◌∙◌, inl, inr, arith, lit<, zero-le, le_refl, lt-suc_self, add-zero, add-one, add-suc, add_assoc, get_or, append-nil, length-append, true≢false}
 use Rattle.std.proofs.lemmas.Bool.{le-ltb, lt-ltb, ltb-true, and_parts, and_from, cases_eq, cond_both, or_cases, or_left, or_right}
+use Rattle.std.proofs.Math.ListN.{get_or-append}
+use Rattle.std.proofs.Math.Seq.{get_or-append_seam}
 use Rattle.std.proofs.lemmas.List.Elements.{Contains-append_cases, Contains-append_left, Contains-append_right}
 pub use Rattle.ci_word.specs.Members.{list_any-numbers_below, contains-set_below}
 use Rattle.ci_word.specs.Numbers.{numbers_below, count_below, sum_below, some_below, set_below}
@@ -221,6 +223,30 @@ len-set_below (suc n) p = len_one_more (len-set_below n p) (p n)
         ∙ ap (λ x. x + 1) before
     len_one_more before false =
         ap (λ xs. set.len (set.from_list {R = nat_cmp} xs)) (append-nil (numbers_below n p)) ∙ before ∙ sym (add-zero (count_below n p))
+
+-- ---- all numbers below a bound
+
+pub length-all_below : (n : ℕ) → length (numbers_below n (λ _. true)) ≡ n
+unfolding numbers_below
+length-all_below zero = refl
+length-all_below (suc n) =
+    length-append (numbers_below n (λ _. true)) (n ∷ []) ∙ ap (λ m. m + 1) (length-all_below n) ∙ add-one n
+
+-- each stands at its own place
+pub get_or-all_below : (n k past : ℕ) → k < n → get_or (numbers_below n (λ _. true)) k past ≡ k
+unfolding numbers_below
+get_or-all_below zero k past below = absurd (omega arith)
+get_or-all_below (suc n) k past below = elim (cases_eq k n) [
+  | inl same ↦
+      ap (λ (i : ℕ). get_or (numbers_below n (λ _. true) ++ n ∷ []) i past) (same ∙ sym (length-all_below n))
+      ∙ get_or-append_seam (numbers_below n (λ _. true)) n [] past
+      ∙ sym same
+  | inr other ↦
+      let earlier : k < n = omega arith in
+      get_or-append (numbers_below n (λ _. true)) (n ∷ []) past k (rw length-all_below earlier) ∙ get_or-all_below n k past earlier
+]
+
+-- ---- a set all of whose numbers are below n
 
 -- a set all of whose numbers are below n has as many as it contains below n
 pub len-count_below : (n : ℕ) (s : set.FinSet nat_cmp) → ((k : ℕ) → IsTrue (set.contains s k) → k < n) → set.len s ≡ count_below n (set.contains s)

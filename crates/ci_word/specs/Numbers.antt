@@ -3,7 +3,7 @@ use Rattle.std.specs.Prelude.{ℕ, suc, zero, ◌+◌, Bool, false, ◌||◌, if
 use Rattle.std.specs.Ordering.{nat_cmp}
 use Rattle.std.specs.FinSet as set
 
--- the numbers below n that pass the test, in rising order
+-- the numbers below n that pass the test, in ascending order
 unfoldable pub numbers_below : ℕ → (ℕ → Bool) → List ℕ
 numbers_below zero p = []
 numbers_below (suc n) p = numbers_below n p ++ (if p n then n ∷ [] else [])

@@ -3,17 +3,17 @@ use Rattle.std.proofs.lemmas.Int.{ints, to_z-of_z}
 use Rattle.ci_cut.proofs.Tries.{kept_for_one, found_for_one}
 use Rattle.ci_cut.proofs.choice.better.Goals as goal
 
-pub returns-then-not-fits : goal.returns-then-not-fits
-returns-then-not-fits c = kept_for_one _ _ _ _ (λ fits. absurd (true≢false (sym (c.if-not-fits.ensures.1 fits))))
+pub returns-in_default : goal.returns-in_default
+returns-in_default c = kept_for_one _ _ _ _ (λ fits. absurd (true≢false (sym (c.in_default.ensures.fits.1 fits))))
 
 pub returns-then-gain-reached : goal.returns-then-gain-reached
 returns-then-gain-reached c =
-    let gained : SFits w64 c.gain-gain.result = search rules in
+    let gained : SFits w64 c.gain_by_ports-gain.result = search rules in
     let before : SFits w64 c.args.reached.gain = search rules in
-    found_for_one _ _ _ _ _ (c.if-not-fits.ensures.0 refl) (to_z-of_z w64 _ gained ∙ c.gain-gain.ensures) (grind (arith, ints))
+    found_for_one _ _ _ _ _ (c.in-Some.ensures.fits.0 refl) (to_z-of_z w64 _ gained ∙ c.gain_by_ports-gain.ensures) (grind (arith, ints))
 
 pub returns-else-gain-reached : goal.returns-else-gain-reached
 returns-else-gain-reached c =
-    let gained : SFits w64 c.gain-gain.result = search rules in
+    let gained : SFits w64 c.gain_by_ports-gain.result = search rules in
     let before : SFits w64 c.args.reached.gain = search rules in
     kept_for_one _ _ _ _ (λ fits. grind (arith, ints))

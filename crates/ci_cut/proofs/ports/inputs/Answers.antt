@@ -3,8 +3,7 @@ use Rattle.std.specs.FinSet as set
 use Rattle.ci_word.proofs.NumberLaws.{count_below-zero, count_below-same, count_below-le}
 use Rattle.std.proofs.Math.Bool.{and-false}
 use Rattle.ci_cut.specs.declared.graph.Source.TheVariants.{Entry, Made}
-use Rattle.ci_cut.specs.Ports.{is_input}
-use Rattle.ci_cut.proofs.PortLaws.{counted, not_counted, is_input-made}
+use Rattle.ci_cut.proofs.PortLaws.{is_input, counted, not_counted, is_input-made}
 use Rattle.ci_cut.proofs.ports.inputs.Goals as goal
 use Rattle.ci_cut.proofs.ports.inputs.Goals.{then-has+then-not-has, else-has, else-has-via-then-has+else-not-has, else-has-via-else-has}
 

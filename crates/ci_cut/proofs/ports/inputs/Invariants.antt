@@ -2,7 +2,7 @@ use Rattle.std.proofs.Common.{◌≡◌}
 use Rattle.std.specs.FinSet as set
 use Rattle.ci_word.specs.Numbers.{count_below}
 use Rattle.ci_cut.specs.declared.graph.Source.TheVariants.{Made}
-use Rattle.ci_cut.specs.Ports.{is_input}
+use Rattle.ci_cut.proofs.PortLaws.{is_input}
 use Rattle.ci_cut.proofs.ports.inputs.Given as goal
 
 abbrev pub invariant-loop-k : goal.invariant-loop-k

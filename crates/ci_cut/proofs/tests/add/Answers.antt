@@ -26,8 +26,7 @@ loop-source-preserved g c = record {
 pub returns : goal.returns
 returns g c =
     rw c.in_ok-push-2.ensures.items
-    (flow_graph_push (record { nodes = c.args.nodes.now.items; read = c.args.charges.read; pad = c.args.charges.pad }) _ c.requires record {
-      room = omega arith;
+    (flow_graph_push (record { nodes = c.args.nodes.now.items; read = c.args.charges.read; pad = c.args.charges.pad }) _ c.requires (omega arith) record {
       arcs = λ j has. omega (arith, c.loop-source.invariant.arcs j has);
       made = λ j has. omega (arith, c.loop-source.invariant.made j has);
       latency_least = λ _. omega arith;

@@ -1,8 +1,8 @@
-use Rattle.std.proofs.Common.{ℕ, slice_index_or, ap, sym, ◌∙◌, arith}
+use Rattle.std.proofs.Common.{ℕ, ap, sym, ◌∙◌, arith}
 use Rattle.std.proofs.lemmas.List.{get_or_read}
 use Rattle.std.specs.FinSet as set
 use Rattle.ci_word.proofs.NumberLaws.{sum_below-zero}
-use Rattle.ci_cut.specs.FlowGraph.{no_node}
+use Rattle.ci_cut.specs.FlowGraph.{no_node, node_in}
 use Rattle.ci_cut.proofs.Gains.{sum_below-member, sum_below-outside}
 use Rattle.ci_cut.proofs.value.software.Goals as goal
 use Rattle.ci_cut.proofs.value.software.Goals.{then-has, else-has}
@@ -14,7 +14,7 @@ pub loop-k-preserved : goal.loop-k-preserved
 loop-k-preserved c =
     let k = c.loop-k.k in
     let nodes = c.args.nodes.now in
-    let latency : ℕ → ℕ = λ j. (slice_index_or nodes j no_node).latency in
+    let latency : ℕ → ℕ = λ j. (node_in nodes j).latency in
     let read = ap (λ node. node.latency) (get_or_read nodes k c.index-nodes-k.result c.loop-k-test.true c.index-nodes-k.is no_node) in
     elim c.if-has.branch [
       | then-has w ↦

@@ -1,8 +1,0 @@
-use Rattle.ci_cut.proofs.Chains.{delay_along-le, greatest_delay-reached}
-use Rattle.ci_cut.proofs.timing.hardware_is_the_slowest_chain.Goals as goal
-
-pub returns-clause-bound : goal.returns-clause-bound
-returns-clause-bound c = delay_along-le
-
-pub returns-clause-reached : goal.returns-clause-reached
-returns-clause-reached c = greatest_delay-reached
