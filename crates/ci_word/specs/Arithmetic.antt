@@ -1,5 +1,6 @@
--- What the operations of RV32I and of the M extension compute (RISC-V Unprivileged ISA 20191213, sections 2.4, 7.1 and 7.2).
--- A word is a whole number below 2 ^ 32. Where a word stands for a signed number, it does so in two's complement.
+-- What the operations of RV32I and of the M extension compute (RISC-V Unprivileged ISA 20191213, sections 2.4, 7.1
+-- and 7.2). A word is a whole number below 2 ^ 32. Where a word stands for a signed number, it does so in two's
+-- complement.
 use Rattle.std.specs.Prelude.{ℕ, ◌+◌, ◌-◌, ◌*◌, ◌/◌, ◌%◌, ◌^◌, ◌==◌, nat_lt, if◌then◌else◌, ℤ, pos, negsuc, ◌-ℤ◌, ◌*ℤ◌, int_lt, int_div, int_rem, bit_and, bit_or, bit_xor}
 use Rattle.ci_word.specs.declared.arithmetic.Op.{Op}
 use Rattle.ci_word.specs.declared.arithmetic.Op.TheVariants.{Add, Sub, Sll, Slt, Sltu, Xor, Srl, Sra, Or, And, Mul, Mulh, Mulhsu, Mulhu, Div, Divu, Rem, Remu}
@@ -22,8 +23,9 @@ abbrev pub floor_quotient : ℤ → ℕ → ℤ
 floor_quotient (pos n) d = pos (n / d)
 floor_quotient (negsuc n) d = negsuc (n / d)
 
--- Shifts use the low five bits of b. Quotients of whole numbers (`int_div`) round to zero, and remainders (`int_rem`) have the dividend's sign.
--- The one signed quotient that is no signed word, 2 ^ 31, has the word 80000000, as the standard has it for overflow.
+-- Shifts use the low five bits of b. Quotients of whole numbers (`int_div`) round to zero, and remainders (`int_rem`)
+-- have the dividend's sign. The one signed quotient that is no signed word, 2 ^ 31, has the word 80000000, as the
+-- standard has it for overflow.
 abbrev pub operation : Op → ℕ → ℕ → ℕ
 operation Add a b = (a + b) % 2 ^ 32
 operation Sub a b = (a + 2 ^ 32 - b) % 2 ^ 32

@@ -1,4 +1,4 @@
--- A set of numbers below 256 as the bits of four words of 64.
+-- For the model of `Row` alone: a set of numbers below 256 as the bits of four words of 64.
 use Rattle.std.specs.Prelude.{◌≡◌, ℕ, suc, zero, ◌+◌, ◌*◌, ◌/◌, ◌%◌, ◌^◌, ◌<◌, Bool, nat_eq, if◌then◌else◌, List, [], ◌∷◌, length, slice_index}
 use Rattle.std.specs.Ordering.{nat_cmp}
 use Rattle.std.specs.FinSet as set

@@ -58,11 +58,16 @@ impl Row {
         self.words[(n / 64) as usize] &= !(1 << (n % 64));
     }
 
+    /// The law of rows: each number is below 256. Nothing happens when it runs.
+    pub fn numbers_are_below_256(&self)
+        ensures { (k : ℕ) → IsTrue (set.contains self.now k) → k < 256 }
+    {
+        let _words = self.words;
+    }
+
     /// Whether a number is in.
     pub fn has(&self, n: u8) -> bool
         ensures value { result ≡ set.contains self.now n }
-        // A caller learns here that a row's numbers are below 256.
-        ensures below { (k : ℕ) → IsTrue (set.contains self.now k) → k < 256 }
     {
         (self.words[(n / 64) as usize] >> (n % 64)) & 1 == 1
     }
@@ -84,8 +89,6 @@ impl Row {
     /// Whether some number is in both sets.
     pub fn meets(&self, other: &Row) -> bool
         ensures value { IsTrue result ↔ Meets self.now other.now }
-        // A caller learns here that a row's numbers are below 256.
-        ensures below { (k : ℕ) → IsTrue (set.contains self.now k) → k < 256 }
     {
         let shared = (self.words[0] & other.words[0])
             | (self.words[1] & other.words[1])
@@ -98,8 +101,6 @@ impl Row {
     pub fn count(&self) -> u32
         ensures value { result ≡ set.len self.now }
         ensures counted { result ≡ count_below 256 (set.contains self.now) }
-        // A caller learns here that a row's numbers are below 256.
-        ensures below { (k : ℕ) → IsTrue (set.contains self.now k) → k < 256 }
     {
         self.words[0].count_ones()
             + self.words[1].count_ones()

@@ -6,8 +6,6 @@ use Rattle.ci_word.proofs.row_set.Row.count.Goals as goal
 pub returns-clause-counted : goal.returns-clause-counted
 returns-clause-counted c = ones_of_words c.self.inside.words c.args.self.now c.self.view_is c.self.invariant
 
-pub returns-clause-below : goal.returns-clause-below
-returns-clause-below c = numbers_in-below c.self.inside.words c.args.self.now c.self.view_is
-
 pub returns-clause-value : goal.returns-clause-value
-returns-clause-value c = returns-clause-counted c ∙ sym (len-count_below 256 c.args.self.now (returns-clause-below c))
+returns-clause-value c =
+    returns-clause-counted c ∙ sym (len-count_below 256 c.args.self.now (numbers_in-below c.self.inside.words c.args.self.now c.self.view_is))
