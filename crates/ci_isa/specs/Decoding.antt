@@ -1,5 +1,5 @@
--- The instruction that a word reads as, found by its opcode and then by its other codes. This is what the decoder's private
--- parts compute. What a word means is said by the table, and the public calls promise that.
+-- For private contracts only: the instruction that a word reads as, found by its opcode and then by its other codes.
+-- What a word means is said by the table, and the public calls promise that.
 use Rattle.std.specs.Prelude.{ℕ, ◌+◌, ◌*◌, ◌==◌, ◌||◌, if◌then◌else◌, List, [], ◌∷◌, Option, Some, None, option_map, find, pos}
 use Rattle.ci_word.specs.declared.arithmetic.Op.{Op}
 use Rattle.ci_word.specs.declared.arithmetic.Op.TheVariants.{Add, Sub, Sll, Slt, Sltu, Xor, Srl, Sra, Or, And, Mul, Mulh, Mulhsu, Mulhu, Div, Divu, Rem, Remu}
@@ -57,28 +57,41 @@ shift_at code3 code7 =
 -- ---- the rows of an opcode
 
 unfoldable pub jump_row : ℕ → Option Insn
-jump_row w = if funct3 w == 0 then Some (Jalr (rd_field w) (rs1_field w) (signed_immediate immediate_format w)) else None
+jump_row w =
+    if funct3 w == 0 then Some (Jalr (rd_field w) (rs1_field w) (signed_immediate immediate_format w)) else None
 
 unfoldable pub branch_row : ℕ → Option Insn
-branch_row w = option_map (λ cond. Branch cond (rs1_field w) (rs2_field w) (signed_immediate branch_format w)) (condition_at (funct3 w))
+branch_row w =
+    option_map (λ cond. Branch cond (rs1_field w) (rs2_field w) (signed_immediate branch_format w))
+    (condition_at (funct3 w))
 
 unfoldable pub load_row : ℕ → Option Insn
-load_row w = option_map (λ kind. Load kind (rd_field w) (rs1_field w) (signed_immediate immediate_format w)) (load_at (funct3 w))
+load_row w =
+    option_map (λ kind. Load kind (rd_field w) (rs1_field w) (signed_immediate immediate_format w))
+    (load_at (funct3 w))
 
 unfoldable pub store_row : ℕ → Option Insn
-store_row w = option_map (λ width. Store width (rs1_field w) (rs2_field w) (signed_immediate store_format w)) (width_at (funct3 w))
+store_row w =
+    option_map (λ width. Store width (rs1_field w) (rs2_field w) (signed_immediate store_format w))
+    (width_at (funct3 w))
 
 unfoldable pub immediate_row : ℕ → Option Insn
-immediate_row w = option_map (λ op. AluImm op (rd_field w) (rs1_field w) (signed_immediate immediate_format w)) (immediate_at (funct3 w))
+immediate_row w =
+    option_map (λ op. AluImm op (rd_field w) (rs1_field w) (signed_immediate immediate_format w))
+    (immediate_at (funct3 w))
 
 unfoldable pub shift_row : ℕ → Option Insn
-shift_row w = option_map (λ op. AluImm op (rd_field w) (rs1_field w) (pos (rs2_field w))) (shift_at (funct3 w) (funct7 w))
+shift_row w =
+    option_map (λ op. AluImm op (rd_field w) (rs1_field w) (pos (rs2_field w)))
+    (shift_at (funct3 w) (funct7 w))
 
 unfoldable pub constant_row : ℕ → Option Insn
 constant_row w = if funct3 w == 1 || funct3 w == 5 then shift_row w else immediate_row w
 
 unfoldable pub operation_row : ℕ → Option Insn
-operation_row w = option_map (λ op. Alu op (rd_field w) (rs1_field w) (rs2_field w)) (operation_at (funct3 w) (funct7 w))
+operation_row w =
+    option_map (λ op. Alu op (rd_field w) (rs1_field w) (rs2_field w))
+    (operation_at (funct3 w) (funct7 w))
 
 unfoldable pub fence_row : ℕ → Option Insn
 fence_row w = if funct3 w == 0 then Some (Fence (field w 31 20) (rs1_field w) (rd_field w)) else None

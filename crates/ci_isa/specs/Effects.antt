@@ -11,8 +11,8 @@ use Rattle.ci_isa.specs.declared.instruction.Insn.TheVariants.{Alu, AluImm, Lui,
 
 -- ---- registers
 
--- The registers that the instruction takes its operands from. An environment call takes its arguments in x10 to x12, and its
--- number in x17.
+-- The registers that the instruction takes its operands from. An environment call takes its arguments in x10 to x12,
+-- and its number in x17.
 abbrev pub operands : Insn → List ℕ
 operands (Alu op rd rs1 rs2) = rs1 ∷ rs2 ∷ []
 operands (AluImm op rd rs1 imm) = rs1 ∷ []

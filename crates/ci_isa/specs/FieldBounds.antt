@@ -1,4 +1,5 @@
--- The bounds of an instruction's fields: those of its places in a word (RISC-V Unprivileged ISA 20191213, sections 2.2 and 2.3).
+-- The bounds of an instruction's fields: those of its places in a word (RISC-V Unprivileged ISA 20191213, sections
+-- 2.2 and 2.3).
 use Rattle.std.specs.Prelude.{◌≡◌, ℕ, ◌-◌, ◌%◌, ◌^◌, ◌<◌, ⊤, ℤ, pos, neg_ℤ, ◌≤ℤ◌, ◌<ℤ◌, unsigned_abs}
 use Rattle.ci_isa.specs.declared.instruction.Insn.{Insn}
 use Rattle.ci_isa.specs.declared.instruction.Insn.TheVariants.{Alu, AluImm, Lui, Auipc, Jal, Jalr, Branch, Load, Store, Fence, Ecall, Ebreak, Unit, Cread, Illegal}

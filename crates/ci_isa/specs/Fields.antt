@@ -28,8 +28,9 @@ funct7 word = field word 31 25
 
 -- ---- immediates
 
--- An immediate stands in some ranges of bits of the word, each given by its highest and its lowest bit. The first range has the
--- immediate's top bits, the second those below, and so on. Below the last range the immediate has some zero bits.
+-- An immediate stands in some ranges of bits of the word, each given by its highest and its lowest bit. The first
+-- range has the immediate's top bits, the second those below, and so on. Below the last range the immediate has some
+-- zero bits.
 pub record Format : Type 0 where
   pub ranges : List (ℕ × ℕ)
   pub zeros : ℕ

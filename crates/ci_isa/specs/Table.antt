@@ -1,6 +1,6 @@
--- Which instruction a word is: a row for each (RISC-V Unprivileged ISA 20191213, chapter 24, tables of RV32I and RV32M).
--- The plain table has RV32I without Zifencei and Zicsr, and the extension M. The extended table adds unit words in the
--- opcode custom-0 and `cread` in the opcode custom-1, which are the project's own.
+-- Which instruction a word is: a row for each (RISC-V Unprivileged ISA 20191213, chapter 24, tables of RV32I and
+-- RV32M). The plain table has RV32I without Zifencei and Zicsr, and the extension M. The extended table adds unit
+-- words in the opcode custom-0 and `cread` in the opcode custom-1, which are the project's own.
 use Rattle.std.specs.Prelude.{◌≡◌, ℕ, ◌/◌, ◌%◌, ◌^◌, ◌<◌, ℤ, pos}
 use Rattle.ci_word.specs.declared.arithmetic.Op.{Op}
 use Rattle.ci_word.specs.declared.arithmetic.Op.TheVariants.{Add, Sub, Sll, Slt, Sltu, Xor, Srl, Sra, Or, And, Mul, Mulh, Mulhsu, Mulhu, Div, Divu, Rem, Remu}
