@@ -1,7 +1,8 @@
 -- The faults and the matches of `clap`, against the reading of the words after the command.
-use Rattle.std.proofs.Common.{◌≡◌, ◌∙◌, ◌||◌, ◌&&◌, Bool, true, false, not, List, [], ◌∷◌, ◌++◌, map, codes, refl, sym, ap, subst, arith, suc, fold, append_assoc}
+use Rattle.std.proofs.Common.{◌≡◌, ◌∙◌, ◌||◌, ◌&&◌, Bool, true, false, not, List, [], ◌∷◌, ◌++◌, map, codes, refl, sym, ap, subst, fold, append_assoc}
 use Rattle.std.specs.Prelude.{All, Contains, if◌then◌else◌}
 use Rattle.std.specs.List.{list_any}
+use Rattle.std.proofs.lemmas.List.Elements.{All-head, All-tail}
 use Rattle.clap.specs.Kinds.{Kinds, check_kinds, or_else}
 use Rattle.clap.specs.Walk.{Held, Row, Rule, Text, finished, has_row, settled, walked, with_default}
 use Rattle.clap.specs.Walk as w
@@ -9,7 +10,7 @@ use Rattle.clap.specs.Takes.{is_given}
 use Rattle.clap.specs.Simple.{App, matches_of, rows_at}
 use Rattle.clap.specs.Faults.{built_fault, check_fault, defaults_fault, fault_of, settle_fault, walk_fault}
 use Rattle.clap.proofs.FaultLemmas.{leaf_fault}
-use Rattle.ci_words.specs.Words.{AreMixed, AreRead, IsName, Item, options, positionals, spellings}
+use Rattle.ci_words.specs.Words.{AreMixed, IsName, Item, options, positionals, spellings}
 use Rattle.ci_words.specs.Words as item
 use Rattle.ci_words.specs.Parses.{app_for}
 use Rattle.ci_words.proofs.Rows.{AreOf, no_rows}
@@ -84,32 +85,33 @@ module _ (name : Text) (known : List Text) (first : Text) (words : List Text) wh
 
 -- ---- what is read passes
 
--- and the rest
-all_rest : {X : Type 0} (P : X → Type 0) (x : X) (xs : List X) → All P (x ∷ xs) → All P xs
-all_rest P x xs all k d lt = all (suc k) d (omega arith)
-
--- the first of a list of which all pass
-all_first : {X : Type 0} (P : X → Type 0) (x : X) (xs : List X) → All P (x ∷ xs) → P x
-all_first P x xs all = all 0 x (omega arith)
+-- words that are these names, and these options of a command that knows such: each option once, and no name or value that
+-- begins with a hyphen
+pub record AreRead (known words names : List Text) (given : List (Text × Text)) : Type 0 where
+  pub mixed : AreMixed words names given
+  pub of_command : All (λ o. Contains known o.0) given
+  pub once : AreOnce given
+  pub good_names : All IsName names
+  pub good_values : All (λ o. IsName o.1) given
 
 -- what is read is names and options that are given once
 proper : (known : List Text) (items : List Item) (last : List Text) (given : List (Text × Text)) → All IsName (positionals items ++ last) → All (λ o. Contains known o.0) (options items)
     → All (λ o. IsName o.1) (options items) → AreOnce (given ++ options items) → ProperAfter known given items
 proper known [] last given names among values once = tt
 proper known (item.positional word ∷ items) last given names among values once =
-    (all_first IsName word (positionals items ++ last) names, proper known items last given (all_rest IsName word (positionals items ++ last) names) among values once)
+    (All-head IsName word (positionals items ++ last) names, proper known items last given (All-tail IsName word (positionals items ++ last) names) among values once)
 proper known (item.option_in_two name value ∷ items) last given names among values once = (
-  all_first (λ o. Contains known o.0) (name, value) (options items) among,
-  all_first (λ o. IsName o.1) (name, value) (options items) values,
+  All-head (λ o. Contains known o.0) (name, value) (options items) among,
+  All-head (λ o. IsName o.1) (name, value) (options items) values,
   new_option given name value (options items) once,
-  proper known items last (given ++ (name, value) ∷ []) names (all_rest (λ o. Contains known o.0) (name, value) (options items) among) (all_rest (λ o. IsName o.1) (name, value) (options items) values)
+  proper known items last (given ++ (name, value) ∷ []) names (All-tail (λ o. Contains known o.0) (name, value) (options items) among) (All-tail (λ o. IsName o.1) (name, value) (options items) values)
       (subst AreOnce (sym (append_assoc given ((name, value) ∷ []) (options items))) once),
 )
 proper known (item.option_in_one name value ∷ items) last given names among values once = (
-  all_first (λ o. Contains known o.0) (name, value) (options items) among,
-  all_first (λ o. IsName o.1) (name, value) (options items) values,
+  All-head (λ o. Contains known o.0) (name, value) (options items) among,
+  All-head (λ o. IsName o.1) (name, value) (options items) values,
   new_option given name value (options items) once,
-  proper known items last (given ++ (name, value) ∷ []) names (all_rest (λ o. Contains known o.0) (name, value) (options items) among) (all_rest (λ o. IsName o.1) (name, value) (options items) values)
+  proper known items last (given ++ (name, value) ∷ []) names (All-tail (λ o. Contains known o.0) (name, value) (options items) among) (All-tail (λ o. IsName o.1) (name, value) (options items) values)
       (subst AreOnce (sym (append_assoc given ((name, value) ∷ []) (options items))) once),
 )
 

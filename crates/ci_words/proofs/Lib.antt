@@ -6,5 +6,7 @@ pub mod States
 pub mod Complete
 pub mod Sound
 pub mod Levels
-pub mod Readings
+pub mod TableLaws
 pub mod Matches
+pub mod Readings
+pub mod NameLaws

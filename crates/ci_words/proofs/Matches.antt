@@ -1,60 +1,55 @@
--- The names that the matches have, and the first of the words.
-use Rattle.std.proofs.Common.{◌≡◌, ◌∙◌, List, [], ◌∷◌, length, map, refl, sym, ap, arith, suc}
-use Rattle.std.specs.Prelude.{Option, Some, None, codes, option_map, slice_get, unwrap_or}
-use Rattle.std.specs.Borrow.{Bor}
-use Rattle.std.specs.List.{slice_index_or}
-use Rattle.clap.specs.Matches.{matched_of, raw_values}
-use Rattle.clap.specs.Walk.{Text, all_of, rows_of, texts}
+-- The values that the matches have, and the first of the words.
+use Rattle.std.proofs.Common.{◌≡◌, ◌∙◌, List, [], ◌∷◌, map, sym, ap, subst}
+use Rattle.std.specs.Prelude.{Option, Some, None, find, option_and_then, option_map, option_to_list, slice_get, unwrap_or}
+use Rattle.std.specs.Str.{bytes_eq}
+use Rattle.clap.specs.Matches.{first_value, matched_of, raw_values}
+use Rattle.clap.specs.Walk.{Row, Text, first_of, rows_of}
 use Rattle.clap.specs.declared.parser.matches.Found.{Found}
-use Rattle.clap.proofs.WalkLemmas.{raw_values-rows}
+use Rattle.clap.proofs.WalkLemmas.{first_value-rows, raw_values-rows}
+use Rattle.ci_words.specs.Tables.{Kind, number, OptionName, option_row}
+use Rattle.ci_words.specs.Words.{Setting, Sets, to_number}
+use Rattle.ci_words.specs.Parses.{IsGiven, option_name, values_in}
 
 -- `Some` is injective
 pub some-same : {X : Type 0} (x y : X) → Some x ≡ Some y → x ≡ y
 some-same x y e = ap (λ o. unwrap_or o x) e
-
--- equal lists begin alike
-pub head_is : (a b : Text) (xs ys : List Text) → a ∷ xs ≡ b ∷ ys → a ≡ b
-head_is a b xs ys e = ap (λ l. slice_index_or l 0 a) e
 
 -- the first of a list's texts
 pub first_text : {X : Type 0} (f : X → Text) (xs : List X) (x : X) (text : Text) → Some x ≡ slice_get xs 0 → text ≡ f x → slice_get (map f xs) 0 ≡ Some text
 first_text f [] x text first is = cc
 first_text f (y ∷ ys) x text first is = ap (λ t. Some t) (ap f (sym (some-same x y first)) ∙ sym is)
 
--- a list of length 1
-pub one_text : (xs : List (Bor Text)) (d : Bor Text) → length xs ≡ 1 → texts xs ≡ (slice_index_or xs 0 d).now ∷ []
-one_text [] d one = absurd (omega (arith, one))
-one_text (x ∷ []) d one = refl
-one_text (x ∷ y ∷ ys) d one = absurd (omega (arith, one))
+-- the values that `clap` gives for an argument
+pub values_are : (f : Found) (id : Text) (values : Option (List Text)) → values ≡ option_map raw_values (matched_of f id) → values_in id (rows_of f) ≡ unwrap_or values []
+values_are f id values is = ap (λ o. unwrap_or o []) (sym (raw_values-rows f id) ∙ sym is)
 
--- a list of length 2
-pub two_texts : (xs : List (Bor Text)) (d : Bor Text) → length xs ≡ 2 → texts xs ≡ (slice_index_or xs 0 d).now ∷ (slice_index_or xs 1 d).now ∷ []
-two_texts [] d two = absurd (omega (arith, two))
-two_texts (x ∷ []) d two = absurd (omega (arith, two))
-two_texts (x ∷ y ∷ []) d two = refl
-two_texts (x ∷ y ∷ z ∷ zs) d two = absurd (omega (arith, two))
+-- the first value sets what the values set
+first_sets : (kind : Kind) (values : List Text) (setting : Setting) → (Sets kind (option_to_list (slice_get values 0)) setting → Sets kind values setting)
+    × (Sets kind values setting → Sets kind (option_to_list (slice_get values 0)) setting)
+first_sets (number least greatest usual) [] (to_number n) = (λ is. is, λ is. is)
+first_sets (number least greatest usual) (t ∷ ts) (to_number n) = (λ is. is, λ is. is)
 
--- behind the references are as many texts
-pub texts_length : (xs : List (Bor Text)) → length (texts xs) ≡ length xs
-texts_length [] = refl
-texts_length (x ∷ xs) = ap suc (texts_length xs)
+-- the value that `clap` gives for an argument sets what its values set
+value_sets : (kind : Kind) (id : Text) (rows : List Row) (setting : Setting) → (Sets kind (option_to_list (first_of id rows)) setting → Sets kind (values_in id rows) setting)
+    × (Sets kind (values_in id rows) setting → Sets kind (option_to_list (first_of id rows)) setting)
+value_sets kind id rows setting = go (find (λ r. bytes_eq r.id id) rows)
+  where
+    go : (o : Option Row) → (Sets kind (option_to_list (option_and_then (λ r. slice_get r.values 0) o)) setting → Sets kind (unwrap_or (option_map (λ r. r.values) o) []) setting)
+        × (Sets kind (unwrap_or (option_map (λ r. r.values) o) []) setting → Sets kind (option_to_list (option_and_then (λ r. slice_get r.values 0) o)) setting)
+    go None = first_sets kind [] setting
+    go (Some r) = first_sets kind r.values setting
 
--- the positional words, where there are any
-module _ (f : Found) (xs : List (Bor Text)) (some : Some (texts xs) ≡ option_map raw_values (matched_of f (codes "names"))) where
-  -- the matches have the names
-  pub names_are : (names : List Text) → texts xs ≡ names → all_of (codes "names") (rows_of f) ≡ Some names
-  names_are names is = sym (raw_values-rows f (codes "names")) ∙ (sym some ∙ ap (λ ts. Some ts) is)
+-- what an option is set to by its row's kind and the value that `clap` gives for its row's name
+pub given_by_row : (option : OptionName) (f : Found) (kind : Kind) (id : Text) (value : Option Text) → kind ≡ (option_row option).kind → id ≡ option_name option → value ≡ first_value f id
+    → (setting : Setting) → (Sets kind (option_to_list value) setting → IsGiven option (rows_of f) setting) × (IsGiven option (rows_of f) setting → Sets kind (option_to_list value) setting)
+given_by_row option f kind id value same named is setting = (
+  λ set. sets.0 (subst (λ v. Sets (option_row option).kind (option_to_list v) setting) first (subst (λ k. Sets k (option_to_list value) setting) same set)),
+  λ given. subst (λ k. Sets k (option_to_list value) setting) (sym same) (subst (λ v. Sets (option_row option).kind (option_to_list v) setting) (sym first) (sets.1 given)),
+)
+  where
+    sets : (Sets (option_row option).kind (option_to_list (first_of (option_name option) (rows_of f))) setting → IsGiven option (rows_of f) setting)
+        × (IsGiven option (rows_of f) setting → Sets (option_row option).kind (option_to_list (first_of (option_name option) (rows_of f))) setting)
+    sets = value_sets (option_row option).kind (option_name option) (rows_of f) setting
 
-  -- and no others
-  pub names_only : (names : List Text) → all_of (codes "names") (rows_of f) ≡ Some names → texts xs ≡ names
-  names_only names is = some-same (texts xs) names (sym (names_are (texts xs) refl) ∙ is)
-
-  -- and as many
-  pub names_length : (names : List Text) → all_of (codes "names") (rows_of f) ≡ Some names → length xs ≡ length names
-  names_length names is = sym (texts_length xs) ∙ ap length (names_only names is)
-
--- where there are none
-pub no_names : (f : Found) (names : List Text) → ◌≡◌ {A = Option (List Text)} None (option_map raw_values (matched_of f (codes "names"))) → all_of (codes "names") (rows_of f) ≡ Some names → ⊥
-no_names f names none is =
-    let bad : None ≡ Some names = none ∙ (raw_values-rows f (codes "names") ∙ is) in
-    cc
+    first : value ≡ first_of (option_name option) (rows_of f)
+    first = is ∙ (first_value-rows f id ∙ ap (λ t. first_of t (rows_of f)) named)

@@ -1,72 +1,24 @@
 -- The readings of words, against the matches of the command that the first word names.
-use Rattle.std.proofs.Common.{◌≡◌, ◌≢◌, ◌∙◌, ◌<◌, ◌≤◌, ℕ, Bool, true, false, List, [], ◌∷◌, codes, Option, Some, None, refl, sym, ap, ap₂, subst, arith, zero, suc, option_map}
-use Rattle.std.specs.Prelude.{All, Contains, count_by, find, option_and_then, slice_get, if◌then◌else◌}
+use Rattle.std.proofs.Common.{◌≡◌, ◌≢◌, ◌∙◌, ◌<◌, ◌≤◌, ◌⊎◌, ℕ, Bool, true, false, List, [], ◌∷◌, length, codes, Some, refl, sym, ap, ap₂, subst, arith, inl, inr, zero, suc}
+use Rattle.std.specs.Prelude.{All, AllPairs, Contains, slice_get, zip, unwrap_or, if◌then◌else◌}
 use Rattle.std.specs.List.{slice_index_or}
 use Rattle.std.specs.Str.{bytes_eq}
-use Rattle.clap.specs.Walk.{Row, Text, first_of}
-use Rattle.clap.specs.Simple.{App, matches_of}
+use Rattle.std.proofs.lemmas.Slice.Eq.{bytes_eq-Decides}
+use Rattle.std.proofs.lemmas.List.Elements.{All-head, All-tail, All-weaker}
+use Rattle.clap.specs.Walk.{Row}
+use Rattle.clap.specs.Simple.{matches_of}
 use Rattle.clap.specs.Faults.{fault_of}
-use Rattle.ci_words.specs.Words.{AreMixed, AreRead, ReadsAsAsm, ReadsAsDis, IsLimit, IsName, IsNumber, Reading, ReadsAs, ReadsAsBest, HasNoReading, is_named, value_of, best, asm, dis}
-use Rattle.ci_words.specs.Parses.{Gives, IsAsm, IsBest, IsDis, IsParsed, app_for, app_named, word_of}
-use Rattle.ci_words.specs.declared.parse.CommandName.{CommandName}
-use Rattle.ci_words.specs.declared.parse.CommandName.TheVariants.{Best, Asm, Dis}
-use Rattle.ci_words.proofs.Matches.{head_is, some-same}
-use Rattle.ci_words.proofs.Levels.{Reads, passed_reads, read_meets}
+use Rattle.ci_words.specs.Tables.{CommandName, command_row, Kind, number, OptionName, inputs, outputs, option_row}
+use Rattle.ci_words.specs.Tables as table
+use Rattle.ci_words.specs.Words.{AreApart, AreMixed, IsName, IsNumber, IsOptionOf, Reading, ReadsAs, HasNoReading, Setting, Settings, Sets, Text, best, asm, dis}
+use Rattle.ci_words.specs.Words.{command_of, names_of, setting_of, settings_of, to_number, values_of}
+use Rattle.ci_words.specs.Parses.{Gives, IsParsed, app_named, has_option, known_to, option_name, values_in}
+use Rattle.ci_words.proofs.Matches.{some-same}
+use Rattle.ci_words.proofs.Levels.{AreRead, passed_reads, read_meets}
 use Rattle.ci_words.proofs.Rows.{AreOf, listed}
 use Rattle.ci_words.proofs.Rules.{same_text}
-use Rattle.ci_words.proofs.States.{AreOnce, IsOption, count-cons, counted}
-
--- ---- the options of `best`
-
--- the names of the options of `best`
-abbrev pub limits : List Text
-limits = codes "in" ∷ codes "out" ∷ []
-
--- `in` can be the name of an option
-in_fits : IsOption (codes "in")
-in_fits = record { apart = refl; first = 105; others = 110 ∷ []; filled = refl; no_equals = lacks }
-  where
-    lacks : (i : ℕ) → i < 2 → slice_index_or (codes "in") i 0 ≢ 61
-    lacks zero lt e = absurd (omega (arith, e))
-    lacks (suc zero) lt e = absurd (omega (arith, e))
-    lacks (suc (suc i)) lt e = absurd (omega arith)
-
--- `out` can be the name of an option
-out_fits : IsOption (codes "out")
-out_fits = record { apart = refl; first = 111; others = 117 ∷ 116 ∷ []; filled = refl; no_equals = lacks }
-  where
-    lacks : (i : ℕ) → i < 3 → slice_index_or (codes "out") i 0 ≢ 61
-    lacks zero lt e = absurd (omega (arith, e))
-    lacks (suc zero) lt e = absurd (omega (arith, e))
-    lacks (suc (suc zero)) lt e = absurd (omega (arith, e))
-    lacks (suc (suc (suc i))) lt e = absurd (omega arith)
-
--- what holds of `in` and `out` holds of each option of `best`
-each_limit : (P : Text → Type 0) → P (codes "in") → P (codes "out") → (k : Text) → Contains limits k → P k
-each_limit P first second k among = go among.0 among.1 among.2
-  where
-    go : (i : ℕ) → i < 2 → slice_index_or limits i k ≡ k → P k
-    go zero lt is = subst P is first
-    go (suc zero) lt is = subst P is second
-    go (suc (suc i)) lt is = absurd (omega arith)
-
--- each option of `best` has such a name
-pub limits_fit : (k : Text) → Contains limits k → IsOption k
-limits_fit = each_limit IsOption in_fits out_fits
-
--- so has each option where there is none
-pub none_fit : (k : Text) → Contains [] k → IsOption k
-none_fit k among =
-    let lt = among.1 in
-    absurd (omega arith)
-
--- a command without options is given none
-none_given : (given : List (Text × Text)) → All (λ o. Contains [] o.0) given → given ≡ []
-none_given [] among = refl
-none_given (o ∷ os) among =
-    let has = among 0 o (omega arith) in
-    let lt = has.1 in
-    absurd (omega arith)
+use Rattle.ci_words.proofs.States.{AreOnce, length-values_of}
+use Rattle.ci_words.proofs.TableLaws.{fits, has_option-from, is_known, known_fits, known_is, once_only, same_command, same_option}
 
 -- ---- values
 
@@ -80,290 +32,227 @@ number_is_name (c ∷ cs) n is = λ e.
     let low = digit.0 in
     absurd (omega (arith, e))
 
--- a limit is spelt by a good value
-limit_is_name : (greatest n : ℕ) (o : Option Text) → IsLimit greatest o n → (value : Text) → o ≡ Some value → IsName value
-limit_is_name greatest n None is value e = cc
-limit_is_name greatest n (Some text) is value e = subst IsName (some-same text value e) (number_is_name text n is.0)
+-- what sets an option does not begin with a hyphen
+sets_name : (kind : Kind) (text : Text) (more : List Text) (setting : Setting) → Sets kind (text ∷ more) setting → IsName text
+sets_name (number least greatest usual) text more (to_number n) is = number_is_name text n is.0
 
--- a value spells one limit
-limit_only : (greatest n m : ℕ) (o : Option Text) → IsLimit greatest o n → IsLimit greatest o m → n ≡ m
-limit_only greatest n m None a b = a ∙ sym b
-limit_only greatest n m (Some text) a b = sym a.0.value ∙ b.0.value
+-- values set an option one way
+sets_one : (kind : Kind) (values : List Text) (one other : Setting) → Sets kind values one → Sets kind values other → one ≡ other
+sets_one (number least greatest usual) [] (to_number n) (to_number m) a b = ap to_number (a ∙ sym b)
+sets_one (number least greatest usual) (text ∷ more) (to_number n) (to_number m) a b = ap to_number (sym a.0.value ∙ b.0.value)
 
--- each value of an option that is given once is found by the option's name
-each_value : (known : List Text) (given : List (Text × Text)) → All (λ o. Contains known o.0) given → AreOnce given
-    → ((name : Text) → Contains known name → (value : Text) → value_of name given ≡ Some value → IsName value) → All (λ o. IsName o.1) given
-each_value known [] among once good k d lt = absurd (omega arith)
-each_value known (o ∷ os) among once good zero d lt = good o.0 (among 0 d (omega arith)) o.1 (rw (same_text o.0) refl)
-each_value known (o ∷ os) among once good (suc k) d lt = each_value known os (λ i e under. among (suc i) e (omega arith)) rest_once
-    (λ name is value found. good name is value (later name value found)) k d (omega arith)
+-- ---- options that are given
+
+-- what is listed
+unlisted : (texts : List Text) → unwrap_or (listed texts) [] ≡ texts
+unlisted [] = refl
+unlisted (t ∷ ts) = refl
+
+-- an option has no value, or it stands among those that are given
+values_cases : (P : Text → Type 0) (name : Text) (given : List (Text × Text)) → All (λ o. P o.0) given → (values_of name given ≡ []) ⊎ P name
+values_cases P name [] all = inl refl
+values_cases P name (o ∷ os) all = go (bytes_eq o.0 name) refl (values_cases P name os (All-tail (λ p. P p.0) o os all))
   where
+    go : (b : Bool) → bytes_eq o.0 name ≡ b → (values_of name os ≡ []) ⊎ P name → (values_of name (o ∷ os) ≡ []) ⊎ P name
+    go true e rest = inr (subst P ((bytes_eq-Decides o.0 name).0 e) (All-head (λ p. P p.0) o os all))
+    go false e (inl none) = inl (rw e none)
+    go false e (inr some) = inr some
+
+-- the value of an option that is given once is found by its name
+value_of : (given : List (Text × Text)) → AreOnce given → (k : ℕ) (d : Text × Text) → k < length given
+    → values_of (slice_index_or given k d).0 given ≡ (slice_index_or given k d).1 ∷ []
+value_of [] once k d lt = absurd (omega arith)
+value_of (o ∷ os) once zero d lt = go (values_of o.0 os) refl
+  where
+    here : values_of o.0 (o ∷ os) ≡ o.1 ∷ values_of o.0 os
+    here = rw (same_text o.0) refl
+
+    go : (vs : List Text) → values_of o.0 os ≡ vs → values_of o.0 (o ∷ os) ≡ o.1 ∷ []
+    go [] e = here ∙ ap (λ rest. o.1 ∷ rest) e
+    go (v ∷ vs) e = absurd (omega (arith, once o.0, ap length here, ap length e))
+value_of (o ∷ os) once (suc k) d lt = go (bytes_eq o.0 name) refl (value_of os rest_once k d (omega arith))
+  where
+    name : Text
+    name = (slice_index_or os k d).0
+
     rest_once : AreOnce os
-    rest_once name = go (bytes_eq o.0 name) refl
-      where
-        go : (b : Bool) → bytes_eq o.0 name ≡ b → count_by (is_named name) os ≤ 1
-        go true e = omega (arith, count-cons name o os true e, once name)
-        go false e = omega (arith, count-cons name o os false e, once name)
+    rest_once other = omega (arith, once other, length-values_of other (o ∷ []) os)
 
-    later : (name value : Text) → value_of name os ≡ Some value → value_of name (o ∷ os) ≡ Some value
-    later name value found = go (bytes_eq o.0 name) refl
-      where
-        go : (b : Bool) → bytes_eq o.0 name ≡ b → value_of name (o ∷ os) ≡ Some value
-        go true e = absurd (omega (arith, count-cons name o os true e, once name, counted name value os found))
-        go false e = rw e found
+    go : (b : Bool) → bytes_eq o.0 (slice_index_or os k d).0 ≡ b → values_of (slice_index_or os k d).0 os ≡ (slice_index_or os k d).1 ∷ []
+        → values_of (slice_index_or os k d).0 (o ∷ os) ≡ (slice_index_or os k d).1 ∷ []
+    go true e found =
+        let here : values_of (slice_index_or os k d).0 (o ∷ os) ≡ o.1 ∷ values_of (slice_index_or os k d).0 os = rw e refl in
+        absurd (omega (arith, once (slice_index_or os k d).0, ap length here, ap length found))
+    go false e found = rw e found
 
--- the first of an argument's values
-first_of-given : (rows : List Row) (names : List Text) (given : List (Text × Text)) (option : Text) → AreOf rows names given → bytes_eq (codes "names") option ≡ false
-    → first_of option rows ≡ value_of option given
-first_of-given rows names given option are apart = from_all (find (λ r. bytes_eq r.id option) rows) ∙ (ap (option_and_then (λ vs. slice_get vs 0)) (are.of_option option apart) ∙ of_one (value_of option given))
-  where
-    from_all : (o : Option Row) → option_and_then (λ r. slice_get r.values 0) o ≡ option_and_then (λ vs. slice_get vs 0) (option_map (λ r. r.values) o)
-    from_all None = refl
-    from_all (Some r) = refl
+-- ---- a reading's parts
 
-    of_one : (o : Option Text) → option_and_then (λ vs. slice_get vs 0) (option_map (λ v. v ∷ []) o) ≡ o
-    of_one None = refl
-    of_one (Some v) = refl
+-- the reading with these parts
+remade : CommandName → List Text → Settings → Reading
+remade table.best names settings = best (slice_index_or names 0 []) settings
+remade table.asm names settings = asm (slice_index_or names 0 []) (slice_index_or names 1 [])
+remade table.dis names settings = dis (slice_index_or names 0 [])
 
--- ---- names
+remade-parts : (reading : Reading) → remade (command_of reading) (names_of reading) (settings_of reading) ≡ reading
+unfolding remade
+remade-parts (best file settings) = refl
+remade-parts (asm text out) = refl
+remade-parts (dis file) = refl
 
--- the names that are listed
-listed_is : (names : List Text) (name : Text) (rest : List Text) → listed names ≡ Some (name ∷ rest) → names ≡ name ∷ rest
-listed_is [] name rest e = cc
-listed_is (x ∷ xs) name rest e = some-same (x ∷ xs) (name ∷ rest) e
+-- a setting's number
+number_in : Setting → ℕ
+number_in (to_number n) = n
 
--- one good name
-one_name : (name : Text) → IsName name → All IsName (name ∷ [])
-one_name name good zero d lt = good
-one_name name good (suc k) d lt = absurd (omega arith)
+-- settings are what each option is set to
+settings_one : (one other : Settings) → ((option : OptionName) → setting_of option one ≡ setting_of option other) → one ≡ other
+unfolding number_in
+settings_one one other same = ap₂ (λ i o. record { inputs = i; outputs = o }) (ap number_in (same inputs)) (ap number_in (same outputs))
 
--- two good names
-two_names : (a b : Text) → IsName a → IsName b → All IsName (a ∷ b ∷ [])
-two_names a b good_a good_b zero d lt = good_a
-two_names a b good_a good_b (suc zero) d lt = good_b
-two_names a b good_a good_b (suc (suc k)) d lt = absurd (omega arith)
+-- ---- words against matches
 
 -- the words after the first
-pub rest_of : (words : List Text) (name : Text) → slice_get words 0 ≡ Some name → (rest : List Text) × (words ≡ name ∷ rest)
+rest_of : (words : List Text) (name : Text) → slice_get words 0 ≡ Some name → (rest : List Text) × (words ≡ name ∷ rest)
 rest_of [] name first = cc
 rest_of (x ∷ xs) name first = (xs, ap (λ y. y ∷ xs) (some-same x name first))
 
--- ---- `best`
-
--- what reads as `best` has no fault, and its matches say it
-pub best_found : (words : List Text) (file : Text) (inputs outputs : ℕ) → ReadsAsBest words file inputs outputs
-    → (fault_of (app_for (codes "best") limits) words ≡ []) × IsBest (matches_of (app_for (codes "best") limits) words) file inputs outputs
-best_found words file inputs outputs reads =
-    let meets = read_meets (codes "best") limits limits_fit (codes "best") reads.rest (file ∷ []) reads.given reads.read in
-    let found : (fault_of (app_for (codes "best") limits) (codes "best" ∷ reads.rest) ≡ []) × IsBest (matches_of (app_for (codes "best") limits) (codes "best" ∷ reads.rest)) file inputs outputs = (
-      meets.faultless,
-      record {
-        names = meets.stands.of_names;
-        good = reads.read.good_names 0 file (omega arith);
-        inputs_given = subst (λ o. IsLimit 3 o inputs) (sym (first_of-given _ (file ∷ []) reads.given (codes "in") meets.stands refl)) reads.inputs_given;
-        outputs_given = subst (λ o. IsLimit 2 o outputs) (sym (first_of-given _ (file ∷ []) reads.given (codes "out") meets.stands refl)) reads.outputs_given;
-      },
-    ) in
-    subst (λ ws. (fault_of (app_for (codes "best") limits) ws ≡ []) × IsBest (matches_of (app_for (codes "best") limits) ws) file inputs outputs) (sym reads.command) found
-
--- matches of `best` without a fault read as `best`
-pub best_reads : (words : List Text) (file : Text) (inputs outputs : ℕ) → slice_get words 0 ≡ Some (codes "best") → fault_of (app_for (codes "best") limits) words ≡ []
-    → IsBest (matches_of (app_for (codes "best") limits) words) file inputs outputs → ReadsAsBest words file inputs outputs
-best_reads words file inputs outputs first none is =
-    let rest = rest_of words (codes "best") first in
-    let reads = passed_reads (codes "best") limits limits_fit (codes "best") rest.0 (ap (fault_of (app_for (codes "best") limits)) (sym rest.1) ∙ none) in
-    let here : IsBest (matches_of (app_for (codes "best") limits) (codes "best" ∷ rest.0)) file inputs outputs = subst (λ ws. IsBest (matches_of (app_for (codes "best") limits) ws) file inputs outputs) rest.1 is in
-    let named : reads.names ≡ file ∷ [] = listed_is reads.names file [] (sym reads.stands.of_names ∙ here.names) in
-    let inputs_are = subst (λ o. IsLimit 3 o inputs) (first_of-given _ reads.names reads.given (codes "in") reads.stands refl) here.inputs_given in
-    let outputs_are = subst (λ o. IsLimit 2 o outputs) (first_of-given _ reads.names reads.given (codes "out") reads.stands refl) here.outputs_given in
-    record {
-      rest = rest.0;
-      given = reads.given;
-      command = rest.1;
-      read = record {
-        mixed = subst (λ ns. AreMixed rest.0 ns reads.given) named reads.mixed;
-        of_command = reads.of_command;
-        once = reads.once;
-        good_names = one_name file here.good;
-        good_values = each_value limits reads.given reads.of_command reads.once
-            (each_limit (λ k. (value : Text) → value_of k reads.given ≡ Some value → IsName value) (limit_is_name 3 inputs _ inputs_are) (limit_is_name 2 outputs _ outputs_are));
-      };
-      inputs_given = inputs_are;
-      outputs_given = outputs_are;
-    }
-
--- and as one reading
-best_only : (rows : List Row) (file other : Text) (i o j p : ℕ) → IsBest rows file i o → IsBest rows other j p → best other j p ≡ best file i o
-best_only rows file other i o j p a b =
-    let names : other ≡ file = head_is other file [] [] (some-same (other ∷ []) (file ∷ []) (sym b.names ∙ a.names)) in
-    ap₂ (λ name n. best name n p) names (limit_only 3 j i _ b.inputs_given a.inputs_given) ∙ ap (best file i) (limit_only 2 p o _ b.outputs_given a.outputs_given)
-
--- ---- `asm`
-
--- `asm`, as `clap` takes it
-abbrev asm_app : App
-asm_app = app_named Asm
-
--- `dis`, as `clap` takes it
-abbrev dis_app : App
-dis_app = app_named Dis
-
--- what reads as `asm` has no fault, and its matches say it
-asm_found : (words : List Text) (text out : Text) → ReadsAsAsm words text out → (fault_of asm_app words ≡ []) × IsAsm (matches_of asm_app words) text out
-asm_found words text out reads =
-    let meets = read_meets (codes "asm") [] none_fit (codes "asm") reads.rest (text ∷ out ∷ []) [] reads.read in
-    let found : (fault_of asm_app (codes "asm" ∷ reads.rest) ≡ []) × IsAsm (matches_of asm_app (codes "asm" ∷ reads.rest)) text out = (
-      meets.faultless,
-      record {
-        names = meets.stands.of_names;
-        good_text = reads.read.good_names 0 text (omega arith);
-        good_out = reads.read.good_names 1 out (omega arith);
-        apart = reads.apart;
-      },
-    ) in
-    subst (λ ws. (fault_of asm_app ws ≡ []) × IsAsm (matches_of asm_app ws) text out) (sym reads.command) found
-
--- what passes as a command without options
-bare_read : (name : Text) (rest wanted : List Text) (reads : Reads name [] none_fit name rest) → reads.names ≡ wanted → All IsName wanted → AreRead [] rest wanted []
-bare_read name rest wanted reads named good =
-    let empty : reads.given ≡ [] = none_given reads.given reads.of_command in
-    subst (AreRead [] rest wanted) empty (record {
-      mixed = subst (λ ns. AreMixed rest ns reads.given) named reads.mixed;
-      of_command = reads.of_command;
-      once = reads.once;
-      good_names = good;
-      good_values = subst (All (λ (o : Text × Text). IsName o.1)) (sym empty) (λ k d lt. absurd (omega arith));
-    })
-
--- matches of `asm` without a fault read as `asm`
-asm_reads : (words : List Text) (text out : Text) → slice_get words 0 ≡ Some (codes "asm") → fault_of asm_app words ≡ [] → IsAsm (matches_of asm_app words) text out → ReadsAsAsm words text out
-asm_reads words text out first none is =
-    let rest = rest_of words (codes "asm") first in
-    let reads = passed_reads (codes "asm") [] none_fit (codes "asm") rest.0 (ap (fault_of asm_app) (sym rest.1) ∙ none) in
-    let here : IsAsm (matches_of asm_app (codes "asm" ∷ rest.0)) text out = subst (λ ws. IsAsm (matches_of asm_app ws) text out) rest.1 is in
-    record {
-      rest = rest.0;
-      command = rest.1;
-      read = bare_read (codes "asm") rest.0 (text ∷ out ∷ []) reads (listed_is reads.names text (out ∷ []) (sym reads.stands.of_names ∙ here.names)) (two_names text out here.good_text here.good_out);
-      apart = here.apart;
-    }
-
--- and as one reading
-asm_only : (rows : List Row) (text out text' out' : Text) → IsAsm rows text out → IsAsm rows text' out' → asm text' out' ≡ asm text out
-asm_only rows text out text' out' a b =
-    let same : text' ∷ out' ∷ [] ≡ text ∷ out ∷ [] = some-same (text' ∷ out' ∷ []) (text ∷ out ∷ []) (sym b.names ∙ a.names) in
-    ap₂ asm (head_is text' text (out' ∷ []) (out ∷ []) same) (ap (λ l. slice_index_or l 1 out') same)
-
--- ---- `dis`
-
--- what reads as `dis` has no fault, and its matches say it
-dis_found : (words : List Text) (file : Text) → ReadsAsDis words file → (fault_of dis_app words ≡ []) × IsDis (matches_of dis_app words) file
-dis_found words file reads =
-    let meets = read_meets (codes "dis") [] none_fit (codes "dis") reads.rest (file ∷ []) [] reads.read in
-    let found : (fault_of dis_app (codes "dis" ∷ reads.rest) ≡ []) × IsDis (matches_of dis_app (codes "dis" ∷ reads.rest)) file = (
-      meets.faultless,
-      record { names = meets.stands.of_names; good = reads.read.good_names 0 file (omega arith) },
-    ) in
-    subst (λ ws. (fault_of dis_app ws ≡ []) × IsDis (matches_of dis_app ws) file) (sym reads.command) found
-
--- matches of `dis` without a fault read as `dis`
-dis_reads : (words : List Text) (file : Text) → slice_get words 0 ≡ Some (codes "dis") → fault_of dis_app words ≡ [] → IsDis (matches_of dis_app words) file → ReadsAsDis words file
-dis_reads words file first none is =
-    let rest = rest_of words (codes "dis") first in
-    let reads = passed_reads (codes "dis") [] none_fit (codes "dis") rest.0 (ap (fault_of dis_app) (sym rest.1) ∙ none) in
-    let here : IsDis (matches_of dis_app (codes "dis" ∷ rest.0)) file = subst (λ ws. IsDis (matches_of dis_app ws) file) rest.1 is in
-    record {
-      rest = rest.0;
-      command = rest.1;
-      read = bare_read (codes "dis") rest.0 (file ∷ []) reads (listed_is reads.names file [] (sym reads.stands.of_names ∙ here.names)) (one_name file here.good);
-    }
-
--- and as one reading
-dis_only : (rows : List Row) (file other : Text) → IsDis rows file → IsDis rows other → dis other ≡ dis file
-dis_only rows file other a b = ap dis (head_is other file [] [] (some-same (other ∷ []) (file ∷ []) (sym b.names ∙ a.names)))
-
--- ---- any command
-
--- a word names one command
-named_by : Text → Option CommandName
-named_by word = if bytes_eq word (codes "best") then Some Best
-    else if bytes_eq word (codes "asm") then Some Asm
-    else if bytes_eq word (codes "dis") then Some Dis else None
-
--- no two commands have one word
-named_by-word : (name : CommandName) → named_by (word_of name) ≡ Some name
-unfolding named_by
-named_by-word Best = refl
-named_by-word Asm = refl
-named_by-word Dis = refl
-
--- a reading's command
-abbrev name_of : Reading → CommandName
-name_of (best file inputs outputs) = Best
-name_of (asm text out) = Asm
-name_of (dis file) = Dis
-
 -- a reading's first word is its command's
-first_of_reading : (words : List Text) (reading : Reading) → ReadsAs words reading → slice_get words 0 ≡ Some (word_of (name_of reading))
-first_of_reading words (best file inputs outputs) reads = ap (λ ws. slice_get ws 0) reads.command
-first_of_reading words (asm text out) reads = ap (λ ws. slice_get ws 0) reads.command
-first_of_reading words (dis file) reads = ap (λ ws. slice_get ws 0) reads.command
+first_of_reading : (words : List Text) (reading : Reading) → ReadsAs words reading → slice_get words 0 ≡ Some (command_row (command_of reading)).word
+first_of_reading words reading reads = ap (λ ws. slice_get ws 0) reads.command
 
--- words without a command's name in front
-pub no_command : (words : List Text) → ((name : CommandName) → slice_get words 0 ≢ Some (word_of name)) → HasNoReading words
-no_command words none reading reads = none (name_of reading) (first_of_reading words reading reads)
+-- what is asked of the words after the command
+asked : (words : List Text) (reading : Reading) (reads : ReadsAs words reading) → AreRead (known_to (command_of reading)) reads.rest (names_of reading) reads.given
+asked words reading reads = record {
+  mixed = reads.mixed;
+  of_command = All-weaker (λ o. IsOptionOf (command_of reading) o.0) (λ o. Contains (known_to (command_of reading)) o.0)
+      (λ o. is_known (command_of reading) o.0) reads.given reads.of_command;
+  once = once;
+  good_names = reads.good_names;
+  good_values = reads.good_values;
+}
+  where
+    once : AreOnce reads.given
+    once name = elim (values_cases (IsOptionOf (command_of reading)) name reads.given reads.of_command) [
+      | inl none ↦ omega (arith, ap length none)
+      | inr is ↦ subst (λ n. length (values_of n reads.given) ≤ 1) (sym is.named) (reads.once is.option (once_only is.option))
+    ]
+
+module _ (command : CommandName) (rows : List Row) (names : List Text) (given : List (Text × Text)) (are : AreOf rows names given) where
+  -- the names that the matches have
+  names_in : values_in (codes "names") rows ≡ names
+  names_in = ap (λ o. unwrap_or o []) are.of_names ∙ unlisted names
+
+  -- the values that they have for an option of the command, and none for another
+  values_are : All (λ o. IsOptionOf command o.0) given → (option : OptionName)
+      → (if has_option command option then values_in (option_name option) rows else []) ≡ values_of (option_name option) given
+  values_are among option = go (has_option command option) refl
+    where
+      go : (b : Bool) → has_option command option ≡ b → (if b then values_in (option_name option) rows else []) ≡ values_of (option_name option) given
+      go true e = ap (λ o. unwrap_or o []) (are.of_option (option_name option) (fits option).apart) ∙ unlisted (values_of (option_name option) given)
+      go false e = elim (values_cases (IsOptionOf command) (option_name option) given among) [
+        | inl none ↦ sym none
+        | inr is ↦
+            let same : is.option ≡ option = same_option is.option option (sym is.named) in
+            let bad : false ≡ true = sym e ∙ (ap (has_option command) (sym same) ∙ has_option-from command is.option is.had) in
+            cc
+      ]
 
 -- what reads as a command has no fault, and its matches give the reading
 reading_found : (words : List Text) (reading : Reading) → ReadsAs words reading
-    → (fault_of (app_named (name_of reading)) words ≡ []) × Gives (name_of reading) (matches_of (app_named (name_of reading)) words) reading
-reading_found words (best file inputs outputs) reads =
-    let found = best_found words file inputs outputs reads in
-    (found.0, (file, inputs, outputs, refl, found.1))
-reading_found words (asm text out) reads =
-    let found = asm_found words text out reads in
-    (found.0, (text, out, refl, found.1))
-reading_found words (dis file) reads =
-    let found = dis_found words file reads in
-    (found.0, (file, refl, found.1))
+    → (fault_of (app_named (command_of reading)) words ≡ []) × Gives (command_of reading) (matches_of (app_named (command_of reading)) words) reading
+reading_found words reading reads =
+    let command = command_of reading in
+    let word = (command_row command).word in
+    let meets = read_meets word (known_to command) (known_fits command) word reads.rest (names_of reading) reads.given (asked words reading reads) in
+    let rows = matches_of (app_named command) (word ∷ reads.rest) in
+    subst (λ ws. (fault_of (app_named command) ws ≡ []) × Gives command (matches_of (app_named command) ws) reading) (sym reads.command) (
+      meets.faultless,
+      record {
+        named = refl;
+        names = names_in command rows (names_of reading) reads.given meets.stands;
+        good = record { as_many = reads.as_many; good = reads.good_names; apart = reads.apart };
+        set = λ option. subst (λ vs. Sets (option_row option).kind vs (setting_of option (settings_of reading)))
+            (sym (values_are command rows (names_of reading) reads.given meets.stands reads.of_command option)) (reads.set option);
+      },
+    )
+
+-- values that set the options of a command are no flags
+good_values : (command : CommandName) (given : List (Text × Text)) (settings : Settings) → All (λ o. IsOptionOf command o.0) given → AreOnce given
+    → ((option : OptionName) → Sets (option_row option).kind (values_of (option_name option) given) (setting_of option settings)) → All (λ o. IsName o.1) given
+good_values command given settings among once set k d lt =
+    let o = slice_index_or given k d in
+    let is = among k d lt in
+    let found : values_of (option_name is.option) given ≡ o.1 ∷ [] = ap (λ n. values_of n given) (sym is.named) ∙ value_of given once k d lt in
+    sets_name (option_row is.option).kind o.1 [] (setting_of is.option settings)
+    (subst (λ vs. Sets (option_row is.option).kind vs (setting_of is.option settings)) found (set is.option))
 
 -- matches without a fault give a reading of the words
-matches_read : (words : List Text) (name : CommandName) (reading : Reading) → slice_get words 0 ≡ Some (word_of name) → fault_of (app_named name) words ≡ []
-    → Gives name (matches_of (app_named name) words) reading → ReadsAs words reading
-matches_read words Best reading first none is = subst (ReadsAs words) (sym is.3) (best_reads words is.0 is.1 is.2 first none is.4)
-matches_read words Asm reading first none is = subst (ReadsAs words) (sym is.2) (asm_reads words is.0 is.1 first none is.3)
-matches_read words Dis reading first none is = subst (ReadsAs words) (sym is.1) (dis_reads words is.0 first none is.2)
+matches_read : (words : List Text) (command : CommandName) (reading : Reading) → slice_get words 0 ≡ Some (command_row command).word → fault_of (app_named command) words ≡ []
+    → Gives command (matches_of (app_named command) words) reading → ReadsAs words reading
+matches_read words command reading first none gives =
+    let word = (command_row command).word in
+    let rest = rest_of words word first in
+    let rows = matches_of (app_named command) (word ∷ rest.0) in
+    let reads = passed_reads word (known_to command) (known_fits command) word rest.0 (ap (fault_of (app_named command)) (sym rest.1) ∙ none) in
+    let here : Gives command rows reading = subst (λ ws. Gives command (matches_of (app_named command) ws) reading) rest.1 gives in
+    let among : All (λ o. IsOptionOf command o.0) reads.given =
+    All-weaker (λ o. Contains (known_to command) o.0) (λ o. IsOptionOf command o.0) (λ o. known_is command o.0) reads.given reads.of_command in
+    let named : reads.names ≡ names_of reading = sym (names_in command rows reads.names reads.given reads.stands) ∙ here.names in
+    let set : (option : OptionName) → Sets (option_row option).kind (values_of (option_name option) reads.given) (setting_of option (settings_of reading)) =
+    λ option. subst (λ vs. Sets (option_row option).kind vs (setting_of option (settings_of reading))) (values_are command rows reads.names reads.given reads.stands among option) (here.set option) in
+    record {
+      rest = rest.0;
+      given = reads.given;
+      command = rest.1 ∙ ap (λ c. (command_row c).word ∷ rest.0) (sym here.named);
+      mixed = subst (λ ns. AreMixed rest.0 ns reads.given) named reads.mixed;
+      as_many = here.good.as_many ∙ ap (λ c. length (command_row c).names) (sym here.named);
+      good_names = here.good.good;
+      apart = subst (λ c. AllPairs AreApart (zip (command_row c).names (names_of reading))) (sym here.named) here.good.apart;
+      of_command = subst (λ c. All (λ o. IsOptionOf c o.0) reads.given) (sym here.named) among;
+      good_values = good_values command reads.given (settings_of reading) among reads.once set;
+      once = λ option _. reads.once (option_name option);
+      set = set;
+    }
 
 -- and no other
-gives_one : (name : CommandName) (rows : List Row) (reading other : Reading) → Gives name rows reading → Gives name rows other → other ≡ reading
-gives_one Best rows reading other a b = b.3 ∙ (best_only rows a.0 b.0 a.1 a.2 b.1 b.2 a.4 b.4 ∙ sym a.3)
-gives_one Asm rows reading other a b = b.2 ∙ (asm_only rows a.0 a.1 b.0 b.1 a.3 b.3 ∙ sym a.2)
-gives_one Dis rows reading other a b = b.1 ∙ (dis_only rows a.0 b.0 a.2 b.2 ∙ sym a.1)
+gives_one : (command : CommandName) (rows : List Row) (reading other : Reading) → Gives command rows reading → Gives command rows other → other ≡ reading
+gives_one command rows reading other a b =
+    let settings : settings_of other ≡ settings_of reading =
+    settings_one (settings_of other) (settings_of reading) (λ option. sets_one (option_row option).kind _ (setting_of option (settings_of other)) (setting_of option (settings_of reading)) (b.set option) (a.set option)) in
+    sym (remade-parts other) ∙ (ap (λ c. remade c (names_of other) (settings_of other)) (b.named ∙ sym a.named)
+    ∙ (ap (λ ns. remade (command_of reading) ns (settings_of other)) (sym b.names ∙ a.names)
+    ∙ (ap (remade (command_of reading) (names_of reading)) settings ∙ remade-parts reading)))
 
-module _ (words : List Text) (name : CommandName) (first : slice_get words 0 ≡ Some (word_of name)) where
+module _ (words : List Text) (command : CommandName) (first : slice_get words 0 ≡ Some (command_row command).word) where
   -- a reading is one of this command
-  found_here : (reading : Reading) → ReadsAs words reading → (fault_of (app_named name) words ≡ []) × Gives name (matches_of (app_named name) words) reading
+  found_here : (reading : Reading) → ReadsAs words reading → (fault_of (app_named command) words ≡ []) × Gives command (matches_of (app_named command) words) reading
   found_here reading reads =
-      let word : word_of (name_of reading) ≡ word_of name = some-same (word_of (name_of reading)) (word_of name) (sym (first_of_reading words reading reads) ∙ first) in
-      let same : name_of reading ≡ name = some-same (name_of reading) name (sym (named_by-word (name_of reading)) ∙ (ap named_by word ∙ named_by-word name)) in
-      subst (λ n. (fault_of (app_named n) words ≡ []) × Gives n (matches_of (app_named n) words) reading) same (reading_found words reading reads)
+      let word : (command_row (command_of reading)).word ≡ (command_row command).word =
+      some-same (command_row (command_of reading)).word (command_row command).word (sym (first_of_reading words reading reads) ∙ first) in
+      subst (λ c. (fault_of (app_named c) words ≡ []) × Gives c (matches_of (app_named c) words) reading) (same_command (command_of reading) command word) (reading_found words reading reads)
 
-  module _ (rows : List Row) (parsed : IsParsed (app_named name) words rows) where
+  module _ (rows : List Row) (parsed : IsParsed (app_named command) words rows) where
     -- the reading of the matches
-    pub read_here : (reading : Reading) → Gives name rows reading → ReadsAs words reading
-    read_here reading is = matches_read words name reading first parsed.faultless (subst (λ rs. Gives name rs reading) parsed.found is)
+    pub read_here : (reading : Reading) → Gives command rows reading → ReadsAs words reading
+    read_here reading is = matches_read words command reading first parsed.faultless (subst (λ rs. Gives command rs reading) parsed.found is)
 
     -- a reading is given by the matches
-    given_here : (reading : Reading) → ReadsAs words reading → Gives name rows reading
-    given_here reading reads = subst (λ rs. Gives name rs reading) (sym parsed.found) (found_here reading reads).1
+    given_here : (reading : Reading) → ReadsAs words reading → Gives command rows reading
+    given_here reading reads = subst (λ rs. Gives command rs reading) (sym parsed.found) (found_here reading reads).1
 
     -- there is no other reading
-    pub alone_here : (reading : Reading) → Gives name rows reading → (other : Reading) → ReadsAs words other → other ≡ reading
-    alone_here reading is other reads = gives_one name rows reading other is (given_here other reads)
+    pub alone_here : (reading : Reading) → Gives command rows reading → (other : Reading) → ReadsAs words other → other ≡ reading
+    alone_here reading is other reads = gives_one command rows reading other is (given_here other reads)
 
     -- no reading, where the matches give none
-    pub unmatched_here : ((reading : Reading) → Gives name rows reading → ⊥) → HasNoReading words
+    pub unmatched_here : ((reading : Reading) → Gives command rows reading → ⊥) → HasNoReading words
     unmatched_here none reading reads = none reading (given_here reading reads)
 
   -- no reading, where there is a fault
-  pub refused_here : fault_of (app_named name) words ≢ [] → HasNoReading words
+  pub refused_here : fault_of (app_named command) words ≢ [] → HasNoReading words
   refused_here fault reading reads = fault (found_here reading reads).0
+
+-- words have one reading at most
+pub one_reading : (words : List Text) (first second : Reading) → ReadsAs words first → ReadsAs words second → first ≡ second
+one_reading words first second a b =
+    let command = command_of first in
+    gives_one command (matches_of (app_named command) words) second first (found_here words command (first_of_reading words first a) second b).1 (reading_found words first a).1

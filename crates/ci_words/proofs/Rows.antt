@@ -1,13 +1,15 @@
 -- What the matches have of an argument, after one more use.
-use Rattle.std.proofs.Common.{◌≡◌, ◌∙◌, Bool, true, false, List, [], ◌∷◌, ◌++◌, codes, Option, Some, None, refl, sym, ap, subst, is_some, option_map}
-use Rattle.std.specs.Prelude.{unwrap_or}
+use Rattle.std.proofs.Common.{◌≡◌, ◌∙◌, Bool, true, false, List, [], ◌∷◌, ◌++◌, codes, Option, Some, None, refl, sym, ap, subst, is_some}
+use Rattle.std.specs.Prelude.{filter, map, unwrap_or}
+use Rattle.std.proofs.lemmas.List.{append-nil, map-append}
+use Rattle.std.proofs.lemmas.List.Elements.{filter-append}
 use Rattle.std.specs.Str.{bytes_eq}
 use Rattle.std.proofs.lemmas.Slice.Eq.{bytes_eq-Decides}
 use Rattle.clap.specs.Walk.{Row, Text, all_of, has_row, used, with_values, without}
 use Rattle.clap.specs.declared.builder.value_parser.Reading.{Reading}
 use Rattle.clap.specs.declared.builder.value_parser.Reading.TheVariants.{AsWritten}
 use Rattle.clap.specs.declared.parser.matches.ValueSource.TheVariants.{CommandLine}
-use Rattle.ci_words.specs.Words.{value_of}
+use Rattle.ci_words.specs.Words.{is_named, values_of}
 use Rattle.ci_words.proofs.Rules.{names_rule, option_rule, same_text}
 
 -- the values of the argument, with more at their end
@@ -57,26 +59,18 @@ without_none id (r ∷ rs) none = go (bytes_eq r.id id) refl (λ rest. without_n
 
 -- ---- options that are given
 
--- one more option, which was not given, has its value
-pub value_of-push_same : (name value : Text) (given : List (Text × Text)) → value_of name given ≡ None → value_of name (given ++ (name, value) ∷ []) ≡ Some value
-value_of-push_same name value [] none = rw (same_text name) refl
-value_of-push_same name value (o ∷ os) none = go (bytes_eq o.0 name) refl (λ rest. value_of-push_same name value os rest)
-  where
-    go : (b : Bool) → bytes_eq o.0 name ≡ b → (value_of name os ≡ None → value_of name (os ++ (name, value) ∷ []) ≡ Some value)
-        → value_of name ((o ∷ os) ++ (name, value) ∷ []) ≡ Some value
-    go true e rest =
-        let bad : Some o.1 ≡ None = rw e at none in
-        cc
-    go false e rest = rw e (rest (rw e at none))
+-- the values in two lists of options
+pub values_of-append : (name : Text) (a b : List (Text × Text)) → values_of name (a ++ b) ≡ values_of name a ++ values_of name b
+values_of-append name a b = ap (map (λ o. o.1)) (filter-append (is_named name) a b)
+    ∙ map-append (λ o. o.1) (filter (is_named name) a) (filter (is_named name) b)
 
--- another option keeps its value
-pub value_of-push_other : (name other value : Text) (given : List (Text × Text)) → bytes_eq name other ≡ false → value_of other (given ++ (name, value) ∷ []) ≡ value_of other given
-value_of-push_other name other value [] apart = rw apart refl
-value_of-push_other name other value (o ∷ os) apart = go (bytes_eq o.0 other) refl (value_of-push_other name other value os apart)
-  where
-    go : (b : Bool) → bytes_eq o.0 other ≡ b → value_of other (os ++ (name, value) ∷ []) ≡ value_of other os → value_of other ((o ∷ os) ++ (name, value) ∷ []) ≡ value_of other (o ∷ os)
-    go true e rest = rw e refl
-    go false e rest = rw e rest
+-- one more value of the option
+pub values_of-push_same : (name value : Text) (given : List (Text × Text)) → values_of name (given ++ (name, value) ∷ []) ≡ values_of name given ++ value ∷ []
+values_of-push_same name value given = values_of-append name given ((name, value) ∷ []) ∙ rw (same_text name) refl
+
+-- another option keeps its values
+pub values_of-push_other : (name other value : Text) (given : List (Text × Text)) → bytes_eq name other ≡ false → values_of other (given ++ (name, value) ∷ []) ≡ values_of other given
+values_of-push_other name other value given apart = values_of-append other given ((name, value) ∷ []) ∙ rw apart (append-nil (values_of other given))
 
 -- ---- matches of names and options
 
@@ -85,10 +79,10 @@ abbrev pub listed : List Text → Option (List Text)
 listed [] = None
 listed (name ∷ names) = Some (name ∷ names)
 
--- the matches have these names, and of each option the value that is given
+-- the matches have these names, and of each option the values that are given
 pub record AreOf (rows : List Row) (names : List Text) (given : List (Text × Text)) : Type 0 where
   pub of_names : all_of (codes "names") rows ≡ listed names
-  pub of_option : (name : Text) → bytes_eq (codes "names") name ≡ false → all_of name rows ≡ option_map (λ value. value ∷ []) (value_of name given)
+  pub of_option : (name : Text) → bytes_eq (codes "names") name ≡ false → all_of name rows ≡ listed (values_of name given)
 
 -- one more at the end of what is listed
 listed-push : (names : List Text) (name : Text) → Some (unwrap_or (listed names) [] ++ name ∷ []) ≡ listed (names ++ name ∷ [])
@@ -106,15 +100,10 @@ AreOf-name rows names given name are = record {
   of_option = λ other apart. all_of-other (codes "names") other _ (name ∷ []) rows apart ∙ are.of_option other apart;
 }
 
--- a value in a list of one
-is_some-map : (o : Option Text) → is_some (option_map (λ value. value ∷ []) o) ≡ is_some o
-is_some-map None = refl
-is_some-map (Some value) = refl
-
 -- an option has a row where it is given
 pub has_row-given : (rows : List Row) (names : List Text) (given : List (Text × Text)) (name : Text) → AreOf rows names given → bytes_eq (codes "names") name ≡ false
-    → has_row name rows ≡ is_some (value_of name given)
-has_row-given rows names given name are apart = has_row-all name rows ∙ (ap is_some (are.of_option name apart) ∙ is_some-map (value_of name given))
+    → has_row name rows ≡ is_some (listed (values_of name given))
+has_row-given rows names given name are apart = has_row-all name rows ∙ ap is_some (are.of_option name apart)
 
 -- a test of two texts that fails fails the other way round
 pub apart_flipped : (a b : Text) → bytes_eq a b ≡ false → bytes_eq b a ≡ false
@@ -129,9 +118,9 @@ apart_flipped a b apart = go (bytes_eq b a) refl
 
 -- one more option, which was not given before
 pub AreOf-option : (rows : List Row) (names : List Text) (given : List (Text × Text)) (name value : Text) → AreOf rows names given → bytes_eq (codes "names") name ≡ false
-    → value_of name given ≡ None → AreOf (used (option_rule name) (value ∷ []) rows) names (given ++ (name, value) ∷ [])
+    → values_of name given ≡ [] → AreOf (used (option_rule name) (value ∷ []) rows) names (given ++ (name, value) ∷ [])
 AreOf-option rows names given name value are apart new =
-    let none : has_row name rows ≡ false = has_row-given rows names given name are apart ∙ ap is_some new in
+    let none : has_row name rows ≡ false = has_row-given rows names given name are apart ∙ ap (λ vs. is_some (listed vs)) new in
     let kept : without name rows ≡ rows = without_none name rows none in
     record {
       of_names = ap (λ rs. all_of (codes "names") (with_values name AsWritten CommandLine (value ∷ []) rs)) kept
@@ -139,14 +128,15 @@ AreOf-option rows names given name value are apart new =
       of_option = λ other far. ap (λ rs. all_of other (with_values name AsWritten CommandLine (value ∷ []) rs)) kept ∙ go other far (bytes_eq name other) refl;
     }
   where
-    at_name : all_of name (with_values name AsWritten CommandLine (value ∷ []) rows) ≡ option_map (λ v. v ∷ []) (value_of name (given ++ (name, value) ∷ []))
+    at_name : all_of name (with_values name AsWritten CommandLine (value ∷ []) rows) ≡ listed (values_of name (given ++ (name, value) ∷ []))
     at_name = all_of-same name AsWritten (value ∷ []) rows
-        ∙ (ap (λ o. Some (unwrap_or o [] ++ value ∷ [])) (are.of_option name apart ∙ ap (option_map (λ v. v ∷ [])) new) ∙ ap (option_map (λ v. v ∷ [])) (sym (value_of-push_same name value given new)))
+        ∙ (ap (λ o. Some (unwrap_or o [] ++ value ∷ [])) (are.of_option name apart)
+        ∙ (listed-push (values_of name given) value ∙ ap listed (sym (values_of-push_same name value given))))
 
     go : (other : Text) → bytes_eq (codes "names") other ≡ false → (b : Bool) → bytes_eq name other ≡ b
-        → all_of other (with_values name AsWritten CommandLine (value ∷ []) rows) ≡ option_map (λ v. v ∷ []) (value_of other (given ++ (name, value) ∷ []))
+        → all_of other (with_values name AsWritten CommandLine (value ∷ []) rows) ≡ listed (values_of other (given ++ (name, value) ∷ []))
     go other far true e =
-        subst (λ t. all_of t (with_values name AsWritten CommandLine (value ∷ []) rows) ≡ option_map (λ v. v ∷ []) (value_of t (given ++ (name, value) ∷ [])))
+        subst (λ t. all_of t (with_values name AsWritten CommandLine (value ∷ []) rows) ≡ listed (values_of t (given ++ (name, value) ∷ [])))
         ((bytes_eq-Decides name other).0 e) at_name
     go other far false e = all_of-other name other AsWritten (value ∷ []) rows e
-        ∙ (are.of_option other far ∙ ap (option_map (λ v. v ∷ [])) (sym (value_of-push_other name other value given e)))
+        ∙ (are.of_option other far ∙ ap listed (sym (values_of-push_other name other value given e)))

@@ -1,13 +1,14 @@
 -- Words that pass `clap`'s walk are names and options, and these are what it finds.
-use Rattle.std.proofs.Common.{◌≡◌, ◌≢◌, ◌∙◌, ◌⊎◌, true, false, List, [], ◌∷◌, ◌++◌, codes, Option, Some, None, refl, sym, ap, ap₂, subst, arith, inl, inr, zero, suc, fold, append_assoc}
+use Rattle.std.proofs.Common.{◌≡◌, ◌≢◌, ◌∙◌, ◌⊎◌, true, false, List, [], ◌∷◌, ◌++◌, codes, Option, Some, None, refl, sym, ap, ap₂, subst, arith, inl, inr, fold, append_assoc}
 use Rattle.std.proofs.lemmas.List.{append-nil}
 use Rattle.std.specs.Prelude.{All, Contains}
+use Rattle.std.proofs.lemmas.List.Elements.{All-cons, All-nil}
 use Rattle.std.specs.Str.{bytes_eq}
 use Rattle.clap.specs.Lexer.{long_of}
 use Rattle.clap.specs.Walk.{Held, Row, Text, Waiting, Walk, arg_by_long, reacted, settled, walked}
 use Rattle.clap.specs.Walk as w
 use Rattle.clap.specs.Faults.{settle_fault, turn_fault, walk_fault, react_fault}
-use Rattle.ci_words.specs.Words.{IsEnding, Item, options, positionals, spellings, value_of}
+use Rattle.ci_words.specs.Words.{IsEnding, Item, options, positionals, spellings, values_of}
 use Rattle.ci_words.specs.Words as item
 use Rattle.ci_words.proofs.Rows.{AreOf, AreOf-name, no_rows}
 use Rattle.ci_words.proofs.Rules.{long_cases, option_rule, rules, shape}
@@ -92,15 +93,6 @@ module _ (name : Text) (known : List Text) where
     pub stands : AreOf (settled (rules known) (end_of v words)).rows (before ++ (positionals items ++ last)) (given ++ options items)
     pub once : AreOnce (given ++ options items)
 
-  -- no options, all of the command
-  no_options : All (λ (o : Text × Text). Contains known o.0) []
-  no_options k d lt = absurd (omega arith)
-
-  -- one more option of the command
-  one_option : (option value : Text) (rest : List (Text × Text)) → Contains known option → All (λ (o : Text × Text). Contains known o.0) rest → All (λ (o : Text × Text). Contains known o.0) ((option, value) ∷ rest)
-  one_option option value rest among all zero d lt = among
-  one_option option value rest among all (suc k) d lt = all k d (omega arith)
-
   -- no words
   found_end : (waiting : Waiting) (h : Held) (before : List Text) (given : List (Text × Text)) → Tracks h before given → IsFaultless (at waiting false h) [] → Found (at waiting false h) [] before given
   found_end waiting h before given tracks none = record {
@@ -109,7 +101,7 @@ module _ (name : Text) (known : List Text) where
     ending = [];
     whole = refl;
     ends = inl (refl, refl);
-    of_command = no_options;
+    of_command = All-nil (λ (o : Text × Text). Contains known o.0);
     stands = subst (λ ns. AreOf (settled (rules known) h).rows ns (given ++ [])) (sym (append-nil before))
         (subst (λ gs. AreOf (settled (rules known) h).rows before gs) (sym (append-nil given)) (tracks.stands none.settles));
     once = subst AreOnce (sym (append-nil given)) (tracks.once none.settles);
@@ -127,7 +119,7 @@ module _ (name : Text) (known : List Text) where
         ending = word ∷ words;
         whole = refl;
         ends = inr (ap (λ d. d ∷ words) dashes);
-        of_command = no_options;
+        of_command = All-nil (λ (o : Text × Text). Contains known o.0);
         stands = subst (λ u. AreOf (settled (rules known) (end_of u words)).rows (before ++ words) (given ++ [])) (sym is)
             (subst (λ gs. AreOf (settled (rules known) (end_of (at waiting true h) words)).rows (before ++ words) gs) (sym (append-nil given)) rest.0);
         once = subst AreOnce (sym (append-nil given)) rest.1;
@@ -157,7 +149,7 @@ module _ (name : Text) (known : List Text) where
     ending = found.ending;
     whole = ap₂ (λ x xs. x ∷ xs) spells found.whole;
     ends = found.ends;
-    of_command = one_option option value (options found.items) among found.of_command;
+    of_command = All-cons (λ (o : Text × Text). Contains known o.0) (option, value) (options found.items) among found.of_command;
     stands = subst (λ u. AreOf (settled (rules known) (end_of u words)).rows (before ++ (positionals found.items ++ found.last)) (given ++ ((option, value) ∷ options found.items))) (sym is)
         (subst (λ gs. AreOf (settled (rules known) (end_of after words)).rows (before ++ (positionals found.items ++ found.last)) gs) (append_assoc given ((option, value) ∷ []) (options found.items)) found.stands);
     once = subst AreOnce (append_assoc given ((option, value) ∷ []) (options found.items)) found.once;
@@ -183,7 +175,7 @@ module _ (name : Text) (known : List Text) where
         ending = found.ending;
         whole = ap₂ (λ x xs. x ∷ value ∷ xs) spells found.whole;
         ends = found.ends;
-        of_command = one_option option value (options found.items) among found.of_command;
+        of_command = All-cons (λ (o : Text × Text). Contains known o.0) (option, value) (options found.items) among found.of_command;
         stands = subst (λ u. AreOf (settled (rules known) (end_of u waited.rest)).rows (before ++ (positionals found.items ++ found.last)) (given ++ ((option, value) ∷ options found.items)))
             (sym (ap (λ u. walked (rules known) [] u value) is ∙ waited.next))
             (subst (λ gs. AreOf (settled (rules known) (end_of (at w.idle false (filled known rows option value)) waited.rest)).rows (before ++ (positionals found.items ++ found.last)) gs)
@@ -269,7 +261,7 @@ module _ (name : Text) (known : List Text) where
     open_plain word words rest rows option before given among are once none plain =
         let apart = (fits option among).apart in
         let is = value_walked name known option rows word apart among plain in
-        let new : settle_fault (rules known) false (filled known rows option word) ≡ [] → value_of option given ≡ None = filled_new known rows before given option word apart among are in
+        let new : settle_fault (rules known) false (filled known rows option word) ≡ [] → values_of option given ≡ [] = filled_new known rows before given option word apart among are in
         record {
           value = word;
           rest = words;

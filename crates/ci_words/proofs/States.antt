@@ -1,7 +1,6 @@
 -- What is held between two words, and which names and options it stands for.
-use Rattle.std.proofs.Common.{◌≡◌, ◌≢◌, ◌∙◌, ◌≤◌, ◌+◌, ℕ, Bool, true, false, List, [], ◌∷◌, ◌++◌, codes, Option, Some, None, refl, sym, ap, subst, arith, is_some}
-use Rattle.std.specs.Prelude.{Contains, count_by, if◌then◌else◌}
-use Rattle.std.proofs.lemmas.List.Sums.{sum_by-append, sum_by-cons}
+use Rattle.std.proofs.Common.{◌≡◌, ◌≢◌, ◌∙◌, ◌≤◌, ◌+◌, ℕ, Bool, true, false, List, [], ◌∷◌, ◌++◌, codes, Some, None, refl, sym, ap, subst, arith, is_some, suc, length-append}
+use Rattle.std.specs.Prelude.{Contains, length}
 use Rattle.std.specs.Option.{option_map_or}
 use Rattle.std.specs.Str.{bytes_eq}
 use Rattle.std.proofs.lemmas.Slice.Eq.{bytes_eq-Decides}
@@ -12,9 +11,9 @@ use Rattle.clap.specs.Faults.{react_fault, settle_fault, use_fault}
 use Rattle.clap.specs.declared.error.kind.ErrorKind.TheVariants as kind
 use Rattle.clap.proofs.CutLemmas.{Lacks}
 use Rattle.clap.proofs.LexerLemmas.{name_and_value-at, name_and_value-without}
-use Rattle.ci_words.specs.Words.{is_named, value_of}
+use Rattle.ci_words.specs.Words.{values_of}
 use Rattle.ci_words.proofs.Rules.{id_known, option_rule, rules, same_text}
-use Rattle.ci_words.proofs.Rows.{AreOf, AreOf-name, AreOf-option, has_row-given}
+use Rattle.ci_words.proofs.Rows.{AreOf, AreOf-name, AreOf-option, has_row-given, listed, values_of-append}
 use Rattle.ci_words.proofs.Steps.{named}
 
 -- ---- faults in turn
@@ -77,61 +76,43 @@ long_of-joined option value is = (
 
 -- ---- options that are given once
 
--- each option stands at most once
+-- each option has at most one value
 abbrev pub AreOnce : List (Text × Text) → Type 0
-AreOnce given = (name : Text) → count_by (is_named name) given ≤ 1
+AreOnce given = (name : Text) → length (values_of name given) ≤ 1
 
--- the options of two lists together
-pub count-append : (name : Text) (a b : List (Text × Text)) → count_by (is_named name) (a ++ b) ≡ count_by (is_named name) a + count_by (is_named name) b
-count-append name a b = sum_by-append (λ o. if is_named name o then 1 else 0) a b
+-- the values in two lists of options, counted
+pub length-values_of : (name : Text) (a b : List (Text × Text)) → length (values_of name (a ++ b)) ≡ length (values_of name a) + length (values_of name b)
+length-values_of name a b = ap length (values_of-append name a b) ∙ length-append (values_of name a) (values_of name b)
 
--- the first option and the rest
-pub count-cons : (name : Text) (o : Text × Text) (os : List (Text × Text)) (b : Bool) → bytes_eq o.0 name ≡ b → count_by (is_named name) (o ∷ os) ≡ (if b then 1 else 0) + count_by (is_named name) os
-count-cons name o os b e = sum_by-cons (λ x. if is_named name x then 1 else 0) o os ∙ ap (λ t. (if t then 1 else 0) + count_by (is_named name) os) e
-
--- an option that is not given is counted nowhere
-pub uncounted : (name : Text) (given : List (Text × Text)) → value_of name given ≡ None → count_by (is_named name) given ≡ 0
-uncounted name [] none = refl
-uncounted name (o ∷ os) none = go (bytes_eq o.0 name) refl (λ rest. uncounted name os rest)
-  where
-    go : (b : Bool) → bytes_eq o.0 name ≡ b → (value_of name os ≡ None → count_by (is_named name) os ≡ 0) → count_by (is_named name) (o ∷ os) ≡ 0
-    go true e rest =
-        let bad : Some o.1 ≡ None = rw e at none in
-        cc
-    go false e rest = omega (arith, count-cons name o os false e, rest (rw e at none))
-
--- an option that is given is counted
-pub counted : (name value : Text) (given : List (Text × Text)) → value_of name given ≡ Some value → 1 ≤ count_by (is_named name) given
-counted name value [] some = cc
-counted name value (o ∷ os) some = go (bytes_eq o.0 name) refl (λ rest. counted name value os rest)
-  where
-    go : (b : Bool) → bytes_eq o.0 name ≡ b → (value_of name os ≡ Some value → 1 ≤ count_by (is_named name) os) → 1 ≤ count_by (is_named name) (o ∷ os)
-    go true e rest = omega (arith, count-cons name o os true e)
-    go false e rest = omega (arith, count-cons name o os false e, rest (rw e at some))
+-- a list of length 0
+empty : (texts : List Text) → length texts ≡ 0 → texts ≡ []
+empty [] e = refl
+empty (t ∷ ts) e = absurd (omega (arith, e))
 
 -- one more option that was not given before
-pub AreOnce-push : (given : List (Text × Text)) (name value : Text) → AreOnce given → value_of name given ≡ None → AreOnce (given ++ (name, value) ∷ [])
+pub AreOnce-push : (given : List (Text × Text)) (name value : Text) → AreOnce given → values_of name given ≡ [] → AreOnce (given ++ (name, value) ∷ [])
 AreOnce-push given name value once new other = go (bytes_eq name other) refl
   where
-    go : (b : Bool) → bytes_eq name other ≡ b → count_by (is_named other) (given ++ (name, value) ∷ []) ≤ 1
+    go : (b : Bool) → bytes_eq name other ≡ b → length (values_of other (given ++ (name, value) ∷ [])) ≤ 1
     go true e =
         let is : name ≡ other = (bytes_eq-Decides name other).0 e in
-        let none : count_by (is_named other) given ≡ 0 = uncounted other given (ap (λ n. value_of n given) (sym is) ∙ new) in
-        let one : count_by (is_named other) ((name, value) ∷ []) ≡ 1 = rw e refl in
-        omega (arith, count-append other given ((name, value) ∷ []), none, one)
+        let none : length (values_of other given) ≡ 0 = ap length (ap (λ n. values_of n given) (sym is) ∙ new) in
+        let one : length (values_of other ((name, value) ∷ [])) ≡ 1 = rw e refl in
+        omega (arith, length-values_of other given ((name, value) ∷ []), none, one)
     go false e =
-        let none : count_by (is_named other) ((name, value) ∷ []) ≡ 0 = rw e refl in
-        omega (arith, count-append other given ((name, value) ∷ []), once other, none)
+        let none : length (values_of other ((name, value) ∷ [])) ≡ 0 = rw e refl in
+        omega (arith, length-values_of other given ((name, value) ∷ []), once other, none)
 
 -- an option that is given once was not given before
-pub new_option : (given : List (Text × Text)) (name value : Text) (rest : List (Text × Text)) → AreOnce (given ++ (name, value) ∷ rest) → value_of name given ≡ None
-new_option given name value rest once = go (value_of name given) refl
-  where
-    go : (o : Option Text) → value_of name given ≡ o → o ≡ None
-    go None e = refl
-    go (Some v) e =
-        let here : count_by (is_named name) ((name, value) ∷ rest) ≡ 1 + count_by (is_named name) rest = count-cons name (name, value) rest true (same_text name) in
-        absurd (omega (arith, count-append name given ((name, value) ∷ rest), once name, counted name v given e, here))
+pub new_option : (given : List (Text × Text)) (name value : Text) (rest : List (Text × Text)) → AreOnce (given ++ (name, value) ∷ rest) → values_of name given ≡ []
+new_option given name value rest once =
+    let here : length (values_of name ((name, value) ∷ rest)) ≡ suc (length (values_of name rest)) = rw (same_text name) refl in
+    empty (values_of name given) (omega (arith, length-values_of name given ((name, value) ∷ rest), once name, here))
+
+-- an option without a row is not given
+none_given : (values : List Text) → is_some (listed values) ≡ false → values ≡ []
+none_given [] e = refl
+none_given (v ∷ vs) e = cc
 
 -- ---- what is held
 
@@ -168,20 +149,16 @@ module _ (known : List Text) where
     filled_rows = ap (λ o. used_by_id o (value ∷ []) rows) (id_known known option apart among)
 
     -- one more option, whose value waits
-    pub Holds-filled : AreOf rows names given → value_of option given ≡ None → Holds (filled rows option value) names (given ++ (option, value) ∷ [])
+    pub Holds-filled : AreOf rows names given → values_of option given ≡ [] → Holds (filled rows option value) names (given ++ (option, value) ∷ [])
     Holds-filled are new = record {
-      settles = filled_fault ∙ use_free option value rows (has_row-given rows names given option are apart ∙ ap is_some new);
+      settles = filled_fault ∙ use_free option value rows (has_row-given rows names given option are apart ∙ ap (λ vs. is_some (listed vs)) new);
       stands = subst (λ rs. AreOf rs names (given ++ (option, value) ∷ [])) (sym filled_rows) (AreOf-option rows names given option value are apart new);
       skips = refl;
     }
 
     -- an option that is used without a fault was not given before
-    pub filled_new : AreOf rows names given → settle_fault (rules known) false (filled rows option value) ≡ [] → value_of option given ≡ None
-    filled_new are none = is_none (value_of option given) (sym (has_row-given rows names given option are apart) ∙ use_taken option value rows (sym filled_fault ∙ none))
-      where
-        is_none : (o : Option Text) → is_some o ≡ false → o ≡ None
-        is_none None e = refl
-        is_none (Some v) e = cc
+    pub filled_new : AreOf rows names given → settle_fault (rules known) false (filled rows option value) ≡ [] → values_of option given ≡ []
+    filled_new are none = none_given (values_of option given) (sym (has_row-given rows names given option are apart) ∙ use_taken option value rows (sym filled_fault ∙ none))
 
     -- an option without a value is a fault
     pub opened_fault : settle_fault (rules known) false (opened rows option) ≢ []
@@ -193,11 +170,11 @@ module _ (known : List Text) where
 
   module _ (h : Held) (names : List Text) (given : List (Text × Text)) (option value : Text) (apart : bytes_eq (codes "names") option ≡ false) where
     -- one more option, which is used at once
-    pub Holds-reacted : Holds h names given → value_of option given ≡ None
+    pub Holds-reacted : Holds h names given → values_of option given ≡ []
         → (react_fault (rules known) false (option_rule option) (value ∷ []) h ≡ []) × Holds (reacted (rules known) (option_rule option) (value ∷ []) h) names (given ++ (option, value) ∷ [])
     Holds-reacted holds new = (
       both_none _ _ holds.settles
-          (use_free option value (settled (rules known) h).rows (has_row-given (settled (rules known) h).rows names given option holds.stands apart ∙ ap is_some new)),
+          (use_free option value (settled (rules known) h).rows (has_row-given (settled (rules known) h).rows names given option holds.stands apart ∙ ap (λ vs. is_some (listed vs)) new)),
       record {
         settles = refl;
         stands = AreOf-option (settled (rules known) h).rows names given option value holds.stands apart new;
@@ -206,10 +183,6 @@ module _ (known : List Text) where
     )
 
     -- it was not given before, where this is no fault
-    pub reacted_new : AreOf (settled (rules known) h).rows names given → react_fault (rules known) false (option_rule option) (value ∷ []) h ≡ [] → value_of option given ≡ None
-    reacted_new are none = is_none (value_of option given)
+    pub reacted_new : AreOf (settled (rules known) h).rows names given → react_fault (rules known) false (option_rule option) (value ∷ []) h ≡ [] → values_of option given ≡ []
+    reacted_new are none = none_given (values_of option given)
         (sym (has_row-given (settled (rules known) h).rows names given option are apart) ∙ use_taken option value (settled (rules known) h).rows (second_none (settle_fault (rules known) false h) _ none))
-      where
-        is_none : (o : Option Text) → is_some o ≡ false → o ≡ None
-        is_none None e = refl
-        is_none (Some v) e = cc

@@ -1,11 +1,62 @@
 -- For private contracts only: what is asked of `clap`, and what its matches say.
-use Rattle.std.specs.Prelude.{◌≡◌, ◌≢◌, ℕ, List, [], ◌∷◌, map, codes, Some, true}
-use Rattle.clap.specs.Words.{App, Row, Rule, new_rule, first_of, all_of, matches_of, fault_of}
+use Rattle.std.specs.Prelude.{◌≡◌, ℕ, Bool, ◌==◌, ◌<◌, List, [], ◌∷◌, length, map, filter, zip, All, AllPairs, codes, Some, true, unwrap_or, if◌then◌else◌}
+use Rattle.std.specs.List.{list_any, slice_index_or}
+use Rattle.clap.specs.Words.{App, Row, Rule, new_rule, all_of, matches_of, fault_of}
 use Rattle.clap.specs.Simple.{new_shape}
 use Rattle.clap.specs.declared.builder.action.ArgAction.TheVariants.{Set, Append}
-use Rattle.ci_words.specs.declared.parse.CommandName.{CommandName}
-use Rattle.ci_words.specs.declared.parse.CommandName.TheVariants.{Best, Asm, Dis}
-use Rattle.ci_words.specs.Words.{Text, Reading, best, asm, dis, IsName, IsLimit}
+use Rattle.ci_words.specs.Tables.{CommandName, best, asm, dis, command_row, OptionName, inputs, outputs, option_row, Kind, number, Access, reads, writes}
+use Rattle.ci_words.specs.Words.{Text, Reading, command_of, names_of, settings_of, Setting, setting_of, Sets, IsName, AreApart}
+use Rattle.ci_words.specs.declared.tables.CommandName.{CommandName as CommandVariant}
+use Rattle.ci_words.specs.declared.tables.CommandName.TheVariants as command
+use Rattle.ci_words.specs.declared.tables.OptionName.{OptionName as OptionVariant}
+use Rattle.ci_words.specs.declared.tables.OptionName.TheVariants as option
+use Rattle.ci_words.specs.declared.tables.Access.{Access as AccessVariant}
+use Rattle.ci_words.specs.declared.tables.Access.TheVariants as access
+use Rattle.ci_words.specs.declared.tables.Kind.{Kind as KindVariant}
+use Rattle.ci_words.specs.declared.tables.Kind.TheVariants as kind
+
+-- ---- the tables as the code has them
+
+abbrev pub command_named : CommandVariant → CommandName
+command_named command.Best = best
+command_named command.Asm = asm
+command_named command.Dis = dis
+
+abbrev pub option_named : OptionVariant → OptionName
+option_named option.Inputs = inputs
+option_named option.Outputs = outputs
+
+abbrev pub access_named : AccessVariant → Access
+access_named access.Reads = reads
+access_named access.Writes = writes
+
+abbrev pub kind_of : KindVariant → Kind
+kind_of (kind.Number least greatest usual) = number least greatest usual
+
+-- the options in the order of their table
+abbrev pub every_option : List OptionName
+every_option = inputs ∷ outputs ∷ []
+
+-- a command's place in the table
+abbrev pub place_of : CommandName → ℕ
+place_of best = 0
+place_of asm = 1
+place_of dis = 2
+
+abbrev pub has_option : CommandName → OptionName → Bool
+has_option command option = list_any (λ other. place_of other == place_of command) (option_row option).commands
+
+abbrev pub option_name : OptionName → Text
+option_name option = (option_row option).name
+
+-- the names of those options that are the command's
+abbrev pub names_known : CommandName → List OptionName → List Text
+names_known command options = map option_name (filter (has_option command) options)
+
+abbrev pub known_to : CommandName → List Text
+known_to command = names_known command every_option
+
+-- ---- what is asked of `clap`
 
 -- the argument that takes each positional word
 abbrev pub names_given : Rule
@@ -26,46 +77,41 @@ app_for name known = record {
   subs = [];
 }
 
+abbrev pub app_named : CommandName → App
+app_named command = app_for (command_row command).word (known_to command)
+
 -- `clap` finds no fault in the words, and these are its matches
 pub record IsParsed (app : App) (words : List Text) (rows : List Row) : Type 0 where
   pub faultless : fault_of app words ≡ []
   pub found : rows ≡ matches_of app words
 
--- the word that names a command
-abbrev pub word_of : CommandName → Text
-word_of Best = codes "best"
-word_of Asm = codes "asm"
-word_of Dis = codes "dis"
+-- ---- what the matches say
 
--- the options of a command
-abbrev pub known_to : CommandName → List Text
-known_to Best = codes "in" ∷ codes "out" ∷ []
-known_to _ = []
+-- the values that the matches have for an argument
+abbrev pub values_in : Text → List Row → List Text
+values_in name rows = unwrap_or (all_of name rows) []
 
-abbrev pub app_named : CommandName → App
-app_named name = app_for (word_of name) (known_to name)
+-- what the option is set to by the values that the matches have for it
+abbrev pub IsGiven : OptionName → List Row → Setting → Type 0
+IsGiven option rows setting = Sets (option_row option).kind (values_in (option_name option) rows) setting
 
--- the matches of `best`
-pub record IsBest (rows : List Row) (file : Text) (inputs outputs : ℕ) : Type 0 where
-  pub names : all_of (codes "names") rows ≡ Some (file ∷ [])
-  pub good : IsName file
-  pub inputs_given : IsLimit 3 (first_of (codes "in") rows) inputs
-  pub outputs_given : IsLimit 2 (first_of (codes "out") rows) outputs
+-- the file at the place is apart from each before it
+abbrev pub IsApartBefore : List (Access × Text) → ℕ → Type 0
+IsApartBefore files i =
+    (k : ℕ) → k < i → (d : Access × Text) → AreApart (slice_index_or files k d) (slice_index_or files i d)
 
--- the matches of `asm`
-pub record IsAsm (rows : List Row) (text out : Text) : Type 0 where
-  pub names : all_of (codes "names") rows ≡ Some (text ∷ out ∷ [])
-  pub good_text : IsName text
-  pub good_out : IsName out
-  pub apart : text ≢ out
-
--- the matches of `dis`
-pub record IsDis (rows : List Row) (file : Text) : Type 0 where
-  pub names : all_of (codes "names") rows ≡ Some (file ∷ [])
-  pub good : IsName file
+-- the names that a command takes
+pub record AreNames (command : CommandName) (names : List Text) : Type 0 where
+  pub as_many : length names ≡ length (command_row command).names
+  pub good : All IsName names
+  pub apart : AllPairs AreApart (zip (command_row command).names names)
 
 -- the reading of a command's matches
-abbrev pub Gives : CommandName → List Row → Reading → Type 0
-Gives Best rows reading = (file : Text) × (inputs : ℕ) × (outputs : ℕ) × (reading ≡ best file inputs outputs) × IsBest rows file inputs outputs
-Gives Asm rows reading = (text : Text) × (out : Text) × (reading ≡ asm text out) × IsAsm rows text out
-Gives Dis rows reading = (file : Text) × (reading ≡ dis file) × IsDis rows file
+pub record Gives (command : CommandName) (rows : List Row) (reading : Reading) : Type 0 where
+  pub named : command_of reading ≡ command
+  pub names : values_in (codes "names") rows ≡ names_of reading
+  pub good : AreNames command (names_of reading)
+  pub set :
+      (option : OptionName) →
+      Sets (option_row option).kind (if has_option command option then values_in (option_name option) rows else [])
+      (setting_of option (settings_of reading))

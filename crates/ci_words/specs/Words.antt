@@ -1,18 +1,56 @@
--- How the words of a command line are read.
-use Rattle.std.specs.Prelude.{◌≡◌, ◌≢◌, ◌⊎◌, ℕ, Bool, ◌+◌, ◌-◌, ◌*◌, ◌≤◌, List, [], ◌∷◌, ◌++◌, length, fold, All, Contains, codes, count_by, find, Option, Some, None, option_map}
+-- For every reader: how the words of a command line are read, by the tables of commands and of options.
+use Rattle.std.specs.Prelude.{◌≡◌, ◌≢◌, ◌⊎◌, ℕ, Bool, false, ◌+◌, ◌-◌, ◌*◌, ◌^◌, ◌≤◌, List, [], ◌∷◌, ◌++◌, length, map, filter, zip, All, AllPairs, Contains, codes}
 use Rattle.std.specs.Str.{bytes_eq}
+use Rattle.ci_words.specs.Tables.{Access, writes, CommandName, command_row, Kind, number, OptionName, inputs, outputs, option_row}
+use Rattle.ci_words.specs.Tables as table
 
 abbrev pub Text : Type 0
 Text = List ℕ
 
--- what the program is asked
+-- ---- what the program is asked
+
+-- what each option is set to, also one that the command does not have
+pub record Settings : Type 0 where
+  -- the greatest numbers of inputs and of outputs of a cut
+  pub inputs : ℕ
+  pub outputs : ℕ
+
 pub data Reading : Type 0 where
-  -- the best cut of the block in the file, within the limits on its inputs and its outputs
-  best : Text → ℕ → ℕ → Reading
+  -- the best cut of the block in the file, by these settings
+  best : Text → Settings → Reading
   -- the words that the text assembles to, written to a file
   asm : Text → Text → Reading
   -- the text of the words in the file
   dis : Text → Reading
+
+abbrev pub command_of : Reading → CommandName
+command_of (best file settings) = table.best
+command_of (asm text out) = table.asm
+command_of (dis file) = table.dis
+
+-- the names that follow the command, in order
+abbrev pub names_of : Reading → List Text
+names_of (best file settings) = file ∷ []
+names_of (asm text out) = text ∷ out ∷ []
+names_of (dis file) = file ∷ []
+
+-- the number that stands where none is given
+abbrev pub usual_number : Kind → ℕ
+usual_number (number least greatest usual) = usual
+
+-- the settings where no option is given
+abbrev pub usual_settings : Settings
+usual_settings = record {
+  inputs = usual_number (option_row inputs).kind;
+  outputs = usual_number (option_row outputs).kind;
+}
+
+abbrev pub settings_of : Reading → Settings
+settings_of (best file settings) = settings
+settings_of (asm text out) = usual_settings
+settings_of (dis file) = usual_settings
+
+-- ---- names and values
 
 -- not empty, and not begun by a hyphen
 abbrev pub IsName : Text → Type 0
@@ -22,9 +60,10 @@ IsName (c ∷ cs) = c ≢ 45
 abbrev pub IsDigit : ℕ → Type 0
 IsDigit c = (48 ≤ c) × (c ≤ 57)
 
--- from the first digit on, ten times the number so far and the digit
+-- each digit times the power of ten of its place
 abbrev pub number_of_digits : Text → ℕ
-number_of_digits text = fold (λ n c. 10 * n + (c - 48)) 0 text
+number_of_digits [] = 0
+number_of_digits (c ∷ cs) = (c - 48) * 10 ^ length cs + number_of_digits cs
 
 -- one to ten decimal digits, and their number
 pub record IsNumber (text : Text) (n : ℕ) : Type 0 where
@@ -32,6 +71,21 @@ pub record IsNumber (text : Text) (n : ℕ) : Type 0 where
   pub at_most_ten : length text ≤ 10
   pub digits : All IsDigit text
   pub value : number_of_digits text ≡ n
+
+-- what an option is set to
+pub data Setting : Type 0 where
+  to_number : ℕ → Setting
+
+abbrev pub setting_of : OptionName → Settings → Setting
+setting_of inputs settings = to_number settings.inputs
+setting_of outputs settings = to_number settings.outputs
+
+-- what these values set an option of the kind to: a number in its range, or the usual one where there is no value
+abbrev pub Sets : Kind → List Text → Setting → Type 0
+Sets (number least greatest usual) [] (to_number n) = n ≡ usual
+Sets (number least greatest usual) (text ∷ more) (to_number n) = IsNumber text n × (least ≤ n) × (n ≤ greatest)
+
+-- ---- positional words and options, mixed
 
 -- what stands among the words: a positional word, or an option's name and its value, as two words or as one
 pub data Item : Type 0 where
@@ -80,51 +134,45 @@ pub record AreMixed (words names : List Text) (given : List (Text × Text)) : Ty
 abbrev pub is_named : Text → Text × Text → Bool
 is_named name option = bytes_eq option.0 name
 
--- the value that is given to the option of this name, if any is
-abbrev pub value_of : Text → List (Text × Text) → Option Text
-value_of name given = option_map (λ option. option.1) (find (is_named name) given)
+-- the values that are given to the option of this name, in order
+abbrev pub values_of : Text → List (Text × Text) → List Text
+values_of name given = map (λ option. option.1) (filter (is_named name) given)
 
--- The words are these names and these options of a command that knows such options: each option stands at most once, and no
--- name or value is empty or begins with a hyphen.
-pub record AreRead (known words names : List Text) (given : List (Text × Text)) : Type 0 where
-  pub mixed : AreMixed words names given
-  pub of_command : All (λ option. Contains known option.0) given
-  pub once : (name : Text) → count_by (is_named name) given ≤ 1
-  pub good_names : All IsName names
-  pub good_values : All (λ option. IsName option.1) given
+-- an option of the command has this name
+pub record IsOptionOf (command : CommandName) (name : Text) : Type 0 where
+  pub option : OptionName
+  pub had : Contains (option_row option).commands command
+  pub named : name ≡ (option_row option).name
 
--- a number from 1 to the greatest, which stands where no value is given
-abbrev pub IsLimit : ℕ → Option Text → ℕ → Type 0
-IsLimit greatest None n = n ≡ greatest
-IsLimit greatest (Some text) n = IsNumber text n × (1 ≤ n) × (n ≤ greatest)
+-- ---- files that are read and written
 
--- `best FILE`, with `--in N` from 1 to 3 and `--out N` from 1 to 2
-pub record ReadsAsBest (words : List Text) (file : Text) (inputs outputs : ℕ) : Type 0 where
+-- the files that a command takes, each with what it does with it
+abbrev pub files_of : Reading → List (Access × Text)
+files_of reading = zip (command_row (command_of reading)).names (names_of reading)
+
+-- a file that is written is no other file
+abbrev pub AreApart : Access × Text → Access × Text → Type 0
+AreApart first second = (first.0 ≡ writes) ⊎ (second.0 ≡ writes) → first.1 ≢ second.1
+
+-- ---- readings
+
+-- The words read as this: the command's word, and then its names and its options, mixed.
+pub record ReadsAs (words : List Text) (reading : Reading) : Type 0 where
   pub rest : List Text
   pub given : List (Text × Text)
-  pub command : words ≡ codes "best" ∷ rest
-  pub read : AreRead (codes "in" ∷ codes "out" ∷ []) rest (file ∷ []) given
-  pub inputs_given : IsLimit 3 (value_of (codes "in") given) inputs
-  pub outputs_given : IsLimit 2 (value_of (codes "out") given) outputs
-
--- `asm TEXT OUT`, where the name that is written differs from the one that is read
-pub record ReadsAsAsm (words : List Text) (text out : Text) : Type 0 where
-  pub rest : List Text
-  pub command : words ≡ codes "asm" ∷ rest
-  pub read : AreRead [] rest (text ∷ out ∷ []) []
-  pub apart : text ≢ out
-
--- `dis FILE`
-pub record ReadsAsDis (words : List Text) (file : Text) : Type 0 where
-  pub rest : List Text
-  pub command : words ≡ codes "dis" ∷ rest
-  pub read : AreRead [] rest (file ∷ []) []
-
--- the words read as this command
-abbrev pub ReadsAs : List Text → Reading → Type 0
-ReadsAs words (best file inputs outputs) = ReadsAsBest words file inputs outputs
-ReadsAs words (asm text out) = ReadsAsAsm words text out
-ReadsAs words (dis file) = ReadsAsDis words file
+  pub command : words ≡ (command_row (command_of reading)).word ∷ rest
+  pub mixed : AreMixed rest (names_of reading) given
+  pub as_many : length (names_of reading) ≡ length (command_row (command_of reading)).names
+  pub good_names : All IsName (names_of reading)
+  pub apart : AllPairs AreApart (files_of reading)
+  pub of_command : All (λ option. IsOptionOf (command_of reading) option.0) given
+  pub good_values : All (λ option. IsName option.1) given
+  pub once :
+      (option : OptionName) → (option_row option).repeatable ≡ false →
+      length (values_of (option_row option).name given) ≤ 1
+  pub set :
+      (option : OptionName) →
+      Sets (option_row option).kind (values_of (option_row option).name given) (setting_of option (settings_of reading))
 
 abbrev pub HasNoReading : List Text → Type 0
 HasNoReading words = (reading : Reading) → ReadsAs words reading → ⊥

@@ -1,22 +1,17 @@
 //! The commands, and the words that read as one.
-ghost use Rattle.std.specs.Prelude.{◌≡◌, ℕ, map, IfOk, IfErr, IfSome, IfNone};
+ghost use Rattle.std.specs.Prelude.{◌≡◌, ℕ, List, map, IfOk, IfErr, IfSome, IfNone};
 ghost use Rattle.std.specs.String.{string_bytes};
 ghost use Rattle.clap.specs.Words.{rows_of, found_of};
-ghost use Rattle.ci_words.specs.Words.{Text, Reading, ReadsAs, HasNoReading};
+ghost use Rattle.ci_words.specs.Words.{Text, Reading, ReadsAs, HasNoReading, to_number};
 ghost use Rattle.ci_words.specs.Commands.{reading_of};
-ghost use Rattle.ci_words.specs.Parses.{IsBest, IsAsm, IsDis, Gives};
+ghost use Rattle.ci_words.specs.Tables.{inputs, outputs};
+ghost use Rattle.ci_words.specs.Parses.{command_named, Gives, IsGiven};
 
-use crate::parse::{CommandName, clap_command, command_named, only_name, parse, two_names};
-use crate::value::read_limit;
+use crate::parse::{command_in_front, names_given, number_given, parse};
+use crate::tables::{CommandName, OptionName};
 use ci_cut::Limits;
 use clap::ArgMatches;
 use std::alloc::Global;
-
-/// The greatest limit on inputs, which stands where the words give none.
-const GREATEST_INPUTS: u8 = 3;
-
-/// The greatest limit on outputs, which stands where the words give none.
-const GREATEST_OUTPUTS: u8 = 2;
 
 /// What the program is asked.
 #[derive(Drop)]
@@ -50,75 +45,60 @@ pub fn read_words(alloc: Global, words: &[String]) -> Result<Command<'_>, WordsE
     ensures no_reading { IfErr result (λ error. error ≡ WordsErr.NoReading
         → HasNoReading (map string_bytes words.now)) }
 {
-    let Some(first) = words.first() else {
+    let Some(name) = command_in_front(words) else {
         return Err(WordsErr::NoReading);
     };
-    let Some(name) = command_named(first.as_str()) else {
-        return Err(WordsErr::NoReading);
-    };
-    let Ok(command) = clap_command(alloc, name) else {
-        return Err(WordsErr::NoMemory);
-    };
-    match parse(command, words) {
-        Ok(matches) => match command_of(name, &matches) {
-            Some(command) => Ok(command),
-            None => Err(WordsErr::NoReading),
-        },
-        Err(error) => Err(error),
+    let matches = parse(alloc, name, words)?;
+    match command_of(name, &matches) {
+        Some(command) => Ok(command),
+        None => Err(WordsErr::NoReading),
     }
 }
 
-/// The command that a command's matches give, if they give one.
+/// That words have one reading at most.
+pub fn words_have_one_reading()
+    ensures { (words : List Text) (first second : Reading)
+        → ReadsAs words first → ReadsAs words second → first ≡ second }
+{}
+
+/// The command that the matches of a command give, if they give one.
 fn command_of<'a>(name: CommandName, matches: &ArgMatches<'a>) -> Option<Command<'a>>
     ensures some { IfSome result (λ command.
-        Gives name (rows_of (found_of matches.now)) (reading_of command)) }
+        Gives (command_named name) (rows_of (found_of matches.now)) (reading_of command)) }
     ensures none { IfNone result ((reading : Reading)
-        → Gives name (rows_of (found_of matches.now)) reading → ⊥) }
+        → Gives (command_named name) (rows_of (found_of matches.now)) reading → ⊥) }
 {
+    let names = names_given(name, matches)?;
     match name {
-        CommandName::Best => best_of(matches),
-        CommandName::Asm => asm_of(matches),
-        CommandName::Dis => dis_of(matches),
+        CommandName::Best => {
+            let limits = limits_given(matches)?;
+            Some(Command::Best {
+                file: names[0],
+                limits,
+            })
+        }
+        CommandName::Asm => Some(Command::Asm {
+            text: names[0],
+            out: names[1],
+        }),
+        CommandName::Dis => Some(Command::Dis { file: names[0] }),
     }
 }
 
-/// The command of matches of `best`.
-fn best_of<'a>(matches: &ArgMatches<'a>) -> Option<Command<'a>>
-    ensures some { IfSome result (λ command.
-        Gives CommandName.Best (rows_of (found_of matches.now)) (reading_of command)) }
-    ensures none { IfNone result ((file : Text) (inputs outputs : ℕ)
-        → IsBest (rows_of (found_of matches.now)) file inputs outputs → ⊥) }
+/// The limits on a cut.
+fn limits_given(matches: &ArgMatches) -> Option<Limits>
+    ensures inputs { IfSome result (λ limits.
+        IsGiven inputs (rows_of (found_of matches.now)) (to_number limits.inputs)) }
+    ensures outputs { IfSome result (λ limits.
+        IsGiven outputs (rows_of (found_of matches.now)) (to_number limits.outputs)) }
+    ensures none { IfNone result ((in_limit out_limit : ℕ)
+        → IsGiven inputs (rows_of (found_of matches.now)) (to_number in_limit)
+        → IsGiven outputs (rows_of (found_of matches.now)) (to_number out_limit) → ⊥) }
 {
-    let file = only_name(matches)?;
-    let inputs = read_limit(matches.get_str("in"), GREATEST_INPUTS)?;
-    let outputs = read_limit(matches.get_str("out"), GREATEST_OUTPUTS)?;
-    Some(Command::Best {
-        file,
-        limits: Limits { inputs, outputs },
+    let inputs = number_given(OptionName::Inputs, matches)?;
+    let outputs = number_given(OptionName::Outputs, matches)?;
+    Some(Limits {
+        inputs: inputs as u8,
+        outputs: outputs as u8,
     })
-}
-
-/// The command of matches of `asm`.
-fn asm_of<'a>(matches: &ArgMatches<'a>) -> Option<Command<'a>>
-    ensures some { IfSome result (λ command.
-        Gives CommandName.Asm (rows_of (found_of matches.now)) (reading_of command)) }
-    ensures none { IfNone result ((text out : Text)
-        → IsAsm (rows_of (found_of matches.now)) text out → ⊥) }
-{
-    let (text, out) = two_names(matches)?;
-    if text == out {
-        return None;
-    }
-    Some(Command::Asm { text, out })
-}
-
-/// The command of matches of `dis`.
-fn dis_of<'a>(matches: &ArgMatches<'a>) -> Option<Command<'a>>
-    ensures some { IfSome result (λ command.
-        Gives CommandName.Dis (rows_of (found_of matches.now)) (reading_of command)) }
-    ensures none { IfNone result ((file : Text)
-        → IsDis (rows_of (found_of matches.now)) file → ⊥) }
-{
-    let file = only_name(matches)?;
-    Some(Command::Dis { file })
 }

@@ -1,12 +1,17 @@
 //! The commands as `clap` parses them, and what its matches say.
-ghost use Rattle.std.specs.Prelude.{◌≡◌, ◌≢◌, ℕ, List, [], ◌∷◌, map, codes, Some, true, IfOk, IfErr, IfSome, IfNone};
+ghost use Rattle.std.specs.Prelude.{◌≡◌, ◌≢◌, ℕ, List, [], ◌∷◌, ◌++◌, map, codes, slice_get, true, IfOk, IfErr, IfSome, IfNone};
 ghost use Rattle.std.specs.String.{string_bytes};
-ghost use Rattle.clap.specs.Words.{app_of, is_simple_and_free, fault_of, found_of, rows_of, all_of};
-ghost use Rattle.ci_words.specs.Words.{Text, IsName};
-ghost use Rattle.ci_words.specs.Parses.{app_for, app_named, word_of, IsParsed};
+ghost use Rattle.clap.specs.Words.{app_of, is_simple_and_free, fault_of, found_of, rows_of};
+ghost use Rattle.ci_words.specs.Tables as table;
+ghost use Rattle.ci_words.specs.Words.{Text, to_number};
+ghost use Rattle.ci_words.specs.Parses.{app_for, app_named, command_named, option_named, names_known, values_in, AreNames, IsGiven, IsParsed};
 
 use crate::command::WordsErr;
-use crate::value::is_name;
+use crate::names::are_names;
+use crate::tables::{
+    CommandName, OptionName, all_commands, all_options, command_row, is_of, option_row,
+};
+use crate::value::read_number;
 use clap::error::ErrorKind;
 use clap::{Arg, ArgAction, ArgMatches, Command};
 use std::alloc::{AllocError, Global};
@@ -14,74 +19,107 @@ use std::alloc::{AllocError, Global};
 /// The argument that takes each positional word.
 const NAMES: &str = "names";
 
-/// The commands by name.
-#[derive(Clone, Copy)]
-pub enum CommandName {
-    /// `best`
-    Best,
-    /// `asm`
-    Asm,
-    /// `dis`
-    Dis,
+/// The command that the first of the words names.
+pub fn command_in_front(words: &[String]) -> Option<CommandName>
+    ensures some { IfSome result (λ command. slice_get (map string_bytes words.now) 0
+        ≡ Some (table.command_row (command_named command)).word) }
+    ensures none { IfNone result ((command : table.CommandName) → slice_get (map string_bytes words.now) 0
+        ≢ Some (table.command_row command).word) }
+{
+    command_called(words.first()?.as_str())
 }
 
 /// The command that the word names.
-pub fn command_named(word: &str) -> Option<CommandName>
-    ensures some { IfSome result (λ name. word.now ≡ word_of name) }
-    ensures none { IfNone result ((name : CommandName) → word.now ≢ word_of name) }
+fn command_called(word: &str) -> Option<CommandName>
+    ensures some { IfSome result (λ command. word.now ≡ (table.command_row (command_named command)).word) }
+    ensures none { IfNone result ((command : table.CommandName) → word.now ≢ (table.command_row command).word) }
 {
-    if word == "best" {
-        Some(CommandName::Best)
-    } else if word == "asm" {
-        Some(CommandName::Asm)
-    } else if word == "dis" {
-        Some(CommandName::Dis)
-    } else {
-        None
+    for command in all_commands() {
+        if word == command_row(*command).word {
+            return Some(*command);
+        }
     }
+    None
 }
 
 /// The `clap` command of this name.
-pub fn clap_command<'a>(alloc: Global, name: CommandName) -> Result<Command<'a>, AllocError>
-    ensures { IfOk result (λ command. app_of command ≡ app_named name) }
+fn clap_command<'a>(alloc: Global, command: CommandName) -> Result<Command<'a>, AllocError>
+    ensures { IfOk result (λ parser. app_of parser ≡ app_named (command_named command)) }
 {
-    match name {
-        CommandName::Best => with_limits(alloc, with_names(alloc, "best")?),
-        CommandName::Asm => with_names(alloc, "asm"),
-        CommandName::Dis => with_names(alloc, "dis"),
-    }
+    let word: &'a str = command_row(command).word;
+    let parser = with_names(alloc, word)?;
+    with_options(alloc, parser, command, all_options())
 }
 
-/// A command with positional words and no option.
-fn with_names<'a>(alloc: Global, name: &'a str) -> Result<Command<'a>, AllocError>
-    ensures { IfOk result (λ command. app_of command ≡ app_for name.entry.now []) }
+/// A parser with positional words and no option.
+fn with_names<'a>(alloc: Global, word: &'a str) -> Result<Command<'a>, AllocError>
+    ensures { IfOk result (λ parser. app_of parser ≡ app_for word.entry.now []) }
 {
     let names = Arg::new(alloc, NAMES).action(ArgAction::Append);
-    Command::new(alloc, name)
+    Command::new(alloc, word)
         .disable_help_flag(true)
         .disable_version_flag(true)
         .arg(names)
 }
 
-/// The command with the options `--in` and `--out`.
-fn with_limits<'a>(alloc: Global, command: Command<'a>) -> Result<Command<'a>, AllocError>
-    ensures { (name : Text) → app_of command.entry ≡ app_for name []
-        → IfOk result (λ more. app_of more ≡ app_for name (codes "in" ∷ codes "out" ∷ [])) }
+/// The parser with those of the options that are the command's.
+fn with_options<'a>(
+    alloc: Global,
+    parser: Command<'a>,
+    command: CommandName,
+    options: &[OptionName],
+) -> Result<Command<'a>, AllocError>
+    ensures { (word : Text) → app_of parser.entry ≡ app_for word []
+        → IfOk result (λ more. app_of more
+        ≡ app_for word (names_known (command_named command) (map option_named options.now))) }
 {
-    let inputs = Arg::new(alloc, "in").long("in").action(ArgAction::Set);
-    let outputs = Arg::new(alloc, "out").long("out").action(ArgAction::Set);
-    command.arg(inputs)?.arg(outputs)
+    let mut parser = parser;
+    for option in options {
+        if is_of(command, *option) {
+            parser = with_option(alloc, parser, option_row(*option).name)?;
+        }
+    }
+    Ok(parser)
 }
 
-/// The command's matches in the words, of which the first is the command's name.
-pub fn parse<'a>(command: Command<'a>, words: &'a [String]) -> Result<ArgMatches<'a>, WordsErr>
-    requires { is_simple_and_free (app_of command) ≡ true }
-    ensures ok { IfOk result (λ matches. IsParsed (app_of command.entry)
+/// The parser with one option more.
+fn with_option<'a>(
+    alloc: Global,
+    parser: Command<'a>,
+    name: &'a str,
+) -> Result<Command<'a>, AllocError>
+    ensures { (word : Text) (known : List Text) → app_of parser.entry ≡ app_for word known
+        → IfOk result (λ more. app_of more ≡ app_for word (known ++ name.entry.now ∷ [])) }
+{
+    parser.arg(Arg::new(alloc, name).long(name).action(ArgAction::Set))
+}
+
+/// The command's matches in the words, of which the first is its name.
+pub fn parse<'a>(
+    alloc: Global,
+    command: CommandName,
+    words: &'a [String],
+) -> Result<ArgMatches<'a>, WordsErr>
+    ensures ok { IfOk result (λ matches. IsParsed (app_named (command_named command))
         (map string_bytes words.now) (rows_of (found_of matches))) }
     ensures none { IfErr result (λ error. error ≡ WordsErr.NoReading
-        → fault_of (app_of command.entry) (map string_bytes words.now) ≢ []) }
+        → fault_of (app_named (command_named command)) (map string_bytes words.now) ≢ []) }
 {
-    match command.try_get_matches_from(words) {
+    match clap_command(alloc, command) {
+        Ok(parser) => matches_in(parser, words),
+        Err(_) => Err(WordsErr::NoMemory),
+    }
+}
+
+/// The parser's matches in the words.
+fn matches_in<'a>(parser: Command<'a>, words: &'a [String]) -> Result<ArgMatches<'a>, WordsErr>
+    requires { is_simple_and_free (app_of parser) ≡ true }
+    ensures ok { IfOk result (λ matches. IsParsed (app_of parser.entry)
+        (map string_bytes words.now) (rows_of (found_of matches))) }
+    ensures none { IfErr result (λ error. error ≡ WordsErr.NoReading
+        → fault_of (app_of parser.entry) (map string_bytes words.now) ≢ []) }
+{
+    match parser.try_get_matches_from(words) {
         Ok(matches) => Ok(matches),
         Err(error) => {
             if error.kind() == ErrorKind::OutOfMemory {
@@ -93,43 +131,30 @@ pub fn parse<'a>(command: Command<'a>, words: &'a [String]) -> Result<ArgMatches
     }
 }
 
-/// The one positional word, where it is a name.
-pub fn only_name<'a>(matches: &ArgMatches<'a>) -> Option<&'a str>
-    ensures some { IfSome result (λ name. IsName name.now
-        × (all_of (codes "names") (rows_of (found_of matches.now)) ≡ Some (name.now ∷ []))) }
-    ensures none { IfNone result ((name : Text) → IsName name
-        → all_of (codes "names") (rows_of (found_of matches.now)) ≡ Some (name ∷ []) → ⊥) }
+/// The positional words, where the command takes them.
+pub fn names_given<'b, 'a>(
+    command: CommandName,
+    matches: &'b ArgMatches<'a>,
+) -> Option<&'b [&'a str]>
+    ensures some { IfSome result (λ names. AreNames (command_named command) (map (λ name. name.now) names.now)
+        × (values_in (codes "names") (rows_of (found_of matches.now)) ≡ map (λ name. name.now) names.now)) }
+    ensures none { IfNone result (AreNames (command_named command)
+        (values_in (codes "names") (rows_of (found_of matches.now))) → ⊥) }
 {
     let names = matches.get_raw(NAMES)?;
-    if names.len() != 1 {
+    if !are_names(command, names) {
         return None;
     }
-    let name = names[0];
-    if !is_name(name) {
-        return None;
-    }
-    Some(name)
+    Some(names)
 }
 
-/// The two positional words, where both are names.
-pub fn two_names<'a>(matches: &ArgMatches<'a>) -> Option<(&'a str, &'a str)>
-    ensures some { IfSome result (λ names. IsName names.0.now × IsName names.1.now
-        × (all_of (codes "names") (rows_of (found_of matches.now))
-        ≡ Some (names.0.now ∷ names.1.now ∷ []))) }
-    ensures none { IfNone result ((first second : Text) → IsName first → IsName second
-        → all_of (codes "names") (rows_of (found_of matches.now)) ≡ Some (first ∷ second ∷ []) → ⊥) }
+/// The number that the option is set to.
+pub fn number_given(option: OptionName, matches: &ArgMatches) -> Option<u64>
+    ensures some { IfSome result (λ n.
+        IsGiven (option_named option) (rows_of (found_of matches.now)) (to_number n)) }
+    ensures none { IfNone result ((n : ℕ)
+        → IsGiven (option_named option) (rows_of (found_of matches.now)) (to_number n) → ⊥) }
 {
-    let names = matches.get_raw(NAMES)?;
-    if names.len() != 2 {
-        return None;
-    }
-    let first = names[0];
-    if !is_name(first) {
-        return None;
-    }
-    let second = names[1];
-    if !is_name(second) {
-        return None;
-    }
-    Some((first, second))
+    let row = option_row(option);
+    read_number(row.kind, matches.get_str(row.name))
 }

@@ -90,6 +90,7 @@ fn options_with_no_reading(rt: HostRuntime) -> Result<(), Fail> {
     expect(&rt, "best F --in 4294967299", "none")?;
     expect(&rt, "best F --in 2 --in 2", "none")?;
     expect(&rt, "best F --in=2 --in=2", "none")?;
+    expect(&rt, "best F --in 3 --in=3", "none")?;
     expect(&rt, "best F --inn 2", "none")?;
     expect(&rt, "best F --=2", "none")?;
     Ok(())

@@ -1,6 +1,9 @@
-//! Names, and numbers in a range.
-ghost use Rattle.std.specs.Prelude.{◌≡◌, ◌↔◌, ℕ, ◌≤◌, IsTrue, List, map, IfSome, IfNone, option_map};
-ghost use Rattle.ci_words.specs.Words.{IsName, IsNumber, IsLimit};
+//! What names and numbers look like.
+ghost use Rattle.std.specs.Prelude.{◌≡◌, ◌↔◌, ℕ, IsTrue, IfSome, IfNone, option_map, option_to_list};
+ghost use Rattle.ci_words.specs.Words.{IsName, IsNumber, Sets, to_number};
+ghost use Rattle.ci_words.specs.Parses.{kind_of};
+
+use crate::tables::Kind;
 
 /// The greatest number of digits of a number.
 const GREATEST_LENGTH: usize = 10;
@@ -15,28 +18,30 @@ pub fn is_name(text: &str) -> bool
     }
 }
 
-/// The limit that an option gives: the number from 1 to the greatest that its value spells, and the greatest where it has no
-/// value.
-pub fn read_limit(text: Option<&str>, greatest: u8) -> Option<u8>
-    requires { 1 ≤ greatest }
-    ensures some { IfSome result (λ limit.
-        IsLimit greatest (option_map (λ t. t.now) text.entry) limit) }
-    ensures in_range { IfSome result (λ limit. (1 ≤ limit) × (limit ≤ greatest)) }
-    ensures none { IfNone result ((limit : ℕ)
-        → IsLimit greatest (option_map (λ t. t.now) text.entry) limit → ⊥) }
+/// The number that an option of the kind is set to by its value, if it has one.
+pub fn read_number(kind: Kind, value: Option<&str>) -> Option<u64>
+    ensures some { IfSome result (λ n.
+        Sets (kind_of kind) (option_to_list (option_map (λ t. t.now) value.entry)) (to_number n)) }
+    ensures none { IfNone result ((n : ℕ)
+        → Sets (kind_of kind) (option_to_list (option_map (λ t. t.now) value.entry)) (to_number n) → ⊥) }
 {
-    let Some(text) = text else {
-        return Some(greatest);
+    let Kind::Number {
+        least,
+        greatest,
+        usual,
+    } = kind;
+    let Some(text) = value else {
+        return Some(usual);
     };
-    let value = read_number(text)?;
-    if value < 1 || value > u64::from(greatest) {
+    let n = number_of(text)?;
+    if n < least || greatest < n {
         return None;
     }
-    Some(value as u8)
+    Some(n)
 }
 
 /// The number of one to ten decimal digits.
-fn read_number(text: &str) -> Option<u64>
+fn number_of(text: &str) -> Option<u64>
     ensures some { IfSome result (λ value. IsNumber text.now value) }
     ensures none { IfNone result ((value : ℕ) → IsNumber text.now value → ⊥) }
 {

@@ -1,7 +1,7 @@
 -- The digits so far are digits, the value is their number, and it has no more digits than they are.
 use Rattle.std.proofs.Common.{◌≡◌, ◌^◌, ◌<◌, ◌≤◌, All, take, length}
 use Rattle.ci_words.specs.Words.{IsDigit, number_of_digits}
-use Rattle.ci_words.proofs.value.read_number.Given as goal
+use Rattle.ci_words.proofs.value.number_of.Given as goal
 
 abbrev pub invariant-loop-digit : goal.invariant-loop-digit
 invariant-loop-digit l = record {

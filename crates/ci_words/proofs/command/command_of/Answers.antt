@@ -1,0 +1,8 @@
+-- Matches without limits give no reading of `best`.
+use Rattle.ci_words.specs.Tables.{inputs, outputs}
+use Rattle.ci_words.specs.Words.{settings_of}
+use Rattle.ci_words.proofs.command.command_of.Goals as goal
+
+pub returns-in_err-limits-in-Best-clause-none : goal.returns-in_err-limits-in-Best-clause-none
+returns-in_err-limits-in-Best-clause-none c =
+    rw c.from_residual-in_err-limits-in-Best.ensures (rw c.in-Best.is (λ reading is. c.in_err-limits-in-Best.ensures.none (settings_of reading).inputs (settings_of reading).outputs (is.set inputs) (is.set outputs)))

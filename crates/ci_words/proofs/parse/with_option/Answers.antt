@@ -1,0 +1,16 @@
+-- The option stands after those that are known.
+use Rattle.std.proofs.Common.{◌≡◌, ◌∙◌, [], ◌∷◌, ◌++◌, ap, ap₂, rules, sym}
+use Rattle.std.proofs.lemmas.List.{map-append}
+use Rattle.std.proofs.lemmas.Result.{IfOk-weaker}
+use Rattle.clap.specs.Words.{AddsArg, app_of, rule_of, with_rule}
+use Rattle.ci_words.specs.Parses.{app_for, names_given, option_given}
+use Rattle.ci_words.proofs.parse.with_option.Goals as goal
+
+pub returns : goal.returns
+returns c = λ word known is.
+    let name = c.args.name.now in
+    let rule : rule_of c.action.result ≡ option_given name = search rules in
+    let rules_are = map-append option_given known (name ∷ []) in
+    IfOk-weaker c.arg.result (AddsArg c.args.parser c.action.result) (λ more. app_of more ≡ app_for word (known ++ name ∷ []))
+    (λ more adds. adds.shape (search rules) ∙ (ap₂ with_rule is rule ∙ ap (λ gs. record (app_for word []) { top = record (app_for word []).top { rules = names_given ∷ gs } }) (sym rules_are)))
+    c.arg.ensures

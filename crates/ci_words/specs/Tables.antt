@@ -1,0 +1,46 @@
+-- For every reader: the commands of the program and their options, a row each.
+use Rattle.std.specs.Prelude.{ℕ, Bool, false, List, [], ◌∷◌, codes}
+
+-- ---- commands
+
+-- what a command does with a file
+pub data Access : Type 0 where
+  reads : Access
+  writes : Access
+
+-- the word that names a command, and what it does with the file of each name that follows, in order
+pub record CommandRow : Type 0 where
+  pub word : List ℕ
+  pub names : List Access
+
+pub data CommandName : Type 0 where
+  best : CommandName
+  asm : CommandName
+  dis : CommandName
+
+abbrev pub command_row : CommandName → CommandRow
+command_row best = record { word = codes "best"; names = reads ∷ [] }
+command_row asm = record { word = codes "asm"; names = reads ∷ writes ∷ [] }
+command_row dis = record { word = codes "dis"; names = reads ∷ [] }
+
+-- ---- options
+
+-- what an option's value is, and what stands where none is given
+pub data Kind : Type 0 where
+  number : (least greatest usual : ℕ) → Kind
+
+-- an option's name, without its hyphens, the kind of its value, whether it may stand more than once, and the commands
+-- that have it
+pub record OptionRow : Type 0 where
+  pub name : List ℕ
+  pub kind : Kind
+  pub repeatable : Bool
+  pub commands : List CommandName
+
+pub data OptionName : Type 0 where
+  inputs : OptionName
+  outputs : OptionName
+
+abbrev pub option_row : OptionName → OptionRow
+option_row inputs = record { name = codes "in"; kind = number 1 3 3; repeatable = false; commands = best ∷ [] }
+option_row outputs = record { name = codes "out"; kind = number 1 2 2; repeatable = false; commands = best ∷ [] }

@@ -1,0 +1,135 @@
+//! The commands and their options, a row each.
+ghost use Rattle.std.specs.Prelude.{◌≡◌, map, Contains};
+ghost use Rattle.ci_words.specs.Tables as table;
+ghost use Rattle.ci_words.specs.Parses.{command_named, option_named, access_named, kind_of, every_option, has_option};
+
+/// The commands by name.
+#[derive(Clone, Copy, PartialEq, Eq)]
+pub enum CommandName {
+    /// `best`
+    Best,
+    /// `asm`
+    Asm,
+    /// `dis`
+    Dis,
+}
+
+/// What a command does with a file.
+#[derive(Clone, Copy, PartialEq, Eq)]
+pub enum Access {
+    /// It reads the file.
+    Reads,
+    /// It writes the file.
+    Writes,
+}
+
+/// A row of the table of commands.
+#[derive(Clone, Copy)]
+pub struct CommandRow {
+    /// The word that names the command.
+    pub word: &'static str,
+    /// What the command does with the file of each positional word.
+    pub names: &'static [Access],
+}
+
+/// The row of the command.
+pub fn command_row(command: CommandName) -> CommandRow
+    ensures word { result.word.now ≡ (table.command_row (command_named command)).word }
+    ensures names { map access_named result.names.now ≡ (table.command_row (command_named command)).names }
+{
+    match command {
+        CommandName::Best => CommandRow {
+            word: "best",
+            names: &[Access::Reads],
+        },
+        CommandName::Asm => CommandRow {
+            word: "asm",
+            names: &[Access::Reads, Access::Writes],
+        },
+        CommandName::Dis => CommandRow {
+            word: "dis",
+            names: &[Access::Reads],
+        },
+    }
+}
+
+/// The options by name.
+#[derive(Clone, Copy, PartialEq, Eq)]
+pub enum OptionName {
+    /// `--in`
+    Inputs,
+    /// `--out`
+    Outputs,
+}
+
+/// What the value of an option is.
+#[derive(Clone, Copy)]
+pub enum Kind {
+    /// A number from the least to the greatest, or the usual one where none is given.
+    Number {
+        least: u64,
+        greatest: u64,
+        usual: u64,
+    },
+}
+
+/// A row of the table of options.
+#[derive(Clone, Copy)]
+pub struct OptionRow {
+    /// The name, without its hyphens.
+    pub name: &'static str,
+    /// The kind of its value.
+    pub kind: Kind,
+    /// The commands that have it.
+    pub commands: &'static [CommandName],
+}
+
+/// The row of the option.
+pub fn option_row(option: OptionName) -> OptionRow
+    ensures name { result.name.now ≡ (table.option_row (option_named option)).name }
+    ensures kind { kind_of result.kind ≡ (table.option_row (option_named option)).kind }
+    ensures commands { map command_named result.commands.now
+        ≡ (table.option_row (option_named option)).commands }
+{
+    match option {
+        OptionName::Inputs => OptionRow {
+            name: "in",
+            kind: Kind::Number {
+                least: 1,
+                greatest: 3,
+                usual: 3,
+            },
+            commands: &[CommandName::Best],
+        },
+        OptionName::Outputs => OptionRow {
+            name: "out",
+            kind: Kind::Number {
+                least: 1,
+                greatest: 2,
+                usual: 2,
+            },
+            commands: &[CommandName::Best],
+        },
+    }
+}
+
+/// The commands in the order of their table.
+pub fn all_commands() -> &'static [CommandName]
+    ensures { (command : table.CommandName) → Contains (map command_named result.now) command }
+{
+    &[CommandName::Best, CommandName::Asm, CommandName::Dis]
+}
+
+/// The options in the order of their table.
+pub fn all_options() -> &'static [OptionName]
+    ensures { map option_named result.now ≡ every_option }
+{
+    &[OptionName::Inputs, OptionName::Outputs]
+}
+
+/// Whether the option is the command's.
+pub fn is_of(command: CommandName, option: OptionName) -> bool
+    ensures { result ≡ has_option (command_named command) (option_named option) }
+{
+    option_row(option).commands.contains(&command)
+}
