@@ -6,9 +6,9 @@ use Rattle.ci_find.specs.Commands.{inputs_of, IsMade, IsUnmade}
 use Rattle.ci_find.specs.Endings.{IsDone, IsRefusal, usage, file, unmade, IsDue}
 use Rattle.ci_find.specs.Forms.{Form, any_bytes, assembler_text, IsWellFormed, IsMalformed}
 use Rattle.ci_find.specs.Inputs.{Input, IsGood, AreRead, IsRefusedFile, absent, too_large, malformed, IsFileRefusal}
-use Rattle.ci_find.specs.Refusals.{OneReading}
 use Rattle.ci_find.specs.Success.{Success}
 use Rattle.ci_find.specs.Texts.{IsText, IsBadText}
+use Rattle.ci_words.proofs.Readings.{one_reading}
 use Rattle.ci_find.proofs.Spelling.{block_or_unsupported}
 
 -- ---- one file
@@ -98,7 +98,7 @@ module _ (held : Files) where
 
 -- of what something is made is not refused
 made_or_unmade : (reading : Reading) (read : List (List ℕ)) (success : Success) (status : ℕ) (text : List ℕ) → IsMade reading read success → IsUnmade reading read status text → ⊥
-made_or_unmade (best name inputs outputs) read success status text made is =
+made_or_unmade (best name settings) read success status text made is =
     let same : made.bytes ≡ is.bytes = let lists : made.bytes ∷ [] ≡ is.bytes ∷ [] = sym made.read_is ∙ is.read_is in cc in
     block_or_unsupported is.bytes made.operations is.position is.word is.unsupported (rw (← same) made.block)
 made_or_unmade (asm name out) read success status text made is = is
@@ -106,7 +106,7 @@ made_or_unmade (dis name) read success status text made is = is
 
 -- it is refused with one status
 unmade_once : (reading : Reading) (read : List (List ℕ)) (first second : ℕ) (text other : List ℕ) → IsUnmade reading read first text → IsUnmade reading read second other → first ≡ second
-unmade_once (best name inputs outputs) read first second text other a b = a.status_is ∙ sym b.status_is
+unmade_once (best name settings) read first second text other a b = a.status_is ∙ sym b.status_is
 unmade_once (asm name out) read first second text other a b = absurd a
 unmade_once (dis name) read first second text other a b = absurd a
 
@@ -148,13 +148,13 @@ due_status : (held : Files) (words : List (List ℕ)) (status : ℕ) → IsDue (
 due_status held words status (inl (zero, (success, is))) = inr (is.reading, is.reads, inr (inr (is.read, is.files, (success, is.made), zero)))
 due_status held words status (inr (text, is)) = refusal_status held words status text is
 
-words_once : (held : Files) (words : List (List ℕ)) (first second : ℕ) → OneReading words → WordsStatus held words first → WordsStatus held words second → first ≡ second
-words_once held words first second one (inl a) (inl b) = a.1 ∙ sym b.1
-words_once held words first second one (inl a) (inr b) = absurd (a.0 b.0 b.1)
-words_once held words first second one (inr a) (inl b) = absurd (b.0 a.0 a.1)
-words_once held words first second one (inr a) (inr b) =
-    reading_once held b.0 first second (subst (λ reading. ReadingStatus held reading first) (one a.0 b.0 a.1 b.1) a.2) b.2
+words_once : (held : Files) (words : List (List ℕ)) (first second : ℕ) → WordsStatus held words first → WordsStatus held words second → first ≡ second
+words_once held words first second (inl a) (inl b) = a.1 ∙ sym b.1
+words_once held words first second (inl a) (inr b) = absurd (a.0 b.0 b.1)
+words_once held words first second (inr a) (inl b) = absurd (b.0 a.0 a.1)
+words_once held words first second (inr a) (inr b) =
+    reading_once held b.0 first second (subst (λ reading. ReadingStatus held reading first) (one_reading words a.0 b.0 a.1 b.1) a.2) b.2
 
 -- one status is due
-pub IsDue-same : (held : Files) (words : List (List ℕ)) (first second : ℕ) → OneReading words → IsDue (Some held) words first → IsDue (Some held) words second → first ≡ second
-IsDue-same held words first second one a b = words_once held words first second one (due_status held words first a) (due_status held words second b)
+pub IsDue-same : (held : Files) (words : List (List ℕ)) (first second : ℕ) → IsDue (Some held) words first → IsDue (Some held) words second → first ≡ second
+IsDue-same held words first second a b = words_once held words first second (due_status held words first a) (due_status held words second b)

@@ -5,11 +5,11 @@ use Rattle.ci_words.specs.Words.{Reading, best, asm, dis}
 use Rattle.ci_find.specs.declared.faults.Refusal.{Refusal}
 use Rattle.ci_find.specs.declared.faults.Refusal.TheVariants.{NoMemory}
 use Rattle.ci_find.specs.Commands.{inputs_of, IsUnmade}
-use Rattle.ci_find.specs.Endings.{IsDone, IsRefusal, usage, file, unmade, IsDue, Change, IsPut, IsUnwritten, Finishes, done, write_fault, put_fault, no_memory_in_write, no_memory_in_put, Ends, finished, refused, read_fault, no_memory, Answers}
+use Rattle.ci_find.specs.Endings.{IsDone, IsRefusal, usage, file, unmade, IsDue, Change, IsPut, IsUnwritten, Finishes, done, write_fault, put_fault, no_memory_in_write, no_memory_in_put, Ends, finished, refused, read_fault, no_memory, IsAnswered}
 use Rattle.ci_find.specs.Forms.{Form, any_bytes, assembler_text, IsMalformed}
 use Rattle.ci_find.specs.Inputs.{Input, IsRefusedFile, absent, too_large, malformed, IsFileRefusal}
-use Rattle.ci_find.specs.Lines.{usage_line, read_line, no_memory_line}
-use Rattle.ci_find.specs.Refusals.{status_of, line_of, reads_between, Explains, IsRefused, OneReading}
+use Rattle.ci_find.specs.Lines.{usage_line, read_fault_line, no_memory_line}
+use Rattle.ci_find.specs.Faults.{status_of, line_of, reads_between, Explains, IsRefused}
 use Rattle.ci_find.specs.Success.{Success}
 use Rattle.ci_find.proofs.Dues.{IsDue-same}
 use Rattle.ci_find.proofs.Sinks.{Rises-earlier}
@@ -34,7 +34,7 @@ module _ (may_fail : List ℕ → Bool) (words : List (List ℕ)) (change : Chan
       Ends-at (status_of refusal) 1 (ap status_of is) (refused (usage none) unwritten (put-at (line_of refusal) usage_line (ap line_of is) put))
   Ends-explained refusal (inr (inl (reading, reads, inl (inl is)))) unwritten put = refused (file reading reads is) unwritten put
   Ends-explained refusal (inr (inl (reading, reads, inl (inr (inl fault))))) unwritten put =
-      Ends-at (status_of refusal) 2 fault.status_is (read_fault reading fault.name reads fault.due fault.may_fail fault.counted unwritten (put-at (line_of refusal) (read_line fault.name) fault.line_is put))
+      Ends-at (status_of refusal) 2 fault.status_is (read_fault reading fault.name reads fault.due fault.may_fail fault.counted unwritten (put-at (line_of refusal) (read_fault_line fault.name) fault.line_is put))
   Ends-explained refusal (inr (inl (reading, reads, inl (inr (inr is))))) unwritten put = Ends-no_memory refusal is unwritten put
   Ends-explained refusal (inr (inl (reading, reads, inr is))) unwritten put = refused (unmade reading is.read reads is.files is.unmade) unwritten put
   Ends-explained refusal (inr (inr is)) unwritten put = Ends-no_memory refusal is unwritten put
@@ -48,7 +48,7 @@ module _ (may_fail : List ℕ → Bool) (words : List (List ℕ)) (change : Chan
 -- ---- what is due comes
 
 -- a success that is due ends with its own status, or as a write or a put that failed does
-finished-answers : (words : List (List ℕ)) (change : Change) (success : Success) (due status : ℕ) → due ≡ 0 → Finishes change success status → Answers change due status
+finished-answers : (words : List (List ℕ)) (change : Change) (success : Success) (due status : ℕ) → due ≡ 0 → Finishes change success status → IsAnswered change due status
 finished-answers words change success due status zero (done written took) = inl (sym zero)
 finished-answers words change success due status zero (write_fault fault) = inr (inr (inr (refl, zero, inl fault.counted)))
 finished-answers words change success due status zero (put_fault fault) =
@@ -61,24 +61,18 @@ module _ (may_fail : List ℕ → Bool) (held : Files) (words : List (List ℕ))
   due_told : (status : ℕ) → IsDue change.shelf_before.files words status → IsDue (Some held) words status
   due_told status is = subst (λ (told : Option Files). IsDue told words status) tells is
 
-  Answers-end : (due status : ℕ) → OneReading words → IsDue (Some held) words due → Ends may_fail words change status → Answers change due status
-  Answers-end due status one is (finished {success = success} made finishes) =
-      finished-answers words change success due status (IsDue-same held words due 0 one is (due_told 0 (inl (refl, (success, made))))) finishes
-  Answers-end due status one is (refused {text = text} refusal unwritten put) =
-      inl (IsDue-same held words status due one (due_told status (inr (text, refusal))) is)
-  Answers-end due status one is (read_fault reading name reads named may rose unwritten put) = inr (inr (inl (refl, rose)))
-  Answers-end due status one is (no_memory unwritten put) = inr (inl refl)
+  Answers-end : (due status : ℕ) → IsDue (Some held) words due → Ends may_fail words change status → IsAnswered change due status
+  Answers-end due status is (finished {success = success} made finishes) =
+      finished-answers words change success due status (IsDue-same held words due 0 is (due_told 0 (inl (refl, (success, made))))) finishes
+  Answers-end due status is (refused {text = text} refusal unwritten put) =
+      inl (IsDue-same held words status due (due_told status (inr (text, refusal))) is)
+  Answers-end due status is (read_fault reading name reads named may rose unwritten put) = inr (inr (inl (refl, rose)))
+  Answers-end due status is (no_memory unwritten put) = inr (inl refl)
 
--- what is due over the files told comes, where memory did not run out before the words were read
-pub Answers-due : (may_fail : List ℕ → Bool) (words : List (List ℕ)) (change : Change) (status : ℕ) → (status ≡ 12) ⊎ OneReading words → Ends may_fail words change status → (told : Option Files) → change.shelf_before.files ≡ told → IfSome told (λ held. (due : ℕ) → IsDue (Some held) words due → Answers change due status)
-Answers-due may_fail words change status one ends None tells = tt
-Answers-due may_fail words change status (inl none) ends (Some held) tells = λ due is. inr (inl none)
-Answers-due may_fail words change status (inr one) ends (Some held) tells = λ due is. Answers-end may_fail held words change tells due status one is ends
-
--- where the refusal is that memory ran out, that is the status, whatever of its line is put
-pub refused_no_memory : (refusal : Refusal) (status : ℕ) (before after : SinkState) → refusal ≡ NoMemory → IsRefused refusal status before after → status ≡ 12
-refused_no_memory refusal status before after is (inl line) = line.0 ∙ ap status_of is
-refused_no_memory refusal status before after is (inr none) = none.0
+-- what is due over the files told comes
+pub Answers-due : (may_fail : List ℕ → Bool) (words : List (List ℕ)) (change : Change) (status : ℕ) → Ends may_fail words change status → (told : Option Files) → change.shelf_before.files ≡ told → IfSome told (λ held. (due : ℕ) → IsDue (Some held) words due → IsAnswered change due status)
+Answers-due may_fail words change status ends None tells = tt
+Answers-due may_fail words change status ends (Some held) tells = λ due is. Answers-end may_fail held words change tells due status is ends
 
 -- ---- the statuses
 
@@ -100,7 +94,7 @@ files-status told (input ∷ inputs) status text (inl is) = file-status told inp
 files-status told (input ∷ inputs) status text (inr is) = files-status told inputs status text is.2
 
 unmade-status : (reading : Reading) (read : List (List ℕ)) (status : ℕ) (text : List ℕ) → IsUnmade reading read status text → Contains statuses status
-unmade-status (best name inputs outputs) read status text is = subst (Contains statuses) (sym is.status_is) (5, lit< tt, refl)
+unmade-status (best name settings) read status text is = subst (Contains statuses) (sym is.status_is) (5, lit< tt, refl)
 unmade-status (asm name out) read status text is = absurd is
 unmade-status (dis name) read status text is = absurd is
 

@@ -8,7 +8,7 @@ use Rattle.ci_io.specs.Outcomes.{Rises, SinkState}
 use Rattle.ci_find.specs.declared.faults.Refusal.{Refusal}
 use Rattle.ci_find.specs.Endings.{IsPut}
 use Rattle.ci_find.specs.Lines.{no_memory_line}
-use Rattle.ci_find.specs.Refusals.{status_of, line_of, IsRefused}
+use Rattle.ci_find.specs.Faults.{status_of, line_of, IsRefused}
 
 -- a count that rose in the last part of a call rose in the call
 pub Rises-later : (first middle last : ℕ) → first ≤ middle → Rises middle last → Rises first last

@@ -10,7 +10,7 @@ use Rattle.ci_find.specs.declared.commands.Written.{Written as MadeFile}
 use Rattle.ci_find.specs.declared.finish.WriteErr.TheVariants.{Fault, NoMemory}
 use Rattle.ci_find.specs.Endings.{Change, IsPut, AreWritten, HasWritten, IsWriteFault, IsMemoryFaultInWrite, Finishes, done, write_fault, put_fault, no_memory_in_write, no_memory_in_put}
 use Rattle.ci_find.specs.Lines.{no_memory_line}
-use Rattle.ci_find.specs.Steps.{written_of, AreUnwritten, IsTextPut, taken, fault, no_memory}
+use Rattle.ci_find.specs.Finish.{written_of, AreUnwritten, IsTextPut, taken, fault, no_memory}
 use Rattle.ci_find.specs.Success.{Written, Success, with_files}
 use Rattle.ci_find.proofs.Sinks.{Rises-later}
 

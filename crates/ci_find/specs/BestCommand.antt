@@ -1,6 +1,7 @@
 -- The command `best`: the best cut of a block.
 use Rattle.std.specs.Prelude.{◌≡◌, ℕ, List, [], ◌∷◌}
 use Rattle.ci_cut.specs.declared.graph.Limits.{Limits}
+use Rattle.ci_words.specs.Words.{Settings}
 use Rattle.ci_find.specs.declared.commands.best.block.Operation.{Operation}
 use Rattle.ci_find.specs.Block.{IsBlock, IsUnsupported, graph_of}
 use Rattle.ci_find.specs.Forms.{any_bytes}
@@ -13,14 +14,14 @@ abbrev pub best_inputs : List ℕ → List Input
 best_inputs file = record { name = file; limit = 1024; form = any_bytes } ∷ []
 
 -- it puts the line of the best cut of the block within the limits
-pub record IsBestMade (inputs outputs : ℕ) (read : List (List ℕ)) (success : Success) : Type 0 where
+pub record IsBestMade (settings : Settings) (read : List (List ℕ)) (success : Success) : Type 0 where
   pub bytes : List ℕ
   pub operations : List Operation
   pub limits : Limits
   pub read_is : read ≡ bytes ∷ []
   pub block : IsBlock bytes operations
-  pub inputs_are : limits.inputs ≡ inputs
-  pub outputs_are : limits.outputs ≡ outputs
+  pub inputs_are : limits.inputs ≡ settings.inputs
+  pub outputs_are : limits.outputs ≡ settings.outputs
   pub line : IsBestLine (graph_of operations) limits success.text
   pub writes_none : success.writes ≡ []
 

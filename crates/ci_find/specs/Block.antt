@@ -15,8 +15,8 @@ use Rattle.ci_find.specs.declared.commands.best.block.Operation.{Operation}
 abbrev pub field : ℕ → ℕ → ℕ → ℕ
 field word high low = word / 2 ^ low % 2 ^ (high + 1 - low)
 
--- An instruction of the table: its opcode, funct3 and, where it reads rs2, funct7, and its delay in thousandths of a cycle
--- (RISC-V Unprivileged ISA 20191213, section 2.4 and chapter 24).
+-- An instruction of the table: its opcode, funct3 and, where it reads rs2, funct7, and its delay in thousandths of a
+-- cycle (RISC-V Unprivileged ISA 20191213, section 2.4 and chapter 24).
 pub record Form : Type 0 where
   pub opcode : ℕ
   pub funct3 : ℕ
@@ -71,7 +71,8 @@ pub record IsFirstUnsupported (bytes : List ℕ) (position word : ℕ) : Type 0 
   pub at_most : place ≤ 12
   pub before : (k : ℕ) → k < place → IsSome (operation_of (slice_index_or (words_of_bytes bytes) k 0))
 
--- Why bytes are no block: their number is no multiple of four, and then it is the position and the word is 0; or a word.
+-- Why bytes are no block: their number is no multiple of four, and then it is the position and the word is 0; or a
+-- word.
 abbrev pub IsUnsupported : List ℕ → ℕ → ℕ → Type 0
 IsUnsupported bytes position word =
     ((length bytes % 4 ≢ 0) × (position ≡ length bytes) × (word ≡ 0)) ⊎ IsFirstUnsupported bytes position word
@@ -114,7 +115,8 @@ module _ (operations : List Operation) where
   -- every register is live after the block, so a value is where no later operation writes its register
   abbrev pub is_live : ℕ → Bool
   is_live k =
-      not (some_below (length operations) (λ j. nat_lt k j && nat_eq (operation_at j).destination (operation_at k).destination))
+      not (some_below (length operations) (λ j.
+      nat_lt k j && nat_eq (operation_at j).destination (operation_at k).destination))
 
   abbrev pub node_of : ℕ → Node
   node_of k = record {

@@ -1,7 +1,7 @@
--- What each command reads, what it makes of that, and what it refuses once all its files are read. A file for each command says so.
+-- What each command reads, what it makes of that, and what it refuses once all its files are read. A file for each
+-- command says so.
 use Rattle.std.specs.Prelude.{ℕ, List}
-use Rattle.ci_words.specs.Words.{Reading}
-use Rattle.ci_words.specs.Words.{best, asm, dis}
+use Rattle.ci_words.specs.Words.{Reading, best, asm, dis}
 use Rattle.ci_find.specs.Inputs.{Input}
 use Rattle.ci_find.specs.Success.{Success}
 use Rattle.ci_find.specs.BestCommand.{best_inputs, IsBestMade, IsBestRefused}
@@ -10,18 +10,18 @@ use Rattle.ci_find.specs.DisCommand.{dis_inputs, IsDisMade}
 
 -- the files that the command reads, in order
 abbrev pub inputs_of : Reading → List Input
-inputs_of (best file inputs outputs) = best_inputs file
+inputs_of (best file settings) = best_inputs file
 inputs_of (asm text out) = asm_inputs text
 inputs_of (dis file) = dis_inputs file
 
 -- what the command makes of the bytes of its files
 abbrev pub IsMade : Reading → List (List ℕ) → Success → Type 0
-IsMade (best file inputs outputs) read success = IsBestMade inputs outputs read success
+IsMade (best file settings) read success = IsBestMade settings read success
 IsMade (asm text out) read success = IsAsmMade out read success
 IsMade (dis file) read success = IsDisMade read success
 
 -- the status and the fault line where the command makes nothing of them, though each file alone is well formed
 abbrev pub IsUnmade : Reading → List (List ℕ) → ℕ → List ℕ → Type 0
-IsUnmade (best file inputs outputs) read status text = IsBestRefused read status text
+IsUnmade (best file settings) read status text = IsBestRefused read status text
 IsUnmade (asm name out) read status text = ⊥
 IsUnmade (dis file) read status text = ⊥

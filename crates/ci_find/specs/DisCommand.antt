@@ -11,7 +11,8 @@ use Rattle.ci_find.specs.Forms.{any_bytes}
 use Rattle.ci_find.specs.Inputs.{Input}
 use Rattle.ci_find.specs.Success.{Success}
 
--- The text of a word: that of the instruction that it reads as in the extended table, or of the bare word where it reads as none.
+-- The text of a word: that of the instruction that it reads as in the extended table, or of the bare word where it
+-- reads as none.
 abbrev pub IsTextOf : ℕ → List ℕ → Type 0
 IsTextOf word text =
     ((insn : Insn) × ReadsX word insn × (text ≡ shown insn))

@@ -5,7 +5,7 @@ use Rattle.ci_io.specs.Outcomes.{Files, Rises, ShelfState, SinkState, with_file}
 use Rattle.ci_words.specs.Words.{Reading, ReadsAs, HasNoReading}
 use Rattle.ci_find.specs.Commands.{inputs_of, IsMade, IsUnmade}
 use Rattle.ci_find.specs.Inputs.{AreRead, IsFileRefusal, IsDueName}
-use Rattle.ci_find.specs.Lines.{usage_line, read_line, write_line, sink_name, no_memory_line}
+use Rattle.ci_find.specs.Lines.{usage_line, read_fault_line, write_fault_line, sink_name, no_memory_line}
 use Rattle.ci_find.specs.Success.{Written, Success, with_files}
 
 -- ---- what is due
@@ -44,13 +44,19 @@ pub record Change : Type 0 where
 
 abbrev pub changed : ShelfState → ShelfState → SinkState → SinkState → Change
 changed shelf_before shelf_after sink_before sink_after =
-    record { shelf_before = shelf_before; shelf_after = shelf_after; sink_before = sink_before; sink_after = sink_after }
+    record {
+      shelf_before = shelf_before;
+      shelf_after = shelf_after;
+      sink_before = sink_before;
+      sink_after = sink_after;
+    }
 
 -- the sink took this text, where it tells what it takes
 abbrev pub Takes : SinkState → SinkState → List ℕ → Type 0
 Takes before after text = after.taken ≡ option_map (λ taken. taken ++ text) before.taken
 
--- A put of the text was made. It was taken; or the put failed, and a front was taken; or it ran out of memory, and nothing was.
+-- A put of the text was made. It was taken; or the put failed, and a front was taken; or it ran out of memory, and
+-- nothing was.
 pub record IsPut (before after : SinkState) (text : List ℕ) : Type 0 where
   pub never_falls : before.faults ≤ after.faults
   pub outcome :
@@ -72,8 +78,8 @@ pub record HasWritten (change : Change) (writes : List Written) : Type 0 where
   pub written : AreWritten change.shelf_before change.shelf_after writes
   pub same_count : writes ≡ [] → change.shelf_after.write_faults ≡ change.shelf_before.write_faults
 
--- The write of one of the files failed: those before it were written, its name holds any bytes or nothing, the others are as
--- before, and the fault line names it.
+-- The write of one of the files failed: those before it were written, its name holds any bytes or nothing, the others
+-- are as before, and the fault line names it.
 pub record IsWriteFault (change : Change) (writes : List Written) : Type 0 where
   pub front : List Written
   pub failed : Written
@@ -83,10 +89,10 @@ pub record IsWriteFault (change : Change) (writes : List Written) : Type 0 where
   pub files : change.shelf_after.files
       ≡ option_map (λ held. with_file failed.name content (with_files front held)) change.shelf_before.files
   pub counted : Rises change.shelf_before.write_faults change.shelf_after.write_faults
-  pub line : IsPut change.sink_before change.sink_after (write_line failed.name)
+  pub line : IsPut change.sink_before change.sink_after (write_fault_line failed.name)
 
--- The put of the text failed once all was written: the sink took a front of it, and then the fault line. `between` is the sink
--- after the first put.
+-- The put of the text failed once all was written: the sink took a front of it, and then the fault line. `between` is
+-- the sink after the first put.
 pub record IsPutFault (change : Change) (success : Success) : Type 0 where
   pub written : HasWritten change success.writes
   pub has_text : success.text ≢ []
@@ -94,7 +100,7 @@ pub record IsPutFault (change : Change) (success : Success) : Type 0 where
   pub never_falls : change.sink_before.faults ≤ between.faults
   pub counted : Rises change.sink_before.faults between.faults
   pub front : (n : ℕ) × Takes change.sink_before between (take n success.text)
-  pub line : IsPut between change.sink_after (write_line sink_name)
+  pub line : IsPut between change.sink_after (write_fault_line sink_name)
 
 -- Memory ran out for the write of one of the files: those before it were written, and the others are as before.
 pub record IsMemoryFaultInWrite (change : Change) (writes : List Written) : Type 0 where
@@ -116,21 +122,23 @@ pub record IsMemoryFaultInPut (change : Change) (success : Success) : Type 0 whe
 
 -- ---- how a call ends
 
--- How a success ends, by its status: all was written and its text was taken; or a write or a put of it failed, or ran out of memory.
+-- How a success ends, by its status: all was written and its text was taken; or a write or a put of it failed, or ran
+-- out of memory.
 pub data Finishes (change : Change) (success : Success) : ℕ → Type 0 where
-  done : HasWritten change success.writes → Takes change.sink_before change.sink_after success.text → Finishes change success 0
+  done :
+      HasWritten change success.writes → Takes change.sink_before change.sink_after success.text → Finishes change success 0
   write_fault : IsWriteFault change success.writes → Finishes change success 3
   put_fault : IsPutFault change success → Finishes change success 3
   no_memory_in_write : IsMemoryFaultInWrite change success.writes → Finishes change success 12
   no_memory_in_put : IsMemoryFaultInPut change success → Finishes change success 12
 
--- How a call ends, by its status: with the success or the refusal that is due, with a read that failed, or out of memory before any
--- write. A fault line is the last that the sink takes, and before it comes at most the front of the text of success that a failed
--- put left.
--- `read_may_fail` tells of which names a read may fail.
+-- How a call ends, by its status: with the success or the refusal that is due, with a read that failed, or out of
+-- memory before any write. A fault line is the last that the sink takes, and before it comes at most the front of the
+-- text of success that a failed put left. `read_may_fail` tells of which names a read may fail.
 pub data Ends (read_may_fail : List ℕ → Bool) (words : List (List ℕ)) (change : Change) : ℕ → Type 0 where
   finished :
-      {success : Success} {status : ℕ} → IsDone change.shelf_before.files words success → Finishes change success status →
+      {success : Success} {status : ℕ} → IsDone change.shelf_before.files words success →
+      Finishes change success status →
       Ends read_may_fail words change status
   refused :
       {status : ℕ} {text : List ℕ} → IsRefusal change.shelf_before.files words status text → IsUnwritten change →
@@ -139,12 +147,13 @@ pub data Ends (read_may_fail : List ℕ → Bool) (words : List (List ℕ)) (cha
       (reading : Reading) (name : List ℕ) → ReadsAs words reading →
       IsDueName change.shelf_before.files (inputs_of reading) name → IsTrue (read_may_fail name) →
       Rises change.shelf_before.read_faults change.shelf_after.read_faults → IsUnwritten change →
-      IsPut change.sink_before change.sink_after (read_line name) → Ends read_may_fail words change 2
-  no_memory : IsUnwritten change → IsPut change.sink_before change.sink_after no_memory_line → Ends read_may_fail words change 12
+      IsPut change.sink_before change.sink_after (read_fault_line name) → Ends read_may_fail words change 2
+  no_memory :
+      IsUnwritten change → IsPut change.sink_before change.sink_after no_memory_line → Ends read_may_fail words change 12
 
 -- The status that is due comes, unless memory runs out, or a read fails, or a write or a put of success does.
-abbrev pub Answers : Change → ℕ → ℕ → Type 0
-Answers change due status =
+abbrev pub IsAnswered : Change → ℕ → ℕ → Type 0
+IsAnswered change due status =
     (status ≡ due) ⊎ (status ≡ 12)
     ⊎ ((status ≡ 2) × Rises change.shelf_before.read_faults change.shelf_after.read_faults)
     ⊎ ((status ≡ 3) × (due ≡ 0)

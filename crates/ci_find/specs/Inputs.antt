@@ -3,7 +3,7 @@ use Rattle.std.specs.Prelude.{◌≡◌, ℕ, ◌<◌, ◌≤◌, ◌⊎◌, ⊤
 use Rattle.std.specs.Prelude.{Some, None}
 use Rattle.std.specs.FinMap as map
 use Rattle.ci_io.specs.Outcomes.{Files}
-use Rattle.ci_find.specs.Lines.{read_line, too_large_line}
+use Rattle.ci_find.specs.Lines.{read_fault_line, too_large_line}
 use Rattle.ci_find.specs.Forms.{Form, IsWellFormed, IsMalformed}
 
 -- a file that a command reads: its name, its maximum length in bytes, and what its bytes have to be
@@ -38,7 +38,7 @@ module _ (told : Option Files) where
 
   -- The status and the fault line of the file: it is absent, or longer than its limit, or malformed.
   pub data IsRefusedFile (input : Input) : ℕ → List ℕ → Type 0 where
-    absent : IsAbsent told input.name → IsRefusedFile input 2 (read_line input.name)
+    absent : IsAbsent told input.name → IsRefusedFile input 2 (read_fault_line input.name)
     too_large :
         (bytes : List ℕ) → MayHold told input.name bytes → input.limit < length bytes →
         IsRefusedFile input 4 (too_large_line input.name)

@@ -11,5 +11,5 @@ pub mod Commands
 pub mod Endings
 pub mod BlockErrs
 pub mod Places
-pub mod Refusals
-pub mod Steps
+pub mod Faults
+pub mod Finish

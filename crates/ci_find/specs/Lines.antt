@@ -13,11 +13,11 @@ use Rattle.ci_cut.specs.Best.{IsBest, HasNoCut}
 abbrev pub usage_line : List ℕ
 usage_line = line (codes "fault 1 usage")
 
-abbrev pub read_line : List ℕ → List ℕ
-read_line name = line (codes "fault 2 read " ++ name)
+abbrev pub read_fault_line : List ℕ → List ℕ
+read_fault_line name = line (codes "fault 2 read " ++ name)
 
-abbrev pub write_line : List ℕ → List ℕ
-write_line name = line (codes "fault 3 write " ++ name)
+abbrev pub write_fault_line : List ℕ → List ℕ
+write_fault_line name = line (codes "fault 3 write " ++ name)
 
 -- standard output's name
 abbrev pub sink_name : List ℕ
@@ -27,7 +27,8 @@ abbrev pub too_large_line : List ℕ → List ℕ
 too_large_line name = line (codes "fault 4 too large " ++ name)
 
 abbrev pub unsupported_line : ℕ → ℕ → List ℕ
-unsupported_line position word = line (codes "fault 7 unsupported " ++ eight_hex_digits position ++ codes " " ++ eight_hex_digits word)
+unsupported_line position word =
+    line (codes "fault 7 unsupported " ++ eight_hex_digits position ++ codes " " ++ eight_hex_digits word)
 
 abbrev pub bad_asm_line : ℕ → ℕ → ℕ → List ℕ
 bad_asm_line kind line_number column =

@@ -1,10 +1,10 @@
 //! The commands: what each makes of its files, or why it makes nothing.
-ghost use Rattle.std.specs.Prelude.{◌≡◌, ◌⊎◌, IfOk, IfErr, IsErrOf, map};
+ghost use Rattle.std.specs.Prelude.{◌≡◌, IfOk, IfErr, map};
 ghost use Rattle.std.specs.String.{string_bytes};
 ghost use Rattle.ci_words.specs.Commands.{reading_of};
 ghost use Rattle.ci_find.specs.Endings.{IsDone};
-ghost use Rattle.ci_find.specs.Refusals.{Explains, Makes, MakesNothing, OneReading, reads_between};
-ghost use Rattle.ci_find.specs.Steps.{success_of};
+ghost use Rattle.ci_find.specs.Faults.{Explains, Makes, MakesNothing, reads_between};
+ghost use Rattle.ci_find.specs.Finish.{success_of};
 
 use crate::faults::Refusal;
 use ci_io::Shelf;
@@ -15,7 +15,8 @@ mod asm;
 mod best;
 mod dis;
 
-/// What a command does where nothing is refused and nothing fails: it writes these files, in order, and then puts the text.
+/// What a command does where nothing is refused and nothing fails: it writes these files, in order, and then puts the
+/// text.
 #[derive(Drop)]
 pub struct Success<'a> {
     pub writes: Vec<Written<'a>>,
@@ -37,8 +38,8 @@ pub fn make<'a, F: Shelf>(
 ) -> Result<Success<'a>, Refusal<'a>>
     ensures done { IfOk result (λ success.
         IsDone (F.state shelf.old).files (map string_bytes words.now.items) (success_of success)) }
-    ensures refused { IfErr result (Explains (reads_between F.read_may_fail (F.state shelf.old) (F.state shelf.new)) (map string_bytes words.now.items)) }
-    ensures one_reading { IsErrOf result Refusal.NoMemory ⊎ OneReading (map string_bytes words.now.items) }
+    ensures refused { IfErr result (Explains
+        (reads_between F.read_may_fail (F.state shelf.old) (F.state shelf.new)) (map string_bytes words.now.items)) }
     ensures files_stay { (F.state shelf.new).files ≡ (F.state shelf.old).files }
     ensures no_write { (F.state shelf.new).write_faults ≡ (F.state shelf.old).write_faults }
 {
@@ -57,7 +58,8 @@ fn make_command<'a, F: Shelf>(
 ) -> Result<Success<'a>, Refusal<'a>>
     ensures made { IfOk result (λ success.
         Makes (F.state shelf.old).files (reading_of command.now) (success_of success)) }
-    ensures refused { IfErr result (MakesNothing (reads_between F.read_may_fail (F.state shelf.old) (F.state shelf.new)) (reading_of command.now)) }
+    ensures refused { IfErr result (MakesNothing
+        (reads_between F.read_may_fail (F.state shelf.old) (F.state shelf.new)) (reading_of command.now)) }
     ensures files_stay { (F.state shelf.new).files ≡ (F.state shelf.old).files }
     ensures no_write { (F.state shelf.new).write_faults ≡ (F.state shelf.old).write_faults }
 {

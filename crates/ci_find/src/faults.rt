@@ -2,8 +2,8 @@
 ghost use Rattle.std.specs.Prelude.{◌≡◌, IfOk, OnErr};
 ghost use Rattle.std.specs.String.{string_bytes};
 ghost use Rattle.ci_find.specs.Endings.{IsPut};
-ghost use Rattle.ci_find.specs.Lines.{read_line, write_line, sink_name, too_large_line, unsupported_line, bad_asm_line, no_memory_line};
-ghost use Rattle.ci_find.specs.Refusals.{IsRefused};
+ghost use Rattle.ci_find.specs.Lines.{read_fault_line, write_fault_line, sink_name, too_large_line, unsupported_line, bad_asm_line, no_memory_line};
+ghost use Rattle.ci_find.specs.Faults.{IsRefused};
 
 use ci_io::Sink;
 use ci_text::push_hex;
@@ -72,7 +72,7 @@ pub fn refuse<O: Sink>(alloc: Global, refusal: &Refusal<'_>, out: &mut O) -> u8
 /// Puts the fault line of a text of success that the sink failed to take, and answers its status.
 pub fn refuse_write<O: Sink>(out: &mut O) -> u8
     ensures status { result ≡ 3 }
-    ensures put { IsPut (O.state out.old) (O.state out.new) (write_line sink_name) }
+    ensures put { IsPut (O.state out.old) (O.state out.new) (write_fault_line sink_name) }
 {
     put_fault(WRITE_FAULT, "fault 3 write -\n", out)
 }
@@ -107,7 +107,7 @@ pub fn put_fault<O: Sink>(status: u8, line: &str, out: &mut O) -> u8
 
 /// The fault line of a file that isn't there, or that could not be read.
 fn read_text(alloc: Global, name: &str) -> Result<String, AllocError>
-    ensures { IfOk result (λ text. string_bytes text ≡ read_line name.now) }
+    ensures { IfOk result (λ text. string_bytes text ≡ read_fault_line name.now) }
 {
     format!(in alloc; "fault 2 read {name}\n")
 }
@@ -133,7 +133,7 @@ fn unsupported_text(alloc: Global, position: u32, word: u32) -> Result<String, A
 
 /// The fault line of a file that could not be written.
 pub fn write_text(alloc: Global, name: &str) -> Result<String, AllocError>
-    ensures { IfOk result (λ text. string_bytes text ≡ write_line name.now) }
+    ensures { IfOk result (λ text. string_bytes text ≡ write_fault_line name.now) }
 {
     format!(in alloc; "fault 3 write {name}\n")
 }

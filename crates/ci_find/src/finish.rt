@@ -1,7 +1,7 @@
 //! From a success to the end of the call: the writes of its files, and the put of its text.
 ghost use Rattle.std.specs.Prelude.{◌≡◌, ◌≤◌, [], ◌∷◌, map, OnOk, IfErr};
 ghost use Rattle.ci_find.specs.Endings.{AreWritten, Finishes, changed};
-ghost use Rattle.ci_find.specs.Steps.{AreUnwritten, IsUnwrittenFile, IsTextPut, success_of, written_of};
+ghost use Rattle.ci_find.specs.Finish.{AreUnwritten, IsUnwrittenFile, IsTextPut, success_of, written_of};
 
 use crate::commands::{Success, Written};
 use crate::faults::{WRITE_FAULT, put_fault, refuse_memory, refuse_write, write_text};
@@ -56,8 +56,10 @@ fn write_files<F: Shelf>(
     shelf: &mut F,
 ) -> Result<(), WriteErr>
     ensures written { OnOk result (AreWritten (F.state shelf.old) (F.state shelf.new) (map written_of writes.now)) }
-    ensures none { map written_of writes.now ≡ [] → (F.state shelf.new).write_faults ≡ (F.state shelf.old).write_faults }
-    ensures unwritten { IfErr result (AreUnwritten (map written_of writes.now) (F.state shelf.old) (F.state shelf.new)) }
+    ensures none { map written_of writes.now ≡ []
+        → (F.state shelf.new).write_faults ≡ (F.state shelf.old).write_faults }
+    ensures unwritten { IfErr result
+        (AreUnwritten (map written_of writes.now) (F.state shelf.old) (F.state shelf.new)) }
     ensures no_read { (F.state shelf.new).read_faults ≡ (F.state shelf.old).read_faults }
 {
     for file in writes {

@@ -197,7 +197,8 @@ fn puts_that_fail(rt: HostRuntime) -> Result<(), Fail> {
     Ok(())
 }
 
-/// Assembles the text `F` to `OUT`, and asserts the status, the bytes that the sink took, and those of `OUT`, if it is there.
+/// Assembles the text `F` to `OUT`, and asserts the status, the bytes that the sink took, and those of `OUT`, if it is
+/// there.
 fn expect_assembly(
     rt: &(impl Abort + AllocGlobal),
     text: &[u8],

@@ -27,7 +27,13 @@ pub record MemoryOutput : Type 0 where
 -- a shelf's state is stored as the tuple of its parts
 abbrev pub memory_shelf_code : Coded MemoryShelf
 memory_shelf_code =
-    code_by (Files × (ℕ × (ℕ × (ℕ × List ℕ)))) (coded× (map.code (coded_list coded_ℕ) (coded_list coded_ℕ)) (coded× coded_ℕ (coded× coded_ℕ (coded× coded_ℕ (coded_list coded_ℕ)))))
+    code_by (Files × (ℕ × (ℕ × (ℕ × List ℕ))))
+    (coded× (map.code (coded_list coded_ℕ) (coded_list coded_ℕ)) (coded× coded_ℕ (coded× coded_ℕ (coded× coded_ℕ (coded_list coded_ℕ)))))
     (λ s. (s.files, (s.read_faults, (s.write_faults, (s.calls.made, s.calls.failing)))))
-    (λ p. record { files = p.0; read_faults = p.1.0; write_faults = p.1.1.0; calls = record { made = p.1.1.1.0; failing = p.1.1.1.1 } })
+    (λ p. record {
+      files = p.0;
+      read_faults = p.1.0;
+      write_faults = p.1.1.0;
+      calls = record { made = p.1.1.1.0; failing = p.1.1.1.1 };
+    })
     (λ _. refl)

@@ -15,7 +15,8 @@ pub record ShelfState : Type 0 where
   pub read_faults : ℕ
   pub write_faults : ℕ
 
--- What is known of a sink: the bytes that it took, where it tells them, how many puts failed, and how many ran out of memory.
+-- What is known of a sink: the bytes that it took, where it tells them, how many puts failed, and how many ran out of
+-- memory.
 pub record SinkState : Type 0 where
   pub taken : Option (List ℕ)
   pub faults : ℕ

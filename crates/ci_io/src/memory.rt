@@ -80,7 +80,8 @@ impl Shelf for MemShelf {
         ensures of_the_file { IsReadOf self.old.files name.now limit result }
         ensures within_limit { IfOk result (λ bytes. vec_len bytes ≤ limit) }
 
-        // A call fails exactly where its number is listed. Then its count rises, and else nothing but the number of calls.
+        // A call fails exactly where its number is listed. Then its count rises, and else nothing but the number of
+        // calls.
         ensures fault_listed { IsErrOf result ShelfErr.Fault ↔ IsNextToFail self.old.calls }
         ensures after_fault { IsErrOf result ShelfErr.Fault → self.new ≡ record self.old {
           calls = one_more_call self.old.calls;
@@ -112,7 +113,8 @@ impl Shelf for MemShelf {
           calls = one_more_call self.old.calls;
           write_faults = raised self.old.write_faults;
         } }
-        ensures fault { IsErrOf result ShelfErr.Fault → (content : Option (List ℕ)) × (self.new.files ≡ with_file name.now content self.old.files) }
+        ensures fault { IsErrOf result ShelfErr.Fault → (content : Option (List ℕ))
+            × (self.new.files ≡ with_file name.now content self.old.files) }
         ensures after_no_memory { IsErrOf result ShelfErr.NoMemory → self.new ≡ record self.old {
           calls = one_more_call self.old.calls;
         } }
@@ -131,8 +133,8 @@ impl Shelf for MemShelf {
 
 /// A sink in memory, on which the calls of `put` fail whose numbers it is told. They are numbered from 1.
 ///
-/// Contracts see it as the bytes taken, its counts of faults and of puts that ran out of memory, and its calls. The count of
-/// faults rises only by the calls that are to fail, and each number stays at its last value.
+/// Contracts see it as the bytes taken, its counts of faults and of puts that ran out of memory, and its calls. The
+/// count of faults rises only by the calls that are to fail, and each number stays at its last value.
 #[derive(Drop)]
 pub struct MemSink {
     taken: Vec<u8>,

@@ -53,8 +53,8 @@ pub trait Shelf {
     ///
     /// # Errors
     ///
-    /// `Fault` where writing failed, and then the name holds any bytes or nothing; `NoMemory`, and then no file changed.
-    /// No other error comes.
+    /// `Fault` where writing failed, and then the name holds any bytes or nothing; `NoMemory`, and then no file
+    /// changed. No other error comes.
     fn write(&mut self, alloc: Global, name: &str, bytes: &[u8]) -> Result<(), ShelfErr>
         ensures ok { OnOk result ((state self.new).files
             ≡ option_map (with_file name.now (Some bytes.now)) (state self.old).files) }

@@ -23,8 +23,8 @@ pub trait Sink {
     ///
     /// # Errors
     ///
-    /// `Fault` where writing failed, and then only the first of the bytes, some or none, were taken; `NoMemory`, and then
-    /// none was.
+    /// `Fault` where writing failed, and then only the first of the bytes, some or none, were taken; `NoMemory`, and
+    /// then none was.
     fn put(&mut self, bytes: &[u8]) -> Result<(), SinkErr>
         ensures ok { OnOk result ((state self.new).taken
             ≡ option_map (λ before. before ++ bytes.now) (state self.old).taken) }

@@ -1,8 +1,7 @@
 -- A call ends with the success that is due or with a refusal.
-use Rattle.std.proofs.Common.{◌≡◌, inl, inr, refl}
-use Rattle.ci_find.specs.declared.faults.Refusal.TheVariants.{NoMemory}
+use Rattle.std.proofs.Common.{refl}
 use Rattle.ci_find.specs.Endings.{changed, finished}
-use Rattle.ci_find.proofs.Runs.{Ends-refused, Ends-status, Answers-due, refused_no_memory}
+use Rattle.ci_find.proofs.Runs.{Ends-refused, Ends-status, Answers-due}
 use Rattle.ci_find.proofs.Writes.{Finishes-earlier}
 use Rattle.ci_find.proofs.run.Goals as goal
 
@@ -12,11 +11,7 @@ returns-in-Ok-clause-ends g c =
     finished c.in-Ok.ensures.done (Finishes-earlier change (g.F.Shelf.state c.args.shelf.now) c.in-Ok.ensures.files_stay c.in-Ok.ensures.no_write _ _ c.finish.ensures.finished)
 
 pub returns-in-Ok-clause-due : goal.returns-in-Ok-clause-due
-returns-in-Ok-clause-due g c =
-    elim c.in-Ok.ensures.one_reading [
-      | inl none ↦ absurd cc
-      | inr one ↦ Answers-due _ _ _ _ (inr one) (returns-in-Ok-clause-ends g c) _ refl
-    ]
+returns-in-Ok-clause-due g c = Answers-due _ _ _ _ (returns-in-Ok-clause-ends g c) _ refl
 
 pub returns-in-Ok-clause-statuses : goal.returns-in-Ok-clause-statuses
 returns-in-Ok-clause-statuses g c = Ends-status _ _ _ _ (returns-in-Ok-clause-ends g c)
@@ -26,13 +21,7 @@ returns-in-Err-clause-ends g c =
     Ends-refused _ _ _ _ _ c.in-Err.ensures.refused (record { same_files = c.in-Err.ensures.files_stay; same_count = c.in-Err.ensures.no_write }) c.refuse.ensures
 
 pub returns-in-Err-clause-due : goal.returns-in-Err-clause-due
-returns-in-Err-clause-due g c =
-    elim c.in-Err.ensures.one_reading [
-      | inl none ↦
-          let is : c.in-Err.refusal ≡ NoMemory = cc in
-          Answers-due _ _ _ _ (inl (refused_no_memory c.in-Err.refusal _ _ _ is c.refuse.ensures)) (returns-in-Err-clause-ends g c) _ refl
-      | inr one ↦ Answers-due _ _ _ _ (inr one) (returns-in-Err-clause-ends g c) _ refl
-    ]
+returns-in-Err-clause-due g c = Answers-due _ _ _ _ (returns-in-Err-clause-ends g c) _ refl
 
 pub returns-in-Err-clause-statuses : goal.returns-in-Err-clause-statuses
 returns-in-Err-clause-statuses g c = Ends-status _ _ _ _ (returns-in-Err-clause-ends g c)

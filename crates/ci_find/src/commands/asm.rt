@@ -2,8 +2,8 @@
 ghost use Rattle.std.specs.Prelude.{◌≡◌, ℕ, List, ◌≤◌, length, IfOk, IfErr};
 ghost use Rattle.ci_words.specs.Words.{Reading};
 ghost use Rattle.ci_text.specs.Bytes.{bytes_of_words};
-ghost use Rattle.ci_find.specs.Refusals.{IsTextFault, Makes, MakesNothing, reads_between};
-ghost use Rattle.ci_find.specs.Steps.{success_of};
+ghost use Rattle.ci_find.specs.Faults.{IsTextFault, Makes, MakesNothing, reads_between};
+ghost use Rattle.ci_find.specs.Finish.{success_of};
 ghost use Rattle.ci_find.specs.Texts.{IsText};
 
 use super::{Success, Written};
@@ -26,7 +26,8 @@ pub fn make<'a, F: Shelf>(
 ) -> Result<Success<'a>, Refusal<'a>>
     ensures made { IfOk result (λ success.
         Makes (F.state shelf.old).files (Reading.asm text.now out.now) (success_of success)) }
-    ensures refused { IfErr result (MakesNothing (reads_between F.read_may_fail (F.state shelf.old) (F.state shelf.new)) (Reading.asm text.now out.now)) }
+    ensures refused { IfErr result (MakesNothing
+        (reads_between F.read_may_fail (F.state shelf.old) (F.state shelf.new)) (Reading.asm text.now out.now)) }
     ensures files_stay { (F.state shelf.new).files ≡ (F.state shelf.old).files }
     ensures no_write { (F.state shelf.new).write_faults ≡ (F.state shelf.old).write_faults }
 {
@@ -50,11 +51,12 @@ pub fn make<'a, F: Shelf>(
 ///
 /// # Errors
 ///
-/// `Bad` is the first fault of the text. Bytes that aren't UTF-8 are a fault of kind 1 at line 1, column 1. `NoMemory`: memory ran
-/// out.
+/// `Bad` is the first fault of the text. Bytes that aren't UTF-8 are a fault of kind 1 at line 1, column 1. `NoMemory`:
+/// memory ran out.
 fn assembled(alloc: Global, text: &[u8]) -> Result<Vec<u8>, AsmFault>
     requires { length text.now ≤ 1048576 }
-    ensures bytes { IfOk result (λ bytes. (words : List ℕ) × IsText text.now words × (bytes.items ≡ bytes_of_words words)) }
+    ensures bytes { IfOk result (λ bytes. (words : List ℕ) × IsText text.now words
+        × (bytes.items ≡ bytes_of_words words)) }
     ensures fault { IfErr result (IsTextFault text.now) }
 {
     let Ok(text) = str::from_utf8(text) else {

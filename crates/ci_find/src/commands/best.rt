@@ -1,13 +1,12 @@
 //! The command `best`: the best cut of a block.
 ghost use Rattle.std.specs.Prelude.{◌≡◌, ℕ, List, ◌≤◌, All, IfOk, IfErr, length};
 ghost use Rattle.std.specs.String.{string_bytes};
-ghost use Rattle.ci_words.specs.Words.{Reading};
 ghost use Rattle.ci_find.specs.Block.{IsBlock, graph_of};
 ghost use Rattle.ci_find.specs.BlockErrs.{IsCauseOf};
 ghost use Rattle.ci_find.specs.declared.commands.best.block.Operation.{Operation};
 ghost use Rattle.ci_find.specs.Lines.{IsBestLine};
-ghost use Rattle.ci_find.specs.Refusals.{Makes, MakesNothing, reads_between};
-ghost use Rattle.ci_find.specs.Steps.{success_of};
+ghost use Rattle.ci_find.specs.Faults.{Makes, MakesNothing, best_within, reads_between};
+ghost use Rattle.ci_find.specs.Finish.{success_of};
 
 use super::Success;
 use crate::faults::Refusal;
@@ -32,8 +31,9 @@ pub fn make<'a, F: Shelf>(
     shelf: &mut F,
 ) -> Result<Success<'a>, Refusal<'a>>
     ensures made { IfOk result (λ success. Makes (F.state shelf.old).files
-        (Reading.best file.now limits.now.inputs limits.now.outputs) (success_of success)) }
-    ensures refused { IfErr result (MakesNothing (reads_between F.read_may_fail (F.state shelf.old) (F.state shelf.new)) (Reading.best file.now limits.now.inputs limits.now.outputs)) }
+        (best_within file.now limits.now) (success_of success)) }
+    ensures refused { IfErr result (MakesNothing
+        (reads_between F.read_may_fail (F.state shelf.old) (F.state shelf.new)) (best_within file.now limits.now)) }
     ensures files_stay { (F.state shelf.new).files ≡ (F.state shelf.old).files }
     ensures no_write { (F.state shelf.new).write_faults ≡ (F.state shelf.old).write_faults }
 {
@@ -54,7 +54,8 @@ pub fn make<'a, F: Shelf>(
 /// The line of the best cut of the block that the bytes spell.
 fn block_line(alloc: Global, limits: &Limits, bytes: &[u8]) -> Result<String, BlockErr>
     requires { length bytes.now ≤ 1024 }
-    ensures done { IfOk result (λ line. (operations : List Operation) × IsBlock bytes.now operations × IsBestLine (graph_of operations) limits.now (string_bytes line)) }
+    ensures done { IfOk result (λ line. (operations : List Operation) × IsBlock bytes.now operations
+        × IsBestLine (graph_of operations) limits.now (string_bytes line)) }
     ensures cause { IfErr result (IsCauseOf bytes.now) }
 {
     let operations = read_block(alloc, bytes)?;

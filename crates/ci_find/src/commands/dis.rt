@@ -4,8 +4,8 @@ ghost use Rattle.std.specs.String.{string_bytes};
 ghost use Rattle.ci_words.specs.Words.{Reading};
 ghost use Rattle.ci_text.specs.Bytes.{words_of_bytes};
 ghost use Rattle.ci_find.specs.DisCommand.{IsTextOf, IsListing, listed};
-ghost use Rattle.ci_find.specs.Refusals.{Makes, MakesNothing, reads_between};
-ghost use Rattle.ci_find.specs.Steps.{success_of};
+ghost use Rattle.ci_find.specs.Faults.{Makes, MakesNothing, reads_between};
+ghost use Rattle.ci_find.specs.Finish.{success_of};
 
 use super::Success;
 use crate::faults::Refusal;
@@ -27,7 +27,8 @@ pub fn make<'a, F: Shelf>(
 ) -> Result<Success<'a>, Refusal<'a>>
     ensures made { IfOk result (λ success.
         Makes (F.state shelf.old).files (Reading.dis file.now) (success_of success)) }
-    ensures refused { IfErr result (MakesNothing (reads_between F.read_may_fail (F.state shelf.old) (F.state shelf.new)) (Reading.dis file.now)) }
+    ensures refused { IfErr result (MakesNothing
+        (reads_between F.read_may_fail (F.state shelf.old) (F.state shelf.new)) (Reading.dis file.now)) }
     ensures files_stay { (F.state shelf.new).files ≡ (F.state shelf.old).files }
     ensures no_write { (F.state shelf.new).write_faults ≡ (F.state shelf.old).write_faults }
 {

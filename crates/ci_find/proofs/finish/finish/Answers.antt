@@ -1,6 +1,6 @@
 -- The files were written, and then the text put; or a fault line was.
 use Rattle.ci_find.specs.Endings.{changed}
-use Rattle.ci_find.specs.Steps.{success_of}
+use Rattle.ci_find.specs.Finish.{success_of}
 use Rattle.ci_find.proofs.Writes.{Finishes-put, Finishes-unwritten, Finishes-no_memory}
 use Rattle.ci_find.proofs.finish.finish.Goals as goal
 

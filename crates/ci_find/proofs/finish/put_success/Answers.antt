@@ -3,7 +3,7 @@ use Rattle.std.proofs.Common.{◌≡◌, ◌≢◌, [], ◌++◌, Err, ap, Optio
 use Rattle.std.specs.Option.{option_map}
 use Rattle.std.proofs.lemmas.List.{nil_from_length}
 use Rattle.ci_find.specs.Endings.{Takes}
-use Rattle.ci_find.specs.Steps.{taken, fault, no_memory}
+use Rattle.ci_find.specs.Finish.{taken, fault, no_memory}
 use Rattle.ci_find.proofs.finish.put_success.Goals as goal
 
 -- a sink that took nothing more took an empty text

@@ -2,7 +2,7 @@
 use Rattle.std.proofs.Common.{◌≡◌, ◌∙◌, ◌+◌, map, take, drop, length, refl, ap, subst, arith, rules}
 use Rattle.std.proofs.lemmas.List.{take_all, length-map}
 use Rattle.ci_find.specs.Endings.{AreWritten}
-use Rattle.ci_find.specs.Steps.{written_of}
+use Rattle.ci_find.specs.Finish.{written_of}
 use Rattle.ci_find.proofs.Writes.{AreWritten-more, written-more, written-split, none_written}
 use Rattle.ci_find.proofs.finish.write_files.Goals as goal
 

@@ -1,6 +1,6 @@
 use Rattle.std.proofs.Common.{◌≡◌, ◌≤◌, map, take}
 use Rattle.ci_find.specs.Endings.{AreWritten}
-use Rattle.ci_find.specs.Steps.{written_of}
+use Rattle.ci_find.specs.Finish.{written_of}
 use Rattle.ci_find.proofs.finish.write_files.Given as goal
 
 abbrev pub invariant-loop-file : goal.invariant-loop-file

@@ -13,8 +13,8 @@ use ci_text::word_at;
 use ci_word::Row;
 use std::alloc::{AllocError, AllocFailed, Global};
 
-/// The greatest number of operations in a block.
-const BLOCK_LIMIT: usize = 12;
+/// The maximum number of operations in a block.
+const MOST_OPERATIONS: usize = 12;
 
 /// What a word does: the register that it writes, those of its operands, and its delay in thousandths of a cycle. An
 /// operand x0 reads nothing.
@@ -29,8 +29,8 @@ pub struct Operation {
 /// Why the bytes of a file are no block.
 #[derive(Debug, Drop)]
 pub enum BlockErr {
-    /// The number of bytes is no multiple of four, and then it is the position and the word is 0; or the word at this offset in
-    /// bytes is no operation or the thirteenth.
+    /// The number of bytes is no multiple of four, and then it is the position and the word is 0; or the word at this
+    /// offset in bytes is no operation or the thirteenth.
     Unsupported { position: u32, word: u32 },
     /// Memory ran out.
     NoMemory,
@@ -78,7 +78,7 @@ fn operation_at(bytes: &[u8], place: usize) -> Result<Operation, BlockErr>
 {
     let word = word_at(bytes, place);
     match operation_of(word) {
-        Some(operation) if place < BLOCK_LIMIT => Ok(operation),
+        Some(operation) if place < MOST_OPERATIONS => Ok(operation),
         _ => Err(BlockErr::Unsupported {
             position: 4 * place as u32,
             word,

@@ -1,7 +1,7 @@
 -- The words of the text that the file holds, or its first fault.
 use Rattle.std.proofs.Common.{◌∙◌, [], ◌∷◌, map, inl, ap, refl}
 use Rattle.ci_find.specs.Inputs.{malformed}
-use Rattle.ci_find.specs.Steps.{written_of}
+use Rattle.ci_find.specs.Finish.{written_of}
 use Rattle.ci_find.proofs.Makes.{one_read}
 use Rattle.ci_find.proofs.commands.asm.make.Goals as goal
 

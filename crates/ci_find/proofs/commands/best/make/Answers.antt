@@ -1,6 +1,6 @@
 -- The line of the best cut of the block that the file holds, or why it holds none.
 use Rattle.std.proofs.Common.{[], ◌∷◌, map, inr, ap, refl}
-use Rattle.ci_find.specs.Steps.{written_of}
+use Rattle.ci_find.specs.Finish.{written_of}
 use Rattle.ci_find.proofs.Makes.{one_read}
 use Rattle.ci_find.proofs.commands.best.make.Goals as goal
 

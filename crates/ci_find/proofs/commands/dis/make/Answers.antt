@@ -1,6 +1,6 @@
 -- The listing of the words that the file holds.
 use Rattle.std.proofs.Common.{[], ◌∷◌, map, ap, refl}
-use Rattle.ci_find.specs.Steps.{written_of}
+use Rattle.ci_find.specs.Finish.{written_of}
 use Rattle.ci_find.proofs.Makes.{one_read}
 use Rattle.ci_find.proofs.commands.dis.make.Goals as goal
 

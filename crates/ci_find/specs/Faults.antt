@@ -3,13 +3,14 @@ use Rattle.std.specs.Prelude.{◌≡◌, ℕ, ◌⊎◌, Bool, IsTrue, List, Opt
 use Rattle.ci_io.specs.Outcomes.{Files, Rises, ShelfState, SinkState}
 use Rattle.ci_asm.specs.declared.faults.AsmFault.{AsmFault}
 use Rattle.ci_asm.specs.declared.faults.AsmFault.TheVariants as asm_fault
-use Rattle.ci_words.specs.Words.{Reading, ReadsAs, HasNoReading}
+use Rattle.ci_cut.specs.declared.graph.Limits.{Limits}
+use Rattle.ci_words.specs.Words.{Reading, best, ReadsAs, HasNoReading}
 use Rattle.ci_find.specs.declared.faults.Refusal.{Refusal}
 use Rattle.ci_find.specs.declared.faults.Refusal.TheVariants.{Usage, Read, TooLarge, Unsupported, BadAsm, NoMemory}
 use Rattle.ci_find.specs.Commands.{inputs_of, IsMade, IsUnmade}
 use Rattle.ci_find.specs.Endings.{IsPut}
 use Rattle.ci_find.specs.Inputs.{Input, AreRead, IsFileRefusal, IsDueName}
-use Rattle.ci_find.specs.Lines.{usage_line, read_line, too_large_line, unsupported_line, bad_asm_line, no_memory_line}
+use Rattle.ci_find.specs.Lines.{usage_line, read_fault_line, too_large_line, unsupported_line, bad_asm_line, no_memory_line}
 use Rattle.ci_find.specs.Success.{Success}
 use Rattle.ci_find.specs.Texts.{IsBadText}
 
@@ -23,14 +24,14 @@ status_of NoMemory = 12
 
 abbrev pub line_of : Refusal → List ℕ
 line_of Usage = usage_line
-line_of (Read name) = read_line name.now
+line_of (Read name) = read_fault_line name.now
 line_of (TooLarge name) = too_large_line name.now
 line_of (Unsupported position word) = unsupported_line position word
 line_of (BadAsm kind line column) = bad_asm_line kind line column
 line_of NoMemory = no_memory_line
 
--- what is known while files are read: those that the shelf tells, of which names a read may fail, and the count of reads that failed,
--- before and after
+-- what is known while files are read: those that the shelf tells, of which names a read may fail, and the count of
+-- reads that failed, before and after
 pub record Reads : Type 0 where
   pub told : Option Files
   pub may_fail : List ℕ → Bool
@@ -39,7 +40,12 @@ pub record Reads : Type 0 where
 
 abbrev pub reads_between : (List ℕ → Bool) → ShelfState → ShelfState → Reads
 reads_between may_fail before after =
-    record { told = before.files; may_fail = may_fail; faults_before = before.read_faults; faults_after = after.read_faults }
+    record {
+      told = before.files;
+      may_fail = may_fail;
+      faults_before = before.read_faults;
+      faults_after = after.read_faults;
+    }
 
 -- reading one of the files failed, and nothing is wrong with those before it
 pub record IsReadFault (reads : Reads) (inputs : List Input) (refusal : Refusal) : Type 0 where
@@ -48,12 +54,14 @@ pub record IsReadFault (reads : Reads) (inputs : List Input) (refusal : Refusal)
   pub may_fail : IsTrue (reads.may_fail name)
   pub counted : Rises reads.faults_before reads.faults_after
   pub status_is : status_of refusal ≡ 2
-  pub line_is : line_of refusal ≡ read_line name
+  pub line_is : line_of refusal ≡ read_fault_line name
 
 -- why the files of a command are not read: one of them is refused, or reading it failed, or memory ran out
 abbrev pub AreUnread : Reads → List Input → Refusal → Type 0
 AreUnread reads inputs refusal =
-    IsFileRefusal reads.told inputs (status_of refusal) (line_of refusal) ⊎ IsReadFault reads inputs refusal ⊎ (refusal ≡ NoMemory)
+    IsFileRefusal reads.told inputs (status_of refusal) (line_of refusal)
+    ⊎ IsReadFault reads inputs refusal
+    ⊎ (refusal ≡ NoMemory)
 
 -- what a command makes of its files
 pub record Makes (told : Option Files) (reading : Reading) (success : Success) : Type 0 where
@@ -67,14 +75,20 @@ pub record IsUnmadeFor (told : Option Files) (reading : Reading) (refusal : Refu
   pub files : AreRead told (inputs_of reading) read
   pub unmade : IsUnmade reading read (status_of refusal) (line_of refusal)
 
+-- the reading of `best` with these limits
+abbrev pub best_within : List ℕ → Limits → Reading
+best_within file limits = best file (record { inputs = limits.inputs; outputs = limits.outputs })
+
 -- why a command makes nothing
 abbrev pub MakesNothing : Reads → Reading → Refusal → Type 0
-MakesNothing reads reading refusal = AreUnread reads (inputs_of reading) refusal ⊎ IsUnmadeFor reads.told reading refusal
+MakesNothing reads reading refusal =
+    AreUnread reads (inputs_of reading) refusal ⊎ IsUnmadeFor reads.told reading refusal
 
 -- why the words are refused: they have no reading, or their command makes nothing, or memory ran out
 abbrev pub Explains : Reads → List (List ℕ) → Refusal → Type 0
 Explains reads words refusal =
-    (HasNoReading words × (refusal ≡ Usage)) ⊎ ((reading : Reading) × ReadsAs words reading × MakesNothing reads reading refusal)
+    (HasNoReading words × (refusal ≡ Usage))
+    ⊎ ((reading : Reading) × ReadsAs words reading × MakesNothing reads reading refusal)
     ⊎ (refusal ≡ NoMemory)
 
 -- why a text has no words: its first fault, or memory ran out
@@ -82,11 +96,8 @@ abbrev pub IsTextFault : List ℕ → AsmFault → Type 0
 IsTextFault text (asm_fault.Bad kind line column) = IsBadText text kind line column
 IsTextFault text asm_fault.NoMemory = ⊤
 
--- the words have at most one reading
-abbrev pub OneReading : List (List ℕ) → Type 0
-OneReading words = (first second : Reading) → ReadsAs words first → ReadsAs words second → first ≡ second
-
 -- The refusal's status, and its line was put; or memory ran out for the line, and then that is the refusal.
 abbrev pub IsRefused : Refusal → ℕ → SinkState → SinkState → Type 0
 IsRefused refusal status before after =
-    ((status ≡ status_of refusal) × IsPut before after (line_of refusal)) ⊎ ((status ≡ 12) × IsPut before after no_memory_line)
+    ((status ≡ status_of refusal) × IsPut before after (line_of refusal))
+    ⊎ ((status ≡ 12) × IsPut before after no_memory_line)

@@ -8,7 +8,7 @@ use Rattle.ci_find.specs.declared.commands.Written.{Written as MadeFile}
 use Rattle.ci_find.specs.declared.finish.WriteErr.{WriteErr}
 use Rattle.ci_find.specs.declared.finish.WriteErr.TheVariants.{Fault, NoMemory}
 use Rattle.ci_find.specs.Endings.{Takes, IsPut, AreWritten}
-use Rattle.ci_find.specs.Lines.{write_line, sink_name, no_memory_line}
+use Rattle.ci_find.specs.Lines.{write_fault_line, sink_name, no_memory_line}
 use Rattle.ci_find.specs.Success.{Written, Success, with_files}
 
 abbrev pub written_of : MadeFile → Written
@@ -21,7 +21,7 @@ success_of success = record { writes = map written_of success.writes.items; text
 abbrev pub IsUnwrittenFile : Written → ShelfState → ShelfState → WriteErr → Type 0
 IsUnwrittenFile file before after (Fault line) =
     (content : Option (List ℕ)) × (after.files ≡ option_map (with_file file.name content) before.files)
-    × Rises before.write_faults after.write_faults × (string_bytes line ≡ write_line file.name)
+    × Rises before.write_faults after.write_faults × (string_bytes line ≡ write_fault_line file.name)
 IsUnwrittenFile file before after NoMemory = after.files ≡ before.files
 
 -- the same of the first of several files that was not written
@@ -40,7 +40,9 @@ pub data IsTextPut (text : List ℕ) (before after : SinkState) : ℕ → Type 0
   taken : Takes before after text → IsTextPut text before after 0
   fault :
       text ≢ [] → (between : SinkState) → before.faults ≤ between.faults → Rises before.faults between.faults →
-      (n : ℕ) × Takes before between (take n text) → IsPut between after (write_line sink_name) → IsTextPut text before after 3
+      (n : ℕ) × Takes before between (take n text) → IsPut between after (write_fault_line sink_name) →
+      IsTextPut text before after 3
   no_memory :
-      text ≢ [] → (between : SinkState) → Rises before.memory_faults between.memory_faults → between.taken ≡ before.taken →
+      text ≢ [] → (between : SinkState) → Rises before.memory_faults between.memory_faults →
+      between.taken ≡ before.taken →
       IsPut between after no_memory_line → IsTextPut text before after 12
