@@ -85,8 +85,8 @@ module _ (name : Text) (known : List Text) (first : Text) (words : List Text) wh
 
 -- ---- what is read passes
 
--- words that are these names, and these options of a command that knows such: each option once, and no name or value that
--- begins with a hyphen
+-- words that are these names, and these options of a command that knows such: each option once, and no name or value
+-- that begins with a hyphen
 pub record AreRead (known words names : List Text) (given : List (Text × Text)) : Type 0 where
   pub mixed : AreMixed words names given
   pub of_command : All (λ o. Contains known o.0) given

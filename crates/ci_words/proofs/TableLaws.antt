@@ -1,42 +1,55 @@
 -- Laws of the tables: which options a command has, and that no two rows have one name.
-use Rattle.std.proofs.Common.{◌≡◌, ◌≢◌, ◌∙◌, ◌<◌, ◌⊎◌, ◌==◌, ℕ, Bool, true, false, not, List, [], ◌∷◌, length, codes, refl, sym, ap, subst, arith, inl, inr, lit<, zero, suc}
-use Rattle.std.specs.Prelude.{Contains, if◌then◌else◌}
-use Rattle.std.specs.List.{list_all, slice_index_or}
+use Rattle.std.proofs.Common.{◌≡◌, ◌≢◌, ◌∙◌, ◌<◌, ◌⊎◌, ◌==◌, ℕ, Bool, true, false, not, List, [], ◌∷◌, length, codes, refl, sym, ap, subst, arith, inl, inr, zero, suc}
+use Rattle.std.specs.Prelude.{Contains, Option, Some, find, slice_get}
+use Rattle.std.specs.List.{list_all, position_or_len, slice_index_or}
 use Rattle.std.specs.Str.{bytes_eq}
 use Rattle.std.proofs.lemmas.Bool.Decides.{eqb_tells}
-use Rattle.std.proofs.lemmas.List.Folds.{Any-from_list_any, list_any-from_Any}
+use Rattle.std.proofs.lemmas.List.Folds.{find_at, Any-from_list_any, list_any-from_Any}
+use Rattle.std.proofs.lemmas.Option.{get_or_from_slice_get, slice_get_within}
 use Rattle.clap.proofs.CutLemmas.{Lacks}
 use Rattle.ci_words.specs.Tables.{CommandName, best, asm, dis, command_row, OptionName, inputs, outputs, option_row}
 use Rattle.ci_words.specs.Words.{IsOptionOf, Text}
-use Rattle.ci_words.specs.Parses.{every_option, has_option, known_to, names_known, option_name, place_of}
+use Rattle.ci_words.specs.Parses.{every_command, every_option, has_option, known_to, names_known, option_name, place_of}
+use Rattle.ci_words.proofs.Matches.{some-same}
 use Rattle.ci_words.proofs.States.{IsOption}
+
+-- what is found is there
+in_list : {X : Type 0} (test : X → Bool) (xs : List X) (x : X) → find test xs ≡ Some x → Contains xs x
+in_list test xs x found =
+    let at : slice_get xs (position_or_len test xs) ≡ Some x = sym (find_at test xs) ∙ found in
+    (position_or_len test xs, slice_get_within xs (position_or_len test xs) x at, get_or_from_slice_get xs (position_or_len test xs) x x at)
 
 -- ---- a row for each command
 
--- the command at a place
-command_at : ℕ → CommandName
-command_at place = if place == 0 then best else if place == 1 then asm else dis
-
--- no two commands have one place
-command_at-place : (command : CommandName) → command_at (place_of command) ≡ command
-unfolding command_at
-command_at-place best = refl
-command_at-place asm = refl
-command_at-place dis = refl
-
 -- the command of a word
-command_called : Text → CommandName
-command_called word = if bytes_eq word (command_row best).word then best else if bytes_eq word (command_row asm).word then asm else dis
+command_called : Text → Option CommandName
+command_called word = find (λ command. bytes_eq (command_row command).word word) every_command
 
--- no two commands have one word
-command_called-word : (command : CommandName) → command_called (command_row command).word ≡ command
+-- each command is found by its word
+command_called-word : (command : CommandName) → command_called (command_row command).word ≡ Some command
 unfolding command_called
 command_called-word best = refl
 command_called-word asm = refl
 command_called-word dis = refl
 
+-- and by its place
+command_at-place : (command : CommandName) → slice_get every_command (place_of command) ≡ Some command
+command_at-place best = refl
+command_at-place asm = refl
+command_at-place dis = refl
+
+-- so no two commands have one word
 pub same_command : (one other : CommandName) → (command_row one).word ≡ (command_row other).word → one ≡ other
-same_command one other same = sym (command_called-word one) ∙ (ap command_called same ∙ command_called-word other)
+same_command one other same = some-same one other (sym (command_called-word one) ∙ (ap command_called same ∙ command_called-word other))
+
+-- nor one place
+same_place : (one other : CommandName) → place_of one ≡ place_of other → one ≡ other
+same_place one other same = some-same one other (sym (command_at-place one) ∙ (ap (slice_get every_command) same ∙ command_at-place other))
+
+-- and the table has each command
+pub every_command-all : (command : CommandName) → Contains every_command command
+unfolding command_called
+every_command-all command = in_list (λ other. bytes_eq (command_row other).word (command_row command).word) every_command command (command_called-word command)
 
 -- ---- a row for each option
 
@@ -64,49 +77,50 @@ pub fits : (option : OptionName) → IsOption (option_name option)
 fits inputs = fits_as 105 (codes "n") refl refl
 fits outputs = fits_as 111 (codes "ut") refl refl
 
--- the table has each option
-in_table : (option : OptionName) → Contains every_option option
-in_table inputs = (0, lit< tt, refl)
-in_table outputs = (1, lit< tt, refl)
-
 -- no option may stand more than once
 pub once_only : (option : OptionName) → (option_row option).repeatable ≡ false
 once_only inputs = refl
 once_only outputs = refl
 
 -- the option of a name
-option_called : Text → OptionName
-option_called name = if bytes_eq name (option_name inputs) then inputs else outputs
+option_called : Text → Option OptionName
+option_called name = find (λ option. bytes_eq (option_name option) name) every_option
 
--- no two options have one name
-option_called-name : (option : OptionName) → option_called (option_name option) ≡ option
+-- each option is found by its name
+option_called-name : (option : OptionName) → option_called (option_name option) ≡ Some option
 unfolding option_called
 option_called-name inputs = refl
 option_called-name outputs = refl
 
+-- so no two options have one name
 pub same_option : (one other : OptionName) → option_name one ≡ option_name other → one ≡ other
-same_option one other same = sym (option_called-name one) ∙ (ap option_called same ∙ option_called-name other)
+same_option one other same = some-same one other (sym (option_called-name one) ∙ (ap option_called same ∙ option_called-name other))
+
+-- and the table has each option
+every_option-all : (option : OptionName) → Contains every_option option
+unfolding option_called
+every_option-all option = in_list (λ other. bytes_eq (option_name other) (option_name option)) every_option option (option_called-name option)
 
 -- ---- the options of a command
 
 module _ (command : CommandName) where
   -- the test finds the command
   pub has_option-from : (option : OptionName) → Contains (option_row option).commands command → has_option command option ≡ true
-  has_option-from option had = list_any-from_Any _ (option_row option).commands (had.0, command, had.1, had.2, rw (same_place (place_of command)) refl)
+  has_option-from option had = list_any-from_Any _ (option_row option).commands (had.0, command, had.1, had.2, rw (same_number (place_of command)) refl)
     where
-      same_place : (n : ℕ) → (n == n) ≡ true
-      same_place n = elim (eqb_tells n n) [ inl is ↦ is.0 | inr not ↦ absurd (not.1 refl) ]
+      same_number : (n : ℕ) → (n == n) ≡ true
+      same_number n = elim (eqb_tells n n) [ inl is ↦ is.0 | inr not ↦ absurd (not.1 refl) ]
 
   -- and what the test finds is the command
   has_option-true : (option : OptionName) → has_option command option ≡ true → Contains (option_row option).commands command
   has_option-true option e =
       let found = Any-from_list_any _ (option_row option).commands e in
-      let place : place_of found.1 ≡ place_of command = same_place (place_of found.1) (place_of command) found.4 in
-      let is : found.1 ≡ command = sym (command_at-place found.1) ∙ (ap command_at place ∙ command_at-place command) in
+      let place : place_of found.1 ≡ place_of command = same_number (place_of found.1) (place_of command) found.4 in
+      let is : found.1 ≡ command = same_place found.1 command place in
       subst (Contains (option_row option).commands) is (found.0, found.2, found.3)
     where
-      same_place : (n m : ℕ) → (n == m) ≡ true → n ≡ m
-      same_place n m e = elim (eqb_tells n m) [ inl is ↦ is.1 | inr not ↦ let bad : false ≡ true = sym not.0 ∙ e in cc ]
+      same_number : (n m : ℕ) → (n == m) ≡ true → n ≡ m
+      same_number n m e = elim (eqb_tells n m) [ inl is ↦ is.1 | inr not ↦ let bad : false ≡ true = sym not.0 ∙ e in cc ]
 
   -- a name among those of some options that are the command's
   known_among : (options : List OptionName) (name : Text) → Contains (names_known command options) name → IsOptionOf command name
@@ -146,7 +160,7 @@ module _ (command : CommandName) where
   -- the command knows its options
   pub is_known : (name : Text) → IsOptionOf command name → Contains (known_to command) name
   is_known name is =
-      let at = in_table is.option in
+      let at = every_option-all is.option in
       subst (Contains (known_to command)) (sym is.named) (among_known every_option is.option at.0 at.1 at.2 (has_option-from is.option is.had))
 
   -- each has a name that an option can have

@@ -33,7 +33,10 @@ access_named access.Writes = writes
 abbrev pub kind_of : KindVariant → Kind
 kind_of (kind.Number least greatest usual) = number least greatest usual
 
--- the options in the order of their table
+-- the commands and the options in the order of their tables
+abbrev pub every_command : List CommandName
+every_command = best ∷ asm ∷ dis ∷ []
+
 abbrev pub every_option : List OptionName
 every_option = inputs ∷ outputs ∷ []
 

@@ -1,7 +1,7 @@
 //! The commands and their options, a row each.
-ghost use Rattle.std.specs.Prelude.{◌≡◌, map, Contains};
+ghost use Rattle.std.specs.Prelude.{◌≡◌, map};
 ghost use Rattle.ci_words.specs.Tables as table;
-ghost use Rattle.ci_words.specs.Parses.{command_named, option_named, access_named, kind_of, every_option, has_option};
+ghost use Rattle.ci_words.specs.Parses.{command_named, option_named, access_named, kind_of, every_command, every_option, has_option};
 
 /// The commands by name.
 #[derive(Clone, Copy, PartialEq, Eq)]
@@ -115,7 +115,7 @@ pub fn option_row(option: OptionName) -> OptionRow
 
 /// The commands in the order of their table.
 pub fn all_commands() -> &'static [CommandName]
-    ensures { (command : table.CommandName) → Contains (map command_named result.now) command }
+    ensures { map command_named result.now ≡ every_command }
 {
     &[CommandName::Best, CommandName::Asm, CommandName::Dis]
 }

@@ -1,11 +1,13 @@
--- One more command that has another word.
-use Rattle.std.proofs.Common.{◌≡◌, ◌≢◌, ◌∙◌, ap, arith, below_more, false, get_or, length, map, sym, true}
+-- One more command that has another word; the table has each command.
+use Rattle.std.proofs.Common.{◌≡◌, ◌≢◌, ◌∙◌, ap, arith, below_more, false, get_or, length, map, sym, subst, true}
+use Rattle.std.specs.Prelude.{Contains}
 use Rattle.std.proofs.lemmas.List.{get_or-map, length-map}
 use Rattle.std.specs.Str.{bytes_eq}
 use Rattle.ci_words.specs.Tables.{CommandName, command_row}
 use Rattle.ci_words.specs.Parses.{command_named}
 use Rattle.ci_words.specs.declared.tables.CommandName.TheVariants.{Best}
 use Rattle.ci_words.proofs.Rules.{same_text}
+use Rattle.ci_words.proofs.TableLaws.{every_command-all}
 use Rattle.ci_words.proofs.parse.command_called.Goals as goal
 
 pub loop-command-preserved : goal.loop-command-preserved
@@ -22,7 +24,7 @@ loop-command-preserved c =
 pub returns-clause-none : goal.returns-clause-none
 returns-clause-none c = λ command is.
     let commands = c.all_commands-command-items.result.now in
-    let at = c.all_commands-command-items.ensures command in
+    let at : Contains (map command_named commands) command = subst (λ cs. Contains cs command) (sym c.all_commands-command-items.ensures) (every_command-all command) in
     let lt = at.1 in
     let long : length (map command_named commands) ≡ length commands = length-map commands command_named in
     c.loop-command.invariant at.0 (omega arith) command (is ∙ ap (λ n. (command_row n).word) (sym at.2))
