@@ -1,6 +1,6 @@
 -- For private contracts only: the instruction that a word reads as, found by its opcode and then by its other codes.
 -- What a word means is said by the table, and the public calls promise that.
-use Rattle.std.specs.Prelude.{ℕ, ◌+◌, ◌*◌, Bool, true, false, ◌==◌, ◌&&◌, ◌||◌, filter, if◌then◌else◌, List, [], ◌∷◌, Option, Some, None, option_map, find, pos}
+use Rattle.std.specs.Prelude.{ℕ, ◌+◌, ◌*◌, Bool, ◌==◌, ◌&&◌, ◌||◌, filter, if◌then◌else◌, List, [], ◌∷◌, Option, Some, None, option_map, find, pos}
 use Rattle.ci_word.specs.declared.arithmetic.Op.{Op}
 use Rattle.ci_word.specs.declared.arithmetic.Op.TheVariants.{Add, Sub, Sll, Slt, Sltu, Xor, Srl, Sra, Or, And, Mul, Mulh, Mulhsu, Mulhu, Div, Divu, Rem, Remu}
 use Rattle.ci_isa.specs.declared.instruction.Cond.{Cond}
@@ -12,7 +12,7 @@ use Rattle.ci_isa.specs.declared.instruction.Width.TheVariants.{Byte, Half, Word
 use Rattle.ci_isa.specs.declared.instruction.Insn.{Insn}
 use Rattle.ci_isa.specs.declared.instruction.Insn.TheVariants.{Alu, AluImm, Lui, Auipc, Jal, Jalr, Branch, Load, Store, Fence, Ecall, Ebreak, Unit, Cread}
 use Rattle.ci_isa.specs.Fields.{field, opcode, rd_field, funct3, rs1_field, rs2_field, funct7, immediate_format, store_format, branch_format, upper_format, jump_format, immediate, signed_immediate}
-use Rattle.ci_isa.specs.Table.{operation_codes, ConstantForm, SignedImmediate, ShiftAmount, constant_form, condition_code, load_code, store_code}
+use Rattle.ci_isa.specs.Table.{operation_codes, ConstantForm, SignedImmediate, ShiftAmount, NoForm, constant_form, condition_code, load_code, store_code}
 
 -- ---- what has a code
 
@@ -37,19 +37,13 @@ operation_among operations code = find (λ op. (operation_codes op).0 == code) o
 abbrev pub has_funct7 : ℕ → Op → Bool
 has_funct7 code op = (operation_codes op).1 == code
 
-abbrev pub has_immediate : Op → Bool
-has_immediate op = is_immediate (constant_form op)
-  where
-    is_immediate : ConstantForm → Bool
-    is_immediate SignedImmediate = true
-    is_immediate form = false
+abbrev pub form_number : ConstantForm → ℕ
+form_number SignedImmediate = 0
+form_number ShiftAmount = 1
+form_number NoForm = 2
 
-abbrev pub has_amount : Op → Bool
-has_amount op = is_amount (constant_form op)
-  where
-    is_amount : ConstantForm → Bool
-    is_amount ShiftAmount = true
-    is_amount form = false
+abbrev pub has_form : ConstantForm → Op → Bool
+has_form form op = form_number (constant_form op) == form_number form
 
 -- the operations with one funct7, and those with an immediate
 abbrev pub base_at : ℕ → Option Op
@@ -62,7 +56,7 @@ abbrev pub product_at : ℕ → Option Op
 product_at code = operation_among (filter (has_funct7 0x01) all_operations) code
 
 abbrev pub immediate_at : ℕ → Option Op
-immediate_at code = operation_among (filter has_immediate all_operations) code
+immediate_at code = operation_among (filter (has_form SignedImmediate) all_operations) code
 
 -- by funct3 and funct7
 abbrev pub operation_at : ℕ → ℕ → Option Op
@@ -73,7 +67,7 @@ operation_at code3 code7 =
 
 -- the shifts with this funct7
 abbrev pub shifts_with : ℕ → List Op
-shifts_with code = filter (λ op. has_amount op && has_funct7 code op) all_operations
+shifts_with code = filter (λ op. has_form ShiftAmount op && has_funct7 code op) all_operations
 
 abbrev pub shift_at : ℕ → ℕ → Option Op
 shift_at code3 code7 =
