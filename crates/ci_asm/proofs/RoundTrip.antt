@@ -17,7 +17,8 @@ use Rattle.ci_asm.specs.declared.statements.Statement.{Statement}
 use Rattle.ci_asm.specs.Shapes.{is_statement, constant_field, is_offset, lowest, highest, fits, slots_of}
 use Rattle.ci_asm.specs.Statements.{◌>>=◌, no_operands, read_line, signed_value, insn_of}
 use Rattle.ci_asm.specs.Spelling.{number_from, unsigned, statement_of, statement_text, shown}
-use Rattle.ci_asm.specs.Programs.{lines_of, on_line, option_words, words_behind, all_read, Definitions, definition_of, defined_once, resolved, statement_insn, line_insn, insns_of, assembled}
+use Rattle.ci_asm.specs.Programs.{on_line, option_words, words_behind, all_read, Definitions, definition_of, defined_once, resolved, statement_insn, line_insn, insns_of, assembled}
+use Rattle.ci_asm.specs.Lines.{lines_of}
 use Rattle.ci_asm.proofs.Texts.{lines_of-one}
 use Rattle.ci_asm.proofs.Assembly.{all_read-nil, all_read-ok, behind, insns_of-nil, insns_of-ok, assembled-read}
 use Rattle.ci_asm.proofs.Shown.{HasPlainSign, IsShowable, copied, read_line-shown, statement_in_line}

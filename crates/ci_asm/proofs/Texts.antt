@@ -7,7 +7,8 @@ use Rattle.std.proofs.lemmas.List.Folds.{length-prefix_len}
 use Rattle.ci_asm.specs.declared.scanner.ByteClass.TheVariants.{InLine}
 use Rattle.ci_asm.proofs.Tokens.{and_both, not_true}
 use Rattle.ci_asm.specs.Tokens.{belongs}
-use Rattle.ci_asm.specs.Programs.{first_line, lines_of, with_byte}
+use Rattle.ci_asm.specs.Programs.{first_line}
+use Rattle.ci_asm.specs.Lines.{lines_of, with_byte}
 
 -- the text behind its first line
 abbrev pub behind_first : List ℕ → List ℕ

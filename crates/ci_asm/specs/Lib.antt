@@ -1,3 +1,7 @@
+pub mod Lexicon
+pub mod Forms
+pub mod Lines
+pub mod Assembly
 pub mod Tokens
 pub mod Shapes
 pub mod Statements

@@ -17,21 +17,12 @@ use Rattle.ci_asm.specs.declared.statements.Statement.{Statement}
 use Rattle.ci_asm.specs.declared.lines.Line.{Line}
 use Rattle.ci_asm.specs.declared.scanner.ByteClass.TheVariants.{InLine}
 use Rattle.ci_asm.specs.Definitions.{earlier}
+use Rattle.ci_asm.specs.Lines.{lines_of}
 use Rattle.ci_asm.specs.Tokens.{belongs, text_of}
 use Rattle.ci_asm.specs.Shapes.{fits, field_of}
 use Rattle.ci_asm.specs.Statements.{◌>>=◌, read_line, insn_of}
 
 -- ---- lines
-
--- c before the first of the lines
-abbrev pub with_byte : ℕ → List (List ℕ) → List (List ℕ)
-with_byte c [] = (c ∷ []) ∷ []
-with_byte c (line ∷ lines) = (c ∷ line) ∷ lines
-
--- the lines of a text. Each ends by a newline, which the last may lack
-unfoldable pub lines_of : List ℕ → List (List ℕ)
-lines_of [] = []
-lines_of (c ∷ text) = if c == 10 then [] ∷ lines_of text else with_byte c (lines_of text)
 
 -- the first line of a text, without its newline
 abbrev pub first_line : List ℕ → List ℕ

@@ -9,6 +9,7 @@ use Rattle.ci_isa.specs.declared.instruction.LoadKind.{LoadKind}
 use Rattle.ci_isa.specs.declared.instruction.LoadKind.TheVariants.{B, H, W, Bu, Hu}
 use Rattle.ci_isa.specs.declared.instruction.Width.{Width}
 use Rattle.ci_isa.specs.declared.instruction.Width.TheVariants.{Byte, Half, Word}
+use Rattle.ci_asm.specs.Forms.{operation_name, branch_name, load_name, store_name}
 use Rattle.ci_asm.specs.declared.numbers.Number.{Number}
 use Rattle.ci_asm.specs.declared.mnemonics.Mnemonic.{Mnemonic}
 use Rattle.ci_asm.specs.declared.mnemonics.Mnemonic.TheVariants.{Registers, Constant, Lui, Auipc, Jal, Jalr, Branch, Load, Store, Fence, Ecall, Ebreak, Custom, Cread, Data}
@@ -18,26 +19,6 @@ use Rattle.ci_asm.specs.declared.slots.Slot.{Slot}
 use Rattle.ci_asm.specs.declared.slots.Slot.TheVariants.{Rd, Rs1, Rs2, Rs3, Value, Comma, Open, Close}
 
 -- ---- the mnemonics
-
-abbrev pub operation_name : Op → List ℕ
-operation_name Add = codes "add"
-operation_name Sub = codes "sub"
-operation_name Sll = codes "sll"
-operation_name Slt = codes "slt"
-operation_name Sltu = codes "sltu"
-operation_name Xor = codes "xor"
-operation_name Srl = codes "srl"
-operation_name Sra = codes "sra"
-operation_name Or = codes "or"
-operation_name And = codes "and"
-operation_name Mul = codes "mul"
-operation_name Mulh = codes "mulh"
-operation_name Mulhsu = codes "mulhsu"
-operation_name Mulhu = codes "mulhu"
-operation_name Div = codes "div"
-operation_name Divu = codes "divu"
-operation_name Rem = codes "rem"
-operation_name Remu = codes "remu"
 
 -- of the operation with a constant. Nine operations have none, and no name here
 abbrev pub constant_name : Op → List ℕ
@@ -59,26 +40,6 @@ constant_name Div = []
 constant_name Divu = []
 constant_name Rem = []
 constant_name Remu = []
-
-abbrev pub branch_name : Cond → List ℕ
-branch_name Eq = codes "beq"
-branch_name Ne = codes "bne"
-branch_name Lt = codes "blt"
-branch_name Ge = codes "bge"
-branch_name Ltu = codes "bltu"
-branch_name Geu = codes "bgeu"
-
-abbrev pub load_name : LoadKind → List ℕ
-load_name B = codes "lb"
-load_name H = codes "lh"
-load_name W = codes "lw"
-load_name Bu = codes "lbu"
-load_name Hu = codes "lhu"
-
-abbrev pub store_name : Width → List ℕ
-store_name Byte = codes "sb"
-store_name Half = codes "sh"
-store_name Word = codes "sw"
 
 abbrev pub name_of : Mnemonic → List ℕ
 name_of (Registers op) = operation_name op

@@ -1,6 +1,7 @@
 //! The names of statements.
 ghost use Rattle.std.specs.Prelude.{◌≡◌, find};
-ghost use Rattle.ci_asm.specs.Shapes.{operation_name, constant_name, branch_name, load_name, store_name, name_of, mnemonics, is_named, mnemonic_of};
+ghost use Rattle.ci_asm.specs.Shapes.{constant_name, name_of, mnemonics, is_named, mnemonic_of};
+ghost use Rattle.ci_asm.specs.Forms.{operation_name, branch_name, load_name, store_name};
 
 use ci_isa::{Cond, LoadKind, Width};
 use ci_word::Op;

@@ -2,7 +2,8 @@ use Rattle.std.proofs.Common.{sym, subst}
 use Rattle.std.specs.Prelude.{IfOk, IfErr}
 use Rattle.std.proofs.lemmas.Result.{err_from_is_err_and}
 use Rattle.ci_asm.specs.Definitions.{found_in}
-use Rattle.ci_asm.specs.Programs.{lines_of, all_read, assembled, AreWordsIn, IsFaultIn}
+use Rattle.ci_asm.specs.Programs.{all_read, assembled, AreWordsIn, IsFaultIn}
+use Rattle.ci_asm.specs.Lines.{lines_of}
 use Rattle.ci_asm.proofs.Assembly.{assembled-read, assembled-unread, fault_carried}
 use Rattle.ci_asm.proofs.assembler.assemble.Goals as goal
 

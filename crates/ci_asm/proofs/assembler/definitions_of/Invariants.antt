@@ -1,6 +1,7 @@
 use Rattle.std.proofs.Common.{◌≡◌, ℕ, ◌+◌, ◌-◌, ◌≤◌, List, drop, length}
 use Rattle.ci_asm.specs.Definitions.{found_in, earlier}
-use Rattle.ci_asm.specs.Programs.{lines_of, all_read, definition_of}
+use Rattle.ci_asm.specs.Programs.{all_read, definition_of}
+use Rattle.ci_asm.specs.Lines.{lines_of}
 use Rattle.ci_asm.proofs.assembler.definitions_of.Given as goal
 
 -- the lines that are left give the whole answer, with what was found so far
