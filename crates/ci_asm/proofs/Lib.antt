@@ -7,3 +7,6 @@ pub mod Tokens
 pub mod Digits
 pub mod Shown
 pub mod RoundTrip
+pub mod Lexing
+pub mod Scanning
+pub mod Fields

@@ -16,12 +16,12 @@ pub record StandsAt (line : List ℕ) (i : ℕ) (text : List ℕ) : Type 0 where
   pub rest : drop i line ≡ text
 
 -- the first byte
-record HasFirst (line : List ℕ) (i x : ℕ) (rest : List ℕ) : Type 0 where
-  byte : byte_at line i ≡ x
-  inside : i < length line
-  others : StandsAt line (i + 1) rest
+pub record HasFirst (line : List ℕ) (i x : ℕ) (rest : List ℕ) : Type 0 where
+  pub byte : byte_at line i ≡ x
+  pub inside : i < length line
+  pub others : StandsAt line (i + 1) rest
 
-first_of : (line : List ℕ) (i x : ℕ) (rest : List ℕ) → StandsAt line i (x ∷ rest) → HasFirst line i x rest
+pub first_of : (line : List ℕ) (i x : ℕ) (rest : List ℕ) → StandsAt line i (x ∷ rest) → HasFirst line i x rest
 first_of line i x rest at =
     let count : suc (length rest) ≡ length line - i = sym (ap length at.rest) ∙ length-drop i line in
     let inside : i < length line = omega arith in
@@ -192,7 +192,7 @@ ends-stops_hex [] e = refl
 ends-stops_hex (y ∷ ys) e = grind (arith, nat_tests)
 
 -- the byte at a place is the first of the text there
-byte_of : (line : List ℕ) (i : ℕ) (text : List ℕ) → StandsAt line i text → byte_at line i ≡ get_or text 0 0
+pub byte_of : (line : List ℕ) (i : ℕ) (text : List ℕ) → StandsAt line i text → byte_at line i ≡ get_or text 0 0
 byte_of line i [] at =
     let count : 0 ≡ length line - i = sym (ap length at.rest) ∙ length-drop i line in
     get_or_past line i 0 (omega arith)

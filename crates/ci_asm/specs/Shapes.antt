@@ -1,5 +1,5 @@
 -- The table of statements: the mnemonics, their names, and the shape of each statement, slot by slot.
-use Rattle.std.specs.Prelude.{ℕ, ◌%◌, ◌==◌, Bool, true, false, ◌&&◌, if◌then◌else◌, List, [], ◌∷◌, codes, Option, nat_le, find}
+use Rattle.std.specs.Prelude.{ℕ, ◌%◌, ◌==◌, Bool, true, false, ◌&&◌, if◌then◌else◌, List, [], ◌∷◌, codes, Option, Some, None, is_some, nat_le, find}
 use Rattle.std.specs.Str.{bytes_eq}
 use Rattle.ci_word.specs.declared.arithmetic.Op.{Op}
 use Rattle.ci_word.specs.declared.arithmetic.Op.TheVariants.{Add, Sub, Sll, Slt, Sltu, Xor, Srl, Sra, Or, And, Mul, Mulh, Mulhsu, Mulhu, Div, Divu, Rem, Remu}
@@ -9,7 +9,8 @@ use Rattle.ci_isa.specs.declared.instruction.LoadKind.{LoadKind}
 use Rattle.ci_isa.specs.declared.instruction.LoadKind.TheVariants.{B, H, W, Bu, Hu}
 use Rattle.ci_isa.specs.declared.instruction.Width.{Width}
 use Rattle.ci_isa.specs.declared.instruction.Width.TheVariants.{Byte, Half, Word}
-use Rattle.ci_asm.specs.Forms.{operation_name, branch_name, load_name, store_name}
+use Rattle.ci_asm.specs.Forms as forms
+use Rattle.ci_asm.specs.Forms.{operation_name, register_immediate, branch_name, load_name, store_name}
 use Rattle.ci_asm.specs.declared.numbers.Number.{Number}
 use Rattle.ci_asm.specs.declared.mnemonics.Mnemonic.{Mnemonic}
 use Rattle.ci_asm.specs.declared.mnemonics.Mnemonic.TheVariants.{Registers, Constant, Lui, Auipc, Jal, Jalr, Branch, Load, Store, Fence, Ecall, Ebreak, Custom, Cread, Data}
@@ -20,26 +21,28 @@ use Rattle.ci_asm.specs.declared.slots.Slot.TheVariants.{Rd, Rs1, Rs2, Rs3, Valu
 
 -- ---- the mnemonics
 
--- of the operation with a constant. Nine operations have none, and no name here
+-- a field of the definitions of statements, as the code has it
+abbrev pub field_from : forms.Field → Field
+field_from forms.immediate = Immediate
+field_from forms.shift_amount = Amount
+field_from forms.upper_bits = Upper
+field_from forms.branch_offset = BranchOffset
+field_from forms.jump_offset = JumpOffset
+field_from forms.fence_bits = FenceBits
+field_from forms.unit_number = UnitNumber
+field_from forms.whole_word = Whole
+
+-- the name and the field of a register-immediate form, if there is one
+abbrev pub form_name : Option (List ℕ × forms.Field) → List ℕ
+form_name (Some (name, field)) = name
+form_name None = []
+
+abbrev pub form_field : Option (List ℕ × forms.Field) → Field
+form_field (Some (name, field)) = field_from field
+form_field None = Immediate
+
 abbrev pub constant_name : Op → List ℕ
-constant_name Add = codes "addi"
-constant_name Slt = codes "slti"
-constant_name Sltu = codes "sltiu"
-constant_name Xor = codes "xori"
-constant_name Or = codes "ori"
-constant_name And = codes "andi"
-constant_name Sll = codes "slli"
-constant_name Srl = codes "srli"
-constant_name Sra = codes "srai"
-constant_name Sub = []
-constant_name Mul = []
-constant_name Mulh = []
-constant_name Mulhsu = []
-constant_name Mulhu = []
-constant_name Div = []
-constant_name Divu = []
-constant_name Rem = []
-constant_name Remu = []
+constant_name op = form_name (register_immediate op)
 
 abbrev pub name_of : Mnemonic → List ℕ
 name_of (Registers op) = operation_name op
@@ -79,26 +82,9 @@ mnemonic_of text = find (is_named text) mnemonics
 
 -- ---- the fields that hold a number
 
--- the operations with a constant
+-- the operation has a register-immediate form
 abbrev pub has_constant : Op → Bool
-has_constant Add = true
-has_constant Slt = true
-has_constant Sltu = true
-has_constant Xor = true
-has_constant Or = true
-has_constant And = true
-has_constant Sll = true
-has_constant Srl = true
-has_constant Sra = true
-has_constant Sub = false
-has_constant Mul = false
-has_constant Mulh = false
-has_constant Mulhsu = false
-has_constant Mulhu = false
-has_constant Div = false
-has_constant Divu = false
-has_constant Rem = false
-has_constant Remu = false
+has_constant op = is_some (register_immediate op)
 
 -- some statement has this mnemonic
 abbrev pub is_statement : Mnemonic → Bool
@@ -145,24 +131,7 @@ fits field n =
 -- ---- the shapes
 
 abbrev pub constant_field : Op → Field
-constant_field Sll = Amount
-constant_field Srl = Amount
-constant_field Sra = Amount
-constant_field Add = Immediate
-constant_field Sub = Immediate
-constant_field Slt = Immediate
-constant_field Sltu = Immediate
-constant_field Xor = Immediate
-constant_field Or = Immediate
-constant_field And = Immediate
-constant_field Mul = Immediate
-constant_field Mulh = Immediate
-constant_field Mulhsu = Immediate
-constant_field Mulhu = Immediate
-constant_field Div = Immediate
-constant_field Divu = Immediate
-constant_field Rem = Immediate
-constant_field Remu = Immediate
+constant_field op = form_field (register_immediate op)
 
 -- what stands behind the mnemonic
 abbrev pub slots_of : Mnemonic → List Slot
