@@ -10,3 +10,5 @@ pub mod RoundTrip
 pub mod Lexing
 pub mod Scanning
 pub mod Fields
+pub mod Filling
+pub mod Stated

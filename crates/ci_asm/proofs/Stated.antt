@@ -1,0 +1,158 @@
+-- The statements that the code reads are those of the definitions.
+use Rattle.std.proofs.Common.{◌≡◌, ◌≢◌, ℕ, ◌+◌, ◌*◌, ◌<◌, ◌≤◌, ◌⊎◌, inl, inr, Bool, true, false, cond, eqb, List, [], ◌∷◌, ◌++◌, length, refl, sym, ap, ◌∙◌, subst, arith, Option, Some, None, Result, Ok, Err, ℤ, pos, negsuc, ◌≤ℤ◌}
+use Rattle.std.specs.Prelude.{unsigned_abs, is_some}
+use Rattle.std.proofs.lemmas.Int.{ints}
+use Rattle.ci_word.specs.declared.arithmetic.Op.{Op}
+use Rattle.ci_word.specs.declared.arithmetic.Op.TheVariants as ops
+use Rattle.ci_isa.specs.declared.instruction.Insn.{Insn}
+use Rattle.ci_isa.specs.declared.instruction.Insn.TheVariants as insn
+use Rattle.ci_asm.specs.declared.numbers.Number.{Number}
+use Rattle.ci_asm.specs.declared.mnemonics.Mnemonic.{Mnemonic}
+use Rattle.ci_asm.specs.declared.mnemonics.Mnemonic.TheVariants.{Registers, Constant, Lui, Auipc, Jal, Jalr, Branch, Load, Store, Fence, Ecall, Ebreak, Custom, Cread, Data}
+use Rattle.ci_asm.specs.declared.slots.Field.{Field}
+use Rattle.ci_asm.specs.declared.slots.Field.TheVariants.{Immediate, Amount, Upper, BranchOffset, JumpOffset, FenceBits, UnitNumber, Whole}
+use Rattle.ci_asm.specs.declared.slots.Slot.{Slot}
+use Rattle.ci_asm.specs.declared.slots.Slot.TheVariants.{Rd, Rs1, Rs2, Rs3, Value, Comma, Open, Close}
+use Rattle.ci_asm.specs.declared.statements.Operands.{Operands}
+use Rattle.ci_asm.specs.Shapes.{name_of, is_statement, is_offset, field_from, form_name, form_field, constant_name, constant_field, field_of, slots_of}
+use Rattle.ci_asm.specs.Statements.{signed_value, insn_of}
+use Rattle.ci_asm.specs.Lexicon as lex
+use Rattle.ci_asm.specs.Lexicon.{name, decimal_number, hex_number, word, comma, open_bracket, close_bracket, colon}
+use Rattle.ci_asm.specs.Forms as forms
+use Rattle.ci_asm.specs.Forms.{register_immediate, IsIn, IsRegister, HasNumber, Statement, plain, to_label, IsStatement, on_registers, on_immediate, lui, auipc, jump, jump_label, jump_register, branch, branch_label, load, store, fence, ecall, ebreak, custom, cread, data_word}
+use Rattle.ci_asm.proofs.Fields.{field_form, field_again, abs_signed}
+use Rattle.ci_asm.proofs.Filling.{Values, no_values, values_of, label_text, Fills, done, fill_rd, fill_rs1, fill_rs2, fill_rs3, fill_number, fill_label, fill_comma, fill_open, fill_close}
+
+-- ---- what a statement says
+
+abbrev pub offset_statement : forms.Field → (ℤ → Insn) → ℤ → Option (List ℕ) → Statement
+offset_statement field with_offset n None = plain (with_offset n)
+offset_statement field with_offset n (Some label) = to_label field with_offset label
+
+-- the statement with this mnemonic and these values
+abbrev pub says : Mnemonic → Values → Statement
+says (Registers op) v = plain (insn.Alu op v.rd v.rs1 v.rs2)
+says (Constant op) v = plain (insn.AluImm op v.rd v.rs1 v.number)
+says Lui v = plain (insn.Lui v.rd (4096 * unsigned_abs v.number))
+says Auipc v = plain (insn.Auipc v.rd (4096 * unsigned_abs v.number))
+says Jal v = offset_statement forms.jump_offset (insn.Jal v.rd) v.number v.label
+says Jalr v = plain (insn.Jalr v.rd v.rs1 v.number)
+says (Branch cond) v = offset_statement forms.branch_offset (insn.Branch cond v.rs1 v.rs2) v.number v.label
+says (Load kind) v = plain (insn.Load kind v.rd v.rs1 v.number)
+says (Store width) v = plain (insn.Store width v.rs1 v.rs2 v.number)
+says Fence v = plain (insn.Fence (unsigned_abs v.number) v.rs1 v.rd)
+says Ecall v = plain insn.Ecall
+says Ebreak v = plain insn.Ebreak
+says Custom v = plain (insn.Unit (unsigned_abs v.number) v.rd v.rs1 v.rs2 v.rs3)
+says Cread v = plain (insn.Cread v.rd)
+says Data v = plain (insn.Illegal (unsigned_abs v.number))
+
+-- the token of a mnemonic
+abbrev pub mnemonic_token : Mnemonic → lex.Token
+mnemonic_token Data = word
+mnemonic_token m = name (name_of m)
+
+-- a field of numbers that are not below 0
+natural : (field : forms.Field) (t : lex.Token) (n : ℤ) → ((n : ℤ) → IsIn field n → n ≡ pos (unsigned_abs n)) → HasNumber field t n → HasNumber field t (pos (unsigned_abs n))
+natural field t n unsigned has = subst (HasNumber field t) (unsigned n has.1) has
+
+-- the register-immediate form of an operation that has one
+form_of : (o : Option (List ℕ × forms.Field)) → is_some o ≡ true → o ≡ Some (form_name o, field_form (form_field o))
+form_of (Some (mnemonic, field)) e = λ i. Some (mnemonic, sym (field_again field) i)
+form_of None e = absurd (cc)
+
+no_label : (op : Op) → is_offset (constant_field op) ≡ true → ⊥
+no_label ops.Add e = cc
+no_label ops.Sub e = cc
+no_label ops.Sll e = cc
+no_label ops.Slt e = cc
+no_label ops.Sltu e = cc
+no_label ops.Xor e = cc
+no_label ops.Srl e = cc
+no_label ops.Sra e = cc
+no_label ops.Or e = cc
+no_label ops.And e = cc
+no_label ops.Mul e = cc
+no_label ops.Mulh e = cc
+no_label ops.Mulhsu e = cc
+no_label ops.Mulhu e = cc
+no_label ops.Div e = cc
+no_label ops.Divu e = cc
+no_label ops.Rem e = cc
+no_label ops.Remu e = cc
+
+natural_number : (high n : ℤ) → (pos 0 ≤ℤ n) × (n ≤ℤ high) → n ≡ pos (unsigned_abs n)
+natural_number high (pos n) h = refl
+natural_number high (negsuc n) h = absurd (omega (arith, ints, h.0))
+
+-- tokens that fill the slots are a statement
+pub fills_statement : (m : Mnemonic) {ts : List lex.Token} {w : Values} → is_statement m ≡ true → Fills (slots_of m) ts no_values w → IsStatement (mnemonic_token m ∷ ts) (says m w)
+fills_statement (Registers op) st (fill_rd a (fill_comma (fill_rs1 b (fill_comma (fill_rs2 c done))))) = on_registers a b c
+fills_statement (Constant op) st (fill_rd a (fill_comma (fill_rs1 b (fill_comma (fill_number n done))))) = on_immediate (form_of (register_immediate op) st) a b n
+fills_statement (Constant op) st (fill_rd a (fill_comma (fill_rs1 b (fill_comma (fill_label offset done))))) = absurd (no_label op offset)
+fills_statement Lui st (fill_rd a (fill_comma (fill_number {n} h done))) = lui a (natural forms.upper_bits _ n (natural_number (pos 0xfffff)) h)
+fills_statement Lui st (fill_rd a (fill_comma (fill_label offset done))) = absurd (cc)
+fills_statement Auipc st (fill_rd a (fill_comma (fill_number {n} h done))) = auipc a (natural forms.upper_bits _ n (natural_number (pos 0xfffff)) h)
+fills_statement Auipc st (fill_rd a (fill_comma (fill_label offset done))) = absurd (cc)
+fills_statement Jal st (fill_rd a (fill_comma (fill_number h done))) = jump a h
+fills_statement Jal st (fill_rd a (fill_comma (fill_label offset done))) = jump_label a
+fills_statement Jalr st (fill_rd a (fill_comma (fill_number h (fill_open (fill_rs1 b (fill_close done)))))) = jump_register a h b
+fills_statement Jalr st (fill_rd a (fill_comma (fill_label offset (fill_open (fill_rs1 b (fill_close done)))))) = absurd (cc)
+fills_statement (Branch cond) st (fill_rs1 a (fill_comma (fill_rs2 b (fill_comma (fill_number h done))))) = branch a b h
+fills_statement (Branch cond) st (fill_rs1 a (fill_comma (fill_rs2 b (fill_comma (fill_label offset done))))) = branch_label a b
+fills_statement (Load kind) st (fill_rd a (fill_comma (fill_number h (fill_open (fill_rs1 b (fill_close done)))))) = load a h b
+fills_statement (Load kind) st (fill_rd a (fill_comma (fill_label offset (fill_open (fill_rs1 b (fill_close done)))))) = absurd (cc)
+fills_statement (Store width) st (fill_rs2 b (fill_comma (fill_number h (fill_open (fill_rs1 a (fill_close done)))))) = store b h a
+fills_statement (Store width) st (fill_rs2 b (fill_comma (fill_label offset (fill_open (fill_rs1 a (fill_close done)))))) = absurd (cc)
+fills_statement Fence st (fill_number {n} h (fill_comma (fill_rs1 a (fill_comma (fill_rd d done))))) = fence (natural forms.fence_bits _ n (natural_number (pos 4095)) h) a d
+fills_statement Fence st (fill_label offset (fill_comma (fill_rs1 a (fill_comma (fill_rd d done))))) = absurd (cc)
+fills_statement Ecall st done = ecall
+fills_statement Ebreak st done = ebreak
+fills_statement Custom st (fill_number {n} h (fill_comma (fill_rd d (fill_comma (fill_rs1 a (fill_comma (fill_rs2 b (fill_comma (fill_rs3 c done))))))))) =
+    custom (natural forms.unit_number _ n (natural_number (pos 31)) h) d a b c
+fills_statement Custom st (fill_label offset (fill_comma (fill_rd d (fill_comma (fill_rs1 a (fill_comma (fill_rs2 b (fill_comma (fill_rs3 c done))))))))) = absurd (cc)
+fills_statement Cread st (fill_rd a done) = cread a
+fills_statement Data st (fill_number {n} h done) = data_word (natural forms.whole_word _ n (natural_number (pos 0xffff_ffff)) h)
+fills_statement Data st (fill_label offset done) = absurd (cc)
+
+-- and back
+pub record HasSlots (ts : List lex.Token) (statement : Statement) : Type 0 where
+  pub mnemonic : Mnemonic
+  pub others : List lex.Token
+  pub values : Values
+  pub named : is_statement mnemonic ≡ true
+  pub tokens : ts ≡ mnemonic_token mnemonic ∷ others
+  pub fills : Fills (slots_of mnemonic) others no_values values
+  pub meaning : says mnemonic values ≡ statement
+
+slots_from : (m : Mnemonic) {ts : List lex.Token} {w : Values} → is_statement m ≡ true → Fills (slots_of m) ts no_values w → HasSlots (mnemonic_token m ∷ ts) (says m w)
+slots_from m {ts} {w} named fills = record { mnemonic = m; others = ts; values = w; named = named; tokens = refl; fills = fills; meaning = refl }
+
+-- of a register-immediate form
+immediate_slots : (op : Op) (x y z : lex.Token) (d a : ℕ) (n : ℤ) (mnemonic : List ℕ) (field : forms.Field) → register_immediate op ≡ Some (mnemonic, field) → IsRegister x d → IsRegister y a → HasNumber field z n → HasSlots (name mnemonic ∷ x ∷ comma ∷ y ∷ comma ∷ z ∷ []) (plain (insn.AluImm op d a n))
+immediate_slots op x y z d a n mnemonic field e rd rs1 number =
+    let named : is_statement (Constant op) ≡ true = ap is_some e in
+    let text : constant_name op ≡ mnemonic = ap form_name e in
+    let same : field_form (constant_field op) ≡ field = ap (λ o. field_form (form_field o)) e ∙ field_again field in
+    let fits : HasNumber (field_form (constant_field op)) z n = subst (λ f. HasNumber f z n) (sym same) number in
+    subst (λ t. HasSlots (name t ∷ x ∷ comma ∷ y ∷ comma ∷ z ∷ []) (plain (insn.AluImm op d a n))) text
+    (slots_from (Constant op) named (fill_rd rd (fill_comma (fill_rs1 rs1 (fill_comma (fill_number fits done))))))
+
+pub statement_slots : {ts : List lex.Token} {statement : Statement} → IsStatement ts statement → HasSlots ts statement
+statement_slots (on_registers {op} a b c) = slots_from (Registers op) refl (fill_rd a (fill_comma (fill_rs1 b (fill_comma (fill_rs2 c done)))))
+statement_slots (on_immediate {op} {x} {y} {z} {d} {a} {n} {mnemonic} {field} e rd rs1 number) = immediate_slots op x y z d a n mnemonic field e rd rs1 number
+statement_slots (lui a h) = slots_from Lui refl (fill_rd a (fill_comma (fill_number h done)))
+statement_slots (auipc a h) = slots_from Auipc refl (fill_rd a (fill_comma (fill_number h done)))
+statement_slots (jump a h) = slots_from Jal refl (fill_rd a (fill_comma (fill_number h done)))
+statement_slots (jump_label a) = slots_from Jal refl (fill_rd a (fill_comma (fill_label refl done)))
+statement_slots (jump_register a h b) = slots_from Jalr refl (fill_rd a (fill_comma (fill_number h (fill_open (fill_rs1 b (fill_close done))))))
+statement_slots (branch {cond} a b h) = slots_from (Branch cond) refl (fill_rs1 a (fill_comma (fill_rs2 b (fill_comma (fill_number h done)))))
+statement_slots (branch_label {cond} a b) = slots_from (Branch cond) refl (fill_rs1 a (fill_comma (fill_rs2 b (fill_comma (fill_label refl done)))))
+statement_slots (load {kind} a h b) = slots_from (Load kind) refl (fill_rd a (fill_comma (fill_number h (fill_open (fill_rs1 b (fill_close done))))))
+statement_slots (store {width} b h a) = slots_from (Store width) refl (fill_rs2 b (fill_comma (fill_number h (fill_open (fill_rs1 a (fill_close done))))))
+statement_slots (fence h a d) = slots_from Fence refl (fill_number h (fill_comma (fill_rs1 a (fill_comma (fill_rd d done)))))
+statement_slots ecall = slots_from Ecall refl done
+statement_slots ebreak = slots_from Ebreak refl done
+statement_slots (custom h d a b c) = slots_from Custom refl (fill_number h (fill_comma (fill_rd d (fill_comma (fill_rs1 a (fill_comma (fill_rs2 b (fill_comma (fill_rs3 c done)))))))))
+statement_slots (cread a) = slots_from Cread refl (fill_rd a done)
+statement_slots (data_word h) = slots_from Data refl (fill_number h done)
