@@ -12,3 +12,4 @@ pub mod Scanning
 pub mod Fields
 pub mod Filling
 pub mod Stated
+pub mod ReadLines

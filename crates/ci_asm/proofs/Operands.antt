@@ -232,7 +232,7 @@ mnemonic_of-statement : (text : List ℕ) (m : Mnemonic) → mnemonic_of text �
 unfolding mnemonic_of
 mnemonic_of-statement text m e = found_passes (is_named text) is_statement mnemonics m e refl
 
-mnemonic_in-statement : (line : List ℕ) (t : Token) (kind : Kind) (m : Mnemonic) → mnemonic_in line t kind ≡ Ok m → is_statement m ≡ true
+pub mnemonic_in-statement : (line : List ℕ) (t : Token) (kind : Kind) (m : Mnemonic) → mnemonic_in line t kind ≡ Ok m → is_statement m ≡ true
 mnemonic_in-statement line t Name m e = mnemonic_of-statement (text_of line t) m (found_ok (mnemonic_of (text_of line t)) NoMnemonic m e)
 mnemonic_in-statement line t Directive m e = mnemonic_of-statement (text_of line t) m (found_ok (mnemonic_of (text_of line t)) NoMnemonic m e)
 mnemonic_in-statement line t Numeral m e = absurd (cc)
@@ -242,7 +242,7 @@ mnemonic_in-statement line t Bad m e = absurd (cc)
 
 -- ---- statements and lines
 
-unless_full : {A : Type 0} (full : Bool) (f : Fault) (r : Result A Fault) (x : A) → cond full (Err f) r ≡ Ok x → r ≡ Ok x
+pub unless_full : {A : Type 0} (full : Bool) (f : Fault) (r : Result A Fault) (x : A) → cond full (Err f) r ≡ Ok x → r ≡ Ok x
 unless_full true f r x e = absurd (cc)
 unless_full false f r x e = e
 

@@ -474,7 +474,7 @@ is_word-name Custom named kind = refl
 is_word-name Cread named kind = refl
 is_word-name Data named kind = absurd (cc)
 
-found_by_name : (m : Mnemonic) → is_statement m ≡ true → mnemonic_of (name_of m) ≡ Some m
+pub found_by_name : (m : Mnemonic) → is_statement m ≡ true → mnemonic_of (name_of m) ≡ Some m
 unfolding mnemonic_of
 found_by_name (Registers Add) named = refl
 found_by_name (Registers Sub) named = refl
