@@ -25,7 +25,7 @@ use Rattle.ci_asm.specs.Assembly.{Line, HasLabel, label_tokens, StandsInLine, Ha
 use Rattle.ci_asm.proofs.Operands.{bind_ok, same_ok, at_place_ok, found_ok, unless_full, mnemonic_in-statement}
 use Rattle.ci_asm.proofs.Shown.{found_by_name}
 use Rattle.ci_asm.proofs.Lexing.{kind_of, true_is_not_false}
-use Rattle.ci_asm.proofs.Scanning.{IsShown, Shows, Meets, next_symbol, by_test, same_symbol, line_meets, line_stands}
+use Rattle.ci_asm.proofs.Scanning.{IsShown, Shows, Meets, next_symbol, by_test, same_symbol, line_meets, line_stands, kind_no_end}
 use Rattle.ci_asm.proofs.Filling.{Values, no_values, values_of, label_text, Fills, read_fills, fills_read}
 use Rattle.ci_asm.proofs.Stated.{says, mnemonic_token, fills_statement, HasSlots, statement_slots}
 
@@ -176,3 +176,221 @@ is_read line t tokens column statement meets is =
       reads = read_statement-by line t h.mnemonic w.more mnemonic w.reads;
       meaning = ap (says h.mnemonic) w.values ∙ h.meaning;
     }
+
+-- ---- labels
+
+label_parts : (first second : Kind) → is_label first second ≡ true → (first ≡ Name) × (second ≡ Mark 58)
+label_parts Name (Mark b) e = (refl, ap Mark (eqb-true b 58 e))
+label_parts Name Name e = absurd (cc)
+label_parts Name Numeral e = absurd (cc)
+label_parts Name Directive e = absurd (cc)
+label_parts Name End e = absurd (cc)
+label_parts Name Bad e = absurd (cc)
+label_parts Numeral second e = absurd (cc)
+label_parts Directive second e = absurd (cc)
+label_parts (Mark b) second e = absurd (cc)
+label_parts End second e = absurd (cc)
+label_parts Bad second e = absurd (cc)
+
+same_mark : (a b : ℕ) → Mark a ≡ Mark b → a ≡ b
+same_mark a b e = cc
+
+name_kind : (shown : lex.Token) → kind_of shown ≡ Name → shown ≡ name (spelling shown)
+name_kind (name bytes) e = refl
+name_kind (decimal_number negative digits) e = absurd (cc)
+name_kind (hex_number digits) e = absurd (cc)
+name_kind word e = absurd (cc)
+name_kind comma e = absurd (cc)
+name_kind open_bracket e = absurd (cc)
+name_kind close_bracket e = absurd (cc)
+name_kind colon e = absurd (cc)
+
+colon_kind : (shown : lex.Token) → kind_of shown ≡ Mark 58 → shown ≡ colon
+colon_kind (name bytes) e = absurd (cc)
+colon_kind (decimal_number negative digits) e = absurd (cc)
+colon_kind (hex_number digits) e = absurd (cc)
+colon_kind word e = absurd (cc)
+colon_kind comma e = let no = same_mark 44 58 e in absurd (omega arith)
+colon_kind open_bracket e = let no = same_mark 40 58 e in absurd (omega arith)
+colon_kind close_bracket e = let no = same_mark 41 58 e in absurd (omega arith)
+colon_kind colon e = refl
+
+-- a token of this kind is shown as a name
+shown_name : (line : List ℕ) (t : Token) (symbol : lex.Symbol) → Shows line t symbol → t.kind ≡ Name → IsShown line t (name (text_of line t))
+shown_name line t (lex.token shown) shows e =
+    let named = name_kind shown (sym shows.kind ∙ e) in
+    let same : shown ≡ name (text_of line t) = named ∙ ap name (sym shows.text) in
+    subst (IsShown line t) same shows
+shown_name line t line_end shows e = absurd (cc)
+shown_name line t stray_byte shows e = absurd (cc)
+
+shown_colon : (line : List ℕ) (t : Token) (symbol : lex.Symbol) → Shows line t symbol → t.kind ≡ Mark 58 → IsShown line t colon
+shown_colon line t (lex.token shown) shows e = subst (IsShown line t) (colon_kind shown (sym shows.kind ∙ e)) shows
+shown_colon line t line_end shows e = absurd (cc)
+shown_colon line t stray_byte shows e = absurd (cc)
+
+-- ---- lines
+
+-- where the statement of a line is due
+pub record HasBody (line : List ℕ) : Type 0 where
+  pub label : Option Token
+  pub from : ℕ
+  pub has_label : HasLabel line (label_text line label)
+  pub enters : (tokens : List lex.Token) (symbol : lex.Symbol) (column : ℕ) → Stands 0 line (label_tokens (label_text line label) ++ tokens) symbol column → Meets line (next_token line from) tokens symbol column
+  pub leaves : (tokens : List lex.Token) (symbol : lex.Symbol) (column : ℕ) → Meets line (next_token line from) tokens symbol column → Stands 0 line (label_tokens (label_text line label) ++ tokens) symbol column
+  pub reads : (full : Bool) → read_line line full ≡ with_statement line label (next_token line from) full (next_token line from).kind
+  pub label_stands : (t : Token) → label ≡ Some t → Stands 0 line [] (lex.token (name (text_of line t))) t.start
+
+module _ (line : List ℕ) where
+  abbrev first : Token
+  first = next_token line 0
+
+  abbrev second : Token
+  second = next_token line first.end
+
+  first_symbol : (symbol : lex.Symbol) × Shows line first symbol
+  first_symbol = next_symbol line 0
+
+  second_symbol : (symbol : lex.Symbol) × Shows line second symbol
+  second_symbol = next_symbol line first.end
+
+  labelled : is_label first.kind second.kind ≡ true → HasBody line
+  unfolding read_line
+  labelled e =
+      let parts = label_parts first.kind second.kind e in
+      let one = shown_name line first first_symbol.0 first_symbol.1 parts.0 in
+      let two = shown_colon line second second_symbol.0 second_symbol.1 parts.1 in
+      let text = text_of line first in
+      record {
+        label = Some first;
+        from = second.end;
+        has_label = (second.start, line_stands line (name text ∷ []) (lex.token colon) second.start (one, (two, refl)));
+        enters = λ tokens symbol column s. (line_meets line (name text ∷ colon ∷ tokens) symbol column s).1.1;
+        leaves = λ tokens symbol column m. line_stands line (name text ∷ colon ∷ tokens) symbol column (one, (two, m));
+        reads = λ full. ap (λ b. cond b (with_statement line (Some first) (next_token line second.end) full (next_token line second.end).kind) (with_statement line None first full first.kind)) e;
+        label_stands = λ t is. let same : first ≡ t = cc in subst (λ u. Stands 0 line [] (lex.token (name (text_of line u))) u.start) same (line_stands line [] (lex.token (name text)) first.start (one, refl));
+      }
+
+  unlabelled : is_label first.kind second.kind ≡ false → HasBody line
+  unfolding read_line
+  unlabelled e = record {
+    label = None;
+    from = 0;
+    has_label = λ label column s. let m = line_meets line (name label ∷ []) (lex.token colon) column s in true_is_not_false ((λ i. is_label (m.0.kind i) (m.1.0.kind i)) ∙ refl) e;
+    enters = λ tokens symbol column s. line_meets line tokens symbol column s;
+    leaves = λ tokens symbol column m. line_stands line tokens symbol column m;
+    reads = λ full. ap (λ b. cond b (with_statement line (Some first) (next_token line second.end) full (next_token line second.end).kind) (with_statement line None first full first.kind)) e;
+    label_stands = λ t is. absurd (cc);
+  }
+
+  pub body_of : HasBody line
+  body_of = by_test (is_label first.kind second.kind) labelled unlabelled
+
+  -- a line has one label at most
+  pub same_label : (a b : Option (List ℕ)) → HasLabel line a → HasLabel line b → a ≡ b
+  same_label (Some a) (Some b) one two =
+      let m = line_meets line (name a ∷ []) (lex.token colon) one.0 one.1 in
+      let n = line_meets line (name b ∷ []) (lex.token colon) two.0 two.1 in
+      let same : lex.token (name a) ≡ lex.token (name b) = same_symbol line first (lex.token (name a)) (lex.token (name b)) m.0 n.0 in
+      cc
+  same_label (Some a) None one two = absurd (two a one.0 one.1)
+  same_label None (Some b) one two = absurd (one b two.0 two.1)
+  same_label None None one two = refl
+
+abbrev pub statement_read : List ℕ → Option code.Statement → Option Statement
+statement_read line None = None
+statement_read line (Some s) = Some (statement_says line s)
+
+-- what the code's line says
+abbrev pub line_says : List ℕ → code_lines.Line → Line
+line_says line l = record { label = label_text line l.label; statement = statement_read line l.statement }
+
+with_other : (line : List ℕ) (label : Option Token) (t : Token) (full : Bool) (kind : Kind) → kind ≢ End → with_statement line label t full kind ≡ (read_statement line t full >>= λ s. Ok (record { label = label; statement = Some s }))
+with_other line label t full Name other = refl
+with_other line label t full Numeral other = refl
+with_other line label t full Directive other = refl
+with_other line label t full (Mark b) other = refl
+with_other line label t full Bad other = refl
+with_other line label t full End other = absurd (other refl)
+
+-- a statement that is read has room
+abbrev pub HasRoom : Bool → Option code.Statement → Type 0
+HasRoom full None = Unit {0}
+HasRoom full (Some s) = full ≡ false
+
+-- a line that is read is a line of the definitions
+pub record IsReadLine (line : List ℕ) (full : Bool) (l : code_lines.Line) : Type 0 where
+  pub is_line : IsLine line (line_says line l)
+  pub room : HasRoom full l.statement
+
+line_end_read : (line : List ℕ) (full : Bool) (b : HasBody line) (l : code_lines.Line) → (next_token line b.from).kind ≡ End → record { label = b.label; statement = None } ≡ l → IsReadLine line full l
+line_end_read line full b l end e = subst (IsReadLine line full) e (record {
+  is_line = record { tokens = []; end = (next_token line b.from).start; ends = record { has_label = b.has_label; stands = b.leaves [] line_end (next_token line b.from).start (end, refl) }; has_statement = refl };
+  room = tt;
+})
+
+statement_line_read : (line : List ℕ) (full : Bool) (b : HasBody line) (l : code_lines.Line) → (read_statement line (next_token line b.from) full >>= λ s. Ok (record { label = b.label; statement = Some s })) ≡ Ok l → IsReadLine line full l
+statement_line_read line full b l e =
+    let s = bind_ok (read_statement line (next_token line b.from) full) _ l e in
+    let r = read_is line b.from full s.0 s.1 in
+    subst (IsReadLine line full) (same_ok _ l s.2) (record {
+      is_line = record { tokens = r.0.tokens; end = r.0.column; ends = record { has_label = b.has_label; stands = b.leaves r.0.tokens line_end r.0.column r.0.meets }; has_statement = r.0.is_statement };
+      room = r.1;
+    })
+
+pub line_read : (line : List ℕ) (full : Bool) (l : code_lines.Line) → read_line line full ≡ Ok l → IsReadLine line full l
+line_read line full l e =
+    let b = body_of line in
+    let t = next_token line b.from in
+    let e' : with_statement line b.label t full t.kind ≡ Ok l = sym (b.reads full) ∙ e in
+    by b t.kind refl e'
+  where
+    by : (b : HasBody line) (kind : Kind) → (next_token line b.from).kind ≡ kind → with_statement line b.label (next_token line b.from) full kind ≡ Ok l → IsReadLine line full l
+    by b End at e = line_end_read line full b l at (same_ok _ l e)
+    by b Name at e = statement_line_read line full b l e
+    by b Numeral at e = statement_line_read line full b l e
+    by b Directive at e = statement_line_read line full b l e
+    by b (Mark m) at e = statement_line_read line full b l e
+    by b Bad at e = statement_line_read line full b l e
+
+-- and a line of the definitions is read
+abbrev pub IsRoomFor : Bool → Option Statement → Type 0
+IsRoomFor full None = Unit {0}
+IsRoomFor full (Some s) = full ≡ false
+
+pub record WillReadLine (line : List ℕ) (full : Bool) (is : Line) : Type 0 where
+  pub read : code_lines.Line
+  pub reads : read_line line full ≡ Ok read
+  pub says : line_says line read ≡ is
+
+shown_not_end : (line : List ℕ) (t : Token) (shown : lex.Token) → IsShown line t shown → t.kind ≢ End
+shown_not_end line t shown is = λ e. absurd (kind_no_end shown (sym is.kind ∙ e))
+
+pub line_is : (line : List ℕ) (full : Bool) (is : Line) → IsLine line is → IsRoomFor full is.statement → WillReadLine line full is
+line_is line full is l room =
+    let b = body_of line in
+    let same = same_label line is.label (label_text line b.label) l.ends.has_label b.has_label in
+    let meets = b.enters l.tokens line_end l.end (subst (λ label. Stands 0 line (label_tokens label ++ l.tokens) line_end l.end) same l.ends.stands) in
+    by b is.statement same meets l.has_statement room
+  where
+    by : (b : HasBody line) (statement : Option Statement) → is.label ≡ label_text line b.label → Meets line (next_token line b.from) l.tokens line_end l.end → HasStatement l.tokens statement → IsRoomFor full statement
+        → WillReadLine line full (record { label = is.label; statement = statement })
+    by b None same meets has room =
+        let there = subst (λ ts. Meets line (next_token line b.from) ts line_end l.end) has meets in
+        record {
+          read = record { label = b.label; statement = None };
+          reads = b.reads full ∙ ap (with_statement line b.label (next_token line b.from) full) there.0;
+          says = λ i. record { label = sym same i; statement = None };
+        }
+    by b (Some statement) same meets has room =
+        let t = next_token line b.from in
+        let r = is_read line t l.tokens l.end statement meets has in
+        let h = statement_slots has in
+        let there = subst (λ ts. Meets line t ts line_end l.end) h.tokens meets in
+        record {
+          read = record { label = b.label; statement = Some r.read };
+          reads = b.reads full ∙ (with_other line b.label t full t.kind (shown_not_end line t (mnemonic_token h.mnemonic) there.0)
+            ∙ (ap (λ f. read_statement line t f >>= λ s. Ok (record { label = b.label; statement = Some s })) room
+            ∙ ap (λ x. x >>= λ s. Ok (record { label = b.label; statement = Some s })) r.reads));
+          says = λ i. record { label = sym same i; statement = Some (r.meaning i) };
+        }

@@ -242,7 +242,7 @@ skips line (c ∷ cs) n at size = by_test (belongs Blank c) (λ e. blank (skips 
         let solid : ¬ IsBlank c = λ b. true_is_not_false (blank_no c b) e in
         record { place = n; rest = c ∷ cs; at = at; solid = solid; same = ap (token_at line) (solid_here line n (c ∷ cs) at solid); size = size; back = λ tokens symbol column s. s }
 
-kind_no_end : (t : lex.Token) → kind_of t ≢ End
+pub kind_no_end : (t : lex.Token) → kind_of t ≢ End
 kind_no_end (name bytes) = λ e. absurd (cc)
 kind_no_end (decimal_number negative digits) = λ e. absurd (cc)
 kind_no_end (hex_number digits) = λ e. absurd (cc)
@@ -252,7 +252,7 @@ kind_no_end open_bracket = λ e. absurd (cc)
 kind_no_end close_bracket = λ e. absurd (cc)
 kind_no_end colon = λ e. absurd (cc)
 
-kind_no_bad : (t : lex.Token) → kind_of t ≢ Bad
+pub kind_no_bad : (t : lex.Token) → kind_of t ≢ Bad
 kind_no_bad (name bytes) = λ e. absurd (cc)
 kind_no_bad (decimal_number negative digits) = λ e. absurd (cc)
 kind_no_bad (hex_number digits) = λ e. absurd (cc)
