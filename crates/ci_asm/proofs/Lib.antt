@@ -13,3 +13,4 @@ pub mod Fields
 pub mod Filling
 pub mod Stated
 pub mod ReadLines
+pub mod ReadPrograms

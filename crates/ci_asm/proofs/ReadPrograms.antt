@@ -1,0 +1,202 @@
+-- The programs that the code reads are those of the definitions.
+use Rattle.std.proofs.Common.{◌≡◌, ◌≢◌, ℕ, suc, ◌+◌, ◌-◌, ◌*◌, ◌<◌, ◌≤◌, ◌⊎◌, inl, inr, Bool, true, false, cond, eqb, nat_lt, List, [], ◌∷◌, ◌++◌, length, refl, sym, ap, ◌∙◌, subst, arith, Option, Some, None, Result, Ok, Err, ℤ, pos, neg_ℤ, ◌-ℤ◌}
+use Rattle.std.specs.Option.{option_to_list}
+use Rattle.std.specs.Str.{bytes_eq}
+use Rattle.std.proofs.lemmas.Int.{ints}
+use Rattle.std.proofs.lemmas.Bool.{eqb-true}
+use Rattle.std.proofs.lemmas.Bool.Decides.{nat_tests}
+use Rattle.std.proofs.lemmas.Slice.Eq.{bytes_eq-Decides}
+use mathlib.Core.List.{append_assoc}
+use Rattle.ci_isa.specs.declared.instruction.Insn.{Insn}
+use Rattle.ci_isa.specs.declared.instruction.Insn.TheVariants as insn
+use Rattle.ci_isa.specs.Table.{IsWordOf}
+use Rattle.ci_asm.specs.declared.scanner.Token.{Token}
+use Rattle.ci_asm.specs.declared.numbers.Number.{Number}
+use Rattle.ci_asm.specs.declared.faults.Fault.{Fault}
+use Rattle.ci_asm.specs.declared.labels.Definition.{Definition}
+use Rattle.ci_asm.specs.declared.statements.Operands.{Operands}
+use Rattle.ci_asm.specs.declared.statements.Statement as code
+use Rattle.ci_asm.specs.declared.lines.Line as code_lines
+use Rattle.ci_asm.specs.Tokens.{text_of}
+use Rattle.ci_asm.specs.Shapes.{fits, field_of}
+use Rattle.ci_asm.specs.Statements.{◌>>=◌, read_line, insn_of, signed_value}
+use Rattle.ci_asm.specs.Definitions.{earlier}
+use Rattle.ci_asm.specs.Programs.{Position, position, on_line, line_at, option_words, words_in, label_in, words_behind, all_read, is_labelled, definition_on, definition_of, Definitions, once_at, defined_once, offset_between, reaching, resolved, statement_insn, line_insn, option_length, insns_of, assembled, AreWordsOf, AreWordsIn}
+use Rattle.ci_asm.specs.Lines.{lines_of}
+use Rattle.ci_asm.specs.Forms.{Statement, plain, to_label, IsIn}
+use Rattle.ci_asm.specs.Assembly as asm
+use Rattle.ci_asm.specs.Assembly.{Line, IsLine, AreLines, IsProgram, with_statement_of, statements_of, Defines, IsLabelOf, IsOffset, IsInsnOf, AreWords, IsNew, IsResolved, AreResolved, IsAssembly, most_words}
+use Rattle.ci_asm.proofs.Operands.{bind_ok, same_ok, cond_ok}
+use Rattle.ci_asm.proofs.Assembly.{all_read-nil, all_read-ok, definition_of-nil, definition_of-cons, insns_of-nil, insns_of-ok, assembled-read}
+use Rattle.ci_asm.proofs.Filling.{values_of, label_text}
+use Rattle.ci_asm.proofs.Stated.{says}
+use Rattle.ci_asm.proofs.Scanning.{by_test}
+use Rattle.ci_asm.proofs.ReadLines.{statement_says, statement_read, line_says, HasRoom, IsReadLine, line_read, IsRoomFor, WillReadLine, line_is}
+
+-- ---- lines that were read
+
+-- what the code has read of the lines, of which the first has so many words before it
+abbrev pub AreRead : ℕ → List (List ℕ) → List code_lines.Line → Type 0
+AreRead words [] [] = Unit {0}
+AreRead words [] (l ∷ ls) = ⊥
+AreRead words (line ∷ lines) [] = ⊥
+AreRead words (line ∷ lines) (l ∷ ls) = (line_at words line ≡ Ok l) × AreRead (words + option_words l.statement) lines ls
+
+-- what the lines say
+abbrev pub program_of : List (List ℕ) → List code_lines.Line → List Line
+program_of [] ls = []
+program_of (line ∷ lines) [] = []
+program_of (line ∷ lines) (l ∷ ls) = line_says line l ∷ program_of lines ls
+
+room_left : (words : ℕ) → eqb words 262144 ≡ false → words ≤ 262144 → words + 1 ≤ 262144
+room_left words e fits = grind (arith, nat_tests)
+
+room_for : (words : ℕ) → words + 1 ≤ 262144 → eqb words 262144 ≡ false
+room_for words fits = grind (arith, nat_tests)
+
+statement_room : (words : ℕ) (s : Option code.Statement) → HasRoom (eqb words 262144) s → words ≤ 262144 → words + option_words s ≤ 262144
+statement_room words None room fits = omega arith
+statement_room words (Some s) room fits = room_left words room fits
+
+words_with : (line : List ℕ) (s : Option code.Statement) (others : List Statement) → length (with_statement_of (statement_read line s) others) ≡ option_words s + length others
+words_with line None others = omega arith
+words_with line (Some s) others = omega arith
+
+-- the lines that were read are lines of the language
+pub record IsReadProgram (words : ℕ) (lines : List (List ℕ)) (ls : List code_lines.Line) : Type 0 where
+  pub are_lines : AreLines lines (program_of lines ls)
+  pub fits : words + asm.words_in (program_of lines ls) ≤ 262144
+
+pub read_program : (words : ℕ) (lines : List (List ℕ)) (ls : List code_lines.Line) → AreRead words lines ls → words ≤ 262144 → IsReadProgram words lines ls
+read_program words [] [] read fits = record { are_lines = tt; fits = omega arith }
+read_program words [] (l ∷ ls) read fits = absurd read
+read_program words (line ∷ lines) [] read fits = absurd read
+read_program words (line ∷ lines) (l ∷ ls) read fits =
+    let one = line_read line (eqb words 262144) l read.0 in
+    let more = read_program (words + option_words l.statement) lines ls read.1 (statement_room words l.statement one.room fits) in
+    let count = words_with line l.statement (statements_of (program_of lines ls)) in
+    let bound = more.fits in
+    record { are_lines = (one.is_line, more.are_lines); fits = omega arith }
+
+-- what was read, where all lines were
+pub all_read-lines : (n words : ℕ) (lines : List (List ℕ)) → all_read n words lines ≡ Ok tt → (ls : List code_lines.Line) × AreRead words lines ls
+unfolding all_read
+all_read-lines n words [] e = ([], tt)
+all_read-lines n words (line ∷ lines) e =
+    let b = bind_ok (words_behind n words line) _ tt e in
+    by (line_at words line) refl b.0 b.1 (all_read-lines (n + 1) b.0 lines b.2)
+  where
+    by : (r : Result code_lines.Line Fault) → line_at words line ≡ r → (after : ℕ) → (on_line n (line_at words line) >>= λ l. Ok (words + option_words l.statement)) ≡ Ok after
+        → (ls : List code_lines.Line) × AreRead after lines ls → (ls : List code_lines.Line) × AreRead words (line ∷ lines) ls
+    by (Ok l) at after e more =
+        let known : (on_line n (line_at words line) >>= λ l. Ok (words + option_words l.statement)) ≡ Ok (words + option_words l.statement) = ap (λ r. on_line n r >>= λ l. Ok (words + option_words l.statement)) at in
+        let same : after ≡ words + option_words l.statement = same_ok {E = Position} after (words + option_words l.statement) (sym e ∙ known) in
+        (l ∷ more.0, (at, subst (λ k. AreRead k lines more.0) same more.1))
+    by (Err f) at after e more =
+        let known : (on_line n (line_at words line) >>= λ l. Ok (words + option_words l.statement)) ≡ Err (position n f) = ap (λ r. on_line n r >>= λ l. Ok (words + option_words l.statement)) at in
+        absurd (cc)
+
+pub read-all_read : (n words : ℕ) (lines : List (List ℕ)) (ls : List code_lines.Line) → AreRead words lines ls → all_read n words lines ≡ Ok tt
+read-all_read n words [] [] read = all_read-nil n words
+read-all_read n words [] (l ∷ ls) read = absurd read
+read-all_read n words (line ∷ lines) [] read = absurd read
+read-all_read n words (line ∷ lines) (l ∷ ls) read =
+    all_read-ok n words (words + option_words l.statement) line lines (ap (λ r. on_line n r >>= λ l. Ok (words + option_words l.statement)) read.0)
+    ∙ read-all_read (n + 1) (words + option_words l.statement) lines ls read.1
+
+-- lines of the language are read
+pub record WillReadLines (words : ℕ) (lines : List (List ℕ)) (program : List Line) : Type 0 where
+  pub ls : List code_lines.Line
+  pub are_read : AreRead words lines ls
+  pub says : program_of lines ls ≡ program
+
+room_of : (words : ℕ) (s : Option Statement) (others : List Statement) → words + length (with_statement_of s others) ≤ 262144 → IsRoomFor (eqb words 262144) s
+room_of words None others fits = tt
+room_of words (Some s) others fits = room_for words (omega arith)
+
+with_same : (words : ℕ) (line : List ℕ) (s : Option code.Statement) (is : Option Statement) (others : List Statement) → statement_read line s ≡ is → words + length (with_statement_of is others) ≤ 262144 → words + option_words s + length others ≤ 262144
+with_same words line s is others same fits =
+    let count = words_with line s others in
+    let there : words + length (with_statement_of (statement_read line s) others) ≤ 262144 = subst (λ k. words + length (with_statement_of k others) ≤ 262144) (sym same) fits in
+    omega arith
+
+pub program_read : (words : ℕ) (lines : List (List ℕ)) (program : List Line) → AreLines lines program → words + asm.words_in program ≤ 262144 → WillReadLines words lines program
+program_read words [] [] are fits = record { ls = []; are_read = tt; says = refl }
+program_read words [] (l ∷ program) are fits = absurd are
+program_read words (line ∷ lines) [] are fits = absurd are
+program_read words (line ∷ lines) (is ∷ program) are fits =
+    let r = line_is line (eqb words 262144) is are.0 (room_of words is.statement (statements_of program) fits) in
+    let same : statement_read line r.read.statement ≡ is.statement = ap (λ l. l.statement) r.says in
+    let more = program_read (words + option_words r.read.statement) lines program are.1 (with_same words line r.read.statement is.statement (statements_of program) same fits) in
+    record { ls = r.read ∷ more.ls; are_read = (r.reads, more.are_read); says = λ i. r.says i ∷ more.says i }
+
+-- ---- labels
+
+-- where a label is first defined
+pub record IsFoundAt (program : List Line) (label : List ℕ) (n words : ℕ) (d : Definition) : Type 0 where
+  pub before : List Line
+  pub line : Line
+  pub after : List Line
+  pub split : program ≡ before ++ line ∷ after
+  pub labelled : line.label ≡ Some label
+  pub is_new : ¬ Defines before label
+  pub line_is : d.line ≡ n + length before
+  pub words_is : d.words ≡ words + asm.words_in before
+
+abbrev pub IsDefinition : List Line → List ℕ → ℕ → ℕ → Option Definition → Type 0
+IsDefinition program label n words None = ¬ Defines program label
+IsDefinition program label n words (Some d) = IsFoundAt program label n words d
+
+labelled_yes : (name line : List ℕ) (label : Option Token) → is_labelled name line label ≡ true → label_text line label ≡ Some name
+labelled_yes name line None e = absurd (cc)
+labelled_yes name line (Some t) e = ap Some ((bytes_eq-Decides (text_of line t) name).0 e)
+
+labelled_no : (name line : List ℕ) (label : Option Token) → label_text line label ≡ Some name → is_labelled name line label ≡ true
+labelled_no name line None e = absurd (cc)
+labelled_no name line (Some t) e = let same : text_of line t ≡ name = cc in (bytes_eq-Decides (text_of line t) name).1 same
+
+count_cons : (line : Line) (lines : List Line) (words : ℕ) → words + asm.words_in (line ∷ lines) ≡ words + length (with_statement_of line.statement []) + asm.words_in lines
+count_cons line lines words = by line.statement
+  where
+    by : (s : Option Statement) → words + length (with_statement_of s (statements_of lines)) ≡ words + length (with_statement_of s []) + length (statements_of lines)
+    by None = omega arith
+    by (Some s) = omega arith
+
+words_here : (line : List ℕ) (s : Option code.Statement) → length (with_statement_of (statement_read line s) []) ≡ option_words s
+words_here line None = refl
+words_here line (Some s) = refl
+
+further : (label : List ℕ) (n words more : ℕ) (line : Line) (program : List Line) (o : Option Definition) → ¬ (line.label ≡ Some label) → more ≡ words + length (with_statement_of line.statement []) → IsDefinition program label (n + 1) more o → IsDefinition (line ∷ program) label n words o
+further label n words more line program None other count none = λ defines. elim defines [ inl here ↦ other here | inr there ↦ none there ]
+further label n words more line program (Some d) other count f =
+    let line_is = f.line_is in
+    let words_is = f.words_is in
+    let cons = count_cons line f.before words in
+    record {
+      before = line ∷ f.before; line = f.line; after = f.after; split = ap (λ k. line ∷ k) f.split; labelled = f.labelled;
+      is_new = λ defines. elim defines [ inl here ↦ other here | inr there ↦ f.is_new there ];
+      line_is = omega arith; words_is = omega arith;
+    }
+
+-- the code's definitions are those of the program
+pub definition_is : (label : List ℕ) (n words : ℕ) (lines : List (List ℕ)) (ls : List code_lines.Line) → AreRead words lines ls → IsDefinition (program_of lines ls) label n words (definition_of label n words lines)
+definition_is label n words [] [] read = subst (IsDefinition [] label n words) (sym (definition_of-nil label n words)) (λ none. none)
+definition_is label n words [] (l ∷ ls) read = absurd read
+definition_is label n words (line ∷ lines) [] read = absurd read
+definition_is label n words (line ∷ lines) (l ∷ ls) read =
+    let more = definition_is label (n + 1) (words + option_words l.statement) lines ls read.1 in
+    let first : definition_on label n words line ≡ cond (is_labelled label line l.label) (Some (record { line = n; words = words })) None =
+        ap (λ r. cond (is_labelled label line (label_in r)) (Some (record { line = n; words = words })) None) read.0 in
+    let count : words + words_in (line_at words line) ≡ words + option_words l.statement = ap (λ r. words + words_in r) read.0 in
+    let rest : definition_of label (n + 1) (words + words_in (line_at words line)) lines ≡ definition_of label (n + 1) (words + option_words l.statement) lines = ap (λ k. definition_of label (n + 1) k lines) count in
+    let all : definition_of label n words (line ∷ lines) ≡ earlier (cond (is_labelled label line l.label) (Some (record { line = n; words = words })) None) (definition_of label (n + 1) (words + option_words l.statement) lines) =
+        definition_of-cons label n words line lines ∙ (λ i. earlier (first i) (rest i)) in
+    subst (IsDefinition (program_of (line ∷ lines) (l ∷ ls)) label n words) (sym all) (by (is_labelled label line l.label) refl more)
+  where
+    by : (b : Bool) → is_labelled label line l.label ≡ b → IsDefinition (program_of lines ls) label (n + 1) (words + option_words l.statement) (definition_of label (n + 1) (words + option_words l.statement) lines)
+        → IsDefinition (program_of (line ∷ lines) (l ∷ ls)) label n words (earlier (cond b (Some (record { line = n; words = words })) None) (definition_of label (n + 1) (words + option_words l.statement) lines))
+    by true at more = record {
+      before = []; line = line_says line l; after = program_of lines ls; split = refl; labelled = labelled_yes label line l.label at;
+      is_new = λ none. none; line_is = omega arith; words_is = omega arith;
+    }
+    by false at more = further label n words (words + option_words l.statement) (line_says line l) (program_of lines ls) _ (λ e. let no = labelled_no label line l.label e in absurd (cc)) (ap (λ k. words + k) (sym (words_here line l.statement))) more
