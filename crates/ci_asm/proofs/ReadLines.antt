@@ -27,7 +27,7 @@ use Rattle.ci_asm.proofs.Shown.{found_by_name}
 use Rattle.ci_asm.proofs.Lexing.{kind_of, true_is_not_false}
 use Rattle.ci_asm.proofs.Scanning.{IsShown, Shows, Meets, next_symbol, by_test, same_symbol, line_meets, line_stands, kind_no_end}
 use Rattle.ci_asm.proofs.Filling.{Values, no_values, values_of, label_text, Fills, read_fills, fills_read}
-use Rattle.ci_asm.proofs.Stated.{says, mnemonic_token, fills_statement, HasSlots, statement_slots}
+use Rattle.ci_asm.proofs.Stated.{says, mnemonic_token, fills_statement, HasSlots, statement_slots, HasLabelFor, label_for}
 
 -- ---- mnemonics
 
@@ -127,7 +127,7 @@ pub record IsReadAs (line : List ℕ) (t : Token) (statement : Statement) : Type
   pub meets : Meets line t tokens line_end column
   pub is_statement : IsStatement tokens statement
 
-pub read_is : (line : List ℕ) (from : ℕ) (full : Bool) (s : code.Statement) → read_statement line (next_token line from) full ≡ Ok s → IsReadAs line (next_token line from) (statement_says line s) × (full ≡ false)
+pub read_is : (line : List ℕ) (from : ℕ) (full : Bool) (s : code.Statement) → read_statement line (next_token line from) full ≡ Ok s → IsReadAs line (next_token line from) (statement_says line s) × (full ≡ false) × HasLabelFor s.mnemonic (values_of line s.operands)
 unfolding read_statement
 read_is line from full s e =
     let t = next_token line from in
@@ -141,7 +141,8 @@ read_is line from full s e =
     let statement = fills_statement m (mnemonic_in-statement line t t.kind m mnemonic) has.fills in
     (subst (λ s. IsReadAs line t (statement_says line s)) (same_ok _ s c.2)
       (record { tokens = mnemonic_token m ∷ has.tokens; column = has.column; meets = (shown, has.meets); is_statement = statement }),
-    not_full full (fault Surplus t.start) (read_slots line (slots_of m) t.end no_operands) c.0 c.1)
+    not_full full (fault Surplus t.start) (read_slots line (slots_of m) t.end no_operands) c.0 c.1,
+    subst (λ s. HasLabelFor s.mnemonic (values_of line s.operands)) (same_ok _ s c.2) (label_for m has.fills))
   where
     not_full : (full : Bool) (f : Fault) (r : Result Operands Fault) (o : Operands) → cond full (Err f) r ≡ Ok o → full ≡ false
     not_full true f r o e = absurd (cc)
@@ -318,15 +319,22 @@ abbrev pub HasRoom : Bool → Option code.Statement → Type 0
 HasRoom full None = Unit {0}
 HasRoom full (Some s) = full ≡ false
 
+-- branches and JAL alone have a label
+abbrev pub HasLabels : List ℕ → Option code.Statement → Type 0
+HasLabels line None = Unit {0}
+HasLabels line (Some s) = HasLabelFor s.mnemonic (values_of line s.operands)
+
 -- a line that is read is a line of the definitions
 pub record IsReadLine (line : List ℕ) (full : Bool) (l : code_lines.Line) : Type 0 where
   pub is_line : IsLine line (line_says line l)
   pub room : HasRoom full l.statement
+  pub labels : HasLabels line l.statement
 
 line_end_read : (line : List ℕ) (full : Bool) (b : HasBody line) (l : code_lines.Line) → (next_token line b.from).kind ≡ End → record { label = b.label; statement = None } ≡ l → IsReadLine line full l
 line_end_read line full b l end e = subst (IsReadLine line full) e (record {
   is_line = record { tokens = []; end = (next_token line b.from).start; ends = record { has_label = b.has_label; stands = b.leaves [] line_end (next_token line b.from).start (end, refl) }; has_statement = refl };
   room = tt;
+  labels = tt;
 })
 
 statement_line_read : (line : List ℕ) (full : Bool) (b : HasBody line) (l : code_lines.Line) → (read_statement line (next_token line b.from) full >>= λ s. Ok (record { label = b.label; statement = Some s })) ≡ Ok l → IsReadLine line full l
@@ -336,6 +344,7 @@ statement_line_read line full b l e =
     subst (IsReadLine line full) (same_ok _ l s.2) (record {
       is_line = record { tokens = r.0.tokens; end = r.0.column; ends = record { has_label = b.has_label; stands = b.leaves r.0.tokens line_end r.0.column r.0.meets }; has_statement = r.0.is_statement };
       room = r.1;
+      labels = r.2;
     })
 
 pub line_read : (line : List ℕ) (full : Bool) (l : code_lines.Line) → read_line line full ≡ Ok l → IsReadLine line full l

@@ -13,6 +13,7 @@ use Rattle.ci_isa.specs.Table.{IsWordOf}
 use Rattle.ci_asm.specs.declared.scanner.Token.{Token}
 use Rattle.ci_asm.specs.declared.numbers.Number.{Number}
 use Rattle.ci_asm.specs.declared.faults.Fault.{Fault}
+use Rattle.ci_asm.specs.declared.faults.Rule.TheVariants.{OutOfField, Undefined, DefinedTwice}
 use Rattle.ci_asm.specs.declared.labels.Definition.{Definition}
 use Rattle.ci_asm.specs.declared.statements.Operands.{Operands}
 use Rattle.ci_asm.specs.declared.statements.Statement as code
@@ -29,7 +30,10 @@ use Rattle.ci_asm.specs.Assembly.{Line, IsLine, AreLines, IsProgram, with_statem
 use Rattle.ci_asm.proofs.Operands.{bind_ok, same_ok, cond_ok}
 use Rattle.ci_asm.proofs.Assembly.{all_read-nil, all_read-ok, definition_of-nil, definition_of-cons, insns_of-nil, insns_of-ok, assembled-read}
 use Rattle.ci_asm.proofs.Filling.{values_of, label_text}
-use Rattle.ci_asm.proofs.Stated.{says}
+use Rattle.ci_asm.proofs.Fields.{field_form, fits_in, in_fits}
+use Rattle.ci_asm.proofs.Stated.{says, HasLabelFor, plain_says}
+use Rattle.ci_asm.specs.declared.mnemonics.Mnemonic.{Mnemonic}
+use Rattle.ci_asm.specs.declared.mnemonics.Mnemonic.TheVariants.{Registers, Constant, Lui, Auipc, Jal, Jalr, Branch, Load, Store, Fence, Ecall, Ebreak, Custom, Cread, Data}
 use Rattle.ci_asm.proofs.Scanning.{by_test}
 use Rattle.ci_asm.proofs.ReadLines.{statement_says, statement_read, line_says, HasRoom, IsReadLine, line_read, IsRoomFor, WillReadLine, line_is}
 
@@ -200,3 +204,146 @@ definition_is label n words (line ∷ lines) (l ∷ ls) read =
       is_new = λ none. none; line_is = omega arith; words_is = omega arith;
     }
     by false at more = further label n words (words + option_words l.statement) (line_says line l) (program_of lines ls) _ (λ e. let no = labelled_no label line l.label e in absurd (cc)) (ap (λ k. words + k) (sym (words_here line l.statement))) more
+
+-- ---- splits of a program
+
+Defines-append : (before : List Line) (line : Line) (after : List Line) (label : List ℕ) → line.label ≡ Some label → Defines (before ++ line ∷ after) label
+Defines-append [] line after label e = inl e
+Defines-append (l ∷ before) line after label e = inr (Defines-append before line after label e)
+
+defined_in : (program before : List Line) (line : Line) (after : List Line) (label : List ℕ) → program ≡ before ++ line ∷ after → line.label ≡ Some label → Defines program label
+defined_in program before line after label split e = subst (λ p. Defines p label) (sym split) (Defines-append before line after label e)
+
+-- at one place of a program stands one line
+same_length : (a b : List Line) (k l : Line) (rest others : List Line) → length a ≡ length b → a ++ k ∷ rest ≡ b ++ l ∷ others → a ≡ b
+same_length [] [] k l rest others size e = refl
+same_length [] (y ∷ b) k l rest others size e = absurd (omega arith)
+same_length (x ∷ a) [] k l rest others size e = absurd (omega arith)
+same_length (x ∷ a) (y ∷ b) k l rest others size e =
+    let head : x ≡ y = cc in
+    let tail : a ++ k ∷ rest ≡ b ++ l ∷ others = cc in
+    λ i. head i ∷ same_length a b k l rest others (omega arith) tail i
+
+-- an earlier line stands among the lines before a later one
+split_less : (a b : List Line) (k l : Line) (rest others : List Line) (label : List ℕ) → length a < length b → a ++ k ∷ rest ≡ b ++ l ∷ others → k.label ≡ Some label → Defines b label
+split_less a [] k l rest others label less e labelled = absurd (omega arith)
+split_less [] (y ∷ b) k l rest others label less e labelled = let head : k ≡ y = cc in inl (ap (λ x. x.label) (sym head) ∙ labelled)
+split_less (x ∷ a) (y ∷ b) k l rest others label less e labelled =
+    let tail : a ++ k ∷ rest ≡ b ++ l ∷ others = cc in
+    inr (split_less a b k l rest others label (omega arith) tail labelled)
+
+-- a label is first defined at one place
+same_first : (a b : List Line) (k l : Line) (rest others : List Line) (label : List ℕ) → a ++ k ∷ rest ≡ b ++ l ∷ others → k.label ≡ Some label → l.label ≡ Some label → ¬ Defines a label → ¬ Defines b label → a ≡ b
+same_first a b k l rest others label e at_k at_l new_a new_b =
+    by_test (nat_lt (length a) (length b))
+    (λ t. let less : length a < length b = grind (arith, nat_tests) in absurd (new_b (split_less a b k l rest others label less e at_k)))
+    (λ t. by_test (nat_lt (length b) (length a))
+      (λ u. let less : length b < length a = grind (arith, nat_tests) in absurd (new_a (split_less b a l k others rest label less (sym e) at_l)))
+      (λ u. let same : length a ≡ length b = grind (arith, nat_tests) in same_length a b k l rest others same e))
+
+-- ---- statements in a program
+
+offset_signed : (from to : ℕ) → signed_value (offset_between from to) ≡ pos (4 * to) -ℤ pos (4 * from)
+offset_signed from to = by_test (nat_lt to from) back forth
+  where
+    back : nat_lt to from ≡ true → signed_value (offset_between from to) ≡ pos (4 * to) -ℤ pos (4 * from)
+    back e =
+        let less : to < from = grind (arith, nat_tests) in
+        let size : neg_ℤ (pos (4 * (from - to))) ≡ pos (4 * to) -ℤ pos (4 * from) = omega (arith, ints) in
+        ap (λ b. signed_value (cond b (record { negative = true; magnitude = 4 * (from - to) }) (record { negative = false; magnitude = 4 * (to - from) }))) e ∙ size
+    forth : nat_lt to from ≡ false → signed_value (offset_between from to) ≡ pos (4 * to) -ℤ pos (4 * from)
+    forth e =
+        let more : from ≤ to = grind (arith, nat_tests) in
+        let size : pos (4 * (to - from)) ≡ pos (4 * to) -ℤ pos (4 * from) = omega (arith, ints) in
+        ap (λ b. signed_value (cond b (record { negative = true; magnitude = 4 * (from - to) }) (record { negative = false; magnitude = 4 * (to - from) }))) e ∙ size
+
+-- what the code knows of the labels of a program
+abbrev pub AreDefinitions : List Line → Definitions → Type 0
+AreDefinitions program definitions = (label : List ℕ) → IsDefinition program label 1 0 (definitions label)
+
+label_at : (program : List Line) (label : List ℕ) (d : Definition) → IsFoundAt program label 1 0 d → IsLabelOf program label d.words
+label_at program label d f = let words_is = f.words_is in let count : d.words ≡ asm.words_in f.before = omega arith in (f.before, f.line, f.after, f.split, f.labelled, f.is_new, count)
+
+-- the offset to a label that is in its field
+record HasOffset (program : List Line) (words : ℕ) (s : code.Statement) (label : List ℕ) (o : Operands) : Type 0 where
+  number : Number
+  same : record s.operands { number = number } ≡ o
+  is_offset : IsOffset program words label (signed_value number)
+  is_in : IsIn (field_form (field_of s.mnemonic)) (signed_value number)
+
+reaching_yes : (program : List Line) (words : ℕ) (s : code.Statement) (t : Token) (label : List ℕ) (d : Option Definition) (o : Operands) → IsDefinition program label 1 0 d → reaching words s t d ≡ Ok o → HasOffset program words s label o
+reaching_yes program words s t label None o is e = absurd (cc)
+reaching_yes program words s t label (Some d) o is e =
+    let n = offset_between words d.words in
+    let c = cond_ok (fits (field_of s.mnemonic) n) (record s.operands { number = n }) o _ e in
+    record { number = n; same = c.1; is_offset = (d.words, label_at program label d is, offset_signed words d.words); is_in = fits_in (field_of s.mnemonic) n c.0 }
+
+record WillReach (words : ℕ) (s : code.Statement) (t : Token) (d : Option Definition) (z : ℤ) : Type 0 where
+  number : Number
+  reaches : reaching words s t d ≡ Ok (record s.operands { number = number })
+  signed : signed_value number ≡ z
+
+-- a label has one place
+same_label_place : (program : List Line) (label : List ℕ) (d : Definition) (to : ℕ) → IsFoundAt program label 1 0 d → IsLabelOf program label to → d.words ≡ to
+same_label_place program label d to f at =
+    let same = same_first f.before at.0 f.line at.1 f.after at.2 label (sym f.split ∙ at.3) f.labelled at.4 f.is_new at.5 in
+    let words_is = f.words_is in
+    let count : d.words ≡ asm.words_in f.before = omega arith in
+    count ∙ (ap asm.words_in same ∙ sym at.6)
+
+reaching_no : (program : List Line) (words : ℕ) (s : code.Statement) (t : Token) (label : List ℕ) (d : Option Definition) (z : ℤ) → IsDefinition program label 1 0 d → IsOffset program words label z → IsIn (field_form (field_of s.mnemonic)) z → WillReach words s t d z
+reaching_no program words s t label None z is offset within =
+    let at = offset.1 in
+    absurd (is (defined_in program at.0 at.1 at.2 label at.3 at.4))
+reaching_no program words s t label (Some d) z is offset within =
+    let n = offset_between words d.words in
+    let place = same_label_place program label d offset.0 is offset.1 in
+    let signed : signed_value n ≡ z = offset_signed words d.words ∙ (ap (λ k. pos (4 * k) -ℤ pos (4 * words)) place ∙ sym offset.2) in
+    let ok = in_fits (field_of s.mnemonic) n (subst (IsIn (field_form (field_of s.mnemonic))) (sym signed) within) in
+    record { number = n; reaches = ap (λ b. cond b (Ok (record s.operands { number = n })) (Err (record { rule = OutOfField; place = t.start }))) ok; signed = signed }
+
+-- the statement with these parts
+abbrev statement_with : Mnemonic → ℕ → ℕ → ℕ → ℕ → Number → Option Token → code.Statement
+statement_with m rd rs1 rs2 rs3 number label = record { mnemonic = m; operands = record { rd = rd; rs1 = rs1; rs2 = rs2; rs3 = rs3; number = number; label = label } }
+
+no_label_for : (m : Mnemonic) (o : Operands) (line : List ℕ) (t : Token) → o.label ≡ Some t → (values_of line o).label ≢ None
+no_label_for m o line t e = λ none. let some : label_text line o.label ≡ Some (text_of line t) = ap (label_text line) e in absurd (cc)
+
+module _ (program : List Line) (definitions : Definitions) (known : AreDefinitions program definitions) (words : ℕ) (line : List ℕ) where
+  -- the instruction of a statement is that of the definitions
+  insn_parts : (m : Mnemonic) (rd rs1 rs2 rs3 : ℕ) (number : Number) (label : Option Token) (o : Operands)
+      → HasLabelFor m (values_of line (statement_with m rd rs1 rs2 rs3 number label).operands)
+      → resolved definitions words line (statement_with m rd rs1 rs2 rs3 number label) label ≡ Ok o
+      → IsInsnOf program words (statement_says line (statement_with m rd rs1 rs2 rs3 number label)) (insn_of m o)
+  insn_parts m rd rs1 rs2 rs3 number None o for e =
+      subst (λ s. IsInsnOf program words s (insn_of m o)) (sym (plain_says m line rd rs1 rs2 rs3 number)) (ap (insn_of m) (sym (same_ok {E = Fault} _ o e)))
+  insn_parts Jal rd rs1 rs2 rs3 number (Some t) o for e =
+      let s = statement_with Jal rd rs1 rs2 rs3 number (Some t) in
+      let h = reaching_yes program words s t (text_of line t) (definitions (text_of line t)) o (known (text_of line t)) e in
+      (signed_value h.number, h.is_offset, h.is_in, ap (insn_of Jal) (sym h.same))
+  insn_parts (Branch cond) rd rs1 rs2 rs3 number (Some t) o for e =
+      let s = statement_with (Branch cond) rd rs1 rs2 rs3 number (Some t) in
+      let h = reaching_yes program words s t (text_of line t) (definitions (text_of line t)) o (known (text_of line t)) e in
+      (signed_value h.number, h.is_offset, h.is_in, ap (insn_of (Branch cond)) (sym h.same))
+  insn_parts (Registers op) rd rs1 rs2 rs3 number (Some t) o for e = absurd (cc)
+  insn_parts (Constant op) rd rs1 rs2 rs3 number (Some t) o for e = absurd (cc)
+  insn_parts Lui rd rs1 rs2 rs3 number (Some t) o for e = absurd (cc)
+  insn_parts Auipc rd rs1 rs2 rs3 number (Some t) o for e = absurd (cc)
+  insn_parts Jalr rd rs1 rs2 rs3 number (Some t) o for e = absurd (cc)
+  insn_parts (Load kind) rd rs1 rs2 rs3 number (Some t) o for e = absurd (cc)
+  insn_parts (Store width) rd rs1 rs2 rs3 number (Some t) o for e = absurd (cc)
+  insn_parts Fence rd rs1 rs2 rs3 number (Some t) o for e = absurd (cc)
+  insn_parts Ecall rd rs1 rs2 rs3 number (Some t) o for e = absurd (cc)
+  insn_parts Ebreak rd rs1 rs2 rs3 number (Some t) o for e = absurd (cc)
+  insn_parts Custom rd rs1 rs2 rs3 number (Some t) o for e = absurd (cc)
+  insn_parts Cread rd rs1 rs2 rs3 number (Some t) o for e = absurd (cc)
+  insn_parts Data rd rs1 rs2 rs3 number (Some t) o for e = absurd (cc)
+
+  pub insn_yes : (s : code.Statement) (o : Operands) → HasLabelFor s.mnemonic (values_of line s.operands) → resolved definitions words line s s.operands.label ≡ Ok o → IsInsnOf program words (statement_says line s) (insn_of s.mnemonic o)
+  insn_yes s o for e = insn_parts s.mnemonic s.operands.rd s.operands.rs1 s.operands.rs2 s.operands.rs3 s.operands.number s.operands.label o for e
+
+  -- and back
+  record WillResolve (s : code.Statement) (i : Insn) : Type 0 where
+    operands : Operands
+    resolves : resolved definitions words line s s.operands.label ≡ Ok operands
+    gives : insn_of s.mnemonic operands ≡ i

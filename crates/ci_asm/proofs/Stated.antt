@@ -20,6 +20,7 @@ use Rattle.ci_asm.specs.Lexicon as lex
 use Rattle.ci_asm.specs.Lexicon.{name, decimal_number, hex_number, word, comma, open_bracket, close_bracket, colon}
 use Rattle.ci_asm.specs.Forms as forms
 use Rattle.ci_asm.specs.Forms.{register_immediate, IsIn, IsRegister, HasNumber, Statement, plain, to_label, IsStatement, on_registers, on_immediate, lui, auipc, jump, jump_label, jump_register, branch, branch_label, load, store, fence, ecall, ebreak, custom, cread, data_word}
+use Rattle.ci_asm.proofs.Scanning.{by_test}
 use Rattle.ci_asm.proofs.Fields.{field_form, field_again, abs_signed}
 use Rattle.ci_asm.proofs.Filling.{Values, no_values, values_of, label_text, Fills, done, fill_rd, fill_rs1, fill_rs2, fill_rs3, fill_number, fill_label, fill_comma, fill_open, fill_close}
 
@@ -156,3 +157,66 @@ statement_slots ebreak = slots_from Ebreak refl done
 statement_slots (custom h d a b c) = slots_from Custom refl (fill_number h (fill_comma (fill_rd d (fill_comma (fill_rs1 a (fill_comma (fill_rs2 b (fill_comma (fill_rs3 c done)))))))))
 statement_slots (cread a) = slots_from Cread refl (fill_rd a done)
 statement_slots (data_word h) = slots_from Data refl (fill_number h done)
+
+-- ---- labels
+
+abbrev NoOffset : List Slot → Type 0
+NoOffset [] = Unit {0}
+NoOffset (Value field ∷ slots) = (is_offset field ≡ false) × NoOffset slots
+NoOffset (slot ∷ slots) = NoOffset slots
+
+-- slots without an offset take no label
+keeps_label : {slots : List Slot} {ts : List lex.Token} {v w : Values} → Fills slots ts v w → NoOffset slots → w.label ≡ v.label
+keeps_label done none = refl
+keeps_label (fill_rd a rest) none = keeps_label rest none
+keeps_label (fill_rs1 a rest) none = keeps_label rest none
+keeps_label (fill_rs2 a rest) none = keeps_label rest none
+keeps_label (fill_rs3 a rest) none = keeps_label rest none
+keeps_label (fill_number h rest) none = keeps_label rest none.1
+keeps_label (fill_label {field} offset rest) none = let no : is_offset field ≡ false = none.0 in absurd (cc)
+keeps_label (fill_comma rest) none = keeps_label rest none
+keeps_label (fill_open rest) none = keeps_label rest none
+keeps_label (fill_close rest) none = keeps_label rest none
+
+-- branches and JAL alone may have a label
+abbrev pub HasLabelFor : Mnemonic → Values → Type 0
+HasLabelFor Jal v = Unit {0}
+HasLabelFor (Branch cond) v = Unit {0}
+HasLabelFor m v = v.label ≡ None
+
+pub label_for : (m : Mnemonic) {ts : List lex.Token} {w : Values} → Fills (slots_of m) ts no_values w → HasLabelFor m w
+label_for (Registers op) fills = keeps_label fills tt
+label_for (Constant op) fills = keeps_label fills (by_test (is_offset (constant_field op)) (λ e. absurd (no_label op e)) (λ e. e), tt)
+label_for Lui fills = keeps_label fills (refl, tt)
+label_for Auipc fills = keeps_label fills (refl, tt)
+label_for Jal fills = tt
+label_for Jalr fills = keeps_label fills (refl, tt)
+label_for (Branch cond) fills = tt
+label_for (Load kind) fills = keeps_label fills (refl, tt)
+label_for (Store width) fills = keeps_label fills (refl, tt)
+label_for Fence fills = keeps_label fills (refl, tt)
+label_for Ecall fills = keeps_label fills tt
+label_for Ebreak fills = keeps_label fills tt
+label_for Custom fills = keeps_label fills (refl, tt)
+label_for Cread fills = keeps_label fills tt
+label_for Data fills = keeps_label fills (refl, tt)
+
+-- ---- instructions
+
+-- a statement without a label says its instruction
+pub plain_says : (m : Mnemonic) (line : List ℕ) (rd rs1 rs2 rs3 : ℕ) (number : Number) → says m (values_of line (record { rd = rd; rs1 = rs1; rs2 = rs2; rs3 = rs3; number = number; label = None })) ≡ plain (insn_of m (record { rd = rd; rs1 = rs1; rs2 = rs2; rs3 = rs3; number = number; label = None }))
+plain_says (Registers op) line rd rs1 rs2 rs3 number = refl
+plain_says (Constant op) line rd rs1 rs2 rs3 number = refl
+plain_says Lui line rd rs1 rs2 rs3 number = ap (λ m. plain (insn.Lui rd (4096 * m))) (abs_signed number)
+plain_says Auipc line rd rs1 rs2 rs3 number = ap (λ m. plain (insn.Auipc rd (4096 * m))) (abs_signed number)
+plain_says Jal line rd rs1 rs2 rs3 number = refl
+plain_says Jalr line rd rs1 rs2 rs3 number = refl
+plain_says (Branch cond) line rd rs1 rs2 rs3 number = refl
+plain_says (Load kind) line rd rs1 rs2 rs3 number = refl
+plain_says (Store width) line rd rs1 rs2 rs3 number = refl
+plain_says Fence line rd rs1 rs2 rs3 number = ap (λ m. plain (insn.Fence m rs1 rd)) (abs_signed number)
+plain_says Ecall line rd rs1 rs2 rs3 number = refl
+plain_says Ebreak line rd rs1 rs2 rs3 number = refl
+plain_says Custom line rd rs1 rs2 rs3 number = ap (λ m. plain (insn.Unit m rd rs1 rs2 rs3)) (abs_signed number)
+plain_says Cread line rd rs1 rs2 rs3 number = refl
+plain_says Data line rd rs1 rs2 rs3 number = ap (λ m. plain (insn.Illegal m)) (abs_signed number)
