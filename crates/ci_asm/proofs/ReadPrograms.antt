@@ -1,5 +1,5 @@
 -- The programs that the code reads are those of the definitions.
-use Rattle.std.proofs.Common.{◌≡◌, ◌≢◌, ℕ, suc, ◌+◌, ◌-◌, ◌*◌, ◌<◌, ◌≤◌, ◌⊎◌, inl, inr, Bool, true, false, cond, eqb, nat_lt, List, [], ◌∷◌, ◌++◌, length, refl, sym, ap, ◌∙◌, subst, arith, Option, Some, None, Result, Ok, Err, ℤ, pos, neg_ℤ, ◌-ℤ◌}
+use Rattle.std.proofs.Common.{◌≡◌, ◌≢◌, ℕ, suc, ◌+◌, ◌-◌, ◌*◌, ◌<◌, ◌≤◌, ◌⊎◌, inl, inr, Bool, true, false, cond, eqb, nat_lt, List, [], ◌∷◌, ◌++◌, length, refl, sym, ap, ◌∙◌, subst, arith, lit≤, append-nil, length-append, Option, Some, None, Result, Ok, Err, ℤ, pos, neg_ℤ, ◌-ℤ◌}
 use Rattle.std.specs.Option.{option_to_list}
 use Rattle.std.specs.Str.{bytes_eq}
 use Rattle.std.proofs.lemmas.Int.{ints}
@@ -35,7 +35,7 @@ use Rattle.ci_asm.proofs.Stated.{says, HasLabelFor, plain_says}
 use Rattle.ci_asm.specs.declared.mnemonics.Mnemonic.{Mnemonic}
 use Rattle.ci_asm.specs.declared.mnemonics.Mnemonic.TheVariants.{Registers, Constant, Lui, Auipc, Jal, Jalr, Branch, Load, Store, Fence, Ecall, Ebreak, Custom, Cread, Data}
 use Rattle.ci_asm.proofs.Scanning.{by_test}
-use Rattle.ci_asm.proofs.ReadLines.{statement_says, statement_read, line_says, HasRoom, IsReadLine, line_read, IsRoomFor, WillReadLine, line_is}
+use Rattle.ci_asm.proofs.ReadLines.{statement_says, statement_read, line_says, HasRoom, HasLabels, IsReadLine, line_read, IsRoomFor, WillReadLine, line_is}
 
 -- ---- lines that were read
 
@@ -309,6 +309,18 @@ statement_with m rd rs1 rs2 rs3 number label = record { mnemonic = m; operands =
 no_label_for : (m : Mnemonic) (o : Operands) (line : List ℕ) (t : Token) → o.label ≡ Some t → (values_of line o).label ≢ None
 no_label_for m o line t e = λ none. let some : label_text line o.label ≡ Some (text_of line t) = ap (label_text line) e in absurd (cc)
 
+-- a line's instruction, if it has one
+abbrev pub IsInsnOfLine : List Line → ℕ → Option Statement → Option Insn → Type 0
+IsInsnOfLine program words None None = Unit {0}
+IsInsnOfLine program words None (Some i) = ⊥
+IsInsnOfLine program words (Some s) None = ⊥
+IsInsnOfLine program words (Some s) (Some i) = IsInsnOf program words s i
+
+-- the line is resolved, with this instruction
+pub record IsResolvedAs (program : List Line) (words : ℕ) (before : List Line) (here : Line) (first : Option Insn) : Type 0 where
+  pub is_new : IsNew before here.label
+  pub is_insn : IsInsnOfLine program words here.statement first
+
 module _ (program : List Line) (definitions : Definitions) (known : AreDefinitions program definitions) (words : ℕ) (line : List ℕ) where
   -- the instruction of a statement is that of the definitions
   insn_parts : (m : Mnemonic) (rd rs1 rs2 rs3 : ℕ) (number : Number) (label : Option Token) (o : Operands)
@@ -343,7 +355,306 @@ module _ (program : List Line) (definitions : Definitions) (known : AreDefinitio
   insn_yes s o for e = insn_parts s.mnemonic s.operands.rd s.operands.rs1 s.operands.rs2 s.operands.rs3 s.operands.number s.operands.label o for e
 
   -- and back
-  record WillResolve (s : code.Statement) (i : Insn) : Type 0 where
-    operands : Operands
-    resolves : resolved definitions words line s s.operands.label ≡ Ok operands
-    gives : insn_of s.mnemonic operands ≡ i
+  pub record WillResolve (s : code.Statement) (i : Insn) : Type 0 where
+    pub operands : Operands
+    pub resolves : resolved definitions words line s s.operands.label ≡ Ok operands
+    pub gives : insn_of s.mnemonic operands ≡ i
+
+  resolve_parts : (m : Mnemonic) (rd rs1 rs2 rs3 : ℕ) (number : Number) (label : Option Token) (i : Insn)
+      → HasLabelFor m (values_of line (statement_with m rd rs1 rs2 rs3 number label).operands)
+      → IsInsnOf program words (statement_says line (statement_with m rd rs1 rs2 rs3 number label)) i
+      → WillResolve (statement_with m rd rs1 rs2 rs3 number label) i
+  resolve_parts m rd rs1 rs2 rs3 number None i for is =
+      let o = (statement_with m rd rs1 rs2 rs3 number None).operands in
+      record { operands = o; resolves = refl; gives = sym (subst (λ s. IsInsnOf program words s i) (plain_says m line rd rs1 rs2 rs3 number) is) }
+  resolve_parts Jal rd rs1 rs2 rs3 number (Some t) i for is =
+      let s = statement_with Jal rd rs1 rs2 rs3 number (Some t) in
+      let h = reaching_no program words s t (text_of line t) (definitions (text_of line t)) is.0 (known (text_of line t)) is.1 is.2 in
+      record { operands = record s.operands { number = h.number }; resolves = h.reaches; gives = ap (insn.Jal rd) h.signed ∙ sym is.3 }
+  resolve_parts (Branch cond) rd rs1 rs2 rs3 number (Some t) i for is =
+      let s = statement_with (Branch cond) rd rs1 rs2 rs3 number (Some t) in
+      let h = reaching_no program words s t (text_of line t) (definitions (text_of line t)) is.0 (known (text_of line t)) is.1 is.2 in
+      record { operands = record s.operands { number = h.number }; resolves = h.reaches; gives = ap (insn.Branch cond rs1 rs2) h.signed ∙ sym is.3 }
+  resolve_parts (Registers op) rd rs1 rs2 rs3 number (Some t) i for is = absurd (cc)
+  resolve_parts (Constant op) rd rs1 rs2 rs3 number (Some t) i for is = absurd (cc)
+  resolve_parts Lui rd rs1 rs2 rs3 number (Some t) i for is = absurd (cc)
+  resolve_parts Auipc rd rs1 rs2 rs3 number (Some t) i for is = absurd (cc)
+  resolve_parts Jalr rd rs1 rs2 rs3 number (Some t) i for is = absurd (cc)
+  resolve_parts (Load kind) rd rs1 rs2 rs3 number (Some t) i for is = absurd (cc)
+  resolve_parts (Store width) rd rs1 rs2 rs3 number (Some t) i for is = absurd (cc)
+  resolve_parts Fence rd rs1 rs2 rs3 number (Some t) i for is = absurd (cc)
+  resolve_parts Ecall rd rs1 rs2 rs3 number (Some t) i for is = absurd (cc)
+  resolve_parts Ebreak rd rs1 rs2 rs3 number (Some t) i for is = absurd (cc)
+  resolve_parts Custom rd rs1 rs2 rs3 number (Some t) i for is = absurd (cc)
+  resolve_parts Cread rd rs1 rs2 rs3 number (Some t) i for is = absurd (cc)
+  resolve_parts Data rd rs1 rs2 rs3 number (Some t) i for is = absurd (cc)
+
+  pub insn_no : (s : code.Statement) (i : Insn) → HasLabelFor s.mnemonic (values_of line s.operands) → IsInsnOf program words (statement_says line s) i → WillResolve s i
+  insn_no s i for is = resolve_parts s.mnemonic s.operands.rd s.operands.rs1 s.operands.rs2 s.operands.rs3 s.operands.number s.operands.label i for is
+
+  statement_yes : (s : Option code.Statement) (first : Option Insn) → HasLabels line s → statement_insn definitions words line s ≡ Ok first → IsInsnOfLine program words (statement_read line s) first
+  statement_yes None first for e = subst (IsInsnOfLine program words None) (same_ok {E = Fault} _ first e) tt
+  statement_yes (Some s) first for e =
+      let b = bind_ok (resolved definitions words line s s.operands.label) _ first e in
+      subst (IsInsnOfLine program words (Some (statement_says line s))) (same_ok {E = Fault} _ first b.2) (insn_yes s b.0 for b.1)
+
+  statement_no : (s : Option code.Statement) (first : Option Insn) → HasLabels line s → IsInsnOfLine program words (statement_read line s) first → statement_insn definitions words line s ≡ Ok first
+  statement_no None None for is = refl
+  statement_no None (Some i) for is = absurd is
+  statement_no (Some s) None for is = absurd is
+  statement_no (Some s) (Some i) for is =
+      let w = insn_no s i for is in
+      ap (λ r. r >>= λ o. Ok (Some (insn_of s.mnemonic o))) w.resolves ∙ ap (λ i. Ok (Some i)) w.gives
+
+  -- a label that is defined on this line
+  once_yes : (before after : List Line) (here : Line) (n : ℕ) (label : Option Token) → program ≡ before ++ here ∷ after → here.label ≡ label_text line label → n ≡ 1 + length before → defined_once definitions n line label ≡ Ok tt → IsNew before (label_text line label)
+  once_yes before after here n None split at place e = tt
+  once_yes before after here n (Some t) split at place e = by (definitions (text_of line t)) (known (text_of line t)) e
+    where
+      by : (d : Option Definition) → IsDefinition program (text_of line t) 1 0 d → once_at n t d ≡ Ok tt → ¬ Defines before (text_of line t)
+      by None none e = absurd (none (defined_in program before here after (text_of line t) split at))
+      by (Some d) f e =
+          let line_is = f.line_is in
+          let same : d.line ≡ n = eqb-true d.line n (cond_ok (eqb d.line n) tt tt _ e).0 in
+          let size : length f.before ≡ length before = omega arith in
+          let lines = same_length f.before before f.line here f.after after size (sym f.split ∙ split) in
+          subst (λ b. ¬ Defines b (text_of line t)) lines f.is_new
+
+  once_no : (before after : List Line) (here : Line) (n : ℕ) (label : Option Token) → program ≡ before ++ here ∷ after → here.label ≡ label_text line label → n ≡ 1 + length before → IsNew before (label_text line label) → defined_once definitions n line label ≡ Ok tt
+  once_no before after here n None split at place new = refl
+  once_no before after here n (Some t) split at place new = by (definitions (text_of line t)) (known (text_of line t))
+    where
+      by : (d : Option Definition) → IsDefinition program (text_of line t) 1 0 d → once_at n t d ≡ Ok tt
+      by None none = refl
+      by (Some d) f =
+          let lines = same_first f.before before f.line here f.after after (text_of line t) (sym f.split ∙ split) f.labelled at f.is_new new in
+          let size : length f.before ≡ length before = ap length lines in
+          let line_is = f.line_is in
+          let same : eqb d.line n ≡ true = grind (arith, nat_tests) in
+          ap (λ b. cond b (Ok tt) (Err (record { rule = DefinedTwice; place = t.start }))) same
+
+  line_insn-read : (n : ℕ) (l : code_lines.Line) → line_at words line ≡ Ok l → line_insn definitions n words line ≡ (defined_once definitions n line l.label >>= λ _. statement_insn definitions words line l.statement)
+  unfolding line_insn
+  line_insn-read n l e = ap (λ r. r >>= λ l. defined_once definitions n line l.label >>= λ _. statement_insn definitions words line l.statement) e
+
+  pub line_yes : (before after : List Line) (n : ℕ) (l : code_lines.Line) (first : Option Insn) → program ≡ before ++ line_says line l ∷ after → n ≡ 1 + length before → line_at words line ≡ Ok l → line_insn definitions n words line ≡ Ok first → IsResolvedAs program words before (line_says line l) first
+  line_yes before after n l first split place read e =
+      let b = bind_ok (defined_once definitions n line l.label) _ first (sym (line_insn-read n l read) ∙ e) in
+      let is = line_read line (eqb words 262144) l read in
+      record { is_new = once_yes before after (line_says line l) n l.label split refl place b.1; is_insn = statement_yes l.statement first is.labels b.2 }
+
+  pub line_no : (before after : List Line) (n : ℕ) (l : code_lines.Line) (first : Option Insn) → program ≡ before ++ line_says line l ∷ after → n ≡ 1 + length before → line_at words line ≡ Ok l → IsResolvedAs program words before (line_says line l) first → line_insn definitions n words line ≡ Ok first
+  line_no before after n l first split place read is =
+      let one = once_no before after (line_says line l) n l.label split refl place is.is_new in
+      let two = statement_no l.statement first (line_read line (eqb words 262144) l read).labels is.is_insn in
+      line_insn-read n l read ∙ (ap (λ r. r >>= λ _. statement_insn definitions words line l.statement) one ∙ two)
+
+-- ---- all lines
+
+-- the instructions of these statements, of which the first is the word of this number
+abbrev pub AreInsns : List Line → ℕ → List Statement → List Insn → Type 0
+AreInsns program number [] [] = Unit {0}
+AreInsns program number [] (i ∷ insns) = ⊥
+AreInsns program number (s ∷ statements) [] = ⊥
+AreInsns program number (s ∷ statements) (i ∷ insns) = IsInsnOf program number s i × AreInsns program (number + 1) statements insns
+
+-- each line behind these, up to the end of `lines`, is resolved
+abbrev pub AllResolved : List Line → List Line → List Line → Type 0
+AllResolved program done lines = (before : List Line) (line : Line) (after : List Line) → lines ≡ before ++ line ∷ after → IsResolved program (done ++ before) line
+
+option_size : (program : List Line) (words : ℕ) (line : List ℕ) (s : Option code.Statement) (first : Option Insn) → IsInsnOfLine program words (statement_read line s) first → option_length first ≡ option_words s
+option_size program words line None None is = refl
+option_size program words line None (Some i) is = absurd is
+option_size program words line (Some s) None is = absurd is
+option_size program words line (Some s) (Some i) is = refl
+
+resolved_from : (program before : List Line) (words : ℕ) (here : Line) (first : Option Insn) → words ≡ asm.words_in before → IsResolvedAs program words before here first → IsResolved program before here
+resolved_from program before words here first count is = record { is_new = is.is_new; has_insn = by here.statement first is.is_insn }
+  where
+    by : (s : Option Statement) (first : Option Insn) → IsInsnOfLine program words s first → (statement : Statement) → s ≡ Some statement → (i : Insn) × IsInsnOf program (asm.words_in before) statement i
+    by None first is = λ statement e. absurd (cc)
+    by (Some s) None is = absurd is
+    by (Some s) (Some i) is = λ statement e.
+        let same : s ≡ statement = cc in
+        (i, subst (λ k. IsInsnOf program k statement i) count (subst (λ t. IsInsnOf program words t i) same is))
+
+statements-append : (a b : List Line) → asm.words_in (a ++ b) ≡ asm.words_in a + asm.words_in b
+statements-append [] b = omega arith
+statements-append (l ∷ a) b = by l.statement (statements-append a b)
+  where
+    by : (s : Option Statement) → asm.words_in (a ++ b) ≡ asm.words_in a + asm.words_in b → length (with_statement_of s (statements_of (a ++ b))) ≡ length (with_statement_of s (statements_of a)) + length (statements_of b)
+    by None e = e
+    by (Some s) e = omega arith
+
+-- a line more is resolved
+resolved_cons : (program done lines : List Line) (here : Line) → IsResolved program done here → AllResolved program (done ++ here ∷ []) lines → AllResolved program done (here ∷ lines)
+resolved_cons program done lines here first others [] line after e =
+    let same : here ≡ line = cc in
+    let nothing : done ≡ done ++ [] = sym (append-nil done) in
+    subst (λ d. IsResolved program d line) nothing (subst (IsResolved program done) same first)
+resolved_cons program done lines here first others (x ∷ before) line after e =
+    let same : here ≡ x = cc in
+    let tail : lines ≡ before ++ line ∷ after = cc in
+    let place : (done ++ here ∷ []) ++ before ≡ done ++ x ∷ before = append_assoc done (here ∷ []) before ∙ ap (λ k. done ++ k ∷ before) same in
+    subst (λ d. IsResolved program d line) place (others before line after tail)
+
+insns_cons : (program : List Line) (words : ℕ) (s : Option Statement) (first : Option Insn) (statements : List Statement) (others : List Insn) → IsInsnOfLine program words s first → AreInsns program (words + option_length first) statements others → AreInsns program words (with_statement_of s statements) (option_to_list first ++ others)
+insns_cons program words None None statements others is more = let same : words + 0 ≡ words = omega arith in subst (λ k. AreInsns program k statements others) same more
+insns_cons program words None (Some i) statements others is more = absurd is
+insns_cons program words (Some s) None statements others is more = absurd is
+insns_cons program words (Some s) (Some i) statements others is more = (is, more)
+
+on_line_ok : {A : Type 0} (n : ℕ) (r : Result A Fault) (x : A) → on_line n r ≡ Ok x → r ≡ Ok x
+on_line_ok n (Ok y) x e = cc
+on_line_ok n (Err f) x e = absurd (cc)
+
+-- the lines that are left, with what stands before them
+record IsAt (program done rest : List Line) (n words : ℕ) : Type 0 where
+  split : program ≡ done ++ rest
+  line_is : n ≡ 1 + length done
+  words_is : words ≡ asm.words_in done
+
+next_at : (program done : List Line) (line : List ℕ) (l : code_lines.Line) (rest : List Line) (n words : ℕ) → IsAt program done (line_says line l ∷ rest) n words → IsAt program (done ++ line_says line l ∷ []) rest (n + 1) (words + option_words l.statement)
+next_at program done line l rest n words at =
+    let size = length-append done (line_says line l ∷ []) in
+    let line_is = at.line_is in
+    let words_is = at.words_is in
+    let count = statements-append done (line_says line l ∷ []) in
+    let one = words_here line l.statement in
+    record { split = at.split ∙ sym (append_assoc done (line_says line l ∷ []) rest); line_is = omega arith; words_is = omega arith }
+
+-- what the instructions of the lines show
+record AreResolvedAs (program done rest : List Line) (words : ℕ) (insns : List Insn) : Type 0 where
+  resolved : AllResolved program done rest
+  are_insns : AreInsns program words (statements_of rest) insns
+
+nothing_left : (program done : List Line) → AllResolved program done []
+nothing_left program done [] line after e = absurd (cc)
+nothing_left program done (x ∷ before) line after e = absurd (cc)
+
+insns_yes : (program : List Line) (definitions : Definitions) → AreDefinitions program definitions → (n words : ℕ) (lines : List (List ℕ)) (ls : List code_lines.Line) (done : List Line) (insns : List Insn)
+    → AreRead words lines ls → IsAt program done (program_of lines ls) n words → insns_of definitions n words lines ≡ Ok insns → AreResolvedAs program done (program_of lines ls) words insns
+unfolding insns_of
+insns_yes program definitions known n words [] [] done insns read at e =
+    record { resolved = nothing_left program done; are_insns = subst (AreInsns program words []) (same_ok {E = Position} [] insns e) tt }
+insns_yes program definitions known n words [] (l ∷ ls) done insns read at e = absurd read
+insns_yes program definitions known n words (line ∷ lines) [] done insns read at e = absurd read
+insns_yes program definitions known n words (line ∷ lines) (l ∷ ls) done insns read at e =
+    let b = bind_ok (on_line n (line_insn definitions n words line)) _ insns e in
+    let first = b.0 in
+    let c = bind_ok (insns_of definitions (n + 1) (words + option_length first) lines) _ insns b.2 in
+    let one = line_yes program definitions known words line done (program_of lines ls) n l first at.split at.line_is read.0 (on_line_ok n (line_insn definitions n words line) first b.1) in
+    let size = option_size program words line l.statement first one.is_insn in
+    let rest : insns_of definitions (n + 1) (words + option_words l.statement) lines ≡ Ok c.0 = ap (λ k. insns_of definitions (n + 1) (words + k) lines) (sym size) ∙ c.1 in
+    let more = insns_yes program definitions known (n + 1) (words + option_words l.statement) lines ls (done ++ line_says line l ∷ []) c.0 read.1 (next_at program done line l (program_of lines ls) n words at) rest in
+    record {
+      resolved = resolved_cons program done (program_of lines ls) (line_says line l) (resolved_from program done words (line_says line l) first at.words_is one) more.resolved;
+      are_insns = subst (AreInsns program words (statements_of (program_of (line ∷ lines) (l ∷ ls)))) (same_ok {E = Position} _ insns c.2)
+          (insns_cons program words (statement_read line l.statement) first (statements_of (program_of lines ls)) c.0 one.is_insn (subst (λ k. AreInsns program (words + k) (statements_of (program_of lines ls)) c.0) (sym size) more.are_insns));
+    }
+
+-- ---- and back
+
+record HasFirst (program : List Line) (words : ℕ) (s : Option Statement) (statements : List Statement) (insns : List Insn) : Type 0 where
+  first : Option Insn
+  others : List Insn
+  split : option_to_list first ++ others ≡ insns
+  is_insn : IsInsnOfLine program words s first
+  are_insns : AreInsns program (words + option_length first) statements others
+
+first_insn : (program : List Line) (words : ℕ) (s : Option Statement) (statements : List Statement) (insns : List Insn) → AreInsns program words (with_statement_of s statements) insns → HasFirst program words s statements insns
+first_insn program words None statements insns are =
+    let same : words ≡ words + 0 = omega arith in
+    record { first = None; others = insns; split = refl; is_insn = tt; are_insns = subst (λ k. AreInsns program k statements insns) same are }
+first_insn program words (Some s) statements [] are = absurd are
+first_insn program words (Some s) statements (i ∷ insns) are = record { first = Some i; others = insns; split = refl; is_insn = are.0; are_insns = are.1 }
+
+resolved_first : (program done lines : List Line) (here : Line) → AllResolved program done (here ∷ lines) → IsResolved program done here
+resolved_first program done lines here all = subst (λ d. IsResolved program d here) (append-nil done) (all [] here lines refl)
+
+resolved_rest : (program done lines : List Line) (here : Line) → AllResolved program done (here ∷ lines) → AllResolved program (done ++ here ∷ []) lines
+resolved_rest program done lines here all = λ before line after e.
+    subst (λ d. IsResolved program d line) (sym (append_assoc done (here ∷ []) before)) (all (here ∷ before) line after (ap (λ k. here ∷ k) e))
+
+insns_no : (program : List Line) (definitions : Definitions) → AreDefinitions program definitions → (n words : ℕ) (lines : List (List ℕ)) (ls : List code_lines.Line) (done : List Line) (insns : List Insn)
+    → AreRead words lines ls → IsAt program done (program_of lines ls) n words → AllResolved program done (program_of lines ls) → AreInsns program words (statements_of (program_of lines ls)) insns → insns_of definitions n words lines ≡ Ok insns
+insns_no program definitions known n words [] [] done [] read at all are = insns_of-nil definitions n words
+insns_no program definitions known n words [] [] done (i ∷ insns) read at all are = absurd are
+insns_no program definitions known n words [] (l ∷ ls) done insns read at all are = absurd read
+insns_no program definitions known n words (line ∷ lines) [] done insns read at all are = absurd read
+insns_no program definitions known n words (line ∷ lines) (l ∷ ls) done insns read at all are =
+    let f = first_insn program words (statement_read line l.statement) (statements_of (program_of lines ls)) insns are in
+    let here = line_says line l in
+    let new = (resolved_first program done (program_of lines ls) here all).is_new in
+    let one = line_no program definitions known words line done (program_of lines ls) n l f.first at.split at.line_is read.0 (record { is_new = new; is_insn = f.is_insn }) in
+    let size = option_size program words line l.statement f.first f.is_insn in
+    let more = insns_no program definitions known (n + 1) (words + option_words l.statement) lines ls (done ++ here ∷ []) f.others read.1 (next_at program done line l (program_of lines ls) n words at) (resolved_rest program done (program_of lines ls) here all)
+        (subst (λ k. AreInsns program (words + k) (statements_of (program_of lines ls)) f.others) size f.are_insns) in
+    let rest : insns_of definitions (n + 1) (words + option_length f.first) lines ≡ Ok f.others = ap (λ k. insns_of definitions (n + 1) (words + k) lines) size ∙ more in
+    insns_of-ok definitions n words line lines f.first (sym one)
+    ∙ (ap (λ r. r >>= λ others. Ok (option_to_list f.first ++ others)) rest ∙ ap Ok f.split)
+
+-- ---- words
+
+words_from : (program : List Line) (number : ℕ) (statements : List Statement) (insns : List Insn) (words : List ℕ) → AreInsns program number statements insns → AreWordsOf words insns → AreWords program number statements words
+words_from program number [] [] [] are of = tt
+words_from program number [] [] (w ∷ words) are of = absurd of
+words_from program number [] (i ∷ insns) words are of = absurd are
+words_from program number (s ∷ statements) [] words are of = absurd are
+words_from program number (s ∷ statements) (i ∷ insns) [] are of = absurd of
+words_from program number (s ∷ statements) (i ∷ insns) (w ∷ words) are of = ((i, are.0, of.0), words_from program (number + 1) statements insns words are.1 of.1)
+
+record HasInsns (program : List Line) (number : ℕ) (statements : List Statement) (words : List ℕ) : Type 0 where
+  insns : List Insn
+  are_insns : AreInsns program number statements insns
+  are_words : AreWordsOf words insns
+
+insns_from : (program : List Line) (number : ℕ) (statements : List Statement) (words : List ℕ) → AreWords program number statements words → HasInsns program number statements words
+insns_from program number [] [] are = record { insns = []; are_insns = tt; are_words = tt }
+insns_from program number [] (w ∷ words) are = absurd are
+insns_from program number (s ∷ statements) [] are = absurd are
+insns_from program number (s ∷ statements) (w ∷ words) are =
+    let more = insns_from program (number + 1) statements words are.1 in
+    record { insns = are.0.0 ∷ more.insns; are_insns = (are.0.1, more.are_insns); are_words = (are.0.2, more.are_words) }
+
+-- ---- the whole text
+
+-- the code's definitions of labels
+abbrev pub text_definitions : List ℕ → Definitions
+text_definitions text = λ label. definition_of label 1 0 (lines_of text)
+
+pub definitions_known : (text : List ℕ) (ls : List code_lines.Line) → AreRead 0 (lines_of text) ls → AreDefinitions (program_of (lines_of text) ls) (text_definitions text)
+definitions_known text ls read label = definition_is label 1 0 (lines_of text) ls read
+
+start_at : (program : List Line) → IsAt program [] program 1 0
+start_at program = record { split = refl; line_is = refl; words_is = refl }
+
+-- what the code assembles is the text's assembly
+pub assembled_is : (text words : List ℕ) → AreWordsIn words (assembled text) → IsAssembly text words
+unfolding assembled
+assembled_is text words (insns, e, of) =
+    let b = bind_ok (all_read 1 0 (lines_of text)) _ insns e in
+    let r = all_read-lines 1 0 (lines_of text) b.1 in
+    let program = program_of (lines_of text) r.0 in
+    let is = read_program 0 (lines_of text) r.0 r.1 (lit≤ tt) in
+    let fits = is.fits in
+    let all = insns_yes program (text_definitions text) (definitions_known text r.0 r.1) 1 0 (lines_of text) r.0 [] insns r.1 (start_at program) b.2 in
+    record {
+      program = program;
+      is_program = record { are_lines = is.are_lines; fits = omega arith };
+      are_resolved = all.resolved;
+      are_words = words_from program 0 (statements_of program) insns words all.are_insns of;
+    }
+
+-- and the text's assembly is what the code assembles
+pub is_assembled : (text words : List ℕ) → IsAssembly text words → AreWordsIn words (assembled text)
+is_assembled text words is =
+    let fits = is.is_program.fits in
+    let w = program_read 0 (lines_of text) is.program is.is_program.are_lines (omega arith) in
+    let program = program_of (lines_of text) w.ls in
+    let same : program ≡ is.program = w.says in
+    let has = insns_from is.program 0 (statements_of is.program) words is.are_words in
+    let resolved : AllResolved program [] program = subst (λ p. AllResolved p [] p) (sym same) is.are_resolved in
+    let are : AreInsns program 0 (statements_of program) has.insns = subst (λ p. AreInsns p 0 (statements_of p) has.insns) (sym same) has.are_insns in
+    let all = insns_no program (text_definitions text) (definitions_known text w.ls w.are_read) 1 0 (lines_of text) w.ls [] has.insns w.are_read (start_at program) resolved are in
+    (has.insns, assembled-read text (text_definitions text) (read-all_read 1 0 (lines_of text) w.ls w.are_read) (λ label. refl) ∙ all, has.are_words)
