@@ -64,7 +64,7 @@ pub data Fills : List Slot → List lex.Token → Values → Values → Type 0 w
 
 -- ---- what the code reads from a token
 
-abbrev register_result : lex.Token → Result ℕ Rule
+abbrev pub register_result : lex.Token → Result ℕ Rule
 register_result (name bytes) = found (register_of bytes) NoOperand
 register_result (decimal_number negative digits) = Err NoOperand
 register_result (hex_number digits) = Err NoOperand
@@ -87,7 +87,7 @@ register_kind line t colon text = refl
 register_shown : (line : List ℕ) (t : Token) (shown : lex.Token) → IsShown line t shown → register_in line t t.kind ≡ register_result shown
 register_shown line t shown is = ap (register_in line t) is.kind ∙ register_kind line t shown is.text
 
-abbrev mark_result : ℕ → lex.Token → Operands → Result Operands Rule
+abbrev pub mark_result : ℕ → lex.Token → Operands → Result Operands Rule
 mark_result due (name bytes) o = Err NoOperand
 mark_result due (decimal_number negative digits) o = Err NoOperand
 mark_result due (hex_number digits) o = Err NoOperand
@@ -110,7 +110,7 @@ mark_kind due colon o = refl
 mark_shown : (line : List ℕ) (due : ℕ) (t : Token) (shown : lex.Token) (o : Operands) → IsShown line t shown → mark_in due o t.kind ≡ mark_result due shown o
 mark_shown line due t shown o is = ap (mark_in due o) is.kind ∙ mark_kind due shown o
 
-abbrev value_result : Token → Field → lex.Token → Operands → Result Operands Rule
+abbrev pub value_result : Token → Field → lex.Token → Operands → Result Operands Rule
 value_result t field (name bytes) o = cond (is_offset field) (Ok (record o { label = Some t })) (Err NoOperand)
 value_result t field (decimal_number negative digits) o = number_in field (number_result (decimal_number negative digits)) o
 value_result t field (hex_number digits) o = number_in field (number_result (hex_number digits)) o
@@ -138,7 +138,7 @@ value_shown line t field shown o is = ap (value_in line t field o) is.kind ∙ v
 -- ---- one slot
 
 -- what the code reads from the token in the slot's place
-abbrev result_of : Token → Slot → lex.Token → Operands → Result Operands Rule
+abbrev pub result_of : Token → Slot → lex.Token → Operands → Result Operands Rule
 result_of t Rd shown o = register_result shown >>= λ r. Ok (record o { rd = r })
 result_of t Rs1 shown o = register_result shown >>= λ r. Ok (record o { rs1 = r })
 result_of t Rs2 shown o = register_result shown >>= λ r. Ok (record o { rs2 = r })
@@ -148,7 +148,7 @@ result_of t Comma shown o = mark_result 44 shown o
 result_of t Open shown o = mark_result 40 shown o
 result_of t Close shown o = mark_result 41 shown o
 
-filled_shown : (line : List ℕ) (slot : Slot) (t : Token) (shown : lex.Token) (o : Operands) → IsShown line t shown → filled line slot t o ≡ result_of t slot shown o
+pub filled_shown : (line : List ℕ) (slot : Slot) (t : Token) (shown : lex.Token) (o : Operands) → IsShown line t shown → filled line slot t o ≡ result_of t slot shown o
 unfolding filled
 filled_shown line Rd t shown o is = ap (λ r. r >>= λ r. Ok (record o { rd = r })) (register_shown line t shown is)
 filled_shown line Rs1 t shown o is = ap (λ r. r >>= λ r. Ok (record o { rs1 = r })) (register_shown line t shown is)
@@ -171,7 +171,7 @@ register_yes open_bracket r e = absurd (cc)
 register_yes close_bracket r e = absurd (cc)
 register_yes colon r e = absurd (cc)
 
-register_no : (shown : lex.Token) (r : ℕ) → IsRegister shown r → register_result shown ≡ Ok r
+pub register_no : (shown : lex.Token) (r : ℕ) → IsRegister shown r → register_result shown ≡ Ok r
 register_no shown r is = ap register_result is.0 ∙ ap (λ o. found o NoOperand) (register_of-name r is.1)
 
 -- the mark that a byte is
@@ -210,13 +210,13 @@ number_in_yes field shown o more e = by (number_result shown) refl e
         let c = cond_ok (fits field n) (record o { number = n }) more OutOfField e in
         (n, (number_writes shown n at, fits_in field n c.0), c.1)
 
-number_in_no : (field : Field) (shown : lex.Token) (o : Operands) (z : ℤ) → HasNumber (field_form field) shown z → (n : Number) × (number_in field (number_result shown) o ≡ Ok (record o { number = n })) × (signed_value n ≡ z)
+pub number_in_no : (field : Field) (shown : lex.Token) (o : Operands) (z : ℤ) → HasNumber (field_form field) shown z → (n : Number) × (number_in field (number_result shown) o ≡ Ok (record o { number = n })) × (signed_value n ≡ z)
 number_in_no field shown o z has =
     let w = writes_number shown z has.0 in
     let within : fits field w.0 ≡ true = in_fits field w.0 (subst (IsIn (field_form field)) (sym w.2) has.1) in
     (w.0, ap (λ r. number_in field r o) w.1 ∙ ap (λ b. cond b (Ok (record o { number = w.0 })) (Err OutOfField)) within, w.2)
 
-value_no : (t : Token) (field : Field) (shown : lex.Token) (o : Operands) → IsNumber shown → value_result t field shown o ≡ number_in field (number_result shown) o
+pub value_no : (t : Token) (field : Field) (shown : lex.Token) (o : Operands) → IsNumber shown → value_result t field shown o ≡ number_in field (number_result shown) o
 value_no t field (decimal_number negative digits) o is = refl
 value_no t field (hex_number digits) o is = refl
 value_no t field (name bytes) o is = absurd is
@@ -227,7 +227,7 @@ value_no t field close_bracket o is = absurd is
 value_no t field colon o is = absurd is
 
 -- the token fills the slot
-fill_step : (line : List ℕ) (t : Token) (shown : lex.Token) (slot : Slot) (slots : List Slot) (ts : List lex.Token) (o more : Operands) (w : Values) → IsShown line t shown → result_of t slot shown o ≡ Ok more → Fills slots ts (values_of line more) w → Fills (slot ∷ slots) (shown ∷ ts) (values_of line o) w
+pub fill_step : (line : List ℕ) (t : Token) (shown : lex.Token) (slot : Slot) (slots : List Slot) (ts : List lex.Token) (o more : Operands) (w : Values) → IsShown line t shown → result_of t slot shown o ≡ Ok more → Fills slots ts (values_of line more) w → Fills (slot ∷ slots) (shown ∷ ts) (values_of line o) w
 fill_step line t shown Rd slots ts o more w is e rest =
     let b = bind_ok (register_result shown) _ more e in
     fill_rd (register_yes shown b.0 b.1) (subst (λ p. Fills slots ts (values_of line p) w) (sym (same_ok _ more b.2)) rest)
@@ -289,7 +289,7 @@ ended_ok place o more Numeral e = absurd (cc)
 ended_ok place o more Directive e = absurd (cc)
 ended_ok place o more Bad e = absurd (cc)
 
-filled_end : (line : List ℕ) (slot : Slot) (t : Token) (o : Operands) → t.kind ≡ End → filled line slot t o ≡ Err NoOperand
+pub filled_end : (line : List ℕ) (slot : Slot) (t : Token) (o : Operands) → t.kind ≡ End → filled line slot t o ≡ Err NoOperand
 unfolding filled
 filled_end line Rd t o end = ap (λ k. register_in line t k >>= λ r. Ok (record o { rd = r })) end
 filled_end line Rs1 t o end = ap (λ k. register_in line t k >>= λ r. Ok (record o { rs1 = r })) end
@@ -300,7 +300,7 @@ filled_end line Comma t o end = ap (mark_in 44 o) end
 filled_end line Open t o end = ap (mark_in 40 o) end
 filled_end line Close t o end = ap (mark_in 41 o) end
 
-filled_bad : (line : List ℕ) (slot : Slot) (t : Token) (o : Operands) → t.kind ≡ Bad → filled line slot t o ≡ Err NoToken
+pub filled_bad : (line : List ℕ) (slot : Slot) (t : Token) (o : Operands) → t.kind ≡ Bad → filled line slot t o ≡ Err NoToken
 unfolding filled
 filled_bad line Rd t o bad = ap (λ k. register_in line t k >>= λ r. Ok (record o { rd = r })) bad
 filled_bad line Rs1 t o bad = ap (λ k. register_in line t k >>= λ r. Ok (record o { rs1 = r })) bad
@@ -312,7 +312,7 @@ filled_bad line Open t o bad = ap (mark_in 40 o) bad
 filled_bad line Close t o bad = ap (mark_in 41 o) bad
 
 -- the token that was read in a slot's place
-filled_token : (line : List ℕ) (slot : Slot) (t : Token) (o more : Operands) (symbol : lex.Symbol) → Shows line t symbol → filled line slot t o ≡ Ok more → (shown : lex.Token) × IsShown line t shown × (result_of t slot shown o ≡ Ok more)
+pub filled_token : (line : List ℕ) (slot : Slot) (t : Token) (o more : Operands) (symbol : lex.Symbol) → Shows line t symbol → filled line slot t o ≡ Ok more → (shown : lex.Token) × IsShown line t shown × (result_of t slot shown o ≡ Ok more)
 filled_token line slot t o more (lex.token shown) shows e = (shown, shows, sym (filled_shown line slot t shown o shows) ∙ e)
 filled_token line slot t o more line_end shows e = let none = filled_end line slot t o shows in absurd (cc)
 filled_token line slot t o more stray_byte shows e = let none = filled_bad line slot t o shows in absurd (cc)

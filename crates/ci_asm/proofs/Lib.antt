@@ -14,3 +14,4 @@ pub mod Filling
 pub mod Stated
 pub mod ReadLines
 pub mod ReadPrograms
+pub mod Faulty

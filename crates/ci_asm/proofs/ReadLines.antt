@@ -60,7 +60,7 @@ name_token Custom proper = refl
 name_token Cread proper = refl
 name_token Data proper = let letter = proper.0 in absurd (grind arith)
 
-abbrev mnemonic_result : lex.Token → Result Mnemonic Rule
+abbrev pub mnemonic_result : lex.Token → Result Mnemonic Rule
 mnemonic_result (name bytes) = found (mnemonic_of bytes) NoMnemonic
 mnemonic_result word = Ok Data
 mnemonic_result (decimal_number negative digits) = Err NoMnemonic
@@ -306,7 +306,7 @@ statement_read line (Some s) = Some (statement_says line s)
 abbrev pub line_says : List ℕ → code_lines.Line → Line
 line_says line l = record { label = label_text line l.label; statement = statement_read line l.statement }
 
-with_other : (line : List ℕ) (label : Option Token) (t : Token) (full : Bool) (kind : Kind) → kind ≢ End → with_statement line label t full kind ≡ (read_statement line t full >>= λ s. Ok (record { label = label; statement = Some s }))
+pub with_other : (line : List ℕ) (label : Option Token) (t : Token) (full : Bool) (kind : Kind) → kind ≢ End → with_statement line label t full kind ≡ (read_statement line t full >>= λ s. Ok (record { label = label; statement = Some s }))
 with_other line label t full Name other = refl
 with_other line label t full Numeral other = refl
 with_other line label t full Directive other = refl

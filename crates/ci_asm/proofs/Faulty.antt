@@ -1,0 +1,331 @@
+-- The fault of a line that the code tells is the one of the definitions.
+use Rattle.std.proofs.Common.{◌≡◌, ◌≢◌, ℕ, suc, ◌+◌, ◌*◌, ◌<◌, ◌≤◌, ◌⊎◌, inl, inr, Bool, true, false, cond, eqb, List, [], ◌∷◌, ◌++◌, length, refl, sym, ap, ◌∙◌, subst, arith, lit<, lit≤, append-nil, length-append, Option, Some, None, Result, Ok, Err, ℤ, pos}
+use Rattle.std.specs.Prelude.{codes}
+use Rattle.std.specs.Fmt.{decimal}
+use Rattle.std.proofs.lemmas.Int.{ints}
+use Rattle.std.proofs.lemmas.Bool.{eqb-true}
+use Rattle.std.proofs.lemmas.Bool.Decides.{nat_tests}
+use mathlib.Core.List.{append_assoc}
+use Rattle.ci_asm.specs.declared.scanner.Kind.{Kind}
+use Rattle.ci_asm.specs.declared.scanner.Kind.TheVariants.{Name, Numeral, Directive, Mark, End, Bad}
+use Rattle.ci_asm.specs.declared.scanner.Token.{Token}
+use Rattle.ci_asm.specs.declared.numbers.Number.{Number}
+use Rattle.ci_asm.specs.declared.mnemonics.Mnemonic.{Mnemonic}
+use Rattle.ci_asm.specs.declared.slots.Field.{Field}
+use Rattle.ci_asm.specs.declared.slots.Field.TheVariants.{Immediate, Amount, Upper, BranchOffset, JumpOffset, FenceBits, UnitNumber, Whole}
+use Rattle.ci_asm.specs.declared.slots.Slot.{Slot}
+use Rattle.ci_asm.specs.declared.slots.Slot.TheVariants.{Rd, Rs1, Rs2, Rs3, Value, Comma, Open, Close}
+use Rattle.ci_asm.specs.declared.faults.Rule.{Rule}
+use Rattle.ci_asm.specs.declared.faults.Rule.TheVariants.{NoToken, NoMnemonic, NoOperand, OutOfField, Surplus}
+use Rattle.ci_asm.specs.declared.faults.Fault.{Fault}
+use Rattle.ci_asm.specs.declared.statements.Operands.{Operands}
+use Rattle.ci_asm.specs.declared.statements.Statement as code
+use Rattle.ci_asm.specs.declared.lines.Line as code_lines
+use Rattle.ci_asm.specs.Tokens.{next_token, text_of, register_of}
+use Rattle.ci_asm.specs.Shapes.{is_statement, is_offset, fits, slots_of}
+use Rattle.ci_asm.specs.Statements.{◌>>=◌, found, fault, at_place, no_operands, number_in, filled, ended, read_slots, mnemonic_in, read_statement, with_statement, read_line}
+use Rattle.ci_asm.specs.Programs.{kind_of}
+use Rattle.ci_asm.specs.Lexicon as lex
+use Rattle.ci_asm.specs.Lexicon.{name, decimal_number, hex_number, word, comma, open_bracket, close_bracket, colon, IsToken, line_end, stray_byte}
+use Rattle.ci_asm.specs.Forms.{IsIn, IsRegister, IsNumber, HasNumber, Statement, IsStatement, IsMnemonic}
+use Rattle.ci_asm.specs.Assembly.{HasStatement, IsGoodFront, IsGoodNext, IsWhole, IsNumberDue, IsKind, no_token, no_statement, no_operand, too_short, out_of_field, surplus, too_many, IsFaultOfLine}
+use Rattle.ci_asm.proofs.Operands.{mnemonic_in-statement}
+use Rattle.ci_asm.proofs.Lexing.{kind_of as kind_of_token}
+use Rattle.ci_asm.proofs.Scanning.{IsShown, Shows, Meets, next_symbol, by_test}
+use Rattle.ci_asm.proofs.Fields.{number_result, field_form, writes_is_number}
+use Rattle.ci_asm.proofs.Filling.{Values, no_values, Fills, done, fill_rd, fill_rs1, fill_rs2, fill_rs3, fill_number, fill_label, fill_comma, fill_open, fill_close, register_result, mark_result, value_result, result_of, register_no, number_in_no, value_no, filled_shown, filled_end, filled_bad, filled_token, fill_step, values_of, read_step, read_stuck, read_nil}
+use Rattle.ci_asm.proofs.Stated.{mnemonic_token, fills_statement, HasSlots, statement_slots}
+use Rattle.ci_asm.proofs.ReadLines.{mnemonic_result, mnemonic_shown, mnemonic_yes, mnemonic_no, HasBody, body_of, with_other}
+
+-- ---- what a slot accepts
+
+abbrev pub Accepts : Slot → lex.Token → Type 0
+Accepts Rd t = (r : ℕ) × IsRegister t r
+Accepts Rs1 t = (r : ℕ) × IsRegister t r
+Accepts Rs2 t = (r : ℕ) × IsRegister t r
+Accepts Rs3 t = (r : ℕ) × IsRegister t r
+Accepts (Value field) t = ((n : ℤ) × HasNumber (field_form field) t n) ⊎ ((is_offset field ≡ true) × ((label : List ℕ) × (t ≡ name label)))
+Accepts Comma t = t ≡ comma
+Accepts Open t = t ≡ open_bracket
+Accepts Close t = t ≡ close_bracket
+
+abbrev pub Fit : List Slot → List lex.Token → Type 0
+Fit [] [] = Unit {0}
+Fit [] (t ∷ ts) = ⊥
+Fit (slot ∷ slots) [] = ⊥
+Fit (slot ∷ slots) (t ∷ ts) = Accepts slot t × Fit slots ts
+
+pub fills_fit : {slots : List Slot} {ts : List lex.Token} {v w : Values} → Fills slots ts v w → Fit slots ts
+fills_fit done = tt
+fills_fit (fill_rd {r} is rest) = ((r, is), fills_fit rest)
+fills_fit (fill_rs1 {r} is rest) = ((r, is), fills_fit rest)
+fills_fit (fill_rs2 {r} is rest) = ((r, is), fills_fit rest)
+fills_fit (fill_rs3 {r} is rest) = ((r, is), fills_fit rest)
+fills_fit (fill_number {n} has rest) = (inl (n, has), fills_fit rest)
+fills_fit (fill_label {label} offset rest) = (inr (offset, (label, refl)), fills_fit rest)
+fills_fit (fill_comma rest) = (refl, fills_fit rest)
+fills_fit (fill_open rest) = (refl, fills_fit rest)
+fills_fit (fill_close rest) = (refl, fills_fit rest)
+
+pub fit_fills : (slots : List Slot) (ts : List lex.Token) (v : Values) → Fit slots ts → (w : Values) × Fills slots ts v w
+fit_fills [] [] v fit = (v, done)
+fit_fills [] (t ∷ ts) v fit = absurd fit
+fit_fills (slot ∷ slots) [] v fit = absurd fit
+fit_fills (Rd ∷ slots) (t ∷ ts) v fit = let more = fit_fills slots ts (record v { rd = fit.0.0 }) fit.1 in (more.0, fill_rd fit.0.1 more.1)
+fit_fills (Rs1 ∷ slots) (t ∷ ts) v fit = let more = fit_fills slots ts (record v { rs1 = fit.0.0 }) fit.1 in (more.0, fill_rs1 fit.0.1 more.1)
+fit_fills (Rs2 ∷ slots) (t ∷ ts) v fit = let more = fit_fills slots ts (record v { rs2 = fit.0.0 }) fit.1 in (more.0, fill_rs2 fit.0.1 more.1)
+fit_fills (Rs3 ∷ slots) (t ∷ ts) v fit = let more = fit_fills slots ts (record v { rs3 = fit.0.0 }) fit.1 in (more.0, fill_rs3 fit.0.1 more.1)
+fit_fills (Value field ∷ slots) (t ∷ ts) v (inl has, fit) = let more = fit_fills slots ts (record v { number = has.0 }) fit in (more.0, fill_number has.1 more.1)
+fit_fills (Value field ∷ slots) (t ∷ ts) v (inr has, fit) =
+    let more = fit_fills slots ts (record v { label = Some has.1.0 }) fit in
+    (more.0, subst (λ s. Fills (Value field ∷ slots) (s ∷ ts) v more.0) (sym has.1.1) (fill_label has.0 more.1))
+fit_fills (Comma ∷ slots) (t ∷ ts) v fit = let more = fit_fills slots ts v fit.1 in (more.0, subst (λ s. Fills (Comma ∷ slots) (s ∷ ts) v more.0) (sym fit.0) (fill_comma more.1))
+fit_fills (Open ∷ slots) (t ∷ ts) v fit = let more = fit_fills slots ts v fit.1 in (more.0, subst (λ s. Fills (Open ∷ slots) (s ∷ ts) v more.0) (sym fit.0) (fill_open more.1))
+fit_fills (Close ∷ slots) (t ∷ ts) v fit = let more = fit_fills slots ts v fit.1 in (more.0, subst (λ s. Fills (Close ∷ slots) (s ∷ ts) v more.0) (sym fit.0) (fill_close more.1))
+
+fit_append : (slots others : List Slot) (ts rest : List lex.Token) → Fit slots ts → Fit others rest → Fit (slots ++ others) (ts ++ rest)
+fit_append [] others [] rest first second = second
+fit_append [] others (t ∷ ts) rest first second = absurd first
+fit_append (slot ∷ slots) others [] rest first second = absurd first
+fit_append (slot ∷ slots) others (t ∷ ts) rest first second = (first.0, fit_append slots others ts rest first.1 second)
+
+fit_rest : (slots others : List Slot) (ts rest : List lex.Token) → Fit slots ts → Fit (slots ++ others) (ts ++ rest) → Fit others rest
+fit_rest [] others [] rest first both = both
+fit_rest [] others (t ∷ ts) rest first both = absurd first
+fit_rest (slot ∷ slots) others [] rest first both = absurd first
+fit_rest (slot ∷ slots) others (t ∷ ts) rest first both = fit_rest slots others ts rest first.1 both.1
+
+-- ---- each slot accepts some token
+
+abbrev default_token : Slot → lex.Token
+default_token Rd = name (codes "x" ++ decimal 0)
+default_token Rs1 = name (codes "x" ++ decimal 0)
+default_token Rs2 = name (codes "x" ++ decimal 0)
+default_token Rs3 = name (codes "x" ++ decimal 0)
+default_token (Value field) = decimal_number false (48 ∷ [])
+default_token Comma = comma
+default_token Open = open_bracket
+default_token Close = close_bracket
+
+zero_in : (field : Field) → IsIn (field_form field) (pos 0)
+zero_in Immediate = (omega (arith, ints), omega (arith, ints))
+zero_in Amount = (omega (arith, ints), omega (arith, ints))
+zero_in Upper = (omega (arith, ints), omega (arith, ints))
+zero_in BranchOffset = ((omega (arith, ints), omega (arith, ints)), refl)
+zero_in JumpOffset = ((omega (arith, ints), omega (arith, ints)), refl)
+zero_in FenceBits = (omega (arith, ints), omega (arith, ints))
+zero_in UnitNumber = (omega (arith, ints), omega (arith, ints))
+zero_in Whole = (omega (arith, ints), omega (arith, ints))
+
+accepts_default : (slot : Slot) → Accepts slot (default_token slot)
+accepts_default Rd = (0, (refl, lit< tt))
+accepts_default Rs1 = (0, (refl, lit< tt))
+accepts_default Rs2 = (0, (refl, lit< tt))
+accepts_default Rs3 = (0, (refl, lit< tt))
+accepts_default (Value field) = inl (pos 0, ((lit≤ tt, refl), zero_in field))
+accepts_default Comma = refl
+accepts_default Open = refl
+accepts_default Close = refl
+
+abbrev default_tokens : List Slot → List lex.Token
+default_tokens [] = []
+default_tokens (slot ∷ slots) = default_token slot ∷ default_tokens slots
+
+fit_default : (slots : List Slot) → Fit slots (default_tokens slots)
+fit_default [] = tt
+fit_default (slot ∷ slots) = (accepts_default slot, fit_default slots)
+
+-- tokens that fit are a statement
+fit_statement : (m : Mnemonic) (ts : List lex.Token) → is_statement m ≡ true → Fit (slots_of m) ts → (statement : Statement) × IsStatement (mnemonic_token m ∷ ts) statement
+fit_statement m ts named fit = let f = fit_fills (slots_of m) ts no_values fit in (_, fills_statement m named f.1)
+
+-- one mnemonic alone has a token
+same_mnemonic : (m k : Mnemonic) → is_statement m ≡ true → is_statement k ≡ true → mnemonic_token m ≡ mnemonic_token k → m ≡ k
+same_mnemonic m k at_m at_k e =
+    let one = mnemonic_no m at_m in
+    let two : mnemonic_result (mnemonic_token m) ≡ Ok k = ap mnemonic_result e ∙ mnemonic_no k at_k in
+    let same : ◌≡◌ {A = Result Mnemonic Rule} (Ok m) (Ok k) = sym one ∙ two in
+    cc
+
+-- the tokens behind a statement's mnemonic fit its slots
+statement_fit : (m : Mnemonic) (ts : List lex.Token) (statement : Statement) → is_statement m ≡ true → IsStatement (mnemonic_token m ∷ ts) statement → Fit (slots_of m) ts
+statement_fit m ts statement named is =
+    let h = statement_slots is in
+    let tokens = h.tokens in
+    let first : mnemonic_token m ≡ mnemonic_token h.mnemonic = cc in
+    let rest : ts ≡ h.others = cc in
+    let same = same_mnemonic m h.mnemonic named h.named first in
+    subst (λ k. Fit (slots_of k) ts) (sym same) (subst (Fit (slots_of h.mnemonic)) (sym rest) (fills_fit h.fills))
+
+-- ---- what stops the code
+
+abbrev IsValue : Slot → Type 0
+IsValue (Value field) = Unit {0}
+IsValue slot = ⊥
+
+-- the symbol that doesn't fit where these slots are due, and the rule that it breaks
+data Stops : List Slot → lex.Symbol → Rule → Type 0 where
+  stray : {slots : List Slot} → Stops slots stray_byte NoToken
+  over : {t : lex.Token} → Stops [] (lex.token t) Surplus
+  short : {slot : Slot} {slots : List Slot} → Stops (slot ∷ slots) line_end NoOperand
+  wrong_number : {slot : Slot} {slots : List Slot} {t : lex.Token} → IsValue slot → IsNumber t → ¬ Accepts slot t → Stops (slot ∷ slots) (lex.token t) OutOfField
+  wrong : {slot : Slot} {slots : List Slot} {t : lex.Token} → ¬ (IsNumber t × IsValue slot) → ¬ Accepts slot t → Stops (slot ∷ slots) (lex.token t) NoOperand
+
+-- an accepted token is read
+accept_ok : (code_token : Token) (slot : Slot) (shown : lex.Token) (o : Operands) → Accepts slot shown → (p : Operands) × (result_of code_token slot shown o ≡ Ok p)
+accept_ok ct Rd shown o (r, is) = (_, ap (λ x. x >>= λ r. Ok (record o { rd = r })) (register_no shown r is))
+accept_ok ct Rs1 shown o (r, is) = (_, ap (λ x. x >>= λ r. Ok (record o { rs1 = r })) (register_no shown r is))
+accept_ok ct Rs2 shown o (r, is) = (_, ap (λ x. x >>= λ r. Ok (record o { rs2 = r })) (register_no shown r is))
+accept_ok ct Rs3 shown o (r, is) = (_, ap (λ x. x >>= λ r. Ok (record o { rs3 = r })) (register_no shown r is))
+accept_ok ct (Value field) shown o (inl (n, has)) =
+    let m = number_in_no field shown o n has in
+    (_, value_no ct field shown o (writes_is_number shown n has.0) ∙ m.1)
+accept_ok ct (Value field) shown o (inr (offset, (label, e))) =
+    (_, ap (λ s. value_result ct field s o) e ∙ ap (λ b. cond b (Ok (record o { label = Some ct })) (Err NoOperand)) offset)
+accept_ok ct Comma shown o e = (_, ap (λ s. mark_result 44 s o) e)
+accept_ok ct Open shown o e = (_, ap (λ s. mark_result 40 s o) e)
+accept_ok ct Close shown o e = (_, ap (λ s. mark_result 41 s o) e)
+
+not_accepted : (ct : Token) (slot : Slot) (shown : lex.Token) (o : Operands) (rule : Rule) → result_of ct slot shown o ≡ Err rule → ¬ Accepts slot shown
+not_accepted ct slot shown o rule e = λ accepts. let ok = (accept_ok ct slot shown o accepts).1 in cc
+
+-- the rule that is broken by a token
+abbrev IsRuleFor : Slot → lex.Token → Rule → Type 0
+IsRuleFor slot t rule = ((rule ≡ OutOfField) × (IsNumber t × IsValue slot)) ⊎ ((rule ≡ NoOperand) × (¬ (IsNumber t × IsValue slot)))
+
+err_same : {A E : Type 0} (a b : E) → ◌≡◌ {A = Result A E} (Err a) (Err b) → a ≡ b
+err_same a b e = cc
+
+bind_register : (r : Result ℕ Rule) (f : ℕ → Operands) (rule : Rule) → (r >>= λ x. Ok (f x)) ≡ Err rule → r ≡ Err rule
+bind_register (Ok x) f rule e = absurd (cc)
+bind_register (Err x) f rule e = cc
+
+found_rule : (o : Option ℕ) (rule : Rule) → found o NoOperand ≡ Err rule → rule ≡ NoOperand
+found_rule (Some x) rule e = absurd (cc)
+found_rule None rule e = cc
+
+register_rule : (shown : lex.Token) (rule : Rule) → register_result shown ≡ Err rule → rule ≡ NoOperand
+register_rule (name bytes) rule e = found_rule (register_of bytes) rule e
+register_rule (decimal_number negative digits) rule e = cc
+register_rule (hex_number digits) rule e = cc
+register_rule word rule e = cc
+register_rule comma rule e = cc
+register_rule open_bracket rule e = cc
+register_rule close_bracket rule e = cc
+register_rule colon rule e = cc
+
+cond_rule : {A : Type 0} (b : Bool) (x : A) (rule due : Rule) → cond b (Ok x) (Err due) ≡ Err rule → rule ≡ due
+cond_rule true x rule due e = absurd (cc)
+cond_rule false x rule due e = cc
+
+mark_rule : (due : ℕ) (shown : lex.Token) (o : Operands) (rule : Rule) → mark_result due shown o ≡ Err rule → rule ≡ NoOperand
+mark_rule due comma o rule e = cond_rule (eqb 44 due) o rule NoOperand e
+mark_rule due open_bracket o rule e = cond_rule (eqb 40 due) o rule NoOperand e
+mark_rule due close_bracket o rule e = cond_rule (eqb 41 due) o rule NoOperand e
+mark_rule due colon o rule e = cond_rule (eqb 58 due) o rule NoOperand e
+mark_rule due (name bytes) o rule e = cc
+mark_rule due (decimal_number negative digits) o rule e = cc
+mark_rule due (hex_number digits) o rule e = cc
+mark_rule due word o rule e = cc
+
+number_rule : (field : Field) (n : Option Number) (o : Operands) (rule : Rule) → number_in field n o ≡ Err rule → rule ≡ OutOfField
+number_rule field None o rule e = cc
+number_rule field (Some n) o rule e = cond_rule (fits field n) (record o { number = n }) rule OutOfField e
+
+rule_for : (ct : Token) (slot : Slot) (shown : lex.Token) (o : Operands) (rule : Rule) → result_of ct slot shown o ≡ Err rule → IsRuleFor slot shown rule
+rule_for ct Rd shown o rule e = inr (register_rule shown rule (bind_register (register_result shown) _ rule e), λ h. h.1)
+rule_for ct Rs1 shown o rule e = inr (register_rule shown rule (bind_register (register_result shown) _ rule e), λ h. h.1)
+rule_for ct Rs2 shown o rule e = inr (register_rule shown rule (bind_register (register_result shown) _ rule e), λ h. h.1)
+rule_for ct Rs3 shown o rule e = inr (register_rule shown rule (bind_register (register_result shown) _ rule e), λ h. h.1)
+rule_for ct (Value field) (name bytes) o rule e = inr (cond_rule (is_offset field) (record o { label = Some ct }) rule NoOperand e, λ h. h.0)
+rule_for ct (Value field) (decimal_number negative digits) o rule e = inl (number_rule field (number_result (decimal_number negative digits)) o rule e, (tt, tt))
+rule_for ct (Value field) (hex_number digits) o rule e = inl (number_rule field (number_result (hex_number digits)) o rule e, (tt, tt))
+rule_for ct (Value field) word o rule e = inr (cc, λ h. h.0)
+rule_for ct (Value field) comma o rule e = inr (cc, λ h. h.0)
+rule_for ct (Value field) open_bracket o rule e = inr (cc, λ h. h.0)
+rule_for ct (Value field) close_bracket o rule e = inr (cc, λ h. h.0)
+rule_for ct (Value field) colon o rule e = inr (cc, λ h. h.0)
+rule_for ct Comma shown o rule e = inr (mark_rule 44 shown o rule e, λ h. h.1)
+rule_for ct Open shown o rule e = inr (mark_rule 40 shown o rule e, λ h. h.1)
+rule_for ct Close shown o rule e = inr (mark_rule 41 shown o rule e, λ h. h.1)
+
+-- what stands in a slot's place where it can't be filled
+filled_stops : (line : List ℕ) (slot : Slot) (slots : List Slot) (t : Token) (o : Operands) (rule : Rule) (symbol : lex.Symbol) → Shows line t symbol → filled line slot t o ≡ Err rule → Stops (slot ∷ slots) symbol rule
+filled_stops line slot slots t o rule (lex.token shown) shows e =
+    let there = sym (filled_shown line slot t shown o shows) ∙ e in
+    let none = not_accepted t slot shown o rule there in
+    elim (rule_for t slot shown o rule there) [
+      | inl number ↦ subst (Stops (slot ∷ slots) (lex.token shown)) (sym number.0) (wrong_number number.1.1 number.1.0 none)
+      | inr other ↦ subst (Stops (slot ∷ slots) (lex.token shown)) (sym other.0) (wrong other.1 none)
+    ]
+filled_stops line slot slots t o rule line_end shows e =
+    let same : NoOperand ≡ rule = err_same {A = Operands} NoOperand rule (sym (filled_end line slot t o shows) ∙ e) in
+    subst (Stops (slot ∷ slots) line_end) same short
+filled_stops line slot slots t o rule stray_byte shows e =
+    let same : NoToken ≡ rule = err_same {A = Operands} NoToken rule (sym (filled_bad line slot t o shows) ∙ e) in
+    subst (Stops (slot ∷ slots) stray_byte) same stray
+
+-- what stands where the line should end
+ended_stops : (line : List ℕ) (t : Token) (o : Operands) (f : Fault) (symbol : lex.Symbol) → Shows line t symbol → ended t.start o t.kind ≡ Err f → Stops [] symbol f.rule × (f.place ≡ t.start)
+ended_stops line t o f (lex.token shown) shows e =
+    let same : fault Surplus t.start ≡ f = err_same {A = Operands} _ f (sym (over_kind t.start o shown) ∙ (ap (ended t.start o) (sym shows.kind) ∙ e)) in
+    (subst (λ g. Stops [] (lex.token shown) g.rule) same over, sym (ap (λ g. g.place) same))
+  where
+    over_kind : (place : ℕ) (o : Operands) (shown : lex.Token) → ended place o (kind_of_token shown) ≡ Err (fault Surplus place)
+    over_kind place o (name bytes) = refl
+    over_kind place o (decimal_number negative digits) = refl
+    over_kind place o (hex_number digits) = refl
+    over_kind place o word = refl
+    over_kind place o comma = refl
+    over_kind place o open_bracket = refl
+    over_kind place o close_bracket = refl
+    over_kind place o colon = refl
+ended_stops line t o f line_end shows e =
+    let ok : ended t.start o t.kind ≡ Ok o = ap (ended t.start o) shows in
+    absurd (cc)
+ended_stops line t o f stray_byte shows e =
+    let same : fault NoToken t.start ≡ f = err_same {A = Operands} _ f (sym (ap (ended t.start o) shows) ∙ e) in
+    (subst (λ g. Stops [] stray_byte g.rule) same stray, sym (ap (λ g. g.place) same))
+
+-- where the slots could not be filled any more
+record IsStopped (line : List ℕ) (t : Token) (slots : List Slot) (f : Fault) : Type 0 where
+  filled_slots : List Slot
+  due : List Slot
+  front : List lex.Token
+  symbol : lex.Symbol
+  split : slots ≡ filled_slots ++ due
+  fit : Fit filled_slots front
+  meets : Meets line t front symbol f.place
+  stops : Stops due symbol f.rule
+
+accepted : (line : List ℕ) (slot : Slot) (t : Token) (o p : Operands) (symbol : lex.Symbol) → Shows line t symbol → filled line slot t o ≡ Ok p → (shown : lex.Token) × IsShown line t shown × Accepts slot shown
+accepted line slot t o p symbol shows e =
+    let f = filled_token line slot t o p symbol shows e in
+    (f.0, f.1, (fills_fit (fill_step line t f.0 slot [] [] o p (values_of line p) f.1 f.2 done)).0)
+
+read_stops : (line : List ℕ) (slots : List Slot) (from : ℕ) (o : Operands) (f : Fault) → read_slots line slots from o ≡ Err f → IsStopped line (next_token line from) slots f
+read_stops line [] from o f e =
+    let s = next_symbol line from in
+    let stop = ended_stops line (next_token line from) o f s.0 s.1 (sym (read_nil line from o) ∙ e) in
+    record { filled_slots = []; due = []; front = []; symbol = s.0; split = refl; fit = tt; meets = (s.1, sym stop.1); stops = stop.0 }
+read_stops line (slot ∷ slots) from o f e = by (filled line slot (next_token line from) o) refl (λ p. read_stops line slots (next_token line from).end p f)
+  where
+    by : (r : Result Operands Rule) → filled line slot (next_token line from) o ≡ r
+        → ((p : Operands) → read_slots line slots (next_token line from).end p ≡ Err f → IsStopped line (next_token line (next_token line from).end) slots f)
+        → IsStopped line (next_token line from) (slot ∷ slots) f
+    by (Err rule) at rest =
+        let s = next_symbol line from in
+        let same : fault rule (next_token line from).start ≡ f = err_same {A = Operands} _ f (sym (read_stuck line slot slots from o rule at) ∙ e) in
+        record {
+          filled_slots = []; due = slot ∷ slots; front = []; symbol = s.0; split = refl; fit = tt;
+          meets = (s.1, ap (λ g. g.place) same);
+          stops = subst (λ g. Stops (slot ∷ slots) s.0 g.rule) same (filled_stops line slot slots (next_token line from) o rule s.0 s.1 at);
+        }
+    by (Ok p) at rest =
+        let s = next_symbol line from in
+        let a = accepted line slot (next_token line from) o p s.0 s.1 at in
+        let more = rest p (sym (read_step line slot slots from o p at) ∙ e) in
+        record {
+          filled_slots = slot ∷ more.filled_slots; due = more.due; front = a.0 ∷ more.front; symbol = more.symbol;
+          split = ap (λ k. slot ∷ k) more.split; fit = (a.2, more.fit); meets = (a.1, more.meets); stops = more.stops;
+        }
