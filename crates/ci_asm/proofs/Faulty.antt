@@ -22,18 +22,18 @@ use Rattle.ci_asm.specs.declared.statements.Operands.{Operands}
 use Rattle.ci_asm.specs.declared.statements.Statement as code
 use Rattle.ci_asm.specs.declared.lines.Line as code_lines
 use Rattle.ci_asm.specs.Tokens.{next_token, text_of, register_of}
-use Rattle.ci_asm.specs.Shapes.{is_statement, is_offset, fits, slots_of}
+use Rattle.ci_asm.specs.Shapes.{mnemonic_of, is_statement, is_offset, fits, slots_of}
 use Rattle.ci_asm.specs.Statements.{◌>>=◌, found, fault, at_place, no_operands, number_in, filled, ended, read_slots, mnemonic_in, read_statement, with_statement, read_line}
 use Rattle.ci_asm.specs.Programs.{kind_of}
 use Rattle.ci_asm.specs.Lexicon as lex
 use Rattle.ci_asm.specs.Lexicon.{name, decimal_number, hex_number, word, comma, open_bracket, close_bracket, colon, IsToken, line_end, stray_byte}
 use Rattle.ci_asm.specs.Forms.{IsIn, IsRegister, IsNumber, HasNumber, Statement, IsStatement, IsMnemonic}
 use Rattle.ci_asm.specs.Assembly.{HasStatement, IsGoodFront, IsGoodNext, IsWhole, IsNumberDue, IsKind, no_token, no_statement, no_operand, too_short, out_of_field, surplus, too_many, IsFaultOfLine}
-use Rattle.ci_asm.proofs.Operands.{mnemonic_in-statement}
+use Rattle.ci_asm.proofs.Operands.{mnemonic_in-statement, at_place_ok}
 use Rattle.ci_asm.proofs.Lexing.{kind_of as kind_of_token}
 use Rattle.ci_asm.proofs.Scanning.{IsShown, Shows, Meets, next_symbol, by_test}
 use Rattle.ci_asm.proofs.Fields.{number_result, field_form, writes_is_number}
-use Rattle.ci_asm.proofs.Filling.{Values, no_values, Fills, done, fill_rd, fill_rs1, fill_rs2, fill_rs3, fill_number, fill_label, fill_comma, fill_open, fill_close, register_result, mark_result, value_result, result_of, register_no, number_in_no, value_no, filled_shown, filled_end, filled_bad, filled_token, fill_step, values_of, read_step, read_stuck, read_nil}
+use Rattle.ci_asm.proofs.Filling.{Values, no_values, Fills, done, fill_rd, fill_rs1, fill_rs2, fill_rs3, fill_number, fill_label, fill_comma, fill_open, fill_close, register_result, mark_result, value_result, result_of, register_no, number_in_no, value_no, filled_shown, filled_end, filled_bad, filled_token, fill_step, values_of, label_text, read_step, read_stuck, read_nil}
 use Rattle.ci_asm.proofs.Stated.{mnemonic_token, fills_statement, HasSlots, statement_slots}
 use Rattle.ci_asm.proofs.ReadLines.{mnemonic_result, mnemonic_shown, mnemonic_yes, mnemonic_no, HasBody, body_of, with_other}
 
@@ -329,3 +329,217 @@ read_stops line (slot ∷ slots) from o f e = by (filled line slot (next_token l
           filled_slots = slot ∷ more.filled_slots; due = more.due; front = a.0 ∷ more.front; symbol = more.symbol;
           split = ap (λ k. slot ∷ k) more.split; fit = (a.2, more.fit); meets = (a.1, more.meets); stops = more.stops;
         }
+
+-- ---- the fault of a line
+
+value_default : (slot : Slot) → IsValue slot → IsNumber (default_token slot)
+value_default (Value field) is = tt
+value_default Rd is = absurd is
+value_default Rs1 is = absurd is
+value_default Rs2 is = absurd is
+value_default Rs3 is = absurd is
+value_default Comma is = absurd is
+value_default Open is = absurd is
+value_default Close is = absurd is
+
+number_value : (slot : Slot) (t : lex.Token) → IsNumber t → Accepts slot t → IsValue slot
+number_value (Value field) t is accepts = tt
+number_value Rd t is accepts = absurd (subst IsNumber accepts.1.0 is)
+number_value Rs1 t is accepts = absurd (subst IsNumber accepts.1.0 is)
+number_value Rs2 t is accepts = absurd (subst IsNumber accepts.1.0 is)
+number_value Rs3 t is accepts = absurd (subst IsNumber accepts.1.0 is)
+number_value Comma t is accepts = absurd (subst IsNumber accepts is)
+number_value Open t is accepts = absurd (subst IsNumber accepts is)
+number_value Close t is accepts = absurd (subst IsNumber accepts is)
+
+-- behind a mnemonic and tokens that fill some of its slots
+module _ (m : Mnemonic) (named : is_statement m ≡ true) (before due : List Slot) (front : List lex.Token) (split : slots_of m ≡ before ++ due) (fit : Fit before front) where
+  -- what goes on a statement there fits the slots that are due
+  rest_fits : (rest : List lex.Token) (statement : Statement) → IsStatement (mnemonic_token m ∷ (front ++ rest)) statement → Fit due rest
+  rest_fits rest statement is = fit_rest before due front rest fit (subst (λ slots. Fit slots (front ++ rest)) split (statement_fit m (front ++ rest) statement named is))
+
+  -- and what fits goes on to a statement
+  goes_on : (rest : List lex.Token) → Fit due rest → (statement : Statement) × IsStatement (mnemonic_token m ∷ (front ++ rest)) statement
+  goes_on rest fits = fit_statement m (front ++ rest) named (subst (λ slots. Fit slots (front ++ rest)) (sym split) (fit_append before due front rest fit fits))
+
+  good_here : (words : ℕ) → words < 262144 → IsGoodFront words (mnemonic_token m ∷ front)
+  good_here words room = let s = goes_on (default_tokens due) (fit_default due) in inr (room, (default_tokens due, s.0, s.1))
+
+  next_fits : (words : ℕ) (t : lex.Token) → IsGoodFront words (mnemonic_token m ∷ (front ++ t ∷ [])) → (others : List lex.Token) × Fit due (t ∷ others)
+  next_fits words t (inl e) = absurd (cc)
+  next_fits words t (inr (room, (others, statement, is))) =
+      (others, rest_fits (t ∷ others) statement (subst (λ ts. IsStatement (mnemonic_token m ∷ ts) statement) (append_assoc front (t ∷ []) others) is))
+
+  whole_fits : (statement : Statement) → IsStatement (mnemonic_token m ∷ front) statement → Fit due []
+  whole_fits statement is = rest_fits [] statement (subst (λ ts. IsStatement (mnemonic_token m ∷ ts) statement) (sym (append-nil front)) is)
+
+-- the symbol that stops the code is no good, and of this kind
+record IsStop (words : ℕ) (front : List lex.Token) (symbol : lex.Symbol) (kind : ℕ) : Type 0 where
+  bad : ¬ IsGoodNext words front symbol
+  is_kind : IsKind front symbol kind
+
+stop_is : (words : ℕ) (m : Mnemonic) (named : is_statement m ≡ true) (before due : List Slot) (front : List lex.Token) (split : slots_of m ≡ before ++ due) (fit : Fit before front) (symbol : lex.Symbol) (rule : Rule)
+    → Stops due symbol rule → IsStop words (mnemonic_token m ∷ front) symbol (kind_of rule)
+stop_is words m named before due front split fit symbol rule stray = record { bad = λ good. good; is_kind = no_token }
+stop_is words m named before due front split fit symbol rule over = record {
+  bad = λ good. (next_fits m named before [] front split fit words _ good).1;
+  is_kind = surplus (let s = goes_on m named before [] front split fit [] tt in (s.0, subst (λ ts. IsStatement (mnemonic_token m ∷ ts) s.0) (append-nil front) s.1));
+}
+stop_is words m named before due front split fit symbol rule (short {slot} {slots}) = record {
+  bad = no_end;
+  is_kind = too_short;
+}
+  where
+    no_end : ¬ IsGoodNext words (mnemonic_token m ∷ front) line_end
+    no_end (None, e) = absurd (cc)
+    no_end (Some statement, is) = whole_fits m named before (slot ∷ slots) front split fit statement is
+stop_is words m named before due front split fit symbol rule (wrong_number {slot} {slots} {t} value number none) = record {
+  bad = λ good. none (next_fits m named before (slot ∷ slots) front split fit words t good).1.0;
+  is_kind = out_of_field number (let s = goes_on m named before (slot ∷ slots) front split fit (default_tokens (slot ∷ slots)) (fit_default (slot ∷ slots)) in (default_token slot, default_tokens slots, s.0, value_default slot value, s.1));
+}
+stop_is words m named before due front split fit symbol rule (wrong {slot} {slots} {t} plain none) = record {
+  bad = λ good. none (next_fits m named before (slot ∷ slots) front split fit words t good).1.0;
+  is_kind = no_operand (λ e. absurd (cc)) (λ whole. whole_fits m named before (slot ∷ slots) front split fit whole.0 whole.1)
+      (λ both. plain (both.0, number_value slot both.1.0 both.1.3 (rest_fits m named before (slot ∷ slots) front split fit (both.1.0 ∷ both.1.1) both.1.2 both.1.4).0));
+}
+
+-- the fault that stands there
+fault_at : (words : ℕ) (line : List ℕ) (b : HasBody line) (front : List lex.Token) (symbol : lex.Symbol) (kind column : ℕ) → Meets line (next_token line b.from) front symbol column → IsGoodFront words front → IsStop words front symbol kind → IsFaultOfLine words line kind column
+fault_at words line b front symbol kind column meets good stop = record {
+  label = label_text line b.label; front = front; symbol = symbol;
+  stands = record { has_label = b.has_label; stands = b.leaves front symbol column meets };
+  good = good; bad = stop.bad; is_kind = stop.is_kind;
+}
+
+no_first : (words : ℕ) (t : lex.Token) → ¬ IsMnemonic t → ¬ IsGoodFront words (t ∷ [])
+no_first words t none (inl e) = absurd (cc)
+no_first words t none (inr (room, (others, statement, is))) = none (others, statement, is)
+
+no_room : (words : ℕ) (t : lex.Token) → ¬ (words < 262144) → ¬ IsGoodFront words (t ∷ [])
+no_room words t full (inl e) = absurd (cc)
+no_room words t full (inr (room, more)) = full room
+
+-- each mnemonic begins a statement
+pub mnemonic_begins : (m : Mnemonic) → is_statement m ≡ true → IsMnemonic (mnemonic_token m)
+mnemonic_begins m named = let s = fit_statement m (default_tokens (slots_of m)) named (fit_default (slots_of m)) in (default_tokens (slots_of m), s.0, s.1)
+
+no_mnemonic : (t : lex.Token) (rule : Rule) → mnemonic_result t ≡ Err rule → ¬ IsMnemonic t
+no_mnemonic t rule e (others, statement, is) =
+    let h = statement_slots is in
+    let tokens = h.tokens in
+    let first : t ≡ mnemonic_token h.mnemonic = cc in
+    let ok : mnemonic_result t ≡ Ok h.mnemonic = ap mnemonic_result first ∙ mnemonic_no h.mnemonic h.named in
+    absurd (cc)
+
+mnemonic_rule : (t : lex.Token) (rule : Rule) → mnemonic_result t ≡ Err rule → rule ≡ NoMnemonic
+mnemonic_rule (name bytes) rule e = by (mnemonic_of bytes) e
+  where
+    by : (o : Option Mnemonic) → found o NoMnemonic ≡ Err rule → rule ≡ NoMnemonic
+    by (Some m) e = absurd (cc)
+    by None e = cc
+mnemonic_rule word rule e = absurd (cc)
+mnemonic_rule (decimal_number negative digits) rule e = cc
+mnemonic_rule (hex_number digits) rule e = cc
+mnemonic_rule comma rule e = cc
+mnemonic_rule open_bracket rule e = cc
+mnemonic_rule close_bracket rule e = cc
+mnemonic_rule colon rule e = cc
+
+-- the fault where no mnemonic stands
+first_stop : (words : ℕ) (line : List ℕ) (t : Token) (symbol : lex.Symbol) (rule : Rule) → Shows line t symbol → t.kind ≢ End → mnemonic_in line t t.kind ≡ Err rule → IsStop words [] symbol (kind_of rule)
+first_stop words line t (lex.token shown) rule shows inside e =
+    let there = sym (mnemonic_shown line t shown shows) ∙ e in
+    let none = no_mnemonic shown rule there in
+    subst (λ r. IsStop words [] (lex.token shown) (kind_of r)) (sym (mnemonic_rule shown rule there)) (record { bad = no_first words shown none; is_kind = no_statement none })
+first_stop words line t line_end rule shows inside e = absurd (inside shows)
+first_stop words line t stray_byte rule shows inside e =
+    let same : NoToken ≡ rule = err_same {A = Mnemonic} NoToken rule (sym (ap (mnemonic_in line t) shows) ∙ e) in
+    subst (λ r. IsStop words [] stray_byte (kind_of r)) same (record { bad = λ good. good; is_kind = no_token })
+
+-- what the code reads first as a mnemonic
+pub mnemonic_read : (line : List ℕ) (t : Token) (m : Mnemonic) (symbol : lex.Symbol) → Shows line t symbol → mnemonic_in line t t.kind ≡ Ok m → IsShown line t (mnemonic_token m)
+mnemonic_read line t m (lex.token shown) shows e = subst (IsShown line t) (mnemonic_yes shown m shows.proper (sym (mnemonic_shown line t shown shows) ∙ e)) shows
+mnemonic_read line t m line_end shows e = let none : mnemonic_in line t t.kind ≡ Err NoMnemonic = ap (mnemonic_in line t) shows in absurd (cc)
+mnemonic_read line t m stray_byte shows e = let none : mnemonic_in line t t.kind ≡ Err NoToken = ap (mnemonic_in line t) shows in absurd (cc)
+
+-- the part that has the fault
+bind_err : {A B E : Type 0} (r : Result A E) (f : A → Result B E) (e : E) → (r >>= f) ≡ Err e → (r ≡ Err e) ⊎ ((x : A) × (r ≡ Ok x) × (f x ≡ Err e))
+bind_err (Ok x) f e h = inr (x, refl, h)
+bind_err (Err y) f e h = inl (cc)
+
+at_place_err : {A : Type 0} (place : ℕ) (r : Result A Rule) (f : Fault) → at_place place r ≡ Err f → (rule : Rule) × (r ≡ Err rule) × (fault rule place ≡ f)
+at_place_err place (Ok x) f e = absurd (cc)
+at_place_err place (Err rule) f e = (rule, refl, cc)
+
+ok_not_err : {A E : Type 0} (x : A) (e : E) → ◌≢◌ {A = Result A E} (Ok x) (Err e)
+ok_not_err x e = λ h. absurd (cc)
+
+abbrev made : Mnemonic → Operands → Result code.Statement Fault
+made m o = Ok (record { mnemonic = m; operands = o })
+
+statement_fault : (words : ℕ) (line : List ℕ) (b : HasBody line) (f : Fault) → words ≤ 262144 → (next_token line b.from).kind ≢ End → read_statement line (next_token line b.from) (eqb words 262144) ≡ Err f → IsFaultOfLine words line (kind_of f.rule) f.place
+unfolding read_statement
+statement_fault words line b f few inside e =
+    let t = next_token line b.from in
+    let s = next_symbol line b.from in
+    elim (bind_err (at_place t.start (mnemonic_in line t t.kind)) _ f e) [
+      | inl first ↦ first_fault t s (at_place_err t.start (mnemonic_in line t t.kind) f first)
+      | inr later ↦ later_fault t s later.0 (at_place_ok t.start (mnemonic_in line t t.kind) later.0 later.1) (statement_rest later.0 later.2)
+    ]
+  where
+    first_fault : (t : Token) → (symbol : lex.Symbol) × Shows line (next_token line b.from) symbol
+        → (rule : Rule) × (mnemonic_in line (next_token line b.from) (next_token line b.from).kind ≡ Err rule) × (fault rule (next_token line b.from).start ≡ f)
+        → IsFaultOfLine words line (kind_of f.rule) f.place
+    first_fault t (symbol, shows) (rule, e, same) =
+        subst (λ g. IsFaultOfLine words line (kind_of g.rule) g.place) same
+        (fault_at words line b [] symbol (kind_of rule) (next_token line b.from).start (shows, refl) (inl refl) (first_stop words line (next_token line b.from) symbol rule shows inside e))
+    statement_rest : (m : Mnemonic) → (cond (eqb words 262144) (Err (fault Surplus (next_token line b.from).start)) (read_slots line (slots_of m) (next_token line b.from).end no_operands) >>= made m) ≡ Err f
+        → cond (eqb words 262144) (Err (fault Surplus (next_token line b.from).start)) (read_slots line (slots_of m) (next_token line b.from).end no_operands) ≡ Err f
+    statement_rest m e = elim (bind_err (cond (eqb words 262144) (Err (fault Surplus (next_token line b.from).start)) (read_slots line (slots_of m) (next_token line b.from).end no_operands)) _ f e) [
+        | inl here ↦ here
+        | inr there ↦ absurd (ok_not_err _ f there.2)
+      ]
+    later_fault : (t : Token) → (symbol : lex.Symbol) × Shows line (next_token line b.from) symbol → (m : Mnemonic) → mnemonic_in line (next_token line b.from) (next_token line b.from).kind ≡ Ok m
+        → cond (eqb words 262144) (Err (fault Surplus (next_token line b.from).start)) (read_slots line (slots_of m) (next_token line b.from).end no_operands) ≡ Err f
+        → IsFaultOfLine words line (kind_of f.rule) f.place
+    later_fault t (symbol, shows) m at e =
+        let u = next_token line b.from in
+        let named = mnemonic_in-statement line u u.kind m at in
+        let shown = mnemonic_read line u m symbol shows at in
+        by_test (eqb words 262144)
+        (λ full.
+          let limit : ¬ (words < 262144) = λ less. absurd (grind (arith, nat_tests)) in
+          let same : fault Surplus u.start ≡ f = err_same {A = Operands} _ f (sym (ap (λ c. cond c (Err (fault Surplus u.start)) (read_slots line (slots_of m) u.end no_operands)) full) ∙ e) in
+          subst (λ g. IsFaultOfLine words line (kind_of g.rule) g.place) same
+          (fault_at words line b [] (lex.token (mnemonic_token m)) 7 u.start (shown, refl) (inl refl) (record { bad = no_room words (mnemonic_token m) limit; is_kind = too_many (mnemonic_begins m named) })))
+        (λ room.
+          let less : words < 262144 = grind (arith, nat_tests) in
+          let stuck : read_slots line (slots_of m) u.end no_operands ≡ Err f = sym (ap (λ c. cond c (Err (fault Surplus u.start)) (read_slots line (slots_of m) u.end no_operands)) room) ∙ e in
+          let stop = read_stops line (slots_of m) u.end no_operands f stuck in
+          fault_at words line b (mnemonic_token m ∷ stop.front) stop.symbol (kind_of f.rule) f.place (shown, stop.meets)
+            (good_here m named stop.filled_slots stop.due stop.front stop.split stop.fit words less)
+            (stop_is words m named stop.filled_slots stop.due stop.front stop.split stop.fit stop.symbol f.rule stop.stops))
+
+-- what the code tells of a line is its fault
+pub line_fault : (words : ℕ) (line : List ℕ) (f : Fault) → words ≤ 262144 → read_line line (eqb words 262144) ≡ Err f → IsFaultOfLine words line (kind_of f.rule) f.place
+line_fault words line f few e =
+    let b = body_of line in
+    by b (next_token line b.from).kind refl (sym (b.reads (eqb words 262144)) ∙ e)
+  where
+    other : (b : HasBody line) → (next_token line b.from).kind ≢ End → with_statement line b.label (next_token line b.from) (eqb words 262144) (next_token line b.from).kind ≡ Err f → IsFaultOfLine words line (kind_of f.rule) f.place
+    other b inside e =
+        let full = eqb words 262144 in
+        let t = next_token line b.from in
+        elim (bind_err (read_statement line t full) _ f (sym (with_other line b.label t full t.kind inside) ∙ e)) [
+          | inl here ↦ statement_fault words line b f few inside here
+          | inr there ↦ absurd (ok_not_err _ f there.2)
+        ]
+    by : (b : HasBody line) (kind : Kind) → (next_token line b.from).kind ≡ kind → with_statement line b.label (next_token line b.from) (eqb words 262144) (next_token line b.from).kind ≡ Err f → IsFaultOfLine words line (kind_of f.rule) f.place
+    by b End at e =
+        let ok : with_statement line b.label (next_token line b.from) (eqb words 262144) (next_token line b.from).kind ≡ Ok (record { label = b.label; statement = None }) = ap (with_statement line b.label (next_token line b.from) (eqb words 262144)) at in
+        absurd (cc)
+    by b Name at e = other b (λ end. absurd (cc)) e
+    by b Numeral at e = other b (λ end. absurd (cc)) e
+    by b Directive at e = other b (λ end. absurd (cc)) e
+    by b (Mark m) at e = other b (λ end. absurd (cc)) e
+    by b Bad at e = other b (λ end. absurd (cc)) e
