@@ -383,3 +383,118 @@ fills_read (fill_open {slots} {ts} {v} {w} rest) line from o column same meets =
     will_step line Open slots from o o w open_bracket meets.0 refl (fills_read rest line (next_token line from).end o column same meets.1)
 fills_read (fill_close {slots} {ts} {v} {w} rest) line from o column same meets =
     will_step line Close slots from o o w close_bracket meets.0 refl (fills_read rest line (next_token line from).end o column same meets.1)
+
+-- ---- the label of an offset
+
+-- an offset is the last slot
+abbrev pub OffsetLast : List Slot → Type 0
+OffsetLast [] = Unit {0}
+OffsetLast (Value field ∷ slots) = (is_offset field ≡ true → slots ≡ []) × OffsetLast slots
+OffsetLast (slot ∷ slots) = OffsetLast slots
+
+abbrev IsOffsetSlot : Slot → Type 0
+IsOffsetSlot (Value field) = is_offset field ≡ true
+IsOffsetSlot slot = ⊥
+
+-- what a token may do to the label
+record TakesLabel (ct : Token) (slot : Slot) (shown : lex.Token) (p : Operands) : Type 0 where
+  label : p.label ≡ Some ct
+  is_name : (bytes : List ℕ) × (shown ≡ name bytes)
+  offset : IsOffsetSlot slot
+
+keeps_by : (o p : Operands) → o.label ≡ p.label → o.label ≡ None → p.label ≡ None
+keeps_by o p same none = sym same ∙ none
+
+number_keeps : (field : Field) (n : Option Number) (o p : Operands) → o.label ≡ None → number_in field n o ≡ Ok p → p.label ≡ None
+number_keeps field None o p none e = absurd (cc)
+number_keeps field (Some n) o p none e = let c = cond_ok (fits field n) (record o { number = n }) p OutOfField e in sym (ap (λ o. o.label) c.1) ∙ none
+
+label_step : (ct : Token) (slot : Slot) (shown : lex.Token) (o p : Operands) → o.label ≡ None → result_of ct slot shown o ≡ Ok p → (p.label ≡ None) ⊎ TakesLabel ct slot shown p
+label_step ct Rd shown o p none e = let b = bind_ok (register_result shown) _ p e in inl (sym (ap (λ o. o.label) (same_ok {E = Rule} _ p b.2)) ∙ none)
+label_step ct Rs1 shown o p none e = let b = bind_ok (register_result shown) _ p e in inl (sym (ap (λ o. o.label) (same_ok {E = Rule} _ p b.2)) ∙ none)
+label_step ct Rs2 shown o p none e = let b = bind_ok (register_result shown) _ p e in inl (sym (ap (λ o. o.label) (same_ok {E = Rule} _ p b.2)) ∙ none)
+label_step ct Rs3 shown o p none e = let b = bind_ok (register_result shown) _ p e in inl (sym (ap (λ o. o.label) (same_ok {E = Rule} _ p b.2)) ∙ none)
+label_step ct (Value field) (name bytes) o p none e =
+    let c = cond_ok (is_offset field) (record o { label = Some ct }) p NoOperand e in
+    inr (record { label = sym (ap (λ o. o.label) c.1); is_name = (bytes, refl); offset = c.0 })
+label_step ct (Value field) (decimal_number negative digits) o p none e = inl (number_keeps field (number_result (decimal_number negative digits)) o p none e)
+label_step ct (Value field) (hex_number digits) o p none e = inl (number_keeps field (number_result (hex_number digits)) o p none e)
+label_step ct (Value field) word o p none e = absurd (cc)
+label_step ct (Value field) comma o p none e = absurd (cc)
+label_step ct (Value field) open_bracket o p none e = absurd (cc)
+label_step ct (Value field) close_bracket o p none e = absurd (cc)
+label_step ct (Value field) colon o p none e = absurd (cc)
+label_step ct Comma shown o p none e = let m = mark_yes 44 shown o p e in inl (sym (ap (λ o. o.label) m.1) ∙ none)
+label_step ct Open shown o p none e = let m = mark_yes 40 shown o p e in inl (sym (ap (λ o. o.label) m.1) ∙ none)
+label_step ct Close shown o p none e = let m = mark_yes 41 shown o p e in inl (sym (ap (λ o. o.label) m.1) ∙ none)
+
+offset_last : (slot : Slot) (slots : List Slot) → OffsetLast (slot ∷ slots) → IsOffsetSlot slot → slots ≡ []
+offset_last (Value field) slots last offset = last.0 offset
+offset_last Rd slots last offset = absurd offset
+offset_last Rs1 slots last offset = absurd offset
+offset_last Rs2 slots last offset = absurd offset
+offset_last Rs3 slots last offset = absurd offset
+offset_last Comma slots last offset = absurd offset
+offset_last Open slots last offset = absurd offset
+offset_last Close slots last offset = absurd offset
+
+offset_later : (slot : Slot) (slots : List Slot) → OffsetLast (slot ∷ slots) → OffsetLast slots
+offset_later (Value field) slots last = last.1
+offset_later Rd slots last = last
+offset_later Rs1 slots last = last
+offset_later Rs2 slots last = last
+offset_later Rs3 slots last = last
+offset_later Comma slots last = last
+offset_later Open slots last = last
+offset_later Close slots last = last
+
+-- the label that was read is the last token
+pub record HasTarget (line : List ℕ) (slots : List Slot) (first t : Token) (v w : Values) : Type 0 where
+  pub front : List lex.Token
+  pub meets : Meets line first front (lex.token (name (text_of line t))) t.start
+  pub fills : Fills slots (front ++ name (text_of line t) ∷ []) v w
+
+pub target_read : (line : List ℕ) (slots : List Slot) (from : ℕ) (o more : Operands) (t : Token) → OffsetLast slots → o.label ≡ None → more.label ≡ Some t → read_slots line slots from o ≡ Ok more
+    → HasTarget line slots (next_token line from) t (values_of line o) (values_of line more)
+target_read line [] from o more t last none some e =
+    let ends = ended_ok (next_token line from).start o more (next_token line from).kind (sym (read_nil line from o) ∙ e) in
+    let same : more.label ≡ None = sym (ap (λ o. o.label) ends.1) ∙ none in
+    absurd (cc)
+target_read line (slot ∷ slots) from o more t last none some e =
+    by (filled line slot (next_token line from) o) refl (λ p free read. target_read line slots (next_token line from).end p more t (offset_later slot slots last) free some read)
+  where
+    by : (r : Result Operands Rule) → filled line slot (next_token line from) o ≡ r
+        → ((p : Operands) → p.label ≡ None → read_slots line slots (next_token line from).end p ≡ Ok more → HasTarget line slots (next_token line (next_token line from).end) t (values_of line p) (values_of line more))
+        → HasTarget line (slot ∷ slots) (next_token line from) t (values_of line o) (values_of line more)
+    by (Err rule) at rest = let stuck = read_stuck line slot slots from o rule at in absurd (cc)
+    by (Ok p) at rest =
+        let u = next_token line from in
+        let s = next_symbol line from in
+        let f = filled_token line slot u o p s.0 s.1 at in
+        let later = sym (read_step line slot slots from o p at) ∙ e in
+        elim (label_step u slot f.0 o p none f.2) [
+          | inl free ↦ goes_on p f (rest p free later)
+          | inr takes ↦ is_last p f.0 f.1 f.2 takes (offset_last slot slots last takes.offset) later
+        ]
+      where
+        goes_on : (p : Operands) → (shown : lex.Token) × IsShown line (next_token line from) shown × (result_of (next_token line from) slot shown o ≡ Ok p)
+            → HasTarget line slots (next_token line (next_token line from).end) t (values_of line p) (values_of line more) → HasTarget line (slot ∷ slots) (next_token line from) t (values_of line o) (values_of line more)
+        goes_on p (shown, is, read) others = record {
+          front = shown ∷ others.front;
+          meets = (is, others.meets);
+          fills = fill_step line (next_token line from) shown slot slots (others.front ++ name (text_of line t) ∷ []) o p (values_of line more) is read others.fills;
+        }
+        is_last : (p : Operands) (shown : lex.Token) → IsShown line (next_token line from) shown → result_of (next_token line from) slot shown o ≡ Ok p → TakesLabel (next_token line from) slot shown p
+            → slots ≡ [] → read_slots line slots (next_token line from).end p ≡ Ok more → HasTarget line (slot ∷ slots) (next_token line from) t (values_of line o) (values_of line more)
+        is_last p shown is read takes none_left later =
+            let u = next_token line from in
+            let there : read_slots line [] u.end p ≡ Ok more = ap (λ k. read_slots line k u.end p) (sym none_left) ∙ later in
+            let ends = ended_ok (next_token line u.end).start p more (next_token line u.end).kind (sym (read_nil line u.end p) ∙ there) in
+            let label : Some u ≡ Some t = sym takes.label ∙ (ap (λ o. o.label) ends.1 ∙ some) in
+            let same : u ≡ t = cc in
+            let text : shown ≡ name (text_of line u) = takes.is_name.1 ∙ ap name (sym (subst (λ k. text_of line u ≡ spelling k) takes.is_name.1 is.text)) in
+            let shows : IsShown line u (name (text_of line u)) = subst (IsShown line u) text is in
+            let filled_last : Fills (slot ∷ []) (shown ∷ []) (values_of line o) (values_of line more) = fill_step line u shown slot [] [] o p (values_of line more) is read (subst (λ q. Fills [] [] (values_of line p) (values_of line q)) ends.1 done) in
+            let all : Fills (slot ∷ slots) (shown ∷ []) (values_of line o) (values_of line more) = subst (λ k. Fills (slot ∷ k) (shown ∷ []) (values_of line o) (values_of line more)) (sym none_left) filled_last in
+            subst (λ k. HasTarget line (slot ∷ slots) u k (values_of line o) (values_of line more)) same
+            (record { front = []; meets = (shows, refl); fills = subst (λ k. Fills (slot ∷ slots) (k ∷ []) (values_of line o) (values_of line more)) text all })

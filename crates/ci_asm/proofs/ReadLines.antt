@@ -26,8 +26,8 @@ use Rattle.ci_asm.proofs.Operands.{bind_ok, same_ok, at_place_ok, found_ok, unle
 use Rattle.ci_asm.proofs.Shown.{found_by_name}
 use Rattle.ci_asm.proofs.Lexing.{kind_of, true_is_not_false}
 use Rattle.ci_asm.proofs.Scanning.{IsShown, Shows, Meets, next_symbol, by_test, same_symbol, line_meets, line_stands, kind_no_end}
-use Rattle.ci_asm.proofs.Filling.{Values, no_values, values_of, label_text, Fills, read_fills, fills_read}
-use Rattle.ci_asm.proofs.Stated.{says, mnemonic_token, fills_statement, HasSlots, statement_slots, HasLabelFor, label_for}
+use Rattle.ci_asm.proofs.Filling.{Values, no_values, values_of, label_text, Fills, read_fills, fills_read, target_read}
+use Rattle.ci_asm.proofs.Stated.{says, mnemonic_token, fills_statement, HasSlots, statement_slots, HasLabelFor, label_for, offset_last}
 
 -- ---- mnemonics
 
@@ -127,7 +127,14 @@ pub record IsReadAs (line : List ℕ) (t : Token) (statement : Statement) : Type
   pub meets : Meets line t tokens line_end column
   pub is_statement : IsStatement tokens statement
 
+-- the label that the statement reaches is its last token
+pub record ReachesLast (line : List ℕ) (first t : Token) (statement : Statement) : Type 0 where
+  pub front : List lex.Token
+  pub meets : Meets line first front (lex.token (name (text_of line t))) t.start
+  pub is_statement : IsStatement (front ++ name (text_of line t) ∷ []) statement
+
 pub read_is : (line : List ℕ) (from : ℕ) (full : Bool) (s : code.Statement) → read_statement line (next_token line from) full ≡ Ok s → IsReadAs line (next_token line from) (statement_says line s) × (full ≡ false) × HasLabelFor s.mnemonic (values_of line s.operands)
+    × ((t : Token) → s.operands.label ≡ Some t → ReachesLast line (next_token line from) t (statement_says line s))
 unfolding read_statement
 read_is line from full s e =
     let t = next_token line from in
@@ -142,8 +149,15 @@ read_is line from full s e =
     (subst (λ s. IsReadAs line t (statement_says line s)) (same_ok _ s c.2)
       (record { tokens = mnemonic_token m ∷ has.tokens; column = has.column; meets = (shown, has.meets); is_statement = statement }),
     not_full full (fault Surplus t.start) (read_slots line (slots_of m) t.end no_operands) c.0 c.1,
-    subst (λ s. HasLabelFor s.mnemonic (values_of line s.operands)) (same_ok _ s c.2) (label_for m has.fills))
+    subst (λ s. HasLabelFor s.mnemonic (values_of line s.operands)) (same_ok _ s c.2) (label_for m has.fills),
+    subst (λ s. (t : Token) → s.operands.label ≡ Some t → ReachesLast line (next_token line from) t (statement_says line s)) (same_ok _ s c.2)
+      (λ u some. reaches line from m c.0 shown (mnemonic_in-statement line t t.kind m mnemonic) slots u some))
   where
+    reaches : (line : List ℕ) (from : ℕ) (m : Mnemonic) (o : Operands) → IsShown line (next_token line from) (mnemonic_token m) → is_statement m ≡ true → read_slots line (slots_of m) (next_token line from).end no_operands ≡ Ok o
+        → (u : Token) → o.label ≡ Some u → ReachesLast line (next_token line from) u (says m (values_of line o))
+    reaches line from m o shown named slots u some =
+        let h = target_read line (slots_of m) (next_token line from).end no_operands o u (offset_last m) refl some slots in
+        record { front = mnemonic_token m ∷ h.front; meets = (shown, h.meets); is_statement = fills_statement m named h.fills }
     not_full : (full : Bool) (f : Fault) (r : Result Operands Fault) (o : Operands) → cond full (Err f) r ≡ Ok o → full ≡ false
     not_full true f r o e = absurd (cc)
     not_full false f r o e = refl
@@ -324,17 +338,27 @@ abbrev pub HasLabels : List ℕ → Option code.Statement → Type 0
 HasLabels line None = Unit {0}
 HasLabels line (Some s) = HasLabelFor s.mnemonic (values_of line s.operands)
 
+-- the same behind the line's label
+pub record ReachesInLine (line : List ℕ) (label : Option (List ℕ)) (t : Token) (statement : Statement) : Type 0 where
+  pub front : List lex.Token
+  pub stands : StandsInLine line label front (lex.token (name (text_of line t))) t.start
+  pub is_statement : IsStatement (front ++ name (text_of line t) ∷ []) statement
+
 -- a line that is read is a line of the definitions
 pub record IsReadLine (line : List ℕ) (full : Bool) (l : code_lines.Line) : Type 0 where
   pub is_line : IsLine line (line_says line l)
   pub room : HasRoom full l.statement
   pub labels : HasLabels line l.statement
+  pub label_stands : (t : Token) → l.label ≡ Some t → Stands 0 line [] (lex.token (name (text_of line t))) t.start
+  pub target : (s : code.Statement) (t : Token) → l.statement ≡ Some s → s.operands.label ≡ Some t → ReachesInLine line (label_text line l.label) t (statement_says line s)
 
 line_end_read : (line : List ℕ) (full : Bool) (b : HasBody line) (l : code_lines.Line) → (next_token line b.from).kind ≡ End → record { label = b.label; statement = None } ≡ l → IsReadLine line full l
 line_end_read line full b l end e = subst (IsReadLine line full) e (record {
   is_line = record { tokens = []; end = (next_token line b.from).start; ends = record { has_label = b.has_label; stands = b.leaves [] line_end (next_token line b.from).start (end, refl) }; has_statement = refl };
   room = tt;
   labels = tt;
+  label_stands = b.label_stands;
+  target = λ s t none some. absurd (cc);
 })
 
 statement_line_read : (line : List ℕ) (full : Bool) (b : HasBody line) (l : code_lines.Line) → (read_statement line (next_token line b.from) full >>= λ s. Ok (record { label = b.label; statement = Some s })) ≡ Ok l → IsReadLine line full l
@@ -345,6 +369,12 @@ statement_line_read line full b l e =
       is_line = record { tokens = r.0.tokens; end = r.0.column; ends = record { has_label = b.has_label; stands = b.leaves r.0.tokens line_end r.0.column r.0.meets }; has_statement = r.0.is_statement };
       room = r.1;
       labels = r.2;
+      label_stands = b.label_stands;
+      target = λ u t same some.
+          let is : s.0 ≡ u = cc in
+          let last = r.3 t (ap (λ k. k.operands.label) is ∙ some) in
+          subst (λ k. ReachesInLine line (label_text line b.label) t (statement_says line k)) is
+          (record { front = last.front; stands = record { has_label = b.has_label; stands = b.leaves last.front (lex.token (name (text_of line t))) t.start last.meets }; is_statement = last.is_statement });
     })
 
 pub line_read : (line : List ℕ) (full : Bool) (l : code_lines.Line) → read_line line full ≡ Ok l → IsReadLine line full l

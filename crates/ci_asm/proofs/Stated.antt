@@ -22,7 +22,7 @@ use Rattle.ci_asm.specs.Forms as forms
 use Rattle.ci_asm.specs.Forms.{register_immediate, IsIn, IsRegister, HasNumber, Statement, plain, to_label, IsStatement, on_registers, on_immediate, lui, auipc, jump, jump_label, jump_register, branch, branch_label, load, store, fence, ecall, ebreak, custom, cread, data_word}
 use Rattle.ci_asm.proofs.Scanning.{by_test}
 use Rattle.ci_asm.proofs.Fields.{field_form, field_again, abs_signed}
-use Rattle.ci_asm.proofs.Filling.{Values, no_values, values_of, label_text, Fills, done, fill_rd, fill_rs1, fill_rs2, fill_rs3, fill_number, fill_label, fill_comma, fill_open, fill_close}
+use Rattle.ci_asm.proofs.Filling.{Values, no_values, values_of, label_text, OffsetLast, Fills, done, fill_rd, fill_rs1, fill_rs2, fill_rs3, fill_number, fill_label, fill_comma, fill_open, fill_close}
 
 -- ---- what a statement says
 
@@ -220,3 +220,21 @@ plain_says Ebreak line rd rs1 rs2 rs3 number = refl
 plain_says Custom line rd rs1 rs2 rs3 number = ap (λ m. plain (insn.Unit m rd rs1 rs2 rs3)) (abs_signed number)
 plain_says Cread line rd rs1 rs2 rs3 number = refl
 plain_says Data line rd rs1 rs2 rs3 number = ap (λ m. plain (insn.Illegal m)) (abs_signed number)
+
+-- the label of a branch or of JAL is its last operand
+pub offset_last : (m : Mnemonic) → OffsetLast (slots_of m)
+offset_last (Registers op) = tt
+offset_last (Constant op) = (λ e. refl, tt)
+offset_last Lui = (λ e. refl, tt)
+offset_last Auipc = (λ e. refl, tt)
+offset_last Jal = (λ e. refl, tt)
+offset_last Jalr = (λ e. absurd (cc), tt)
+offset_last (Branch cond) = (λ e. refl, tt)
+offset_last (Load kind) = (λ e. absurd (cc), tt)
+offset_last (Store width) = (λ e. absurd (cc), tt)
+offset_last Fence = (λ e. absurd (cc), tt)
+offset_last Ecall = tt
+offset_last Ebreak = tt
+offset_last Custom = (λ e. absurd (cc), tt)
+offset_last Cread = tt
+offset_last Data = (λ e. refl, tt)
