@@ -193,7 +193,7 @@ not_accepted ct slot shown o rule e = λ accepts. let ok = (accept_ok ct slot sh
 abbrev IsRuleFor : Slot → lex.Token → Rule → Type 0
 IsRuleFor slot t rule = ((rule ≡ OutOfField) × (IsNumber t × IsValue slot)) ⊎ ((rule ≡ NoOperand) × (¬ (IsNumber t × IsValue slot)))
 
-err_same : {A E : Type 0} (a b : E) → ◌≡◌ {A = Result A E} (Err a) (Err b) → a ≡ b
+pub err_same : {A E : Type 0} (a b : E) → ◌≡◌ {A = Result A E} (Err a) (Err b) → a ≡ b
 err_same a b e = cc
 
 bind_register : (r : Result ℕ Rule) (f : ℕ → Operands) (rule : Rule) → (r >>= λ x. Ok (f x)) ≡ Err rule → r ≡ Err rule
@@ -463,7 +463,7 @@ mnemonic_read line t m line_end shows e = let none : mnemonic_in line t t.kind �
 mnemonic_read line t m stray_byte shows e = let none : mnemonic_in line t t.kind ≡ Err NoToken = ap (mnemonic_in line t) shows in absurd (cc)
 
 -- the part that has the fault
-bind_err : {A B E : Type 0} (r : Result A E) (f : A → Result B E) (e : E) → (r >>= f) ≡ Err e → (r ≡ Err e) ⊎ ((x : A) × (r ≡ Ok x) × (f x ≡ Err e))
+pub bind_err : {A B E : Type 0} (r : Result A E) (f : A → Result B E) (e : E) → (r >>= f) ≡ Err e → (r ≡ Err e) ⊎ ((x : A) × (r ≡ Ok x) × (f x ≡ Err e))
 bind_err (Ok x) f e h = inr (x, refl, h)
 bind_err (Err y) f e h = inl (cc)
 
@@ -471,7 +471,7 @@ at_place_err : {A : Type 0} (place : ℕ) (r : Result A Rule) (f : Fault) → at
 at_place_err place (Ok x) f e = absurd (cc)
 at_place_err place (Err rule) f e = (rule, refl, cc)
 
-ok_not_err : {A E : Type 0} (x : A) (e : E) → ◌≢◌ {A = Result A E} (Ok x) (Err e)
+pub ok_not_err : {A E : Type 0} (x : A) (e : E) → ◌≢◌ {A = Result A E} (Ok x) (Err e)
 ok_not_err x e = λ h. absurd (cc)
 
 abbrev made : Mnemonic → Operands → Result code.Statement Fault

@@ -15,3 +15,4 @@ pub mod Stated
 pub mod ReadLines
 pub mod ReadPrograms
 pub mod Faulty
+pub mod FaultyPrograms

@@ -58,11 +58,11 @@ room_left words e fits = grind (arith, nat_tests)
 room_for : (words : ℕ) → words + 1 ≤ 262144 → eqb words 262144 ≡ false
 room_for words fits = grind (arith, nat_tests)
 
-statement_room : (words : ℕ) (s : Option code.Statement) → HasRoom (eqb words 262144) s → words ≤ 262144 → words + option_words s ≤ 262144
+pub statement_room : (words : ℕ) (s : Option code.Statement) → HasRoom (eqb words 262144) s → words ≤ 262144 → words + option_words s ≤ 262144
 statement_room words None room fits = omega arith
 statement_room words (Some s) room fits = room_left words room fits
 
-words_with : (line : List ℕ) (s : Option code.Statement) (others : List Statement) → length (with_statement_of (statement_read line s) others) ≡ option_words s + length others
+pub words_with : (line : List ℕ) (s : Option code.Statement) (others : List Statement) → length (with_statement_of (statement_read line s) others) ≡ option_words s + length others
 words_with line None others = omega arith
 words_with line (Some s) others = omega arith
 
@@ -211,11 +211,11 @@ Defines-append : (before : List Line) (line : Line) (after : List Line) (label :
 Defines-append [] line after label e = inl e
 Defines-append (l ∷ before) line after label e = inr (Defines-append before line after label e)
 
-defined_in : (program before : List Line) (line : Line) (after : List Line) (label : List ℕ) → program ≡ before ++ line ∷ after → line.label ≡ Some label → Defines program label
+pub defined_in : (program before : List Line) (line : Line) (after : List Line) (label : List ℕ) → program ≡ before ++ line ∷ after → line.label ≡ Some label → Defines program label
 defined_in program before line after label split e = subst (λ p. Defines p label) (sym split) (Defines-append before line after label e)
 
 -- at one place of a program stands one line
-same_length : (a b : List Line) (k l : Line) (rest others : List Line) → length a ≡ length b → a ++ k ∷ rest ≡ b ++ l ∷ others → a ≡ b
+pub same_length : (a b : List Line) (k l : Line) (rest others : List Line) → length a ≡ length b → a ++ k ∷ rest ≡ b ++ l ∷ others → a ≡ b
 same_length [] [] k l rest others size e = refl
 same_length [] (y ∷ b) k l rest others size e = absurd (omega arith)
 same_length (x ∷ a) [] k l rest others size e = absurd (omega arith)
@@ -225,7 +225,7 @@ same_length (x ∷ a) (y ∷ b) k l rest others size e =
     λ i. head i ∷ same_length a b k l rest others (omega arith) tail i
 
 -- an earlier line stands among the lines before a later one
-split_less : (a b : List Line) (k l : Line) (rest others : List Line) (label : List ℕ) → length a < length b → a ++ k ∷ rest ≡ b ++ l ∷ others → k.label ≡ Some label → Defines b label
+pub split_less : (a b : List Line) (k l : Line) (rest others : List Line) (label : List ℕ) → length a < length b → a ++ k ∷ rest ≡ b ++ l ∷ others → k.label ≡ Some label → Defines b label
 split_less a [] k l rest others label less e labelled = absurd (omega arith)
 split_less [] (y ∷ b) k l rest others label less e labelled = let head : k ≡ y = cc in inl (ap (λ x. x.label) (sym head) ∙ labelled)
 split_less (x ∷ a) (y ∷ b) k l rest others label less e labelled =
@@ -233,7 +233,7 @@ split_less (x ∷ a) (y ∷ b) k l rest others label less e labelled =
     inr (split_less a b k l rest others label (omega arith) tail labelled)
 
 -- a label is first defined at one place
-same_first : (a b : List Line) (k l : Line) (rest others : List Line) (label : List ℕ) → a ++ k ∷ rest ≡ b ++ l ∷ others → k.label ≡ Some label → l.label ≡ Some label → ¬ Defines a label → ¬ Defines b label → a ≡ b
+pub same_first : (a b : List Line) (k l : Line) (rest others : List Line) (label : List ℕ) → a ++ k ∷ rest ≡ b ++ l ∷ others → k.label ≡ Some label → l.label ≡ Some label → ¬ Defines a label → ¬ Defines b label → a ≡ b
 same_first a b k l rest others label e at_k at_l new_a new_b =
     by_test (nat_lt (length a) (length b))
     (λ t. let less : length a < length b = grind (arith, nat_tests) in absurd (new_b (split_less a b k l rest others label less e at_k)))
@@ -243,7 +243,7 @@ same_first a b k l rest others label e at_k at_l new_a new_b =
 
 -- ---- statements in a program
 
-offset_signed : (from to : ℕ) → signed_value (offset_between from to) ≡ pos (4 * to) -ℤ pos (4 * from)
+pub offset_signed : (from to : ℕ) → signed_value (offset_between from to) ≡ pos (4 * to) -ℤ pos (4 * from)
 offset_signed from to = by_test (nat_lt to from) back forth
   where
     back : nat_lt to from ≡ true → signed_value (offset_between from to) ≡ pos (4 * to) -ℤ pos (4 * from)
@@ -261,7 +261,7 @@ offset_signed from to = by_test (nat_lt to from) back forth
 abbrev pub AreDefinitions : List Line → Definitions → Type 0
 AreDefinitions program definitions = (label : List ℕ) → IsDefinition program label 1 0 (definitions label)
 
-label_at : (program : List Line) (label : List ℕ) (d : Definition) → IsFoundAt program label 1 0 d → IsLabelOf program label d.words
+pub label_at : (program : List Line) (label : List ℕ) (d : Definition) → IsFoundAt program label 1 0 d → IsLabelOf program label d.words
 label_at program label d f = let words_is = f.words_is in let count : d.words ≡ asm.words_in f.before = omega arith in (f.before, f.line, f.after, f.split, f.labelled, f.is_new, count)
 
 -- the offset to a label that is in its field
@@ -284,7 +284,7 @@ record WillReach (words : ℕ) (s : code.Statement) (t : Token) (d : Option Defi
   signed : signed_value number ≡ z
 
 -- a label has one place
-same_label_place : (program : List Line) (label : List ℕ) (d : Definition) (to : ℕ) → IsFoundAt program label 1 0 d → IsLabelOf program label to → d.words ≡ to
+pub same_label_place : (program : List Line) (label : List ℕ) (d : Definition) (to : ℕ) → IsFoundAt program label 1 0 d → IsLabelOf program label to → d.words ≡ to
 same_label_place program label d to f at =
     let same = same_first f.before at.0 f.line at.1 f.after at.2 label (sym f.split ∙ at.3) f.labelled at.4 f.is_new at.5 in
     let words_is = f.words_is in
@@ -407,7 +407,7 @@ module _ (program : List Line) (definitions : Definitions) (known : AreDefinitio
       ap (λ r. r >>= λ o. Ok (Some (insn_of s.mnemonic o))) w.resolves ∙ ap (λ i. Ok (Some i)) w.gives
 
   -- a label that is defined on this line
-  once_yes : (before after : List Line) (here : Line) (n : ℕ) (label : Option Token) → program ≡ before ++ here ∷ after → here.label ≡ label_text line label → n ≡ 1 + length before → defined_once definitions n line label ≡ Ok tt → IsNew before (label_text line label)
+  pub once_yes : (before after : List Line) (here : Line) (n : ℕ) (label : Option Token) → program ≡ before ++ here ∷ after → here.label ≡ label_text line label → n ≡ 1 + length before → defined_once definitions n line label ≡ Ok tt → IsNew before (label_text line label)
   once_yes before after here n None split at place e = tt
   once_yes before after here n (Some t) split at place e = by (definitions (text_of line t)) (known (text_of line t)) e
     where
@@ -433,7 +433,7 @@ module _ (program : List Line) (definitions : Definitions) (known : AreDefinitio
           let same : eqb d.line n ≡ true = grind (arith, nat_tests) in
           ap (λ b. cond b (Ok tt) (Err (record { rule = DefinedTwice; place = t.start }))) same
 
-  line_insn-read : (n : ℕ) (l : code_lines.Line) → line_at words line ≡ Ok l → line_insn definitions n words line ≡ (defined_once definitions n line l.label >>= λ _. statement_insn definitions words line l.statement)
+  pub line_insn-read : (n : ℕ) (l : code_lines.Line) → line_at words line ≡ Ok l → line_insn definitions n words line ≡ (defined_once definitions n line l.label >>= λ _. statement_insn definitions words line l.statement)
   unfolding line_insn
   line_insn-read n l e = ap (λ r. r >>= λ l. defined_once definitions n line l.label >>= λ _. statement_insn definitions words line l.statement) e
 
@@ -462,13 +462,13 @@ AreInsns program number (s ∷ statements) (i ∷ insns) = IsInsnOf program numb
 abbrev pub AllResolved : List Line → List Line → List Line → Type 0
 AllResolved program done lines = (before : List Line) (line : Line) (after : List Line) → lines ≡ before ++ line ∷ after → IsResolved program (done ++ before) line
 
-option_size : (program : List Line) (words : ℕ) (line : List ℕ) (s : Option code.Statement) (first : Option Insn) → IsInsnOfLine program words (statement_read line s) first → option_length first ≡ option_words s
+pub option_size : (program : List Line) (words : ℕ) (line : List ℕ) (s : Option code.Statement) (first : Option Insn) → IsInsnOfLine program words (statement_read line s) first → option_length first ≡ option_words s
 option_size program words line None None is = refl
 option_size program words line None (Some i) is = absurd is
 option_size program words line (Some s) None is = absurd is
 option_size program words line (Some s) (Some i) is = refl
 
-resolved_from : (program before : List Line) (words : ℕ) (here : Line) (first : Option Insn) → words ≡ asm.words_in before → IsResolvedAs program words before here first → IsResolved program before here
+pub resolved_from : (program before : List Line) (words : ℕ) (here : Line) (first : Option Insn) → words ≡ asm.words_in before → IsResolvedAs program words before here first → IsResolved program before here
 resolved_from program before words here first count is = record { is_new = is.is_new; has_insn = by here.statement first is.is_insn }
   where
     by : (s : Option Statement) (first : Option Insn) → IsInsnOfLine program words s first → (statement : Statement) → s ≡ Some statement → (i : Insn) × IsInsnOf program (asm.words_in before) statement i
@@ -487,7 +487,7 @@ statements-append (l ∷ a) b = by l.statement (statements-append a b)
     by (Some s) e = omega arith
 
 -- a line more is resolved
-resolved_cons : (program done lines : List Line) (here : Line) → IsResolved program done here → AllResolved program (done ++ here ∷ []) lines → AllResolved program done (here ∷ lines)
+pub resolved_cons : (program done lines : List Line) (here : Line) → IsResolved program done here → AllResolved program (done ++ here ∷ []) lines → AllResolved program done (here ∷ lines)
 resolved_cons program done lines here first others [] line after e =
     let same : here ≡ line = cc in
     let nothing : done ≡ done ++ [] = sym (append-nil done) in
@@ -504,17 +504,17 @@ insns_cons program words None (Some i) statements others is more = absurd is
 insns_cons program words (Some s) None statements others is more = absurd is
 insns_cons program words (Some s) (Some i) statements others is more = (is, more)
 
-on_line_ok : {A : Type 0} (n : ℕ) (r : Result A Fault) (x : A) → on_line n r ≡ Ok x → r ≡ Ok x
+pub on_line_ok : {A : Type 0} (n : ℕ) (r : Result A Fault) (x : A) → on_line n r ≡ Ok x → r ≡ Ok x
 on_line_ok n (Ok y) x e = cc
 on_line_ok n (Err f) x e = absurd (cc)
 
 -- the lines that are left, with what stands before them
-record IsAt (program done rest : List Line) (n words : ℕ) : Type 0 where
-  split : program ≡ done ++ rest
-  line_is : n ≡ 1 + length done
-  words_is : words ≡ asm.words_in done
+pub record IsAt (program done rest : List Line) (n words : ℕ) : Type 0 where
+  pub split : program ≡ done ++ rest
+  pub line_is : n ≡ 1 + length done
+  pub words_is : words ≡ asm.words_in done
 
-next_at : (program done : List Line) (line : List ℕ) (l : code_lines.Line) (rest : List Line) (n words : ℕ) → IsAt program done (line_says line l ∷ rest) n words → IsAt program (done ++ line_says line l ∷ []) rest (n + 1) (words + option_words l.statement)
+pub next_at : (program done : List Line) (line : List ℕ) (l : code_lines.Line) (rest : List Line) (n words : ℕ) → IsAt program done (line_says line l ∷ rest) n words → IsAt program (done ++ line_says line l ∷ []) rest (n + 1) (words + option_words l.statement)
 next_at program done line l rest n words at =
     let size = length-append done (line_says line l ∷ []) in
     let line_is = at.line_is in
@@ -528,7 +528,7 @@ record AreResolvedAs (program done rest : List Line) (words : ℕ) (insns : List
   resolved : AllResolved program done rest
   are_insns : AreInsns program words (statements_of rest) insns
 
-nothing_left : (program done : List Line) → AllResolved program done []
+pub nothing_left : (program done : List Line) → AllResolved program done []
 nothing_left program done [] line after e = absurd (cc)
 nothing_left program done (x ∷ before) line after e = absurd (cc)
 
@@ -569,10 +569,10 @@ first_insn program words None statements insns are =
 first_insn program words (Some s) statements [] are = absurd are
 first_insn program words (Some s) statements (i ∷ insns) are = record { first = Some i; others = insns; split = refl; is_insn = are.0; are_insns = are.1 }
 
-resolved_first : (program done lines : List Line) (here : Line) → AllResolved program done (here ∷ lines) → IsResolved program done here
+pub resolved_first : (program done lines : List Line) (here : Line) → AllResolved program done (here ∷ lines) → IsResolved program done here
 resolved_first program done lines here all = subst (λ d. IsResolved program d here) (append-nil done) (all [] here lines refl)
 
-resolved_rest : (program done lines : List Line) (here : Line) → AllResolved program done (here ∷ lines) → AllResolved program (done ++ here ∷ []) lines
+pub resolved_rest : (program done lines : List Line) (here : Line) → AllResolved program done (here ∷ lines) → AllResolved program (done ++ here ∷ []) lines
 resolved_rest program done lines here all = λ before line after e.
     subst (λ d. IsResolved program d line) (sym (append_assoc done (here ∷ []) before)) (all (here ∷ before) line after (ap (λ k. here ∷ k) e))
 
@@ -626,7 +626,7 @@ text_definitions text = λ label. definition_of label 1 0 (lines_of text)
 pub definitions_known : (text : List ℕ) (ls : List code_lines.Line) → AreRead 0 (lines_of text) ls → AreDefinitions (program_of (lines_of text) ls) (text_definitions text)
 definitions_known text ls read label = definition_is label 1 0 (lines_of text) ls read
 
-start_at : (program : List Line) → IsAt program [] program 1 0
+pub start_at : (program : List Line) → IsAt program [] program 1 0
 start_at program = record { split = refl; line_is = refl; words_is = refl }
 
 -- what the code assembles is the text's assembly
