@@ -8,7 +8,8 @@ use Rattle.std.proofs.lemmas.Fmt.{decimal_is_IsNumeral, digits_is_IsNumeral, len
 use Rattle.std.proofs.lemmas.Bool.Decides.{nat_tests}
 use Rattle.ci_asm.specs.declared.scanner.ByteClass.TheVariants.{NameByte, Digit, HexDigit}
 use Rattle.ci_asm.specs.Tokens.{belongs, is_letter, is_digit, is_between, number, number_of, two_digits, register_at, has_one_digit, has_two_digits, register_of}
-use Rattle.ci_asm.specs.Spelling.{hex_digit, eight_hex_digits, register_name}
+use Rattle.ci_text.specs.Hex.{eight_hex_digits}
+use Rattle.ci_asm.specs.Shown.{register_name}
 use Rattle.std.proofs.lemmas.Bool.{cases_lt}
 use Rattle.std.proofs.Math.Nat.{pow-suc}
 use Rattle.ci_asm.proofs.Tokens.{and_both, pick_true}
@@ -96,6 +97,9 @@ pub hex_all : (n d : ℕ) (ds : List ℕ) → Writes 16 n d ds → list_all (bel
 hex_all n d ds w = hex_bytes (d ∷ ds) w.all
 
 -- ---- eight hex digits
+
+abbrev hex_digit : ℕ → ℕ → ℕ
+hex_digit n k = digit_glyph false (n / 16 ^ k % 16)
 
 glyph_value : (d : ℕ) → d < 16 → digit_value (digit_glyph false d) ≡ d
 glyph_value d h = grind (arith, nat_tests)

@@ -13,7 +13,7 @@ use Rattle.ci_asm.specs.declared.slots.Field.TheVariants.{Immediate, Amount, Upp
 use Rattle.ci_asm.specs.Tokens.{byte_at, is_digit, is_between, number, number_of, two_digits, register_at, has_one_digit, has_two_digits, register_of}
 use Rattle.ci_asm.specs.Shapes.{lowest, highest, is_offset, fits, field_from}
 use Rattle.ci_asm.specs.Statements.{signed_value}
-use Rattle.ci_asm.specs.Spelling.{register_name}
+use Rattle.ci_asm.specs.Shown.{register_name}
 use Rattle.ci_asm.specs.Lexicon as lex
 use Rattle.ci_asm.specs.Lexicon.{IsDigit, name, decimal_number, hex_number, word, comma, open_bracket, close_bracket, colon, spelling, IsToken}
 use Rattle.ci_asm.specs.Forms as forms

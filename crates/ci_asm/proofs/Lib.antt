@@ -16,3 +16,4 @@ pub mod ReadLines
 pub mod ReadPrograms
 pub mod Faulty
 pub mod FaultyPrograms
+pub mod Promises

@@ -14,14 +14,14 @@ use Rattle.ci_asm.specs.declared.mnemonics.Mnemonic.TheVariants.{Constant}
 use Rattle.ci_asm.specs.declared.slots.Field.{Field}
 use Rattle.ci_asm.specs.declared.slots.Field.TheVariants.{Immediate, Amount, Upper, BranchOffset, JumpOffset, FenceBits, UnitNumber, Whole}
 use Rattle.ci_asm.specs.declared.statements.Statement.{Statement}
-use Rattle.ci_asm.specs.Shapes.{is_statement, constant_field, is_offset, lowest, highest, fits, slots_of}
+use Rattle.ci_asm.specs.Shapes.{is_statement, constant_field, is_offset, lowest, highest, fits, field_of, slots_of}
 use Rattle.ci_asm.specs.Statements.{◌>>=◌, no_operands, read_line, signed_value, insn_of}
 use Rattle.ci_asm.specs.Spelling.{number_from, unsigned, statement_of, statement_text, shown}
 use Rattle.ci_asm.specs.Programs.{on_line, option_words, words_behind, all_read, Definitions, definition_of, defined_once, resolved, statement_insn, line_insn, insns_of, assembled}
 use Rattle.ci_asm.specs.Lines.{lines_of}
 use Rattle.ci_asm.proofs.Texts.{lines_of-one}
 use Rattle.ci_asm.proofs.Assembly.{all_read-nil, all_read-ok, behind, insns_of-nil, insns_of-ok, assembled-read}
-use Rattle.ci_asm.proofs.Shown.{HasPlainSign, IsShowable, copied, read_line-shown, statement_in_line}
+use Rattle.ci_asm.proofs.Shown.{HasPlainSign, IsShowable, copied, number_small, read_line-shown, statement_in_line}
 
 -- ---- one line
 
@@ -220,3 +220,11 @@ statement_formed (insn.Illegal word) f = record {
 -- the line of an instruction, and a newline, assemble to the instruction
 pub assembled-shown : (i : Insn) → IsWellFormed i → assembled (shown i ++ 10 ∷ []) ≡ Ok (i ∷ [])
 assembled-shown i formed = assembled-one i (statement_of i) (statement_formed i (fields_fit i formed))
+
+-- it has a mnemonic
+pub formed_named : (i : Insn) → IsWellFormed i → is_statement (statement_of i).mnemonic ≡ true
+formed_named i formed = (statement_formed i (fields_fit i formed)).good.named
+
+-- and its number is that of a word at most
+pub formed_small : (i : Insn) → IsWellFormed i → (statement_of i).operands.number.magnitude < 2 ^ 32
+formed_small i formed = let s = statement_of i in number_small (field_of s.mnemonic) s.operands.number (statement_formed i (fields_fit i formed)).good.in_field

@@ -2,6 +2,7 @@ pub mod Lexicon
 pub mod Forms
 pub mod Lines
 pub mod Assembly
+pub mod Shown
 pub mod Tokens
 pub mod Shapes
 pub mod Statements

@@ -16,6 +16,7 @@ use Rattle.ci_asm.specs.declared.statements.Operands.{Operands}
 use Rattle.ci_asm.specs.declared.statements.Statement.{Statement}
 use Rattle.ci_asm.specs.declared.lines.Line.{Line}
 use Rattle.ci_asm.specs.declared.scanner.ByteClass.TheVariants.{InLine}
+use Rattle.ci_asm.specs.Assembly.{most_words}
 use Rattle.ci_asm.specs.Definitions.{earlier}
 use Rattle.ci_asm.specs.Lines.{lines_of}
 use Rattle.ci_asm.specs.Tokens.{belongs, text_of}
@@ -29,10 +30,6 @@ abbrev pub first_line : List ℕ → List ℕ
 first_line text = take_while (belongs InLine) text
 
 -- ---- what a line has
-
--- a program has no more words than this
-abbrev pub most_words : ℕ
-most_words = 262144
 
 -- what a line has where `words` words stand before it
 abbrev pub line_at : ℕ → List ℕ → Result Line Fault
@@ -181,15 +178,3 @@ AreWordsIn words read = (insns : List Insn) × (read ≡ Ok insns) × AreWordsOf
 abbrev pub IsFaultIn : {A : Type 0} → Result A Position → AsmFault → Type 0
 IsFaultIn read (Bad kind line column) = read ≡ Err (record { kind = kind; line = line; column = column })
 IsFaultIn read NoMemory = ⊤
-
--- the text is the assembly of these words
-abbrev pub IsAssembly : List ℕ → List ℕ → Type 0
-IsAssembly text words = AreWordsIn words (assembled text)
-
--- the first fault of the text
-abbrev pub HasFault : List ℕ → ℕ → ℕ → ℕ → Type 0
-HasFault text kind line column = assembled text ≡ Err (record { kind = kind; line = line; column = column })
-
--- the fault is the text's first, or memory ran out
-abbrev pub IsFaultOf : List ℕ → AsmFault → Type 0
-IsFaultOf text fault = IsFaultIn (assembled text) fault

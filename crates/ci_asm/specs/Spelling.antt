@@ -1,7 +1,9 @@
 -- The one line that an instruction is shown by.
 use Rattle.std.specs.Prelude.{ℕ, suc, ◌/◌, ◌%◌, ◌^◌, true, false, if◌then◌else◌, List, [], ◌∷◌, ◌++◌, codes, ℤ, pos, negsuc}
 use Rattle.std.specs.List.{flat_map}
-use Rattle.std.specs.Fmt.{decimal, digits, digit_glyph}
+use Rattle.std.specs.Fmt.{decimal, digits}
+use Rattle.ci_text.specs.Hex.{eight_hex_digits}
+use Rattle.ci_asm.specs.Shown.{register_name}
 use Rattle.ci_isa.specs.declared.instruction.Insn.{Insn}
 use Rattle.ci_isa.specs.declared.instruction.Insn.TheVariants as insn
 use Rattle.ci_asm.specs.declared.numbers.Number.{Number}
@@ -46,17 +48,6 @@ statement_of (insn.Cread rd) = statement Cread (record no_operands { rd = rd })
 statement_of (insn.Illegal word) = statement Data (record no_operands { number = unsigned word })
 
 -- ---- its text
-
-abbrev pub register_name : ℕ → List ℕ
-register_name n = codes "x" ++ decimal n
-
--- the hex digit of n that stands at 16 to the power of k
-abbrev pub hex_digit : ℕ → ℕ → ℕ
-hex_digit n k = digit_glyph false (n / 16 ^ k % 16)
-
-abbrev pub eight_hex_digits : ℕ → List ℕ
-eight_hex_digits n =
-    hex_digit n 7 ∷ hex_digit n 6 ∷ hex_digit n 5 ∷ hex_digit n 4 ∷ hex_digit n 3 ∷ hex_digit n 2 ∷ hex_digit n 1 ∷ hex_digit n 0 ∷ []
 
 abbrev pub with_sign : Number → List ℕ
 with_sign n = if n.negative then codes "-" ++ decimal n.magnitude else decimal n.magnitude

@@ -1,16 +1,17 @@
 //! From an instruction to its line.
-ghost use Rattle.std.specs.Prelude.{◌≡◌, ◌++◌, ◌∷◌, [], ◌%◌, false, codes, OnOk, IfOk, Ok};
+ghost use Rattle.std.specs.Prelude.{◌≡◌, ◌++◌, ◌^◌, ◌<◌, OnOk, IfOk};
 ghost use Rattle.std.specs.String.{string_bytes};
-ghost use Rattle.std.specs.Fmt.{digit_glyph};
 ghost use Rattle.ci_isa.specs.Table.{IsWellFormed};
-ghost use Rattle.ci_asm.specs.Spelling.{register_name, eight_hex_digits, spelled_number, spelled, shown};
-ghost use Rattle.ci_asm.specs.Programs.{assembled};
+ghost use Rattle.ci_asm.specs.Shown.{register_name, shown};
+ghost use Rattle.ci_asm.specs.Assembly.{IsLineOf};
+ghost use Rattle.ci_asm.specs.Spelling.{spelled_number, spelled};
 
 use crate::instructions::statement_of;
 use crate::numbers::Number;
 use crate::slots::{Field, Slot};
 use crate::statements::Operands;
 use ci_isa::{Insn, Reg};
+use ci_text::push_hex;
 use std::alloc::{AllocError, Global};
 
 /// The one line, without its newline, that assembles to the instruction, which is well formed.
@@ -21,8 +22,7 @@ use std::alloc::{AllocError, Global};
 pub fn show(alloc: Global, insn: &Insn) -> Result<String, AllocError>
     requires { IsWellFormed insn.now }
     ensures text { IfOk result (λ text. string_bytes text ≡ shown insn.now) }
-    ensures assembles { IfOk result (λ text.
-        assembled (string_bytes text ++ codes "\n") ≡ Ok (insn.now ∷ [])) }
+    ensures assembles { IfOk result (λ text. IsLineOf (string_bytes text) insn.now) }
 {
     let statement = statement_of(insn);
     let slots = statement.mnemonic.slots();
@@ -38,6 +38,7 @@ pub fn show(alloc: Global, insn: &Insn) -> Result<String, AllocError>
 
 /// Appends what stands in the slot's place.
 fn push_slot(text: &mut String, slot: Slot, operands: &Operands) -> Result<(), AllocError>
+    requires { operands.now.number.magnitude < 2 ^ 32 }
     ensures { OnOk result
         (string_bytes text.new ≡ string_bytes text.old ++ spelled operands.now slot) }
 {
@@ -63,6 +64,7 @@ fn push_register(text: &mut String, register: Reg) -> Result<(), AllocError>
 
 /// Appends the number in the field's spelling.
 fn push_number(text: &mut String, field: Field, number: Number) -> Result<(), AllocError>
+    requires { number.magnitude < 2 ^ 32 }
     ensures { OnOk result
         (string_bytes text.new ≡ string_bytes text.old ++ spelled_number field number) }
 {
@@ -71,36 +73,9 @@ fn push_number(text: &mut String, field: Field, number: Number) -> Result<(), Al
         Field::Upper => write!(text, "0x{magnitude:x}"),
         Field::Whole => {
             text.push_str("0x")?;
-            push_eight_hex_digits(text, magnitude)
+            push_hex(text, magnitude as u32)
         }
         _ if number.negative => write!(text, "-{magnitude}"),
         _ => write!(text, "{magnitude}"),
     }
-}
-
-fn push_eight_hex_digits(text: &mut String, n: u64) -> Result<(), AllocError>
-    ensures { OnOk result (string_bytes text.new ≡ string_bytes text.old ++ eight_hex_digits n) }
-{
-    push_hex_digit(text, n >> 28)?;
-    push_hex_digit(text, n >> 24)?;
-    push_hex_digit(text, n >> 20)?;
-    push_hex_digit(text, n >> 16)?;
-    push_hex_digit(text, n >> 12)?;
-    push_hex_digit(text, n >> 8)?;
-    push_hex_digit(text, n >> 4)?;
-    push_hex_digit(text, n)
-}
-
-/// Appends the last hex digit of n.
-fn push_hex_digit(text: &mut String, n: u64) -> Result<(), AllocError>
-    ensures { OnOk result
-        (string_bytes text.new ≡ string_bytes text.old ++ digit_glyph false (n % 16) ∷ []) }
-{
-    let digit = (n % 16) as u8;
-    let glyph = if digit < 10 {
-        b'0' + digit
-    } else {
-        b'a' + (digit - 10)
-    };
-    text.push(char::from(glyph))
 }

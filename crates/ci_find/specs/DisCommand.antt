@@ -3,7 +3,7 @@ use Rattle.std.specs.Prelude.{◌≡◌, ℕ, ◌⊎◌, List, [], ◌∷◌, �
 use Rattle.ci_isa.specs.declared.instruction.Insn.{Insn}
 use Rattle.ci_isa.specs.declared.instruction.Insn.TheVariants.{Illegal}
 use Rattle.ci_isa.specs.Table.{ReadsX}
-use Rattle.ci_asm.specs.Spelling.{shown}
+use Rattle.ci_asm.specs.Shown.{shown}
 use Rattle.ci_text.specs.Bytes.{words_of_bytes}
 use Rattle.ci_text.specs.Hex.{eight_hex_digits}
 use Rattle.ci_text.specs.Lines.{line}

@@ -1,6 +1,6 @@
 -- Assembler texts as the bytes of a file.
 use Rattle.std.specs.Prelude.{◌≡◌, ℕ, ◌⊎◌, List, IsUtf8}
-use Rattle.ci_asm.specs.Programs.{IsAssembly, HasFault}
+use Rattle.ci_asm.specs.Assembly.{IsAssembly, HasFault}
 
 -- the bytes are a text in UTF-8 that assembles to these words
 pub record IsText (bytes words : List ℕ) : Type 0 where
