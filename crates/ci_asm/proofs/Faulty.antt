@@ -543,3 +543,65 @@ line_fault words line f few e =
     by b Directive at e = other b (λ end. absurd (cc)) e
     by b (Mark m) at e = other b (λ end. absurd (cc)) e
     by b Bad at e = other b (λ end. absurd (cc)) e
+
+-- ---- no statement goes on another
+
+pub statement_extends : (ts : List lex.Token) (t : lex.Token) (rest : List lex.Token) (one two : Statement) → IsStatement ts one → ¬ IsStatement (ts ++ t ∷ rest) two
+statement_extends ts t rest one two first second =
+    let h = statement_slots first in
+    let there = subst (λ k. IsStatement (k ++ t ∷ rest) two) h.tokens second in
+    let both : Fit (slots_of h.mnemonic) (h.others ++ t ∷ rest) = statement_fit h.mnemonic (h.others ++ t ∷ rest) two h.named there in
+    fit_rest (slots_of h.mnemonic) [] h.others (t ∷ rest) (fills_fit h.fills) (subst (λ slots. Fit slots (h.others ++ t ∷ rest)) (sym (append-nil (slots_of h.mnemonic))) both)
+
+nothing_whole : ¬ IsWhole []
+nothing_whole (statement, is) = let h = statement_slots is in let tokens = h.tokens in absurd (cc)
+
+number_no_mnemonic : (t : lex.Token) (m : Mnemonic) → IsNumber t → mnemonic_result t ≡ Ok m → ⊥
+number_no_mnemonic (decimal_number negative digits) m is e = cc
+number_no_mnemonic (hex_number digits) m is e = cc
+number_no_mnemonic (name bytes) m is e = absurd is
+number_no_mnemonic word m is e = absurd is
+number_no_mnemonic comma m is e = absurd is
+number_no_mnemonic open_bracket m is e = absurd is
+number_no_mnemonic close_bracket m is e = absurd is
+number_no_mnemonic colon m is e = absurd is
+
+no_number_first : ¬ IsNumberDue []
+no_number_first (t, others, statement, number, is) =
+    let h = statement_slots is in
+    let tokens = h.tokens in
+    let first : t ≡ mnemonic_token h.mnemonic = cc in
+    number_no_mnemonic t h.mnemonic number (ap mnemonic_result first ∙ mnemonic_no h.mnemonic h.named)
+
+whole_no_number : (front : List lex.Token) → IsWhole front → ¬ IsNumberDue front
+whole_no_number front (one, is) (t, others, two, number, more) = statement_extends front t others one two is more
+
+-- a fault has one kind
+pub one_kind : {front : List lex.Token} {symbol : lex.Symbol} {kind other : ℕ} → IsKind front symbol kind → IsKind front symbol other → kind ≡ other
+one_kind no_token no_token = refl
+one_kind (no_statement none) (no_statement also) = refl
+one_kind (no_statement none) (no_operand some whole number) = absurd (some refl)
+one_kind (no_statement none) (out_of_field number due) = absurd (no_number_first due)
+one_kind (no_statement none) (surplus whole) = absurd (nothing_whole whole)
+one_kind (no_statement none) (too_many is) = absurd (none is)
+one_kind (no_operand some whole number) (no_statement none) = absurd (some refl)
+one_kind (no_operand some whole number) (no_operand some' whole' number') = refl
+one_kind (no_operand some whole number) (out_of_field is due) = absurd (number (is, due))
+one_kind (no_operand some whole number) (surplus is) = absurd (whole is)
+one_kind (no_operand some whole number) (too_many is) = absurd (some refl)
+one_kind too_short too_short = refl
+one_kind (out_of_field is due) (no_statement none) = absurd (no_number_first due)
+one_kind (out_of_field is due) (no_operand some whole number) = absurd (number (is, due))
+one_kind (out_of_field is due) (out_of_field is' due') = refl
+one_kind (out_of_field {front} is due) (surplus whole) = absurd (whole_no_number front whole due)
+one_kind (out_of_field is due) (too_many mnemonic) = absurd (no_number_first due)
+one_kind (surplus whole) (no_statement none) = absurd (nothing_whole whole)
+one_kind (surplus is) (no_operand some whole number) = absurd (whole is)
+one_kind (surplus {front} whole) (out_of_field is due) = absurd (whole_no_number front whole due)
+one_kind (surplus whole) (surplus whole') = refl
+one_kind (surplus whole) (too_many is) = refl
+one_kind (too_many is) (no_statement none) = absurd (none is)
+one_kind (too_many is) (no_operand some whole number) = absurd (some refl)
+one_kind (too_many mnemonic) (out_of_field is due) = absurd (no_number_first due)
+one_kind (too_many is) (surplus whole) = refl
+one_kind (too_many is) (too_many is') = refl

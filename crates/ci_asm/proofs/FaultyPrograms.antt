@@ -146,11 +146,11 @@ module _ (program : List Line) (definitions : Definitions) (known : AreDefinitio
           (λ within. let ok = in_fits (field_of s.mnemonic) (offset_between words d.words) within in absurd (cc))
 
   -- a statement with a label reaches it
-  record IsReach (s : code.Statement) (t : Token) : Type 0 where
-    field : forms.Field
-    with_offset : ℤ → Insn
-    says : statement_says line s ≡ to_label field with_offset (text_of line t)
-    same : field_form (field_of s.mnemonic) ≡ field
+  pub record IsReach (s : code.Statement) (t : Token) : Type 0 where
+    pub field : forms.Field
+    pub with_offset : ℤ → Insn
+    pub says : statement_says line s ≡ to_label field with_offset (text_of line t)
+    pub same : field_form (field_of s.mnemonic) ≡ field
 
   reaches : (m : Mnemonic) (rd rs1 rs2 rs3 : ℕ) (number : Number) (t : Token) → let s : code.Statement = record { mnemonic = m; operands = record { rd = rd; rs1 = rs1; rs2 = rs2; rs3 = rs3; number = number; label = Some t } } in HasLabelFor m (values_of line s.operands) → IsReach s t
   reaches Jal rd rs1 rs2 rs3 number t for = record { field = forms.jump_offset; with_offset = insn.Jal rd; says = refl; same = refl }
@@ -169,7 +169,7 @@ module _ (program : List Line) (definitions : Definitions) (known : AreDefinitio
   reaches Cread rd rs1 rs2 rs3 number t for = absurd (cc)
   reaches Data rd rs1 rs2 rs3 number t for = absurd (cc)
 
-  reaches_label : (s : code.Statement) (t : Token) → s.operands.label ≡ Some t → HasLabelFor s.mnemonic (values_of line s.operands) → IsReach s t
+  pub reaches_label : (s : code.Statement) (t : Token) → s.operands.label ≡ Some t → HasLabelFor s.mnemonic (values_of line s.operands) → IsReach s t
   reaches_label s t e for = by s.operands.label e for
     where
       by : (label : Option Token) → label ≡ Some t → HasLabelFor s.mnemonic (values_of line (record s.operands { label = label })) → IsReach (record s { operands = record s.operands { label = label } }) t

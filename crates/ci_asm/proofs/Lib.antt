@@ -17,3 +17,4 @@ pub mod ReadPrograms
 pub mod Faulty
 pub mod FaultyPrograms
 pub mod Promises
+pub mod OneMeaning

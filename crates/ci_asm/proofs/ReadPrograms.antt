@@ -420,7 +420,7 @@ module _ (program : List Line) (definitions : Definitions) (known : AreDefinitio
           let lines = same_length f.before before f.line here f.after after size (sym f.split ∙ split) in
           subst (λ b. ¬ Defines b (text_of line t)) lines f.is_new
 
-  once_no : (before after : List Line) (here : Line) (n : ℕ) (label : Option Token) → program ≡ before ++ here ∷ after → here.label ≡ label_text line label → n ≡ 1 + length before → IsNew before (label_text line label) → defined_once definitions n line label ≡ Ok tt
+  pub once_no : (before after : List Line) (here : Line) (n : ℕ) (label : Option Token) → program ≡ before ++ here ∷ after → here.label ≡ label_text line label → n ≡ 1 + length before → IsNew before (label_text line label) → defined_once definitions n line label ≡ Ok tt
   once_no before after here n None split at place new = refl
   once_no before after here n (Some t) split at place new = by (definitions (text_of line t)) (known (text_of line t))
     where
