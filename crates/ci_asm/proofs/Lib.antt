@@ -18,3 +18,4 @@ pub mod Faulty
 pub mod FaultyPrograms
 pub mod Promises
 pub mod OneMeaning
+pub mod OneWord

@@ -197,6 +197,11 @@ pub data HasFault (text : List ℕ) : ℕ → ℕ → ℕ → Type 0 where
 
 -- ---- what the calls promise
 
+-- no other words are the assembly of the text, and it has no fault
+pub record IsOnlyAssembly (text words : List ℕ) : Type 0 where
+  pub no_others : (others : List ℕ) → IsAssembly text others → others ≡ words
+  pub no_fault : (kind line column : ℕ) → ¬ HasFault text kind line column
+
 -- the fault is the text's, or memory ran out
 abbrev pub IsFaultOf : List ℕ → AsmFault → Type 0
 IsFaultOf text (Bad kind line column) = HasFault text kind line column

@@ -4,7 +4,7 @@ ghost use Rattle.std.specs.Option.{ForSome, option_to_list};
 ghost use Rattle.ci_isa.specs.Table.{IsWellFormed};
 ghost use Rattle.ci_asm.specs.Shapes.{fits, field_of};
 ghost use Rattle.ci_asm.specs.Definitions.{found_in, earlier};
-ghost use Rattle.ci_asm.specs.Assembly.{IsAssembly, IsFaultOf};
+ghost use Rattle.ci_asm.specs.Assembly.{IsAssembly, IsOnlyAssembly, IsFaultOf};
 ghost use Rattle.ci_asm.specs.Programs.{kind_of, defined_once, offset_between, resolved, line_insn, insns_of, first_line, all_read, definition_of, definition_on, words_behind, IsFaultIn, AreWordsOf, AreWordsIn, option_length};
 ghost use Rattle.ci_asm.specs.Lines.{lines_of};
 ghost use Rattle.ci_isa.specs.declared.instruction.Insn.{Insn};
@@ -32,6 +32,7 @@ const MOST_WORDS: u32 = 262_144;
 pub fn assemble(alloc: Global, text: &str) -> Result<Vec<u32>, AsmFault>
     requires { length text.now ≤ 268435456 }
     ensures words { IfOk result (λ words. IsAssembly text.now words.items) }
+    ensures only { IfOk result (λ words. IsOnlyAssembly text.now words.items) }
     ensures fault { IfErr result (IsFaultOf text.now) }
 {
     let text = text.as_bytes();

@@ -29,12 +29,14 @@
 pub use assembler::assemble;
 pub use disassembler::show;
 pub use faults::AsmFault;
+pub use laws::{a_text_has_one_assembly, a_text_has_one_fault, an_assembly_has_no_fault};
 
 mod assembler;
 mod disassembler;
 mod faults;
 mod instructions;
 mod labels;
+mod laws;
 mod lines;
 mod mnemonics;
 mod numbers;
