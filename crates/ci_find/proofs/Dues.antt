@@ -8,6 +8,7 @@ use Rattle.ci_find.specs.Forms.{Form, any_bytes, assembler_text, IsWellFormed, I
 use Rattle.ci_find.specs.Inputs.{Input, IsGood, AreRead, IsRefusedFile, absent, too_large, malformed, IsFileRefusal}
 use Rattle.ci_find.specs.Success.{Success}
 use Rattle.ci_find.specs.Texts.{IsText, IsBadText}
+use Rattle.ci_asm.proofs.Promises.{no_fault}
 use Rattle.ci_words.proofs.Readings.{one_reading}
 use Rattle.ci_find.proofs.Spelling.{block_or_unsupported}
 
@@ -16,10 +17,7 @@ use Rattle.ci_find.proofs.Spelling.{block_or_unsupported}
 -- a text that assembles has no fault
 text_or_fault : (bytes words : List ℕ) (kind line column : ℕ) → IsText bytes words → IsBadText bytes kind line column → ⊥
 text_or_fault bytes words kind line column text (inl bad) = bad.0 text.encoded
-text_or_fault bytes words kind line column text (inr bad) =
-    let read = text.assembles in
-    let clash = sym read.1 ∙ bad.1 in
-    absurd cc
+text_or_fault bytes words kind line column text (inr bad) = no_fault bytes words kind line column text.assembles bad.1
 
 -- what is well formed is not malformed
 formed_or_not : (form : Form) (bytes : List ℕ) (status : ℕ) (text : List ℕ) → IsWellFormed form bytes → IsMalformed form bytes status text → ⊥
