@@ -1,0 +1,67 @@
+-- There is a plain meaning, and only one; and which registers an instruction reads and writes as sets.
+use Rattle.std.proofs.Common.{◌≡◌, ℕ, ◌^◌, ◌<◌, refl, ap, sym, ◌∙◌, arith, inl, inr, List, [], ◌∷◌, Option, Some, None}
+use Rattle.std.specs.Prelude.{not, ◌==◌, ◌&&◌, nat_lt, if◌then◌else◌, IfSome}
+use Rattle.std.specs.List.{list_any}
+use Rattle.std.specs.FinSet as set
+use Rattle.std.specs.Ordering.{nat_cmp, eq_by_cmp}
+use Rattle.std.specs.Cmp.{nat_cmp_total, unsigned_tied}
+use Rattle.std.specs.Option.{unwrap_or}
+use Rattle.std.proofs.lemmas.Bool.{cases_lt, lt-ltb, le-ltb}
+use Rattle.std.proofs.lemmas.Bool.Decides.{nat_tests}
+use Rattle.ci_isa.specs.declared.instruction.Insn.{Insn}
+use Rattle.ci_isa.specs.declared.instruction.Insn.TheVariants.{Unit, Cread, Illegal}
+use Rattle.ci_isa.specs.Table.{Reads, IsInsnAt}
+use Rattle.ci_isa.specs.Decoding.{plain_row}
+use Rattle.ci_isa.specs.Effects.{operands, results, without_zero, registers_read, registers_written}
+use Rattle.ci_isa.proofs.Found.{plain_reads}
+use Rattle.ci_isa.proofs.Only.{only_plain}
+use Rattle.ci_machine.specs.Steps.{Meaning, IsPlain}
+use Rattle.ci_machine.specs.Agreement.{is_among, reads, writes}
+
+-- ---- meanings
+
+plain_insn : ℕ → Insn
+plain_insn word = if nat_lt word (2 ^ 32) then unwrap_or (plain_row word) (Illegal word) else Illegal word
+
+row_stands : (word : ℕ) (row : Option Insn) → IfSome row (Reads word) → ((insn : Insn) → Reads word insn → row ≡ Some insn) → IsInsnAt word (unwrap_or row (Illegal word))
+row_stands word None found only = (refl, λ insn reading. let never = only insn reading in cc)
+row_stands word (Some (Illegal other)) found only = absurd found.1
+row_stands word (Some insn) found only = found
+
+stands : (word : ℕ) → IsInsnAt word (plain_insn word)
+unfolding plain_insn
+stands word = elim (cases_lt word (2 ^ 32)) [
+  | inl below ↦ rw (lt-ltb word (2 ^ 32) below) (row_stands word (plain_row word) (plain_reads word below) (only_plain word))
+  | inr above ↦ rw (le-ltb word (2 ^ 32) above) (refl, λ insn reading. absurd (omega (arith, reading.0)))
+]
+
+pub plain_exists : (meaning : Meaning) × IsPlain meaning
+plain_exists = (record { insn = plain_insn; units = λ number a b c. (0, 0) }, stands)
+
+one_insn : (word : ℕ) (left right : Insn) → IsInsnAt word left → IsInsnAt word right → left ≡ right
+one_insn word (Illegal a) (Illegal b) one other = λ i. Illegal ((one.0 ∙ sym other.0) i)
+one_insn word (Illegal a) right one other = absurd (one.1 right other)
+one_insn word left (Illegal b) one other = absurd (other.1 left one)
+one_insn word left right one other = let a = only_plain word left one in let b = only_plain word right other in cc
+
+pub plain_is_one : (left right : Meaning) → IsPlain left → IsPlain right → (word : ℕ) → left.insn word ≡ right.insn word
+plain_is_one left right one other word = one_insn word (left.insn word) (right.insn word) (one word) (other word)
+
+-- ---- sets of registers
+
+among_set : (registers : List ℕ) (r : ℕ) → is_among registers r ≡ set.contains (without_zero registers) r
+among_set registers r =
+    ap (λ b. not b && list_any (λ n. n == r) registers) (sym (unsigned_tied r 0))
+    ∙ ap (λ b. not (eq_by_cmp nat_cmp r 0) && b) (sym (set.contains-from_list_nat registers r))
+    ∙ sym (set.contains-remove nat_cmp_total (set.from_list registers) 0 r)
+
+not_hidden : (registers : List ℕ) (r : ℕ) → r < 32 → is_among (32 ∷ registers) r ≡ is_among registers r
+not_hidden registers r below = grind (arith, nat_tests)
+
+pub registers_read_are : (insn : Insn) (r : ℕ) → r < 32 → reads insn r ≡ set.contains (registers_read insn) r
+registers_read_are (Cread rd) r below = not_hidden [] r below ∙ among_set [] r
+registers_read_are insn r below = among_set (operands insn) r
+
+pub registers_written_are : (insn : Insn) (r : ℕ) → r < 32 → writes insn r ≡ set.contains (registers_written insn) r
+registers_written_are (Unit number rd rs1 rs2 rs3) r below = not_hidden (rd ∷ []) r below ∙ among_set (rd ∷ []) r
+registers_written_are insn r below = among_set (results insn) r

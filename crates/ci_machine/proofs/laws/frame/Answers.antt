@@ -1,0 +1,5 @@
+use Rattle.ci_machine.proofs.Exchange as laws
+use Rattle.ci_machine.proofs.laws.frame.Goals as goal
+
+pub returns : goal.returns
+returns c = laws.frame

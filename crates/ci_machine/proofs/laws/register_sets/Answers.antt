@@ -1,0 +1,8 @@
+use Rattle.ci_machine.proofs.Meanings.{registers_read_are, registers_written_are}
+use Rattle.ci_machine.proofs.laws.register_sets.Goals as goal
+
+pub returns-clause-read : goal.returns-clause-read
+returns-clause-read c = registers_read_are
+
+pub returns-clause-written : goal.returns-clause-written
+returns-clause-written c = registers_written_are

@@ -1,0 +1,93 @@
+-- States that agree on some registers, and on what runs are compared by.
+use Rattle.std.specs.Prelude.{◌≡◌, ℕ, Bool, true, false, ◌==◌, ◌&&◌, ◌||◌, not, ⊤, List, [], ◌∷◌, None}
+use Rattle.std.specs.List.{list_any}
+use Rattle.ci_isa.specs.declared.instruction.Insn.{Insn}
+use Rattle.ci_isa.specs.declared.instruction.Insn.TheVariants.{Load, Store, Unit, Cread}
+use Rattle.ci_isa.specs.Effects.{operands, results, ends_block}
+use Rattle.ci_machine.specs.Cores.{Core, hidden, register}
+use Rattle.ci_machine.specs.Outcomes.{Reached, continued}
+use Rattle.ci_machine.specs.Actions.{Units, act, accessed}
+
+-- ---- what an instruction reads and writes
+
+-- the registers that it takes its operands from, and those that take its results, with the hidden one
+abbrev pub all_operands : Insn → List ℕ
+all_operands (Cread rd) = hidden ∷ []
+all_operands insn = operands insn
+
+abbrev pub all_results : Insn → List ℕ
+all_results (Unit number rd rs1 rs2 rs3) = hidden ∷ rd ∷ []
+all_results insn = results insn
+
+-- x0 is never read or written
+abbrev pub is_among : List ℕ → ℕ → Bool
+is_among registers r = not (r == 0) && list_any (λ n. n == r) registers
+
+abbrev pub reads : Insn → ℕ → Bool
+reads insn = is_among (all_operands insn)
+
+abbrev pub writes : Insn → ℕ → Bool
+writes insn = is_among (all_results insn)
+
+-- a load or a store
+abbrev pub is_access : Insn → Bool
+is_access (Load kind rd rs1 offset) = true
+is_access (Store width rs1 rs2 offset) = true
+is_access insn = false
+
+-- ---- runs of several instructions
+
+-- the instructions in order, and none after an end
+abbrev pub act_all : Units → List Insn → Reached Core → Reached Core
+act_all units [] run = run
+act_all units (insn ∷ insns) run = act_all units insns (continued (act units insn) run)
+
+-- ---- agreement
+
+-- memory outside the text, heap end, input left and output are equal
+pub record AgreeOutside (text : ℕ → Bool) (left right : Core) : Type 0 where
+  pub memory : (address : ℕ) → text address ≡ false → left.memory address ≡ right.memory address
+  pub heap_end : left.heap_end ≡ right.heap_end
+  pub input : left.input ≡ right.input
+  pub output : left.output ≡ right.output
+
+-- the registers of the set are equal
+abbrev pub AgreeOn : (ℕ → Bool) → Core → Core → Type 0
+AgreeOn set left right = (r : ℕ) → set r ≡ true → register left r ≡ register right r
+
+-- Two runs came to the same end, or both to none. Where they go on, the registers of the set are equal.
+pub record AreRelated (text : ℕ → Bool) (set : ℕ → Bool) (left right : Reached Core) : Type 0 where
+  pub end : left.end ≡ right.end
+  pub outside : AgreeOutside text left.state right.state
+  pub registers : left.end ≡ None → AgreeOn set left.state right.state
+
+-- ---- what instructions have to do with each other
+
+-- Neither reads what the other writes, no register is written by both, and not both of them go to memory.
+pub record AreIndependent (first second : Insn) : Type 0 where
+  pub first_into_second : (r : ℕ) → writes first r ≡ true → reads second r ≡ false
+  pub second_into_first : (r : ℕ) → writes second r ≡ true → reads first r ≡ false
+  pub results : (r : ℕ) → writes first r ≡ true → writes second r ≡ false
+  pub accesses : (is_access first && is_access second) ≡ false
+
+-- no byte that the instruction moves is text
+abbrev pub LeavesText : (ℕ → Bool) → Insn → Core → Type 0
+LeavesText text insn core = list_any text (accessed insn core) ≡ false
+
+-- ---- what a list of instructions needs
+
+-- none of them ends a block, so each of them acts
+abbrev pub AreActions : List Insn → Type 0
+AreActions insns = list_any ends_block insns ≡ false
+
+-- The registers that must agree before the instructions for those of the set to agree behind them: those that are read
+-- before they are written, and those of the set that are not written.
+abbrev pub needed : List Insn → (ℕ → Bool) → ℕ → Bool
+needed [] set r = set r
+needed (insn ∷ insns) set r = reads insn r || (needed insns set r && not (writes insn r))
+
+-- none of the instructions moves a byte of text, up to the one that ends
+abbrev pub AllLeaveText : Units → (ℕ → Bool) → List Insn → Reached Core → Type 0
+AllLeaveText units text [] run = ⊤
+AllLeaveText units text (insn ∷ insns) run =
+    (run.end ≡ None → LeavesText text insn run.state) × AllLeaveText units text insns (continued (act units insn) run)

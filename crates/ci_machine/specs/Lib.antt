@@ -1,0 +1,10 @@
+pub mod Cores
+pub mod Accesses
+pub mod Outcomes
+pub mod Actions
+pub mod Programs
+pub mod Calls
+pub mod Steps
+pub mod Runs
+pub mod Agreement
+pub mod Laws

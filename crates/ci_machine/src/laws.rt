@@ -1,0 +1,41 @@
+//! What holds of all instructions, lists of instructions and runs.
+ghost use Rattle.ci_machine.specs.Laws.{Frame, DeadWrite, Exchange, ListFrame, RunsJoin, EndsStay};
+ghost use Rattle.ci_machine.specs.Laws.{PlainExists, PlainIsOne, RegistersRead, RegistersWritten};
+
+/// What an instruction does depends on the registers that it reads and the bytes that it moves, and on nothing else.
+pub fn frame()
+    ensures { Frame }
+{}
+
+/// A write that nobody reads may be left out.
+pub fn dead_write()
+    ensures { DeadWrite }
+{}
+
+/// Instructions that are independent may change places.
+pub fn exchange()
+    ensures { Exchange }
+{}
+
+/// What a list of instructions does depends on the registers that it needs.
+pub fn list_frame()
+    ensures { ListFrame }
+{}
+
+/// Runs go on where others came to, and do not go on after an end.
+pub fn runs_join()
+    ensures join { RunsJoin }
+    ensures stay { EndsStay }
+{}
+
+/// What a word stands for in the plain machine is settled.
+pub fn plain_meaning()
+    ensures exists { PlainExists }
+    ensures one { PlainIsOne }
+{}
+
+/// The registers that an instruction reads and writes are those of its sets.
+pub fn register_sets()
+    ensures read { RegistersRead }
+    ensures written { RegistersWritten }
+{}
