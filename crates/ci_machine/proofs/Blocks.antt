@@ -11,10 +11,10 @@ use Rattle.ci_machine.specs.Actions.{Units, act, acted, accessed}
 use Rattle.ci_machine.specs.Agreement.{reads, writes, act_all, AreRelated, AreIndependent, LeavesText, AreActions, AllLeaveText, needed}
 use Rattle.ci_machine.proofs.Exchange.{by_end, exchange, frame}
 
-none_first : (p q : Bool) → (p || q) ≡ false → p ≡ false
+pub none_first : (p q : Bool) → (p || q) ≡ false → p ≡ false
 none_first p q none = grind arith
 
-none_rest : (p q : Bool) → (p || q) ≡ false → q ≡ false
+pub none_rest : (p q : Bool) → (p || q) ≡ false → q ≡ false
 none_rest p q none = grind arith
 
 -- ---- relations
@@ -34,7 +34,7 @@ AreRelated-refl text set run = record {
   registers = λ on r is. refl;
 }
 
-AreRelated-same : (text set : ℕ → Bool) (left right : Reached Core) → left ≡ right → AreRelated text set left right
+pub AreRelated-same : (text set : ℕ → Bool) (left right : Reached Core) → left ≡ right → AreRelated text set left right
 AreRelated-same text set left right same = subst (λ run. AreRelated text set left run) same (AreRelated-refl text set left)
 
 pub AreRelated-trans : (text set : ℕ → Bool) (left middle right : Reached Core) → AreRelated text set left middle → AreRelated text set middle right → AreRelated text set left right
@@ -95,12 +95,12 @@ module _ (text : ℕ → Bool) (units : Units) where
 
 -- ---- exchange, anywhere in a list
 
-act_all-append : (units : Units) (before after : List Insn) (run : Reached Core) → act_all units (before ++ after) run ≡ act_all units after (act_all units before run)
+pub act_all-append : (units : Units) (before after : List Insn) (run : Reached Core) → act_all units (before ++ after) run ≡ act_all units after (act_all units before run)
 act_all-append units [] after run = refl
 act_all-append units (insn ∷ before) after run = act_all-append units before after (continued (act units insn) run)
 
 module _ (units : Units) where
-  no_text : (addresses : List ℕ) → list_any (λ _. false) addresses ≡ false
+  pub no_text : (addresses : List ℕ) → list_any (λ _. false) addresses ≡ false
   no_text [] = refl
   no_text (a ∷ more) = no_text more
 

@@ -130,7 +130,7 @@ pub record AreAlike (insn : Insn) (left right : Core) (from_left from_right : Re
   pub written : from_left.end ≡ None → (r : ℕ) → writes insn r ≡ true → register from_left.state r ≡ register from_right.state r
   pub memory : (address : ℕ) → left.memory address ≡ right.memory address → from_left.state.memory address ≡ from_right.state.memory address
 
-same_bytes : (addresses : List ℕ) (left right : ℕ → Option ℕ) → AgreeAt addresses left right → bytes_at left addresses ≡ bytes_at right addresses
+pub same_bytes : (addresses : List ℕ) (left right : ℕ → Option ℕ) → AgreeAt addresses left right → bytes_at left addresses ≡ bytes_at right addresses
 same_bytes [] left right agree = refl
 same_bytes (address ∷ more) left right (here, there) = λ i. joined (here i) (same_bytes more left right there i)
 

@@ -15,7 +15,7 @@ use Rattle.ci_machine.proofs.Effects.{keeps, AgreeAt, AreAlike, alike, is_store}
 
 -- ---- tests
 
-excluded : (p q : Bool) → (p ≡ true → q ≡ false) → q ≡ true → p ≡ false
+pub excluded : (p q : Bool) → (p ≡ true → q ≡ false) → q ≡ true → p ≡ false
 excluded p q none is = grind arith
 
 not_both : (p q : Bool) → (p && q) ≡ false → q ≡ true → p ≡ false
@@ -24,7 +24,7 @@ not_both p q none is = grind arith
 swapped : (p q : Bool) → (p && q) ≡ false → (q && p) ≡ false
 swapped p q none = grind arith
 
-by_test : {A : Type 0} (b : Bool) → (b ≡ true → A) → (b ≡ false → A) → A
+pub by_test : {A : Type 0} (b : Bool) → (b ≡ true → A) → (b ≡ false → A) → A
 by_test true holds fails = holds refl
 by_test false holds fails = fails refl
 
@@ -34,7 +34,7 @@ by_end (Some e) none some = some e refl
 
 -- ---- which memory an instruction needs
 
-store_accesses : (insn : Insn) → is_access insn ≡ false → is_store insn ≡ false
+pub store_accesses : (insn : Insn) → is_access insn ≡ false → is_store insn ≡ false
 store_accesses (Load kind rd rs1 offset) none = refl
 store_accesses (Store width rs1 rs2 offset) none = cc
 store_accesses insn none = refl

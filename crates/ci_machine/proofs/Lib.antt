@@ -4,4 +4,6 @@ pub mod Exchange
 pub mod Blocks
 pub mod Meanings
 pub mod RunLaws
+pub mod BlockSteps
+pub mod Computations
 pub mod Rows

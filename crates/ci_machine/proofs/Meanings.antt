@@ -1,5 +1,5 @@
 -- There is a plain meaning, and only one; and which registers an instruction reads and writes as sets.
-use Rattle.std.proofs.Common.{◌≡◌, ℕ, ◌^◌, ◌<◌, refl, ap, sym, ◌∙◌, arith, inl, inr, List, [], ◌∷◌, Option, Some, None}
+use Rattle.std.proofs.Common.{◌≡◌, ◌^◌, ◌<◌, refl, ap, sym, ◌∙◌, arith, inl, inr, List, [], ◌∷◌, Option, Some, None}
 use Rattle.std.specs.Prelude.{not, ◌==◌, ◌&&◌, nat_lt, if◌then◌else◌, IfSome}
 use Rattle.std.specs.List.{list_any}
 use Rattle.std.specs.FinSet as set
@@ -15,7 +15,12 @@ use Rattle.ci_isa.specs.Decoding.{plain_row}
 use Rattle.ci_isa.specs.Effects.{operands, results, without_zero, registers_read, registers_written}
 use Rattle.ci_isa.proofs.Found.{plain_reads}
 use Rattle.ci_isa.proofs.Only.{only_plain}
-use Rattle.ci_machine.specs.Steps.{Meaning, IsPlain}
+use Rattle.ci_machine.specs.Outcomes.{continued}
+use Rattle.ci_machine.specs.Programs.{Program, State, in_text}
+use Rattle.ci_machine.specs.Steps.{Meaning, IsPlain, word_at, execute, stepped, step}
+use Rattle.ci_machine.specs.Runs.{after}
+use Rattle.std.specs.Option.{option_map}
+use Rattle.std.specs.Prelude.{ℕ, zero, suc, ◌%◌, Bool, true, false}
 use Rattle.ci_machine.specs.Agreement.{is_among, reads, writes}
 
 -- ---- meanings
@@ -44,8 +49,26 @@ one_insn word (Illegal a) right one other = absurd (one.1 right other)
 one_insn word left (Illegal b) one other = absurd (other.1 left one)
 one_insn word left right one other = let a = only_plain word left one in let b = only_plain word right other in cc
 
-pub plain_is_one : (left right : Meaning) → IsPlain left → IsPlain right → (word : ℕ) → left.insn word ≡ right.insn word
-plain_is_one left right one other word = one_insn word (left.insn word) (right.insn word) (one word) (other word)
+module _ (left right : Meaning) (one : IsPlain left) (other : IsPlain right) (program : Program) where
+  same_execution : (word : ℕ) (insn : Insn) (state : State) → IsInsnAt word insn → execute left.units program insn state ≡ execute right.units program insn state
+  same_execution word (Unit number rd rs1 rs2 rs3) state is = absurd is.1
+  same_execution word insn state is = refl
+
+  same_step : (state : State) → step left program state ≡ step right program state
+  same_step state = tested ((state.pc % 4 == 0) && in_text program state.pc) (word_at state.core.memory state.pc)
+    where
+      at_word : (word : ℕ) (a b : Insn) → IsInsnAt word a → a ≡ b → execute left.units program a state ≡ execute right.units program b state
+      at_word word a b is same = same_execution word a state is ∙ ap (λ insn. execute right.units program insn state) same
+
+      tested : (test : Bool) (word : Option ℕ)
+          → stepped left.units program state (if test then option_map left.insn word else None) ≡ stepped right.units program state (if test then option_map right.insn word else None)
+      tested false word = refl
+      tested true None = refl
+      tested true (Some word) = at_word word (left.insn word) (right.insn word) (one word) (one_insn word (left.insn word) (right.insn word) (one word) (other word))
+
+  pub plain_is_one : (n : ℕ) (state : State) → after left program n state ≡ after right program n state
+  plain_is_one zero state = refl
+  plain_is_one (suc n) state = λ i. continued (λ s. same_step s i) (plain_is_one n state i)
 
 -- ---- sets of registers
 

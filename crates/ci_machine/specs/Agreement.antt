@@ -86,6 +86,19 @@ abbrev pub needed : List Insn → (ℕ → Bool) → ℕ → Bool
 needed [] set r = set r
 needed (insn ∷ insns) set r = reads insn r || (needed insns set r && not (writes insn r))
 
+-- the registers that some of the instructions write
+abbrev pub written : List Insn → ℕ → Bool
+written insns r = list_any (λ insn. writes insn r) insns
+
+-- Two lists of instructions without loads and stores. Neither needs what the other writes, and a register of the set is not
+-- written by both.
+pub record AreApart (set : ℕ → Bool) (first second : List Insn) : Type 0 where
+  pub first_into_second : (r : ℕ) → written first r ≡ true → needed second (λ _. false) r ≡ false
+  pub second_into_first : (r : ℕ) → written second r ≡ true → needed first (λ _. false) r ≡ false
+  pub results : (r : ℕ) → set r ≡ true → written first r ≡ true → written second r ≡ false
+  pub no_access_in_first : list_any is_access first ≡ false
+  pub no_access_in_second : list_any is_access second ≡ false
+
 -- none of the instructions moves a byte of text, up to the one that ends
 abbrev pub AllLeaveText : Units → (ℕ → Bool) → List Insn → Reached Core → Type 0
 AllLeaveText units text [] run = ⊤

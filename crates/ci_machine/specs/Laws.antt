@@ -1,15 +1,16 @@
 -- What holds of all instructions, blocks and runs.
-use Rattle.std.specs.Prelude.{◌≡◌, ℕ, ◌+◌, ◌<◌, Bool, true, false, ◌||◌, List, ◌∷◌, ◌++◌, None}
+use Rattle.std.specs.Prelude.{◌≡◌, ℕ, ◌+◌, ◌<◌, Bool, true, false, ◌||◌, List, ◌∷◌, ◌++◌, length, Option, None}
 use Rattle.std.specs.FinSet as set
 use Rattle.ci_isa.specs.declared.instruction.Insn.{Insn}
 use Rattle.ci_isa.specs.Effects.{ends_block, registers_read, registers_written}
 use Rattle.ci_machine.specs.Cores.{Core}
 use Rattle.ci_machine.specs.Outcomes.{at_start, Reached}
 use Rattle.ci_machine.specs.Actions.{Units, acted}
-use Rattle.ci_machine.specs.Agreement.{reads, writes, is_access, act_all, AgreeOutside, AgreeOn, AreRelated, AreIndependent, LeavesText, AreActions, AllLeaveText, needed}
-use Rattle.ci_machine.specs.Programs.{Program, State}
+use Rattle.ci_machine.specs.Agreement.{reads, writes, is_access, act_all, AgreeOutside, AgreeOn, AreRelated, AreIndependent, LeavesText, AreActions, AreApart, AllLeaveText, needed}
+use Rattle.ci_machine.specs.Programs.{Program, State, in_text}
 use Rattle.ci_machine.specs.Steps.{Meaning, IsPlain}
 use Rattle.ci_machine.specs.Runs.{after}
+use Rattle.ci_machine.specs.Blocks.{StandAt, HaveSameText, IsRunOf}
 
 -- everything is compared: all registers, and memory at each address
 abbrev pub AreEqual : Reached Core → Reached Core → Type 0
@@ -43,6 +44,16 @@ Exchange =
     (act_all units (before ++ first ∷ second ∷ after) run)
     (act_all units (before ++ second ∷ first ∷ after) run)
 
+-- Two lists of computations change places, as a unit word and its `cread` together do. Registers that both of them write
+-- may differ behind them, where these are not needed.
+abbrev pub ListExchange : Type 0
+ListExchange =
+    (units : Units) (set : ℕ → Bool) (before first second after : List Insn) (run : Reached Core)
+    → AreActions first → AreActions second → AreActions after → AreApart (needed after set) first second
+    → AreRelated (λ _. false) set
+    (act_all units (before ++ first ++ second ++ after) run)
+    (act_all units (before ++ second ++ first ++ after) run)
+
 -- Cores that agree on the registers that a list needs for a set agree on that set behind it.
 abbrev pub ListFrame : Type 0
 ListFrame =
@@ -66,14 +77,28 @@ EndsStay =
     → ¬ ((after meaning program m state).end ≡ None)
     → after meaning program (m + n) state ≡ after meaning program m state
 
+-- Steps through actions that stand in the text do what the list does, as long as it leaves the text alone. The memory in
+-- which the actions stand is that of another moment, with the same text.
+abbrev pub BlockSteps : Type 0
+BlockSteps =
+    (meaning : Meaning) (program : Program) (memory : ℕ → Option ℕ) (insns : List Insn) (state : State)
+    → StandAt meaning program memory state.pc insns → HaveSameText program memory state.core.memory
+    → AreActions insns → AllLeaveText meaning.units (in_text program) insns (at_start state.core)
+    → IsRunOf insns state.pc
+    (after meaning program (length insns) state)
+    (act_all meaning.units insns (at_start state.core))
+
 -- ---- meanings
 
--- there is a plain meaning, and each two give every word the same instruction
+-- there is a plain meaning
 abbrev pub PlainExists : Type 0
 PlainExists = (meaning : Meaning) × IsPlain meaning
 
+-- all plain machines make the same runs
 abbrev pub PlainIsOne : Type 0
-PlainIsOne = (left right : Meaning) → IsPlain left → IsPlain right → (word : ℕ) → left.insn word ≡ right.insn word
+PlainIsOne =
+    (left right : Meaning) → IsPlain left → IsPlain right → (program : Program) (n : ℕ) (state : State)
+    → after left program n state ≡ after right program n state
 
 -- the registers that are read and written, but for the hidden one, are the sets of the instruction
 abbrev pub RegistersRead : Type 0

@@ -7,4 +7,5 @@ pub mod Calls
 pub mod Steps
 pub mod Runs
 pub mod Agreement
+pub mod Blocks
 pub mod Laws

@@ -33,12 +33,13 @@ IsPlain meaning = (word : ℕ) → IsInsnAt word (meaning.insn word)
 abbrev pub word_at : (ℕ → Option ℕ) → ℕ → Option ℕ
 word_at memory address = option_map number_of_bytes (bytes_at memory (addresses 4 address))
 
--- the instruction at the pc, where that is a multiple of four in the text, whose bytes are always mapped
+-- the instruction at an address, where that is a multiple of four in the text, whose bytes are always mapped
+abbrev pub insn_in : Meaning → Program → (ℕ → Option ℕ) → ℕ → Option Insn
+insn_in meaning program memory address =
+    if (address % 4 == 0) && in_text program address then option_map meaning.insn (word_at memory address) else None
+
 abbrev pub fetched : Meaning → Program → State → Option Insn
-fetched meaning program state =
-    if (state.pc % 4 == 0) && in_text program state.pc
-    then option_map meaning.insn (word_at state.core.memory state.pc)
-    else None
+fetched meaning program state = insn_in meaning program state.core.memory state.pc
 
 -- ---- control
 
@@ -95,12 +96,13 @@ execute units program insn state =
     if ends_block insn then control program insn state.pc state.core
     else then_onward state.pc (act units insn state.core)
 
+-- the outcome where this instruction is fetched, or none
+abbrev pub stepped : Units → Program → State → Option Insn → Outcome State
+stepped units program state None = Ended (ends.Fetch state.pc)
+stepped units program state (Some insn) = execute units program insn state
+
 abbrev pub step : Meaning → Program → State → Outcome State
-step meaning program state =
-    elim (fetched meaning program state) [
-      | None ↦ Ended (ends.Fetch state.pc)
-      | Some insn ↦ execute meaning.units program insn state
-    ]
+step meaning program state = stepped meaning.units program state (fetched meaning program state)
 
 -- ---- what a step touches
 

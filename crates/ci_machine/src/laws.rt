@@ -1,5 +1,5 @@
 //! What holds of all instructions, lists of instructions and runs.
-ghost use Rattle.ci_machine.specs.Laws.{Frame, DeadWrite, Exchange, ListFrame, RunsJoin, EndsStay};
+ghost use Rattle.ci_machine.specs.Laws.{Frame, DeadWrite, Exchange, ListExchange, ListFrame, RunsJoin, EndsStay, BlockSteps};
 ghost use Rattle.ci_machine.specs.Laws.{PlainExists, PlainIsOne, RegistersRead, RegistersWritten};
 
 /// What an instruction does depends on the registers that it reads and the bytes that it moves, and on nothing else.
@@ -17,6 +17,11 @@ pub fn exchange()
     ensures { Exchange }
 {}
 
+/// Lists of computations may change places.
+pub fn list_exchange()
+    ensures { ListExchange }
+{}
+
 /// What a list of instructions does depends on the registers that it needs.
 pub fn list_frame()
     ensures { ListFrame }
@@ -28,7 +33,12 @@ pub fn runs_join()
     ensures stay { EndsStay }
 {}
 
-/// What a word stands for in the plain machine is settled.
+/// The steps through a list of instructions in the text do what the list does.
+pub fn block_steps()
+    ensures { BlockSteps }
+{}
+
+/// The plain machine is one, whatever its meaning says of units.
 pub fn plain_meaning()
     ensures exists { PlainExists }
     ensures one { PlainIsOne }

@@ -1,0 +1,31 @@
+-- Lists of instructions that stand in the text, and the steps of a run through them.
+use Rattle.std.specs.Prelude.{◌≡◌, ℕ, true, List, [], ◌∷◌, Option, Some, None, ⊤}
+use Rattle.std.specs.List.{list_all}
+use Rattle.ci_isa.specs.declared.instruction.Insn.{Insn}
+use Rattle.ci_machine.specs.Cores.{Core}
+use Rattle.ci_machine.specs.Accesses.{addresses}
+use Rattle.ci_machine.specs.Outcomes.{Reached}
+use Rattle.ci_machine.specs.Programs.{Program, State, in_text}
+use Rattle.ci_machine.specs.Steps.{Meaning, insn_in, following}
+
+-- The instructions stand one behind the other from an address on, each in four bytes of text.
+abbrev pub StandAt : Meaning → Program → (ℕ → Option ℕ) → ℕ → List Insn → Type 0
+StandAt meaning program memory address [] = ⊤
+StandAt meaning program memory address (insn ∷ insns) =
+    (insn_in meaning program memory address ≡ Some insn) × (list_all (in_text program) (addresses 4 address) ≡ true)
+    × StandAt meaning program memory (following address) insns
+
+-- the address behind instructions that stand from an address on
+abbrev pub behind : List Insn → ℕ → ℕ
+behind [] address = address
+behind (insn ∷ insns) address = behind insns (following address)
+
+-- the bytes of the text are equal
+abbrev pub HaveSameText : Program → (ℕ → Option ℕ) → (ℕ → Option ℕ) → Type 0
+HaveSameText program left right = (address : ℕ) → in_text program address ≡ true → left address ≡ right address
+
+-- a run of steps did what a list of instructions does: the core and the end, and the pc where there is none
+pub record IsRunOf (insns : List Insn) (address : ℕ) (steps : Reached State) (actions : Reached Core) : Type 0 where
+  pub core : steps.state.core ≡ actions.state
+  pub end : steps.end ≡ actions.end
+  pub pc : actions.end ≡ None → steps.state.pc ≡ behind insns address
