@@ -1,6 +1,6 @@
 -- Steps through instructions that stand in the text.
 use Rattle.std.proofs.Common.{◌≡◌, ℕ, zero, suc, refl, ap, sym, ◌∙◌, arith, List, [], ◌∷◌, length, Option, Some, None}
-use Rattle.std.specs.Prelude.{Bool, true, false, ◌%◌, ◌==◌, ◌&&◌, ◌||◌, if◌then◌else◌}
+use Rattle.std.specs.Prelude.{Bool, true, false, ◌%◌, ◌==◌, ◌&&◌, if◌then◌else◌}
 use Rattle.std.specs.List.{list_any, list_all}
 use Rattle.std.specs.Option.{option_map}
 use Rattle.std.proofs.lemmas.Bool.Decides.{nat_tests}
@@ -17,6 +17,7 @@ use Rattle.ci_machine.specs.Programs.{Program, State, in_text}
 use Rattle.ci_machine.specs.Steps.{Meaning, insn_in, fetched, following, control, then_onward, stepped, step}
 use Rattle.ci_machine.specs.Runs.{after}
 use Rattle.ci_machine.specs.Blocks.{StandAt, HaveSameText, IsRunOf}
+use Rattle.ci_machine.proofs.Tests.{neither_first, neither_second, both_first, both_second}
 use Rattle.ci_machine.proofs.Effects.{keeps, AgreeAt, same_bytes}
 
 -- ---- the first step of a run
@@ -36,19 +37,13 @@ not_stored : (text : ℕ → Bool) (places bytes : List ℕ) (memory : ℕ → O
 not_stored text [] bytes memory a clear is = refl
 not_stored text (place ∷ places) [] memory a clear is = refl
 not_stored text (place ∷ places) (byte ∷ bytes) memory a clear is =
-    other (a == place) (λ same. apart same) (not_stored text places bytes memory a (rest (text place) _ clear) is)
+    other (a == place) (λ same. apart same) (not_stored text places bytes memory a (neither_second (text place) _ clear) is)
   where
-    rest : (p q : Bool) → (p || q) ≡ false → q ≡ false
-    rest p q none = grind arith
-
-    first : (p q : Bool) → (p || q) ≡ false → p ≡ false
-    first p q none = grind arith
-
     equal : (a == place) ≡ true → a ≡ place
     equal same = grind (arith, nat_tests)
 
     apart : (a == place) ≡ true → ⊥
-    apart same = let here : text a ≡ text place = ap text (equal same) in let none = first (text place) _ clear in cc
+    apart same = let here : text a ≡ text place = ap text (equal same) in let none = neither_first (text place) _ clear in cc
 
     other : (t : Bool) → (t ≡ true → ⊥) → with_bytes memory places bytes a ≡ memory a → (if t then Some byte else with_bytes memory places bytes a) ≡ memory a
     other true never same = absurd (never refl)
@@ -66,13 +61,7 @@ text_stays text units insn core a clear is = ap (λ memory. memory a) ((keeps un
 text_agrees : (program : Program) (left right : ℕ → Option ℕ) (places : List ℕ) → HaveSameText program left right → list_all (in_text program) places ≡ true → AgreeAt places left right
 text_agrees program left right [] same all = tt
 text_agrees program left right (place ∷ places) same all =
-    (same place (first (in_text program place) _ all), text_agrees program left right places same (rest (in_text program place) _ all))
-  where
-    first : (p q : Bool) → (p && q) ≡ true → p ≡ true
-    first p q both = grind arith
-
-    rest : (p q : Bool) → (p && q) ≡ true → q ≡ true
-    rest p q both = grind arith
+    (same place (both_first (in_text program place) _ all), text_agrees program left right places same (both_second (in_text program place) _ all))
 
 same_insn : (meaning : Meaning) (program : Program) (left right : ℕ → Option ℕ) (address : ℕ) → HaveSameText program left right
     → list_all (in_text program) (addresses 4 address) ≡ true → insn_in meaning program left address ≡ insn_in meaning program right address
@@ -85,12 +74,6 @@ same_insn meaning program left right address same all =
 over : (units : Units) (insns : List Insn) (core : Core) (e : End) → act_all units insns (record { state = core; end = Some e }) ≡ record { state = core; end = Some e }
 over units [] core e = refl
 over units (insn ∷ insns) core e = over units insns core e
-
-none_first : (p q : Bool) → (p || q) ≡ false → p ≡ false
-none_first p q none = grind arith
-
-none_rest : (p q : Bool) → (p || q) ≡ false → q ≡ false
-none_rest p q none = grind arith
 
 module _ (meaning : Meaning) (program : Program) (memory : ℕ → Option ℕ) where
   acts_there : (insn : Insn) (state : State) → insn_in meaning program memory state.pc ≡ Some insn → list_all (in_text program) (addresses 4 state.pc) ≡ true
@@ -106,7 +89,7 @@ module _ (meaning : Meaning) (program : Program) (memory : ℕ → Option ℕ) w
       → IsRunOf insns state.pc (after meaning program (length insns) state) (act_all meaning.units insns (at_start state.core))
   block_steps [] state stand same acts clear = record { core = refl; end = refl; pc = λ on. refl }
   block_steps (insn ∷ insns) state (there, all, stand) same acts clear =
-      let made = acts_there insn state there all same (none_first (ends_block insn) _ acts) in
+      let made = acts_there insn state there all same (neither_first (ends_block insn) _ acts) in
       by_outcome (act meaning.units insn state.core) refl made
       (λ next. block_steps insns next)
     where
@@ -126,5 +109,5 @@ module _ (meaning : Meaning) (program : Program) (memory : ℕ → Option ℕ) w
           let run : act_all meaning.units (insn ∷ insns) (at_start state.core) ≡ act_all meaning.units insns (at_start core) =
           ap (λ o. act_all meaning.units insns (reached state.core o)) is in
           let kept = λ (a : ℕ) (text : in_text program a ≡ true). same a text ∙ sym (text_stays (in_text program) meaning.units insn state.core a (clear.0 refl) text) ∙ ap (λ o. (reached state.core o).state.memory a) is in
-          let rest = more next stand kept (none_rest (ends_block insn) _ acts) (rw is at clear.1) in
+          let rest = more next stand kept (neither_second (ends_block insn) _ acts) (rw is at clear.1) in
           rw (went, run) (record { core = rest.core; end = rest.end; pc = rest.pc })

@@ -9,13 +9,8 @@ use Rattle.ci_machine.specs.Cores.{Core}
 use Rattle.ci_machine.specs.Outcomes.{Reached, from_end, continued}
 use Rattle.ci_machine.specs.Actions.{Units, act, acted, accessed}
 use Rattle.ci_machine.specs.Agreement.{reads, writes, act_all, AreRelated, AreIndependent, LeavesText, AreActions, AllLeaveText, needed}
-use Rattle.ci_machine.proofs.Exchange.{by_end, exchange, frame}
-
-pub none_first : (p q : Bool) → (p || q) ≡ false → p ≡ false
-none_first p q none = grind arith
-
-pub none_rest : (p q : Bool) → (p || q) ≡ false → q ≡ false
-none_rest p q none = grind arith
+use Rattle.ci_machine.proofs.Tests.{by_end, neither_first, neither_second}
+use Rattle.ci_machine.proofs.Exchange.{exchange, frame}
 
 -- ---- relations
 
@@ -80,8 +75,8 @@ module _ (text : ℕ → Bool) (units : Units) where
   list_frame set [] left right acts same clear = same
   list_frame set (insn ∷ insns) left right acts same clear =
       list_frame set insns (continued (act units insn) left) (continued (act units insn) right)
-      (none_rest (ends_block insn) _ acts)
-      (related_more (needed (insn ∷ insns) set) (needed insns set) insn left right (none_first (ends_block insn) _ acts)
+      (neither_second (ends_block insn) _ acts)
+      (related_more (needed (insn ∷ insns) set) (needed insns set) insn left right (neither_first (ends_block insn) _ acts)
       (λ r is. read_is (reads insn r) _ is)
       (λ r is. kept_or_written (reads insn r) (needed insns set r) (writes insn r) is)
       same clear.0)
@@ -108,8 +103,8 @@ module _ (units : Units) where
       → AreRelated (λ _. false) (λ _. true) (act_all units insns left) (act_all units insns right)
   equal_more [] left right acts same = same
   equal_more (insn ∷ insns) left right acts same =
-      equal_more insns (continued (act units insn) left) (continued (act units insn) right) (none_rest (ends_block insn) _ acts)
-      (related_more (λ _. false) units (λ _. true) (λ _. true) insn left right (none_first (ends_block insn) _ acts)
+      equal_more insns (continued (act units insn) left) (continued (act units insn) right) (neither_second (ends_block insn) _ acts)
+      (related_more (λ _. false) units (λ _. true) (λ _. true) insn left right (neither_first (ends_block insn) _ acts)
       (λ r is. refl) (λ r is. refl) same (λ _. no_text (accessed insn left.state)))
 
   exchange_from : (a b : Insn) (run : Reached Core) → AreIndependent a b → ends_block a ≡ false → ends_block b ≡ false
@@ -127,5 +122,5 @@ module _ (units : Units) where
       → AreRelated (λ _. false) (λ _. true) (act_all units (before ++ a ∷ b ∷ after) run) (act_all units (before ++ b ∷ a ∷ after) run)
   exchange_within before after a b run acts apart =
       rw (act_all-append units before (a ∷ b ∷ after) run, act_all-append units before (b ∷ a ∷ after) run)
-      (equal_more after _ _ (none_rest (ends_block b) _ (none_rest (ends_block a) _ acts))
-      (exchange_from a b (act_all units before run) apart (none_first (ends_block a) _ acts) (none_first (ends_block b) _ (none_rest (ends_block a) _ acts))))
+      (equal_more after _ _ (neither_second (ends_block b) _ (neither_second (ends_block a) _ acts))
+      (exchange_from a b (act_all units before run) apart (neither_first (ends_block a) _ acts) (neither_first (ends_block b) _ (neither_second (ends_block a) _ acts))))

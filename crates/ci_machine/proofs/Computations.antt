@@ -9,8 +9,9 @@ use Rattle.ci_machine.specs.Outcomes.{Reached, continued, at_start}
 use Rattle.ci_machine.specs.Actions.{Units, act, acted, accessed}
 use Rattle.ci_machine.specs.Agreement.{reads, writes, is_access, act_all, AgreeOn, AreRelated, AreActions, AreApart, AllLeaveText, needed, written}
 use Rattle.ci_machine.proofs.Effects.{keeps}
-use Rattle.ci_machine.proofs.Exchange.{by_test, by_end, excluded, store_accesses}
-use Rattle.ci_machine.proofs.Blocks.{goes_on, has_ended, list_frame, act_all-append, AreRelated-same, none_first, none_rest, no_text}
+use Rattle.ci_machine.proofs.Tests.{by_test, by_end, excluded, neither_first, neither_second}
+use Rattle.ci_machine.proofs.Exchange.{store_accesses}
+use Rattle.ci_machine.proofs.Blocks.{goes_on, has_ended, list_frame, act_all-append, AreRelated-same, no_text}
 
 -- ---- what a list keeps
 
@@ -27,10 +28,10 @@ keeps_all : (units : Units) (insns : List Insn) (run : Reached Core) → run.end
 keeps_all units [] run on none = record { registers = λ r other. refl; memory = refl; heap_end = refl; input = refl; output = refl; on = on }
 keeps_all units (insn ∷ insns) run on none =
     let first = keeps units insn run.state in
-    let none_here : is_access insn ≡ false = none_first (is_access insn) _ none in
-    let rest = keeps_all units insns (acted units insn run.state) (first.goes_on none_here) (none_rest (is_access insn) _ none) in
+    let none_here : is_access insn ≡ false = neither_first (is_access insn) _ none in
+    let rest = keeps_all units insns (acted units insn run.state) (first.goes_on none_here) (neither_second (is_access insn) _ none) in
     rw (goes_on units insn run on) (record {
-      registers = λ r other. rest.registers r (none_rest (writes insn r) _ other) ∙ first.registers r (none_first (writes insn r) _ other);
+      registers = λ r other. rest.registers r (neither_second (writes insn r) _ other) ∙ first.registers r (neither_first (writes insn r) _ other);
       memory = rest.memory ∙ first.memory (store_accesses insn none_here);
       heap_end = rest.heap_end ∙ first.heap_end;
       input = rest.input ∙ first.input;

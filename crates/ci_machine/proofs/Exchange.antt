@@ -1,7 +1,7 @@
 -- Instructions that depend on nothing of each other change places, cores that agree go on to cores that agree, and a
 -- write that no one reads changes nothing.
-use Rattle.std.proofs.Common.{◌≡◌, ℕ, refl, ap, sym, ◌∙◌, arith, List, [], ◌∷◌, Option, Some, None}
-use Rattle.std.specs.Prelude.{Bool, true, false, ◌&&◌, ◌||◌}
+use Rattle.std.proofs.Common.{◌≡◌, ℕ, refl, ap, sym, ◌∙◌, List, [], ◌∷◌, Option, Some, None}
+use Rattle.std.specs.Prelude.{Bool, true, false, ◌||◌}
 use Rattle.std.specs.List.{list_any}
 use Rattle.ci_isa.specs.declared.instruction.Insn.{Insn}
 use Rattle.ci_isa.specs.declared.instruction.Insn.TheVariants.{Load, Store}
@@ -11,26 +11,8 @@ use Rattle.ci_machine.specs.Cores.{Core}
 use Rattle.ci_machine.specs.Outcomes.{Reached}
 use Rattle.ci_machine.specs.Actions.{Units, acted, accessed}
 use Rattle.ci_machine.specs.Agreement.{reads, writes, is_access, act_all, AgreeOutside, AgreeOn, AreRelated, AreIndependent, LeavesText}
+use Rattle.ci_machine.proofs.Tests.{by_test, by_end, excluded, not_both, swapped, neither_first, neither_second, either_first}
 use Rattle.ci_machine.proofs.Effects.{keeps, AgreeAt, AreAlike, alike, is_store}
-
--- ---- tests
-
-pub excluded : (p q : Bool) → (p ≡ true → q ≡ false) → q ≡ true → p ≡ false
-excluded p q none is = grind arith
-
-not_both : (p q : Bool) → (p && q) ≡ false → q ≡ true → p ≡ false
-not_both p q none is = grind arith
-
-swapped : (p q : Bool) → (p && q) ≡ false → (q && p) ≡ false
-swapped p q none = grind arith
-
-pub by_test : {A : Type 0} (b : Bool) → (b ≡ true → A) → (b ≡ false → A) → A
-by_test true holds fails = holds refl
-by_test false holds fails = fails refl
-
-pub by_end : {A : Type 0} (end : Option End) → (end ≡ None → A) → ((e : End) → end ≡ Some e → A) → A
-by_end None none some = none refl
-by_end (Some e) none some = some e refl
 
 -- ---- which memory an instruction needs
 
@@ -51,13 +33,7 @@ none_moved insn core left right none = tt
 outside_text : (text : ℕ → Bool) (addresses : List ℕ) (left right : ℕ → Option ℕ) → ((a : ℕ) → text a ≡ false → left a ≡ right a) → list_any text addresses ≡ false → AgreeAt addresses left right
 outside_text text [] left right same clear = tt
 outside_text text (address ∷ more) left right same clear =
-    (same address (first_clear (text address) _ clear), outside_text text more left right same (rest_clear (text address) _ clear))
-  where
-    first_clear : (p q : Bool) → (p || q) ≡ false → p ≡ false
-    first_clear p q none = grind arith
-
-    rest_clear : (p q : Bool) → (p || q) ≡ false → q ≡ false
-    rest_clear p q none = grind arith
+    (same address (neither_first (text address) _ clear), outside_text text more left right same (neither_second (text address) _ clear))
 
 -- ---- exchange
 
@@ -192,11 +168,8 @@ module _ (text set : ℕ → Bool) (units : Units) (left right : Core) (outside 
         };
         registers = λ on r is. by_test (writes insn r)
             (λ written. same.written on r written)
-            (λ none. kept_left.registers r none ∙ agree r (from_set (set r) (writes insn r) is none) ∙ sym (kept_right.registers r none));
+            (λ none. kept_left.registers r none ∙ agree r (either_first (set r) (writes insn r) is none) ∙ sym (kept_right.registers r none));
       }
-    where
-      from_set : (p q : Bool) → (p || q) ≡ true → q ≡ false → p ≡ true
-      from_set p q is none = grind arith
 
   -- the right core has not acted
   pub dead_write : (insn : Insn) → is_access insn ≡ false → ((r : ℕ) → writes insn r ≡ true → set r ≡ false)

@@ -1,3 +1,4 @@
+pub mod Tests
 pub mod RegisterLaws
 pub mod Effects
 pub mod Exchange

@@ -157,6 +157,7 @@ unknown_call = refl
 -- ---- a run
 
 plain : Meaning
+unfolding jump_row branch_row load_row store_row immediate_row shift_row constant_row operation_row fence_row environment_row plain_row
 plain = record { insn = λ word. unwrap_or (plain_row word) (Illegal word); units = units }
 
 -- addi x10, x0, 7; addi x17, x0, 93; addi x0, x0, 0; ecall
@@ -175,12 +176,12 @@ latencies : Latencies
 latencies = record { of_class = λ _. 10; pad = 3; read = 1; of_unit = λ _. 1 }
 
 ends_by_exit : (after plain program 9 (opening program [])).end ≡ Some (ends.Exit 7)
-unfolding plain program units jump_row branch_row load_row store_row immediate_row shift_row constant_row operation_row fence_row environment_row plain_row
+unfolding plain program units
 ends_by_exit = refl
 
 -- ends by its fourth step, and costs 10 + 10 + 3 + 10
 run_accounts : (steps_made plain program 9 (opening program []) ≡ 4) × (cost plain program latencies 9 (opening program []) ≡ 33) × (entries plain program 9 (opening program []) 0x1008 ≡ 1)
-unfolding plain program units latencies count_below sum_below jump_row branch_row load_row store_row immediate_row shift_row constant_row operation_row fence_row environment_row plain_row
+unfolding plain program units latencies count_below sum_below
 run_accounts = (refl, refl, refl)
 
 -- ---- a program of thirty words, with calls through a table, loads of constants and a word of output
@@ -217,13 +218,13 @@ usual = record { of_class = by_class; pad = 0; read = 1; of_unit = λ _. 1 }
     by_class other = 1
 
 sample_ends : (after plain sample 61 (opening sample [])).end ≡ Some (ends.Exit 0)
-unfolding plain sample units jump_row branch_row load_row store_row immediate_row shift_row constant_row operation_row fence_row environment_row plain_row
+unfolding plain sample units
 sample_ends = refl
 
 sample_output : (after plain sample 61 (opening sample [])).state.core.output ≡ 0xe8 ∷ 0x1d ∷ 0x00 ∷ 0x00 ∷ []
-unfolding plain sample units jump_row branch_row load_row store_row immediate_row shift_row constant_row operation_row fence_row environment_row plain_row
+unfolding plain sample units
 sample_output = refl
 
 sample_cost : cost plain sample usual 61 (opening sample []) ≡ 75
-unfolding plain sample units usual sum_below jump_row branch_row load_row store_row immediate_row shift_row constant_row operation_row fence_row environment_row plain_row
+unfolding plain sample units usual sum_below
 sample_cost = refl

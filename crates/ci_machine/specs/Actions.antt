@@ -33,9 +33,8 @@ loaded core kind rd address None = Ended (Access address (load_width kind))
 -- a store's outcome: the bytes that stood there, if all are mapped
 abbrev pub stored : Core → Width → ℕ → ℕ → Option (List ℕ) → Outcome Core
 stored core width address value (Some _) =
-    Next (record core {
-      memory = with_bytes core.memory (addresses (width_bytes width) address) (bytes_of_number (width_bytes width) value);
-    })
+    let places = addresses (width_bytes width) address in
+    Next (record core { memory = with_bytes core.memory places (bytes_of_number (width_bytes width) value) })
 stored core width address value None = Ended (Access address width)
 
 -- The row of each instruction. Those that end a block have none here: what they do is control.

@@ -1,5 +1,5 @@
--- The environment calls. RISC-V Unprivileged ISA 20191213, section 2.8, leaves them to the environment; their numbers and
--- answers are those of Linux. The number is in x17, the arguments are in x10, x11 and x12, and x10 takes the answer.
+-- The environment calls. RISC-V Unprivileged ISA 20191213, section 2.8, leaves them to the environment; their numbers
+-- and answers are those of Linux. The number is in x17, the arguments are in x10, x11 and x12, and x10 takes the answer.
 use Rattle.std.specs.Prelude.{ℕ, ◌+◌, ◌-◌, ◌^◌, Bool, ◌==◌, ◌&&◌, ◌||◌, nat_le, min, if◌then◌else◌, List, [], ◌++◌, length, take, drop, Option, Some, None}
 use Rattle.ci_machine.specs.declared.ends.End.TheVariants as ends
 use Rattle.ci_machine.specs.Cores.{Core, register, with_register}
@@ -67,8 +67,8 @@ write_call core =
 
 -- ---- the heap
 
--- The heap may end there: not below its start nor above FFFF0000, with no byte of the stack in it, and with the segments
--- and the stack in 64 mebibytes.
+-- The heap may end there: not below its start nor above FFFF0000, with no byte of the stack in it, and with the
+-- segments and the stack in 64 mebibytes.
 abbrev pub may_end_at : Program → ℕ → Bool
 may_end_at program address =
     nat_le (heap_start program) address && nat_le address 0xffff0000

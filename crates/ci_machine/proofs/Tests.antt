@@ -1,0 +1,36 @@
+-- Facts on tests, and cases on a test and on an end.
+use Rattle.std.proofs.Common.{◌≡◌, refl, arith, Option, Some, None}
+use Rattle.std.specs.Prelude.{Bool, true, false, ◌&&◌, ◌||◌}
+use Rattle.ci_machine.specs.declared.ends.End.{End}
+
+pub by_test : {A : Type 0} (b : Bool) → (b ≡ true → A) → (b ≡ false → A) → A
+by_test true holds fails = holds refl
+by_test false holds fails = fails refl
+
+pub by_end : {A : Type 0} (end : Option End) → (end ≡ None → A) → ((e : End) → end ≡ Some e → A) → A
+by_end None none some = none refl
+by_end (Some e) none some = some e refl
+
+pub excluded : (p q : Bool) → (p ≡ true → q ≡ false) → q ≡ true → p ≡ false
+excluded p q none is = grind arith
+
+pub not_both : (p q : Bool) → (p && q) ≡ false → q ≡ true → p ≡ false
+not_both p q none is = grind arith
+
+pub swapped : (p q : Bool) → (p && q) ≡ false → (q && p) ≡ false
+swapped p q none = grind arith
+
+pub neither_first : (p q : Bool) → (p || q) ≡ false → p ≡ false
+neither_first p q none = grind arith
+
+pub neither_second : (p q : Bool) → (p || q) ≡ false → q ≡ false
+neither_second p q none = grind arith
+
+pub both_first : (p q : Bool) → (p && q) ≡ true → p ≡ true
+both_first p q both = grind arith
+
+pub both_second : (p q : Bool) → (p && q) ≡ true → q ≡ true
+both_second p q both = grind arith
+
+pub either_first : (p q : Bool) → (p || q) ≡ true → q ≡ false → p ≡ true
+either_first p q is none = grind arith
