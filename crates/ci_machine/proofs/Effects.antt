@@ -134,7 +134,7 @@ pub same_bytes : (addresses : List ℕ) (left right : ℕ → Option ℕ) → Ag
 same_bytes [] left right agree = refl
 same_bytes (address ∷ more) left right (here, there) = λ i. joined (here i) (same_bytes more left right there i)
 
-same_stores : (addresses bytes : List ℕ) (left right : ℕ → Option ℕ) (a : ℕ) → left a ≡ right a → with_bytes left addresses bytes a ≡ with_bytes right addresses bytes a
+pub same_stores : (addresses bytes : List ℕ) (left right : ℕ → Option ℕ) (a : ℕ) → left a ≡ right a → with_bytes left addresses bytes a ≡ with_bytes right addresses bytes a
 same_stores [] bytes left right a same = same
 same_stores (address ∷ more) [] left right a same = same
 same_stores (address ∷ more) (byte ∷ bytes) left right a same = ap (λ rest. if a == address then Some byte else rest) (same_stores more bytes left right a same)
@@ -168,13 +168,13 @@ two_written : (left right : Core) (a b v w v' w' q : ℕ) → v ≡ v' → w ≡
     → register (with_register (with_register left a v) b w) q ≡ register (with_register (with_register right a v') b w') q
 two_written left right a b v w v' w' q first second is = grind (arith, nat_tests)
 
-first_there : (r : ℕ) (more : List ℕ) → list_any (λ n. n == r) (r ∷ more) ≡ true
+pub first_there : (r : ℕ) (more : List ℕ) → list_any (λ n. n == r) (r ∷ more) ≡ true
 first_there r more = grind (arith, nat_tests)
 
-second_there : (a r : ℕ) (more : List ℕ) → list_any (λ n. n == r) (a ∷ r ∷ more) ≡ true
+pub second_there : (a r : ℕ) (more : List ℕ) → list_any (λ n. n == r) (a ∷ r ∷ more) ≡ true
 second_there a r more = grind (arith, nat_tests)
 
-third_there : (a b r : ℕ) (more : List ℕ) → list_any (λ n. n == r) (a ∷ b ∷ r ∷ more) ≡ true
+pub third_there : (a b r : ℕ) (more : List ℕ) → list_any (λ n. n == r) (a ∷ b ∷ r ∷ more) ≡ true
 third_there a b r more = grind (arith, nat_tests)
 
 module _ (units : Units) (left right : Core) where

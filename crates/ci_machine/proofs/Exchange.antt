@@ -30,7 +30,7 @@ none_moved (Load kind rd rs1 offset) core left right none = cc
 none_moved (Store width rs1 rs2 offset) core left right none = cc
 none_moved insn core left right none = tt
 
-outside_text : (text : ℕ → Bool) (addresses : List ℕ) (left right : ℕ → Option ℕ) → ((a : ℕ) → text a ≡ false → left a ≡ right a) → list_any text addresses ≡ false → AgreeAt addresses left right
+pub outside_text : (text : ℕ → Bool) (addresses : List ℕ) (left right : ℕ → Option ℕ) → ((a : ℕ) → text a ≡ false → left a ≡ right a) → list_any text addresses ≡ false → AgreeAt addresses left right
 outside_text text [] left right same clear = tt
 outside_text text (address ∷ more) left right same clear =
     (same address (neither_first (text address) _ clear), outside_text text more left right same (neither_second (text address) _ clear))

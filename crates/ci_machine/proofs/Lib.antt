@@ -7,4 +7,5 @@ pub mod Meanings
 pub mod RunLaws
 pub mod BlockSteps
 pub mod Computations
+pub mod ControlFrame
 pub mod Rows

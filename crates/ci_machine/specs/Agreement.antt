@@ -90,7 +90,7 @@ needed (insn ∷ insns) set r = reads insn r || (needed insns set r && not (writ
 abbrev pub written : List Insn → ℕ → Bool
 written insns r = list_any (λ insn. writes insn r) insns
 
--- Two lists of instructions without loads and stores. Neither needs what the other writes, and a register of the set is not
+-- Two lists of instructions without loads and stores. Neither needs what the other writes, and no register of the set is
 -- written by both.
 pub record AreApart (set : ℕ → Bool) (first second : List Insn) : Type 0 where
   pub first_into_second : (r : ℕ) → written first r ≡ true → needed second (λ _. false) r ≡ false

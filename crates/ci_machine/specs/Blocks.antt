@@ -1,11 +1,12 @@
--- Lists of instructions that stand in the text, and the steps of a run through them.
-use Rattle.std.specs.Prelude.{◌≡◌, ℕ, true, List, [], ◌∷◌, Option, Some, None, ⊤}
+-- Lists of instructions that stand in the text, the steps of a run through them, and states that agree.
+use Rattle.std.specs.Prelude.{◌≡◌, ℕ, Bool, true, is_some, List, [], ◌∷◌, Option, Some, None, ⊤}
 use Rattle.std.specs.List.{list_all}
 use Rattle.ci_isa.specs.declared.instruction.Insn.{Insn}
 use Rattle.ci_machine.specs.Cores.{Core}
 use Rattle.ci_machine.specs.Accesses.{addresses}
 use Rattle.ci_machine.specs.Outcomes.{Reached}
-use Rattle.ci_machine.specs.Programs.{Program, State, in_text}
+use Rattle.ci_machine.specs.Programs.{Program, State, in_text, heap_start, loaded_size}
+use Rattle.ci_machine.specs.Agreement.{AreRelated}
 use Rattle.ci_machine.specs.Steps.{Meaning, insn_in, following}
 
 -- The instructions stand one behind the other from an address on, each in four bytes of text.
@@ -29,3 +30,23 @@ pub record IsRunOf (insns : List Insn) (address : ℕ) (steps : Reached State) (
   pub core : steps.state.core ≡ actions.state
   pub end : steps.end ≡ actions.end
   pub pc : actions.end ≡ None → steps.state.pc ≡ behind insns address
+
+-- ---- states that agree
+
+-- what is compared of a run of steps, but for the pc
+abbrev pub cores : Reached State → Reached Core
+cores run = record { state = run.state.core; end = run.end }
+
+-- the cores are related, and so is the pc where the runs go on
+pub record AreRelatedAt (text set : ℕ → Bool) (left right : Reached State) : Type 0 where
+  pub pc : left.end ≡ None → left.state.pc ≡ right.state.pc
+  pub related : AreRelated text set (cores left) (cores right)
+
+-- the heaps begin at one address and may grow as far
+pub record HaveSameLayout (left right : Program) : Type 0 where
+  pub start : heap_start left ≡ heap_start right
+  pub size : loaded_size left.segments ≡ loaded_size right.segments
+
+-- all bytes of the text are mapped
+abbrev pub IsMapped : (ℕ → Bool) → (ℕ → Option ℕ) → Type 0
+IsMapped text memory = (address : ℕ) → text address ≡ true → is_some (memory address) ≡ true

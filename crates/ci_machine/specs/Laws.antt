@@ -4,13 +4,14 @@ use Rattle.std.specs.FinSet as set
 use Rattle.ci_isa.specs.declared.instruction.Insn.{Insn}
 use Rattle.ci_isa.specs.Effects.{ends_block, registers_read, registers_written}
 use Rattle.ci_machine.specs.Cores.{Core}
-use Rattle.ci_machine.specs.Outcomes.{at_start, Reached}
+use Rattle.std.specs.List.{list_any}
+use Rattle.ci_machine.specs.Outcomes.{at_start, reached, Reached}
 use Rattle.ci_machine.specs.Actions.{Units, acted}
 use Rattle.ci_machine.specs.Agreement.{reads, writes, is_access, act_all, AgreeOutside, AgreeOn, AreRelated, AreIndependent, LeavesText, AreActions, AreApart, AllLeaveText, needed}
-use Rattle.ci_machine.specs.Programs.{Program, State, in_text}
-use Rattle.ci_machine.specs.Steps.{Meaning, IsPlain}
+use Rattle.ci_machine.specs.Programs.{Program, State, at_pc, in_text}
+use Rattle.ci_machine.specs.Steps.{Meaning, IsPlain, control, moved}
 use Rattle.ci_machine.specs.Runs.{after}
-use Rattle.ci_machine.specs.Blocks.{StandAt, HaveSameText, IsRunOf}
+use Rattle.ci_machine.specs.Blocks.{StandAt, HaveSameText, IsRunOf, AreRelatedAt, HaveSameLayout, IsMapped}
 
 -- everything is compared: all registers, and memory at each address
 abbrev pub AreEqual : Reached Core → Reached Core → Type 0
@@ -33,6 +34,18 @@ DeadWrite =
     → (insn : Insn) → is_access insn ≡ false → ((r : ℕ) → writes insn r ≡ true → set r ≡ false)
     → AreRelated text set (acted units insn left) (at_start right)
 
+-- The same for an instruction that ends a block, in two programs of one layout.
+abbrev pub ControlFrame : Type 0
+ControlFrame =
+    (text set : ℕ → Bool) (old new : Program) → HaveSameLayout old new
+    → (left right : Core) → IsMapped text left.memory → IsMapped text right.memory
+    → AgreeOutside text left right → AgreeOn set left right
+    → (insn : Insn) (pc : ℕ) → ends_block insn ≡ true → ((r : ℕ) → reads insn r ≡ true → set r ≡ true)
+    → list_any text (moved insn left) ≡ false
+    → AreRelatedAt text (λ r. set r || writes insn r)
+    (reached (at_pc pc left) (control old insn pc left))
+    (reached (at_pc pc right) (control new insn pc right))
+
 -- ---- lists of instructions
 
 -- Two neighbours that are independent may change places, anywhere in a list.
@@ -44,8 +57,8 @@ Exchange =
     (act_all units (before ++ first ∷ second ∷ after) run)
     (act_all units (before ++ second ∷ first ∷ after) run)
 
--- Two lists of computations change places, as a unit word and its `cread` together do. Registers that both of them write
--- may differ behind them, where these are not needed.
+-- Two lists of computations change places, as a unit word and its `cread` together do. Registers that both of them
+-- write may differ behind them, where these are not needed.
 abbrev pub ListExchange : Type 0
 ListExchange =
     (units : Units) (set : ℕ → Bool) (before first second after : List Insn) (run : Reached Core)
@@ -77,8 +90,8 @@ EndsStay =
     → ¬ ((after meaning program m state).end ≡ None)
     → after meaning program (m + n) state ≡ after meaning program m state
 
--- Steps through actions that stand in the text do what the list does, as long as it leaves the text alone. The memory in
--- which the actions stand is that of another moment, with the same text.
+-- Steps through actions that stand in the text do what the list does, as long as it leaves the text alone. The memory
+-- in which the actions stand may be that of another moment, with the same text.
 abbrev pub BlockSteps : Type 0
 BlockSteps =
     (meaning : Meaning) (program : Program) (memory : ℕ → Option ℕ) (insns : List Insn) (state : State)

@@ -63,6 +63,9 @@ pub record State : Type 0 where
   pub pc : ℕ
   pub core : Core
 
+abbrev pub at_pc : ℕ → Core → State
+at_pc pc core = record { pc = pc; core = core }
+
 -- the state in which a run on this input opens
 abbrev pub opening : Program → List ℕ → State
 opening program input = record {

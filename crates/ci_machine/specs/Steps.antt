@@ -15,7 +15,7 @@ use Rattle.ci_machine.specs.Cores.{Core, register, with_register}
 use Rattle.ci_machine.specs.Accesses.{addresses, number_of_bytes, bytes_at}
 use Rattle.ci_machine.specs.Outcomes.{Outcome, Next, Ended}
 use Rattle.ci_machine.specs.Actions.{Units, act, accessed, address_from}
-use Rattle.ci_machine.specs.Programs.{Program, State, in_text}
+use Rattle.ci_machine.specs.Programs.{Program, State, at_pc, in_text}
 use Rattle.ci_machine.specs.Calls.{call, moved_by_call}
 
 -- What a machine knows beside its program: what each word stands for, and what units give.
@@ -48,12 +48,11 @@ following pc = (pc + 4) % 2 ^ 32
 
 -- on at the next instruction
 abbrev pub onward : ℕ → Core → Outcome State
-onward pc core = Next (record { pc = following pc; core = core })
+onward pc core = Next (at_pc (following pc) core)
 
 -- on at a target, which must be a multiple of four
 abbrev pub directed : ℕ → Core → Outcome State
-directed target core =
-    if target % 4 == 0 then Next (record { pc = target; core = core }) else Ended (ends.Misaligned target)
+directed target core = if target % 4 == 0 then Next (at_pc target core) else Ended (ends.Misaligned target)
 
 abbrev pub is_taken : Cond → ℕ → ℕ → Bool
 is_taken Eq a b = a == b

@@ -1,10 +1,15 @@
 //! What holds of all instructions, lists of instructions and runs.
-ghost use Rattle.ci_machine.specs.Laws.{Frame, DeadWrite, Exchange, ListExchange, ListFrame, RunsJoin, EndsStay, BlockSteps};
+ghost use Rattle.ci_machine.specs.Laws.{Frame, ControlFrame, DeadWrite, Exchange, ListExchange, ListFrame, RunsJoin, EndsStay, BlockSteps};
 ghost use Rattle.ci_machine.specs.Laws.{PlainExists, PlainIsOne, RegistersRead, RegistersWritten};
 
 /// What an instruction does depends on the registers that it reads and the bytes that it moves, and on nothing else.
 pub fn frame()
     ensures { Frame }
+{}
+
+/// The same for the instructions that end a block.
+pub fn control_frame()
+    ensures { ControlFrame }
 {}
 
 /// A write that nobody reads may be left out.
