@@ -83,6 +83,7 @@ module _ (meaning : Meaning) (program : Program) where
     pub first : LeavesTextFor place state
 
   -- The run is tame for n steps: none touches the text, and each JALR that leads to text leads to a listed address.
+  -- No more is asked of a step at the last word of a range of text: its next address is listed, or is no text.
   pub record IsTame (is_listed : ℕ → Bool) (n : ℕ) (state : State) : Type 0 where
     pub leaves_text : LeavesTextFor n state
     pub listed : (i target : ℕ) → i < n → is_made state i ≡ true → jalr_target (before_step state i) ≡ Some target
