@@ -14,22 +14,22 @@ use Rattle.ci_find.specs.Success.{Success}
 use Rattle.ci_find.proofs.Dues.{IsDue-same}
 use Rattle.ci_find.proofs.Sinks.{Rises-earlier}
 
-module _ (may_fail : List ℕ → Bool) (words : List (List ℕ)) (change : Change) where
+module _ (words : List (List ℕ)) (change : Change) where
   -- a call ends so at a status that is this one
-  Ends-at : (status other : ℕ) → status ≡ other → Ends may_fail words change other → Ends may_fail words change status
-  Ends-at status other e ends = subst (Ends may_fail words change) (sym e) ends
+  Ends-at : (status other : ℕ) → status ≡ other → Ends words change other → Ends words change status
+  Ends-at status other e ends = subst (Ends words change) (sym e) ends
 
   -- the fault line that was put is this one
   put-at : (text other : List ℕ) → text ≡ other → IsPut change.sink_before change.sink_after text → IsPut change.sink_before change.sink_after other
   put-at text other e put = subst (IsPut change.sink_before change.sink_after) e put
 
   -- where memory ran out before any write
-  Ends-no_memory : (refusal : Refusal) → refusal ≡ NoMemory → IsUnwritten change → IsPut change.sink_before change.sink_after (line_of refusal) → Ends may_fail words change (status_of refusal)
+  Ends-no_memory : (refusal : Refusal) → refusal ≡ NoMemory → IsUnwritten change → IsPut change.sink_before change.sink_after (line_of refusal) → Ends words change (status_of refusal)
   Ends-no_memory refusal is unwritten put =
       Ends-at (status_of refusal) 12 (ap status_of is) (no_memory unwritten (put-at (line_of refusal) no_memory_line (ap line_of is) put))
 
   -- with the line of a refusal
-  Ends-explained : (refusal : Refusal) → Explains (reads_between may_fail change.shelf_before change.shelf_after) words refusal → IsUnwritten change → IsPut change.sink_before change.sink_after (line_of refusal) → Ends may_fail words change (status_of refusal)
+  Ends-explained : (refusal : Refusal) → Explains (reads_between change.read_may_fail change.shelf_before change.shelf_after) words refusal → IsUnwritten change → IsPut change.sink_before change.sink_after (line_of refusal) → Ends words change (status_of refusal)
   Ends-explained refusal (inl (none, is)) unwritten put =
       Ends-at (status_of refusal) 1 (ap status_of is) (refused (usage none) unwritten (put-at (line_of refusal) usage_line (ap line_of is) put))
   Ends-explained refusal (inr (inl (reading, reads, inl (inl is)))) unwritten put = refused (file reading reads is) unwritten put
@@ -40,7 +40,7 @@ module _ (may_fail : List ℕ → Bool) (words : List (List ℕ)) (change : Chan
   Ends-explained refusal (inr (inr is)) unwritten put = Ends-no_memory refusal is unwritten put
 
   -- with a refusal, once its line was put or memory for it ran out
-  pub Ends-refused : (status : ℕ) (refusal : Refusal) → Explains (reads_between may_fail change.shelf_before change.shelf_after) words refusal → IsUnwritten change → IsRefused refusal status change.sink_before change.sink_after → Ends may_fail words change status
+  pub Ends-refused : (status : ℕ) (refusal : Refusal) → Explains (reads_between change.read_may_fail change.shelf_before change.shelf_after) words refusal → IsUnwritten change → IsRefused refusal status change.sink_before change.sink_after → Ends words change status
   Ends-refused status refusal explained unwritten (inl line) =
       Ends-at status (status_of refusal) line.0 (Ends-explained refusal explained unwritten line.1)
   Ends-refused status refusal explained unwritten (inr none) = Ends-at status 12 none.0 (no_memory unwritten none.1)
@@ -52,16 +52,16 @@ finished-answers : (words : List (List ℕ)) (change : Change) (success : Succes
 finished-answers words change success due status zero (done written took) = inl (sym zero)
 finished-answers words change success due status zero (write_fault fault) = inr (inr (inr (refl, zero, inl fault.counted)))
 finished-answers words change success due status zero (put_fault fault) =
-    inr (inr (inr (refl, zero, inr (Rises-earlier _ _ _ fault.never_falls fault.counted fault.line.never_falls))))
+    inr (inr (inr (refl, zero, inr (Rises-earlier _ _ _ fault.never_falls.faults fault.counted fault.line.never_falls.faults))))
 finished-answers words change success due status zero (no_memory_in_write fault) = inr (inl refl)
 finished-answers words change success due status zero (no_memory_in_put fault) = inr (inl refl)
 
-module _ (may_fail : List ℕ → Bool) (held : Files) (words : List (List ℕ)) (change : Change) (tells : change.shelf_before.files ≡ Some held) where
+module _ (held : Files) (words : List (List ℕ)) (change : Change) (tells : change.shelf_before.files ≡ Some held) where
   -- what is due over the files of the shelf is due over those that it tells
   due_told : (status : ℕ) → IsDue change.shelf_before.files words status → IsDue (Some held) words status
   due_told status is = subst (λ (told : Option Files). IsDue told words status) tells is
 
-  Answers-end : (due status : ℕ) → IsDue (Some held) words due → Ends may_fail words change status → IsAnswered change due status
+  Answers-end : (due status : ℕ) → IsDue (Some held) words due → Ends words change status → IsAnswered change due status
   Answers-end due status is (finished {success = success} made finishes) =
       finished-answers words change success due status (IsDue-same held words due 0 is (due_told 0 (inl (refl, (success, made))))) finishes
   Answers-end due status is (refused {text = text} refusal unwritten put) =
@@ -70,9 +70,9 @@ module _ (may_fail : List ℕ → Bool) (held : Files) (words : List (List ℕ))
   Answers-end due status is (no_memory unwritten put) = inr (inl refl)
 
 -- what is due over the files told comes
-pub Answers-due : (may_fail : List ℕ → Bool) (words : List (List ℕ)) (change : Change) (status : ℕ) → Ends may_fail words change status → (told : Option Files) → change.shelf_before.files ≡ told → IfSome told (λ held. (due : ℕ) → IsDue (Some held) words due → IsAnswered change due status)
-Answers-due may_fail words change status ends None tells = tt
-Answers-due may_fail words change status ends (Some held) tells = λ due is. Answers-end may_fail held words change tells due status is ends
+pub Answers-due : (words : List (List ℕ)) (change : Change) (status : ℕ) → Ends words change status → (told : Option Files) → change.shelf_before.files ≡ told → IfSome told (λ held. (due : ℕ) → IsDue (Some held) words due → IsAnswered change due status)
+Answers-due words change status ends None tells = tt
+Answers-due words change status ends (Some held) tells = λ due is. Answers-end held words change tells due status is ends
 
 -- ---- the statuses
 
@@ -112,8 +112,8 @@ Finishes-status change success status (no_memory_in_write fault) = (6, lit< tt, 
 Finishes-status change success status (no_memory_in_put fault) = (6, lit< tt, refl)
 
 -- a call ends with one of them
-pub Ends-status : (may_fail : List ℕ → Bool) (words : List (List ℕ)) (change : Change) (status : ℕ) → Ends may_fail words change status → Contains statuses status
-Ends-status may_fail words change status (finished {success = success} {status = s} made finishes) = Finishes-status change success s finishes
-Ends-status may_fail words change status (refused {status = s} {text = t} is unwritten put) = IsRefusal-status change.shelf_before.files words s t is
-Ends-status may_fail words change status (read_fault reading name reads named may rose unwritten put) = (2, lit< tt, refl)
-Ends-status may_fail words change status (no_memory unwritten put) = (6, lit< tt, refl)
+pub Ends-status : (words : List (List ℕ)) (change : Change) (status : ℕ) → Ends words change status → Contains statuses status
+Ends-status words change status (finished {success = success} {status = s} made finishes) = Finishes-status change success s finishes
+Ends-status words change status (refused {status = s} {text = t} is unwritten put) = IsRefusal-status change.shelf_before.files words s t is
+Ends-status words change status (read_fault reading name reads named may rose unwritten put) = (2, lit< tt, refl)
+Ends-status words change status (no_memory unwritten put) = (6, lit< tt, refl)

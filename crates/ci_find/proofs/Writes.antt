@@ -64,11 +64,11 @@ pub Finishes-put : (change : Change) (success : Success) (status : ℕ) → HasW
 Finishes-put change success status written (taken took) = done written took
 Finishes-put change success status written (fault some between never_falls counted front line) =
     put_fault (record { written = written; has_text = some; between = between; never_falls = never_falls; counted = counted; front = front; line = line })
-Finishes-put change success status written (no_memory some between counted none line) =
-    no_memory_in_put (record { written = written; has_text = some; between = between; counted = counted; nothing_taken = none; line = line })
+Finishes-put change success status written (no_memory some between never_falls counted none line) =
+    no_memory_in_put (record { written = written; has_text = some; between = between; never_falls = never_falls; counted = counted; nothing_taken = none; line = line })
 
 -- the write of one of the files failed, and its fault line was put
-pub Finishes-unwritten : (change : Change) (success : Success) (line : String Global) (text : List ℕ) (status : ℕ) → AreUnwritten success.writes change.shelf_before change.shelf_after (Fault line) → text ≡ string_bytes line → status ≡ 3 → IsPut change.sink_before change.sink_after text → Finishes change success status
+pub Finishes-unwritten : (change : Change) (success : Success) (line : String Global) (text : List ℕ) (status : ℕ) → AreUnwritten change.write_may_fail success.writes change.shelf_before change.shelf_after (Fault line) → text ≡ string_bytes line → status ≡ 3 → IsPut change.sink_before change.sink_after text → Finishes change success status
 Finishes-unwritten change success line text status unwritten same three put =
     let failed = unwritten.unwritten in
     subst (Finishes change success) (sym three) (write_fault (record {
@@ -78,12 +78,13 @@ Finishes-unwritten change success line text status unwritten same three put =
       in_order = unwritten.in_order;
       content = failed.0;
       files = in_two change.shelf_before.files unwritten.between.files change.shelf_after.files (with_files unwritten.front) (with_file unwritten.failed.name failed.0) unwritten.front_written failed.1;
-      counted = Rises-later _ _ _ unwritten.never_falls failed.2;
-      line = subst (IsPut change.sink_before change.sink_after) (same ∙ failed.3) put;
+      may_fail = failed.2;
+      counted = Rises-later _ _ _ unwritten.never_falls failed.3;
+      line = subst (IsPut change.sink_before change.sink_after) (same ∙ failed.4) put;
     }))
 
 -- memory ran out for the write of one of the files
-pub Finishes-no_memory : (change : Change) (success : Success) (status : ℕ) → AreUnwritten success.writes change.shelf_before change.shelf_after NoMemory → status ≡ 12 → IsPut change.sink_before change.sink_after no_memory_line → Finishes change success status
+pub Finishes-no_memory : (change : Change) (success : Success) (status : ℕ) → AreUnwritten change.write_may_fail success.writes change.shelf_before change.shelf_after NoMemory → status ≡ 12 → IsPut change.sink_before change.sink_after no_memory_line → Finishes change success status
 Finishes-no_memory change success status unwritten twelve put =
     subst (Finishes change success) (sym twelve) (no_memory_in_write (record {
       front = unwritten.front;
@@ -119,6 +120,7 @@ module _ (change : Change) (before : ShelfState) (same_files : change.shelf_befo
     in_order = failed.in_order;
     content = failed.content;
     files = failed.files ∙ ap (option_map (λ held. with_file failed.failed.name failed.content (with_files failed.front held))) same_files;
+    may_fail = failed.may_fail;
     counted = subst (λ n. Rises n change.shelf_after.write_faults) same_count failed.counted;
     line = failed.line;
   })
@@ -143,6 +145,7 @@ module _ (change : Change) (before : ShelfState) (same_files : change.shelf_befo
     written = HasWritten-earlier success.writes failed.written;
     has_text = failed.has_text;
     between = failed.between;
+    never_falls = failed.never_falls;
     counted = failed.counted;
     nothing_taken = failed.nothing_taken;
     line = failed.line;

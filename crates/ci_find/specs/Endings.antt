@@ -35,16 +35,22 @@ module _ (told : Option Files) (words : List (List ℕ)) where
 
 -- ---- what a call changes
 
--- the shelf and the sink, before a call and after it
+-- the shelf and the sink, before a call and after it, and of which names a read and a write may fail
 pub record Change : Type 0 where
+  pub read_may_fail : List ℕ → Bool
+  pub write_may_fail : List ℕ → Bool
   pub shelf_before : ShelfState
   pub shelf_after : ShelfState
   pub sink_before : SinkState
   pub sink_after : SinkState
 
-abbrev pub changed : ShelfState → ShelfState → SinkState → SinkState → Change
-changed shelf_before shelf_after sink_before sink_after =
+abbrev pub changed :
+    (read_may_fail write_may_fail : List ℕ → Bool) (shelf_before shelf_after : ShelfState)
+    (sink_before sink_after : SinkState) → Change
+changed read_may_fail write_may_fail shelf_before shelf_after sink_before sink_after =
     record {
+      read_may_fail = read_may_fail;
+      write_may_fail = write_may_fail;
       shelf_before = shelf_before;
       shelf_after = shelf_after;
       sink_before = sink_before;
@@ -55,10 +61,15 @@ changed shelf_before shelf_after sink_before sink_after =
 abbrev pub Takes : SinkState → SinkState → List ℕ → Type 0
 Takes before after text = after.taken ≡ option_map (λ taken. taken ++ text) before.taken
 
+-- no count of the sink fell
+pub record NeverFalls (before after : SinkState) : Type 0 where
+  pub faults : before.faults ≤ after.faults
+  pub memory_faults : before.memory_faults ≤ after.memory_faults
+
 -- A put of the text was made. It was taken; or the put failed, and a front was taken; or it ran out of memory, and
 -- nothing was.
 pub record IsPut (before after : SinkState) (text : List ℕ) : Type 0 where
-  pub never_falls : before.faults ≤ after.faults
+  pub never_falls : NeverFalls before after
   pub outcome :
       Takes before after text
       ⊎ (Rises before.faults after.faults × ((n : ℕ) × Takes before after (take n text)))
@@ -88,6 +99,7 @@ pub record IsWriteFault (change : Change) (writes : List Written) : Type 0 where
   pub content : Option (List ℕ)
   pub files : change.shelf_after.files
       ≡ option_map (λ held. with_file failed.name content (with_files front held)) change.shelf_before.files
+  pub may_fail : IsTrue (change.write_may_fail failed.name)
   pub counted : Rises change.shelf_before.write_faults change.shelf_after.write_faults
   pub line : IsPut change.sink_before change.sink_after (write_fault_line failed.name)
 
@@ -97,7 +109,7 @@ pub record IsPutFault (change : Change) (success : Success) : Type 0 where
   pub written : HasWritten change success.writes
   pub has_text : success.text ≢ []
   pub between : SinkState
-  pub never_falls : change.sink_before.faults ≤ between.faults
+  pub never_falls : NeverFalls change.sink_before between
   pub counted : Rises change.sink_before.faults between.faults
   pub front : (n : ℕ) × Takes change.sink_before between (take n success.text)
   pub line : IsPut between change.sink_after (write_fault_line sink_name)
@@ -116,6 +128,7 @@ pub record IsMemoryFaultInPut (change : Change) (success : Success) : Type 0 whe
   pub written : HasWritten change success.writes
   pub has_text : success.text ≢ []
   pub between : SinkState
+  pub never_falls : NeverFalls change.sink_before between
   pub counted : Rises change.sink_before.memory_faults between.memory_faults
   pub nothing_taken : between.taken ≡ change.sink_before.taken
   pub line : IsPut between change.sink_after no_memory_line
@@ -134,22 +147,22 @@ pub data Finishes (change : Change) (success : Success) : ℕ → Type 0 where
 
 -- How a call ends, by its status: with the success or the refusal that is due, with a read that failed, or out of
 -- memory before any write. A fault line is the last that the sink takes, and before it comes at most the front of the
--- text of success that a failed put left. `read_may_fail` tells of which names a read may fail.
-pub data Ends (read_may_fail : List ℕ → Bool) (words : List (List ℕ)) (change : Change) : ℕ → Type 0 where
+-- text of success that a failed put left.
+pub data Ends (words : List (List ℕ)) (change : Change) : ℕ → Type 0 where
   finished :
       {success : Success} {status : ℕ} → IsDone change.shelf_before.files words success →
       Finishes change success status →
-      Ends read_may_fail words change status
+      Ends words change status
   refused :
       {status : ℕ} {text : List ℕ} → IsRefusal change.shelf_before.files words status text → IsUnwritten change →
-      IsPut change.sink_before change.sink_after text → Ends read_may_fail words change status
+      IsPut change.sink_before change.sink_after text → Ends words change status
   read_fault :
       (reading : Reading) (name : List ℕ) → ReadsAs words reading →
-      IsDueName change.shelf_before.files (inputs_of reading) name → IsTrue (read_may_fail name) →
+      IsDueName change.shelf_before.files (inputs_of reading) name → IsTrue (change.read_may_fail name) →
       Rises change.shelf_before.read_faults change.shelf_after.read_faults → IsUnwritten change →
-      IsPut change.sink_before change.sink_after (read_fault_line name) → Ends read_may_fail words change 2
+      IsPut change.sink_before change.sink_after (read_fault_line name) → Ends words change 2
   no_memory :
-      IsUnwritten change → IsPut change.sink_before change.sink_after no_memory_line → Ends read_may_fail words change 12
+      IsUnwritten change → IsPut change.sink_before change.sink_after no_memory_line → Ends words change 12
 
 -- The status that is due comes, unless memory runs out, or a read fails, or a write or a put of success does.
 abbrev pub IsAnswered : Change → ℕ → ℕ → Type 0

@@ -38,7 +38,7 @@ pub fn finish<F: Shelf, O: Sink>(
     shelf: &mut F,
     out: &mut O,
 ) -> u8
-    ensures finished { Finishes (changed (F.state shelf.old) (F.state shelf.new) (O.state out.old) (O.state out.new))
+    ensures finished { Finishes (changed F.read_may_fail F.write_may_fail (F.state shelf.old) (F.state shelf.new) (O.state out.old) (O.state out.new))
         (success_of success.now) result }
     ensures no_read { (F.state shelf.new).read_faults ≡ (F.state shelf.old).read_faults }
 {
@@ -59,7 +59,7 @@ fn write_files<F: Shelf>(
     ensures none { map written_of writes.now ≡ []
         → (F.state shelf.new).write_faults ≡ (F.state shelf.old).write_faults }
     ensures unwritten { IfErr result
-        (AreUnwritten (map written_of writes.now) (F.state shelf.old) (F.state shelf.new)) }
+        (AreUnwritten F.write_may_fail (map written_of writes.now) (F.state shelf.old) (F.state shelf.new)) }
     ensures no_read { (F.state shelf.new).read_faults ≡ (F.state shelf.old).read_faults }
 {
     for file in writes {
@@ -74,7 +74,7 @@ fn write_files<F: Shelf>(
 /// Writes the file. Its fault line is made before, so that memory doesn't run out after a failed write.
 fn write_file<F: Shelf>(alloc: Global, file: &Written<'_>, shelf: &mut F) -> Result<(), WriteErr>
     ensures written { OnOk result (AreWritten (F.state shelf.old) (F.state shelf.new) (written_of file.now ∷ [])) }
-    ensures unwritten { IfErr result (IsUnwrittenFile (written_of file.now) (F.state shelf.old) (F.state shelf.new)) }
+    ensures unwritten { IfErr result (IsUnwrittenFile F.write_may_fail (written_of file.now) (F.state shelf.old) (F.state shelf.new)) }
     ensures no_read { (F.state shelf.new).read_faults ≡ (F.state shelf.old).read_faults }
     ensures never_falls { (F.state shelf.old).write_faults ≤ (F.state shelf.new).write_faults }
 {

@@ -40,12 +40,14 @@ mod tests;
 /// - 13, `fault 13 asm KIND LINE COLUMN`: the file holds no assembler text. Where it isn't UTF-8 the numbers are 1 1 1.
 pub fn run<F: Shelf, O: Sink>(alloc: Global, words: &Vec<String>, shelf: &mut F, out: &mut O) -> u8
     // It ends as it has to, over the files that the shelf tells.
-    ensures ends { Ends F.read_may_fail (map string_bytes words.now.items)
-        (changed (F.state shelf.old) (F.state shelf.new) (O.state out.old) (O.state out.new)) result }
-    // What is due comes.
+    ensures ends { Ends (map string_bytes words.now.items)
+        (changed F.read_may_fail F.write_may_fail (F.state shelf.old) (F.state shelf.new) (O.state out.old) (O.state out.new))
+        result }
+    // What is due comes: this follows from `ends`, and so does the next clause.
     ensures due { IfSome (F.state shelf.old).files (λ held. (status : ℕ)
         → IsDue (Some held) (map string_bytes words.now.items) status
-        → IsAnswered (changed (F.state shelf.old) (F.state shelf.new) (O.state out.old) (O.state out.new))
+        → IsAnswered
+        (changed F.read_may_fail F.write_may_fail (F.state shelf.old) (F.state shelf.new) (O.state out.old) (O.state out.new))
         status result) }
     // No other status comes.
     ensures statuses { Contains (0 ∷ 1 ∷ 2 ∷ 3 ∷ 4 ∷ 7 ∷ 12 ∷ 13 ∷ []) result }

@@ -76,6 +76,8 @@ impl Shelf for MemShelf {
 
     ghost read_may_fail = { λ _. true };
 
+    ghost write_may_fail = { λ _. true };
+
     fn read(&mut self, alloc: Global, name: &str, limit: u64) -> Result<Vec<u8>, ShelfErr>
         ensures of_the_file { IsReadOf self.old.files name.now limit result }
         ensures within_limit { IfOk result (λ bytes. vec_len bytes ≤ limit) }
@@ -205,6 +207,7 @@ impl Sink for MemSink {
           memory_faults = raised self.old.memory_faults;
         } }
         ensures never_falls { self.old.faults ≤ self.new.faults }
+        ensures memory_never_falls { self.old.memory_faults ≤ self.new.memory_faults }
     {
         if self.calls.is_next_to_fail() {
             self.faults = self.faults.saturating_add(1);

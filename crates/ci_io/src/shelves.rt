@@ -29,6 +29,9 @@ pub trait Shelf {
     /// Whether reading the file of a name may fail.
     ghost read_may_fail: { List ℕ → Bool };
 
+    /// Whether writing the file of a name may fail.
+    ghost write_may_fail: { List ℕ → Bool };
+
     /// Reads the whole file of a name. No file changes.
     ///
     /// # Errors
@@ -63,6 +66,7 @@ pub trait Shelf {
         ensures no_memory { IsErrOf result ShelfErr.NoMemory → (state self.new).files ≡ (state self.old).files }
         ensures never_absent { result ≢ Err ShelfErr.Absent }
         ensures never_too_large { result ≢ Err ShelfErr.TooLarge }
+        ensures fault_where_it_may { IsErrOf result ShelfErr.Fault → IsTrue (write_may_fail name.now) }
         ensures fault_counted { IsErrOf result ShelfErr.Fault
             → Rises (state self.old).write_faults (state self.new).write_faults }
         ensures never_falls { (state self.old).write_faults ≤ (state self.new).write_faults }

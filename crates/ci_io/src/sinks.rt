@@ -1,5 +1,5 @@
 //! A sink of output bytes.
-ghost use Rattle.std.specs.Prelude.{◌≡◌, ℕ, ◌≤◌, ◌++◌, take, OnOk, IsErrOf};
+ghost use Rattle.std.specs.Prelude.{◌≡◌, ◌≢◌, ℕ, ◌≤◌, ◌++◌, take, Err, OnOk, IsErrOf};
 ghost use Rattle.std.specs.Option.{option_map};
 ghost use Rattle.ci_io.specs.Outcomes.{SinkState, Rises};
 
@@ -34,5 +34,8 @@ pub trait Sink {
         ensures fault_counted { IsErrOf result SinkErr.Fault → Rises (state self.old).faults (state self.new).faults }
         ensures no_memory_counted { IsErrOf result SinkErr.NoMemory
             → Rises (state self.old).memory_faults (state self.new).memory_faults }
-        ensures never_falls { (state self.old).faults ≤ (state self.new).faults };
+        ensures others_not_counted { result ≢ Err SinkErr.NoMemory
+            → (state self.new).memory_faults ≡ (state self.old).memory_faults }
+        ensures never_falls { (state self.old).faults ≤ (state self.new).faults }
+        ensures memory_never_falls { (state self.old).memory_faults ≤ (state self.new).memory_faults };
 }

@@ -55,6 +55,8 @@ impl Shelf for SureShelf {
 
     ghost read_may_fail = { λ _. false };
 
+    ghost write_may_fail = { λ _. false };
+
     fn read(&mut self, alloc: Global, name: &str, limit: u64) -> Result<Vec<u8>, ShelfErr> {
         read_held(alloc, &self.files, name, limit)
     }

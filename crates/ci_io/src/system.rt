@@ -54,6 +54,8 @@ impl<'a, R: Files> Shelf for FileShelf<'a, R> {
 
     ghost read_may_fail = { λ _. true };
 
+    ghost write_may_fail = { λ _. true };
+
     fn read(&mut self, alloc: Global, name: &str, limit: u64) -> Result<Vec<u8>, ShelfErr>
         ensures within_limit { IfOk result (λ bytes. vec_len bytes ≤ limit) }
         ensures never_absent { result ≢ Err ShelfErr.Absent }

@@ -43,8 +43,9 @@ fn exit_code<F: Shelf, O: Sink>(
     shelf: &mut F,
     out: &mut O,
 ) -> ExitCode
-    ensures { Ends F.read_may_fail (map string_bytes words.now.items)
-        (changed (F.state shelf.old) (F.state shelf.new) (O.state out.old) (O.state out.new)) (exit_status result) }
+    ensures { Ends (map string_bytes words.now.items)
+        (changed F.read_may_fail F.write_may_fail (F.state shelf.old) (F.state shelf.new) (O.state out.old) (O.state out.new))
+        (exit_status result) }
 {
     ExitCode::from(run(alloc, words, shelf, out))
 }

@@ -7,21 +7,21 @@ use Rattle.ci_find.proofs.run.Goals as goal
 
 pub returns-in-Ok-clause-ends : goal.returns-in-Ok-clause-ends
 returns-in-Ok-clause-ends g c =
-    let change = changed (g.F.Shelf.state c.make.new.shelf) (g.F.Shelf.state c.finish.new.shelf) (g.O.Sink.state c.args.out.now) (g.O.Sink.state c.finish.new.out) in
+    let change = changed g.F.Shelf.read_may_fail g.F.Shelf.write_may_fail (g.F.Shelf.state c.make.new.shelf) (g.F.Shelf.state c.finish.new.shelf) (g.O.Sink.state c.args.out.now) (g.O.Sink.state c.finish.new.out) in
     finished c.in-Ok.ensures.done (Finishes-earlier change (g.F.Shelf.state c.args.shelf.now) c.in-Ok.ensures.files_stay c.in-Ok.ensures.no_write _ _ c.finish.ensures.finished)
 
 pub returns-in-Ok-clause-due : goal.returns-in-Ok-clause-due
-returns-in-Ok-clause-due g c = Answers-due _ _ _ _ (returns-in-Ok-clause-ends g c) _ refl
+returns-in-Ok-clause-due g c = Answers-due _ _ _ (returns-in-Ok-clause-ends g c) _ refl
 
 pub returns-in-Ok-clause-statuses : goal.returns-in-Ok-clause-statuses
-returns-in-Ok-clause-statuses g c = Ends-status _ _ _ _ (returns-in-Ok-clause-ends g c)
+returns-in-Ok-clause-statuses g c = Ends-status _ _ _ (returns-in-Ok-clause-ends g c)
 
 pub returns-in-Err-clause-ends : goal.returns-in-Err-clause-ends
 returns-in-Err-clause-ends g c =
-    Ends-refused _ _ _ _ _ c.in-Err.ensures.refused (record { same_files = c.in-Err.ensures.files_stay; same_count = c.in-Err.ensures.no_write }) c.refuse.ensures
+    Ends-refused _ _ _ _ c.in-Err.ensures.refused (record { same_files = c.in-Err.ensures.files_stay; same_count = c.in-Err.ensures.no_write }) c.refuse.ensures
 
 pub returns-in-Err-clause-due : goal.returns-in-Err-clause-due
-returns-in-Err-clause-due g c = Answers-due _ _ _ _ (returns-in-Err-clause-ends g c) _ refl
+returns-in-Err-clause-due g c = Answers-due _ _ _ (returns-in-Err-clause-ends g c) _ refl
 
 pub returns-in-Err-clause-statuses : goal.returns-in-Err-clause-statuses
-returns-in-Err-clause-statuses g c = Ends-status _ _ _ _ (returns-in-Err-clause-ends g c)
+returns-in-Err-clause-statuses g c = Ends-status _ _ _ (returns-in-Err-clause-ends g c)
