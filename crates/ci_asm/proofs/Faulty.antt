@@ -1,9 +1,8 @@
 -- The fault of a line that the code tells is the one of the definitions.
-use Rattle.std.proofs.Common.{◌≡◌, ◌≢◌, ℕ, suc, ◌+◌, ◌*◌, ◌<◌, ◌≤◌, ◌⊎◌, inl, inr, Bool, true, false, cond, eqb, List, [], ◌∷◌, ◌++◌, length, refl, sym, ap, ◌∙◌, subst, arith, lit<, lit≤, append-nil, length-append, Option, Some, None, Result, Ok, Err, ℤ, pos}
+use Rattle.std.proofs.Common.{◌≡◌, ◌≢◌, ℕ, ◌<◌, ◌≤◌, ◌⊎◌, inl, inr, Bool, true, false, cond, eqb, List, [], ◌∷◌, ◌++◌, refl, sym, ap, ◌∙◌, subst, arith, lit<, lit≤, append-nil, Option, Some, None, Result, Ok, Err, ℤ, pos}
 use Rattle.std.specs.Prelude.{codes}
 use Rattle.std.specs.Fmt.{decimal}
 use Rattle.std.proofs.lemmas.Int.{ints}
-use Rattle.std.proofs.lemmas.Bool.{eqb-true}
 use Rattle.std.proofs.lemmas.Bool.Decides.{nat_tests}
 use mathlib.Core.List.{append_assoc}
 use Rattle.ci_asm.specs.declared.scanner.Kind.{Kind}
@@ -20,21 +19,20 @@ use Rattle.ci_asm.specs.declared.faults.Rule.TheVariants.{NoToken, NoMnemonic, N
 use Rattle.ci_asm.specs.declared.faults.Fault.{Fault}
 use Rattle.ci_asm.specs.declared.statements.Operands.{Operands}
 use Rattle.ci_asm.specs.declared.statements.Statement as code
-use Rattle.ci_asm.specs.declared.lines.Line as code_lines
-use Rattle.ci_asm.specs.Tokens.{next_token, text_of, register_of}
+use Rattle.ci_asm.specs.Tokens.{next_token, register_of}
 use Rattle.ci_asm.specs.Shapes.{mnemonic_of, is_statement, is_offset, fits, slots_of}
 use Rattle.ci_asm.specs.Statements.{◌>>=◌, found, fault, at_place, no_operands, number_in, filled, ended, read_slots, mnemonic_in, read_statement, with_statement, read_line}
 use Rattle.ci_asm.specs.Programs.{kind_of}
 use Rattle.ci_asm.specs.Lexicon as lex
 use Rattle.ci_asm.specs.Lexicon.{name, decimal_number, hex_number, word, comma, open_bracket, close_bracket, colon, IsToken, line_end, stray_byte}
 use Rattle.ci_asm.specs.Forms.{IsIn, IsRegister, IsNumber, HasNumber, Statement, IsStatement, IsMnemonic}
-use Rattle.ci_asm.specs.Assembly.{HasStatement, IsGoodFront, IsGoodNext, IsWhole, IsNumberDue, IsKind, no_token, no_statement, no_operand, too_short, out_of_field, surplus, too_many, IsFaultOfLine}
+use Rattle.ci_asm.specs.Assembly.{IsGoodFront, IsGoodNext, IsWhole, IsNumberDue, IsKind, no_token, no_statement, no_operand, too_short, out_of_field, surplus, too_many, IsFaultOfLine}
 use Rattle.ci_asm.proofs.Operands.{mnemonic_in-statement, at_place_ok}
 use Rattle.ci_asm.proofs.Lexing.{kind_of as kind_of_token}
 use Rattle.ci_asm.proofs.Scanning.{IsShown, Shows, Meets, next_symbol, by_test}
 use Rattle.ci_asm.proofs.Fields.{number_result, field_form, writes_is_number}
 use Rattle.ci_asm.proofs.Filling.{Values, no_values, Fills, done, fill_rd, fill_rs1, fill_rs2, fill_rs3, fill_number, fill_label, fill_comma, fill_open, fill_close, register_result, mark_result, value_result, result_of, register_no, number_in_no, value_no, filled_shown, filled_end, filled_bad, filled_token, fill_step, values_of, label_text, read_step, read_stuck, read_nil}
-use Rattle.ci_asm.proofs.Stated.{mnemonic_token, fills_statement, HasSlots, statement_slots}
+use Rattle.ci_asm.proofs.Stated.{mnemonic_token, fills_statement, statement_slots}
 use Rattle.ci_asm.proofs.ReadLines.{mnemonic_result, mnemonic_shown, mnemonic_yes, mnemonic_no, HasBody, body_of, with_other}
 
 -- ---- what a slot accepts
@@ -317,7 +315,12 @@ read_stops line (slot ∷ slots) from o f e = by (filled line slot (next_token l
         let s = next_symbol line from in
         let same : fault rule (next_token line from).start ≡ f = err_same {A = Operands} _ f (sym (read_stuck line slot slots from o rule at) ∙ e) in
         record {
-          filled_slots = []; due = slot ∷ slots; front = []; symbol = s.0; split = refl; fit = tt;
+          filled_slots = [];
+          due = slot ∷ slots;
+          front = [];
+          symbol = s.0;
+          split = refl;
+          fit = tt;
           meets = (s.1, ap (λ g. g.place) same);
           stops = subst (λ g. Stops (slot ∷ slots) s.0 g.rule) same (filled_stops line slot slots (next_token line from) o rule s.0 s.1 at);
         }
@@ -326,8 +329,14 @@ read_stops line (slot ∷ slots) from o f e = by (filled line slot (next_token l
         let a = accepted line slot (next_token line from) o p s.0 s.1 at in
         let more = rest p (sym (read_step line slot slots from o p at) ∙ e) in
         record {
-          filled_slots = slot ∷ more.filled_slots; due = more.due; front = a.0 ∷ more.front; symbol = more.symbol;
-          split = ap (λ k. slot ∷ k) more.split; fit = (a.2, more.fit); meets = (a.1, more.meets); stops = more.stops;
+          filled_slots = slot ∷ more.filled_slots;
+          due = more.due;
+          front = a.0 ∷ more.front;
+          symbol = more.symbol;
+          split = ap (λ k. slot ∷ k) more.split;
+          fit = (a.2, more.fit);
+          meets = (a.1, more.meets);
+          stops = more.stops;
         }
 
 -- ---- the fault of a line
@@ -406,9 +415,13 @@ stop_is words m named before due front split fit symbol rule (wrong {slot} {slot
 -- the fault that stands there
 fault_at : (words : ℕ) (line : List ℕ) (b : HasBody line) (front : List lex.Token) (symbol : lex.Symbol) (kind column : ℕ) → Meets line (next_token line b.from) front symbol column → IsGoodFront words front → IsStop words front symbol kind → IsFaultOfLine words line kind column
 fault_at words line b front symbol kind column meets good stop = record {
-  label = label_text line b.label; front = front; symbol = symbol;
+  label = label_text line b.label;
+  front = front;
+  symbol = symbol;
   stands = record { has_label = b.has_label; stands = b.leaves front symbol column meets };
-  good = good; bad = stop.bad; is_kind = stop.is_kind;
+  good = good;
+  bad = stop.bad;
+  is_kind = stop.is_kind;
 }
 
 no_first : (words : ℕ) (t : lex.Token) → ¬ IsMnemonic t → ¬ IsGoodFront words (t ∷ [])
@@ -493,12 +506,14 @@ statement_fault words line b f few inside e =
     first_fault t (symbol, shows) (rule, e, same) =
         subst (λ g. IsFaultOfLine words line (kind_of g.rule) g.place) same
         (fault_at words line b [] symbol (kind_of rule) (next_token line b.from).start (shows, refl) (inl refl) (first_stop words line (next_token line b.from) symbol rule shows inside e))
+
     statement_rest : (m : Mnemonic) → (cond (eqb words 262144) (Err (fault Surplus (next_token line b.from).start)) (read_slots line (slots_of m) (next_token line b.from).end no_operands) >>= made m) ≡ Err f
         → cond (eqb words 262144) (Err (fault Surplus (next_token line b.from).start)) (read_slots line (slots_of m) (next_token line b.from).end no_operands) ≡ Err f
     statement_rest m e = elim (bind_err (cond (eqb words 262144) (Err (fault Surplus (next_token line b.from).start)) (read_slots line (slots_of m) (next_token line b.from).end no_operands)) _ f e) [
-        | inl here ↦ here
-        | inr there ↦ absurd (ok_not_err _ f there.2)
-      ]
+      | inl here ↦ here
+      | inr there ↦ absurd (ok_not_err _ f there.2)
+    ]
+
     later_fault : (t : Token) → (symbol : lex.Symbol) × Shows line (next_token line b.from) symbol → (m : Mnemonic) → mnemonic_in line (next_token line b.from) (next_token line b.from).kind ≡ Ok m
         → cond (eqb words 262144) (Err (fault Surplus (next_token line b.from).start)) (read_slots line (slots_of m) (next_token line b.from).end no_operands) ≡ Err f
         → IsFaultOfLine words line (kind_of f.rule) f.place
@@ -508,17 +523,17 @@ statement_fault words line b f few inside e =
         let shown = mnemonic_read line u m symbol shows at in
         by_test (eqb words 262144)
         (λ full.
-          let limit : ¬ (words < 262144) = λ less. absurd (grind (arith, nat_tests)) in
-          let same : fault Surplus u.start ≡ f = err_same {A = Operands} _ f (sym (ap (λ c. cond c (Err (fault Surplus u.start)) (read_slots line (slots_of m) u.end no_operands)) full) ∙ e) in
-          subst (λ g. IsFaultOfLine words line (kind_of g.rule) g.place) same
-          (fault_at words line b [] (lex.token (mnemonic_token m)) 7 u.start (shown, refl) (inl refl) (record { bad = no_room words (mnemonic_token m) limit; is_kind = too_many (mnemonic_begins m named) })))
+        let limit : ¬ (words < 262144) = λ less. absurd (grind (arith, nat_tests)) in
+        let same : fault Surplus u.start ≡ f = err_same {A = Operands} _ f (sym (ap (λ c. cond c (Err (fault Surplus u.start)) (read_slots line (slots_of m) u.end no_operands)) full) ∙ e) in
+        subst (λ g. IsFaultOfLine words line (kind_of g.rule) g.place) same
+        (fault_at words line b [] (lex.token (mnemonic_token m)) 7 u.start (shown, refl) (inl refl) (record { bad = no_room words (mnemonic_token m) limit; is_kind = too_many (mnemonic_begins m named) })))
         (λ room.
-          let less : words < 262144 = grind (arith, nat_tests) in
-          let stuck : read_slots line (slots_of m) u.end no_operands ≡ Err f = sym (ap (λ c. cond c (Err (fault Surplus u.start)) (read_slots line (slots_of m) u.end no_operands)) room) ∙ e in
-          let stop = read_stops line (slots_of m) u.end no_operands f stuck in
-          fault_at words line b (mnemonic_token m ∷ stop.front) stop.symbol (kind_of f.rule) f.place (shown, stop.meets)
-            (good_here m named stop.filled_slots stop.due stop.front stop.split stop.fit words less)
-            (stop_is words m named stop.filled_slots stop.due stop.front stop.split stop.fit stop.symbol f.rule stop.stops))
+        let less : words < 262144 = grind (arith, nat_tests) in
+        let stuck : read_slots line (slots_of m) u.end no_operands ≡ Err f = sym (ap (λ c. cond c (Err (fault Surplus u.start)) (read_slots line (slots_of m) u.end no_operands)) room) ∙ e in
+        let stop = read_stops line (slots_of m) u.end no_operands f stuck in
+        fault_at words line b (mnemonic_token m ∷ stop.front) stop.symbol (kind_of f.rule) f.place (shown, stop.meets)
+        (good_here m named stop.filled_slots stop.due stop.front stop.split stop.fit words less)
+        (stop_is words m named stop.filled_slots stop.due stop.front stop.split stop.fit stop.symbol f.rule stop.stops))
 
 -- what the code tells of a line is its fault
 pub line_fault : (words : ℕ) (line : List ℕ) (f : Fault) → words ≤ 262144 → read_line line (eqb words 262144) ≡ Err f → IsFaultOfLine words line (kind_of f.rule) f.place
@@ -534,6 +549,7 @@ line_fault words line f few e =
           | inl here ↦ statement_fault words line b f few inside here
           | inr there ↦ absurd (ok_not_err _ f there.2)
         ]
+
     by : (b : HasBody line) (kind : Kind) → (next_token line b.from).kind ≡ kind → with_statement line b.label (next_token line b.from) (eqb words 262144) (next_token line b.from).kind ≡ Err f → IsFaultOfLine words line (kind_of f.rule) f.place
     by b End at e =
         let ok : with_statement line b.label (next_token line b.from) (eqb words 262144) (next_token line b.from).kind ≡ Ok (record { label = b.label; statement = None }) = ap (with_statement line b.label (next_token line b.from) (eqb words 262144)) at in

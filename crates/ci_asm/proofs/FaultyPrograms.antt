@@ -1,7 +1,6 @@
 -- The fault of a text that the code tells is the one of the definitions.
-use Rattle.std.proofs.Common.{◌≡◌, ◌≢◌, ℕ, suc, ◌+◌, ◌-◌, ◌*◌, ◌<◌, ◌≤◌, ◌⊎◌, inl, inr, Bool, true, false, cond, eqb, nat_lt, List, [], ◌∷◌, ◌++◌, length, refl, sym, ap, ◌∙◌, subst, arith, lit≤, append-nil, length-append, Option, Some, None, Result, Ok, Err, ℤ, pos}
+use Rattle.std.proofs.Common.{◌≡◌, ◌≢◌, ℕ, ◌+◌, ◌<◌, ◌≤◌, inl, inr, true, false, cond, eqb, nat_lt, List, [], ◌∷◌, ◌++◌, length, refl, sym, ap, ◌∙◌, subst, arith, lit≤, append-nil, Option, Some, None, Result, Ok, Err, ℤ}
 use Rattle.std.specs.Option.{option_to_list}
-use Rattle.std.proofs.lemmas.Bool.{eqb-true}
 use Rattle.std.proofs.lemmas.Bool.Decides.{nat_tests}
 use mathlib.Core.List.{append_assoc}
 use Rattle.ci_isa.specs.declared.instruction.Insn.{Insn}
@@ -10,7 +9,6 @@ use Rattle.ci_asm.specs.declared.scanner.Token.{Token}
 use Rattle.ci_asm.specs.declared.numbers.Number.{Number}
 use Rattle.ci_asm.specs.declared.mnemonics.Mnemonic.{Mnemonic}
 use Rattle.ci_asm.specs.declared.mnemonics.Mnemonic.TheVariants.{Registers, Constant, Lui, Auipc, Jal, Jalr, Branch, Load, Store, Fence, Ecall, Ebreak, Custom, Cread, Data}
-use Rattle.ci_asm.specs.declared.faults.Rule.{Rule}
 use Rattle.ci_asm.specs.declared.faults.Rule.TheVariants.{OutOfField, Undefined, DefinedTwice}
 use Rattle.ci_asm.specs.declared.faults.Fault.{Fault}
 use Rattle.ci_asm.specs.declared.labels.Definition.{Definition}
@@ -19,22 +17,20 @@ use Rattle.ci_asm.specs.declared.statements.Statement as code
 use Rattle.ci_asm.specs.declared.lines.Line as code_lines
 use Rattle.ci_asm.specs.Tokens.{text_of}
 use Rattle.ci_asm.specs.Shapes.{fits, field_of}
-use Rattle.ci_asm.specs.Statements.{◌>>=◌, fault, read_line, insn_of, signed_value}
+use Rattle.ci_asm.specs.Statements.{◌>>=◌, fault, signed_value}
 use Rattle.ci_asm.specs.Programs.{Position, position, kind_of, on_line, line_at, option_words, words_behind, all_read, Definitions, once_at, defined_once, offset_between, reaching, resolved, statement_insn, line_insn, option_length, insns_of, assembled}
 use Rattle.ci_asm.specs.Lines.{lines_of}
-use Rattle.ci_asm.specs.Lexicon as lex
-use Rattle.ci_asm.specs.Lexicon.{name, Stands}
+use Rattle.ci_asm.specs.Lexicon.{name}
 use Rattle.ci_asm.specs.Forms as forms
 use Rattle.ci_asm.specs.Forms.{Statement, plain, to_label, IsIn, IsStatement}
 use Rattle.ci_asm.specs.Assembly as asm
 use Rattle.ci_asm.specs.Assembly.{Line, StandsInLine, IsLine, AreLines, IsProgram, statements_of, Defines, IsOffset, IsNew, IsResolved, AreResolved, IsFaultOfLine, IsFaultOfLabel, twice, undefined, too_far, HasFault, of_line, of_label}
-use Rattle.ci_asm.proofs.Operands.{bind_ok, same_ok, cond_ok}
 use Rattle.ci_asm.proofs.Filling.{values_of, label_text}
 use Rattle.ci_asm.proofs.Stated.{HasLabelFor}
 use Rattle.ci_asm.proofs.Scanning.{by_test}
 use Rattle.ci_asm.proofs.Fields.{field_form, in_fits}
 use Rattle.ci_asm.proofs.ReadLines.{statement_says, statement_read, line_says, HasLabels, IsReadLine, line_read, ReachesInLine}
-use Rattle.ci_asm.proofs.ReadPrograms.{AreRead, program_of, statement_room, words_with, IsReadProgram, read_program, all_read-lines, IsFoundAt, IsDefinition, AreDefinitions, text_definitions, definitions_known, defined_in, same_length, split_less, same_label_place, offset_signed, label_at, once_yes, line_insn-read, line_yes, IsInsnOfLine, IsResolvedAs, option_size, resolved_from, resolved_cons, IsAt, next_at, start_at, nothing_left, AllResolved, on_line_ok}
+use Rattle.ci_asm.proofs.ReadPrograms.{AreRead, program_of, statement_room, words_with, read_program, all_read-lines, IsDefinition, AreDefinitions, text_definitions, definitions_known, split_less, offset_signed, label_at, once_yes, line_insn-read, line_yes, option_size, resolved_from, resolved_cons, IsAt, next_at, start_at, nothing_left, AllResolved, on_line_ok}
 use Rattle.ci_asm.proofs.Faulty.{line_fault, bind_err, err_same, ok_not_err}
 
 -- ---- lines that can't be read
@@ -62,7 +58,15 @@ bad_here n words line lines p f few e at =
     let same : words + 0 ≡ words = omega arith in
     let place : n + 0 ≡ n = omega arith in
     record {
-      before = []; bytes = line; after = lines; program = []; kind = kind_of f.rule; column = f.place; split = refl; are_lines = tt; few = omega arith;
+      before = [];
+      bytes = line;
+      after = lines;
+      program = [];
+      kind = kind_of f.rule;
+      column = f.place;
+      split = refl;
+      are_lines = tt;
+      few = omega arith;
       is_fault = subst (λ k. IsFaultOfLine k line (kind_of f.rule) f.place) (sym same) (line_fault words line f few e);
       is_position = (λ i. record { kind = kind_of f.rule; line = place i; column = f.place + 1 }) ∙ at;
     }
@@ -75,8 +79,15 @@ bad_later n words line lines p l few e bad =
     let place : n + length (line ∷ bad.before) ≡ n + 1 + length bad.before = omega arith in
     let less = bad.few in
     record {
-      before = line ∷ bad.before; bytes = bad.bytes; after = bad.after; program = line_says line l ∷ bad.program; kind = bad.kind; column = bad.column;
-      split = ap (λ k. line ∷ k) bad.split; are_lines = (is.is_line, bad.are_lines); few = omega arith;
+      before = line ∷ bad.before;
+      bytes = bad.bytes;
+      after = bad.after;
+      program = line_says line l ∷ bad.program;
+      kind = bad.kind;
+      column = bad.column;
+      split = ap (λ k. line ∷ k) bad.split;
+      are_lines = (is.is_line, bad.are_lines);
+      few = omega arith;
       is_fault = subst (λ k. IsFaultOfLine k bad.bytes bad.kind bad.column) (sym same) bad.is_fault;
       is_position = (λ i. record { kind = bad.kind; line = place i; column = bad.column + 1 }) ∙ bad.is_position;
     }
@@ -115,6 +126,7 @@ module _ (program : List Line) (definitions : Definitions) (known : AreDefinitio
         where
           here_again : eqb d.line n ≡ true → IsTwice before line (Some t) f
           here_again same = let ok : once_at n t (Some d) ≡ Ok tt = ap (λ b. cond b (Ok tt) (Err (fault DefinedTwice t.start))) same in absurd (cc)
+
           earlier : eqb d.line n ≡ false → IsTwice before line (Some t) f
           earlier other =
               let line_is = found.line_is in
@@ -122,11 +134,11 @@ module _ (program : List Line) (definitions : Definitions) (known : AreDefinitio
               let far : length found.before ≢ length before = λ same. absurd (grind (arith, nat_tests)) in
               by_test (nat_lt (length found.before) (length before))
               (λ test.
-                let less : length found.before < length before = grind (arith, nat_tests) in
-                record { token = t; is_label = refl; is_fault = err_same {A = Unit {0}} _ f (sym there ∙ e); defined = split_less found.before before found.line here found.after after (text_of line t) less (sym found.split ∙ split) found.labelled })
+              let less : length found.before < length before = grind (arith, nat_tests) in
+              record { token = t; is_label = refl; is_fault = err_same {A = Unit {0}} _ f (sym there ∙ e); defined = split_less found.before before found.line here found.after after (text_of line t) less (sym found.split ∙ split) found.labelled })
               (λ test.
-                let less : length before < length found.before = grind (arith, nat_tests) in
-                absurd (found.is_new (split_less before found.before here found.line after found.after (text_of line t) less (sym split ∙ found.split) at)))
+              let less : length before < length found.before = grind (arith, nat_tests) in
+              absurd (found.is_new (split_less before found.before here found.line after found.after (text_of line t) less (sym split ∙ found.split) at)))
 
   -- the fault of the label that a statement reaches
   data ReachFault (s : code.Statement) (t : Token) (f : Fault) : Type 0 where
@@ -139,6 +151,7 @@ module _ (program : List Line) (definitions : Definitions) (known : AreDefinitio
     where
       in_field : fits (field_of s.mnemonic) (offset_between words d.words) ≡ true → ReachFault s t f
       in_field ok = let there : reaching words s t (Some d) ≡ Ok (record s.operands { number = offset_between words d.words }) = ap (λ b. cond b (Ok (record s.operands { number = offset_between words d.words })) (Err (fault OutOfField t.start))) ok in absurd (cc)
+
       out_of_it : fits (field_of s.mnemonic) (offset_between words d.words) ≡ false → ReachFault s t f
       out_of_it none =
           let there : reaching words s t (Some d) ≡ Err (fault OutOfField t.start) = ap (λ b. cond b (Ok (record s.operands { number = offset_between words d.words })) (Err (fault OutOfField t.start))) none in
@@ -209,6 +222,7 @@ module _ (program : List Line) (definitions : Definitions) (known : AreDefinitio
       told_twice is t =
           subst (λ g. IsFaultOfLabel program before line (line_says line l) (kind_of g.rule) g.place) t.is_fault
           (twice (ap (label_text line) t.is_label) t.defined (is.label_stands t.token t.is_label))
+
       told_by : IsReadLine line (eqb words 262144) l → IsNew before (label_text line l.label) → (s : Option code.Statement) → l.statement ≡ s → statement_insn definitions words line s ≡ Err f → IsFaultOfLabel program before line (line_says line l) (kind_of f.rule) f.place
       told_by is new None same e = absurd (cc)
       told_by is new (Some s) same e =
@@ -256,13 +270,25 @@ bad_label program definitions known n words (line ∷ lines) (l ∷ ls) done p r
         let fault_here = label_fault program definitions known words line done (program_of lines ls) n l f at.split at.line_is at.words_is read.0 e in
         let place : n + 0 ≡ n = omega arith in
         record {
-          lines_before = []; bytes = line; lines_after = lines; before = []; here = line_says line l; after = program_of lines ls; kind = kind_of f.rule; column = f.place;
-          lines_split = refl; split = refl; are_lines = tt; are_resolved = nothing_left program done;
+          lines_before = [];
+          bytes = line;
+          lines_after = lines;
+          before = [];
+          here = line_says line l;
+          after = program_of lines ls;
+          kind = kind_of f.rule;
+          column = f.place;
+          lines_split = refl;
+          split = refl;
+          are_lines = tt;
+          are_resolved = nothing_left program done;
           is_fault = subst (λ d. IsFaultOfLabel program d line (line_says line l) (kind_of f.rule) f.place) (sym (append-nil done)) fault_here;
           is_position = (λ i. record { kind = kind_of f.rule; line = place i; column = f.place + 1 }) ∙ told;
         }
+
     rest_err : (first : Option Insn) → (insns_of definitions (n + 1) (words + option_length first) lines >>= with_first first) ≡ Err p → insns_of definitions (n + 1) (words + option_length first) lines ≡ Err p
     rest_err first e = elim (bind_err (insns_of definitions (n + 1) (words + option_length first) lines) _ p e) [ inl here ↦ here | inr there ↦ absurd (ok_not_err _ p there.2) ]
+
     behind : (first : Option Insn) → line_insn definitions n words line ≡ Ok first → (insns_of definitions (n + 1) (words + option_length first) lines >>= with_first first) ≡ Err p
         → (insns_of definitions (n + 1) (words + option_words l.statement) lines ≡ Err p → HasBadLabel program (done ++ line_says line l ∷ []) lines (program_of lines ls) (n + 1) p)
         → HasBadLabel program done (line ∷ lines) (line_says line l ∷ program_of lines ls) n p
@@ -273,9 +299,17 @@ bad_label program definitions known n words (line ∷ lines) (l ∷ ls) done p r
         let is = line_read line (eqb words 262144) l read.0 in
         let place : n + length (line ∷ more.lines_before) ≡ n + 1 + length more.lines_before = omega arith in
         record {
-          lines_before = line ∷ more.lines_before; bytes = more.bytes; lines_after = more.lines_after; before = line_says line l ∷ more.before; here = more.here; after = more.after;
-          kind = more.kind; column = more.column;
-          lines_split = ap (λ k. line ∷ k) more.lines_split; split = ap (λ k. line_says line l ∷ k) more.split; are_lines = (is.is_line, more.are_lines);
+          lines_before = line ∷ more.lines_before;
+          bytes = more.bytes;
+          lines_after = more.lines_after;
+          before = line_says line l ∷ more.before;
+          here = more.here;
+          after = more.after;
+          kind = more.kind;
+          column = more.column;
+          lines_split = ap (λ k. line ∷ k) more.lines_split;
+          split = ap (λ k. line_says line l ∷ k) more.split;
+          are_lines = (is.is_line, more.are_lines);
           are_resolved = resolved_cons program done more.before (line_says line l) (resolved_from program done words (line_says line l) first at.words_is one) more.are_resolved;
           is_fault = subst (λ d. IsFaultOfLabel program d more.bytes more.here more.kind more.column) (append_assoc done (line_says line l ∷ []) more.before) more.is_fault;
           is_position = (λ i. record { kind = more.kind; line = place i; column = more.column + 1 }) ∙ more.is_position;
@@ -287,9 +321,9 @@ bad_label program definitions known n words (line ∷ lines) (l ∷ ls) done p r
 pub fault_is : (text : List ℕ) (p : Position) → assembled text ≡ Err p → HasFault text p.kind p.line p.column
 unfolding assembled
 fault_is text p e = elim (bind_err (all_read 1 0 (lines_of text)) _ p e) [
-    | inl unread ↦ line_told (unread_line 1 0 (lines_of text) p (lit≤ tt) unread)
-    | inr read ↦ label_told (all_read-lines 1 0 (lines_of text) read.1) read.2
-  ]
+  | inl unread ↦ line_told (unread_line 1 0 (lines_of text) p (lit≤ tt) unread)
+  | inr read ↦ label_told (all_read-lines 1 0 (lines_of text) read.1) read.2
+]
   where
     line_told : HasBadLine 1 0 (lines_of text) p → HasFault text p.kind p.line p.column
     line_told bad =
@@ -298,6 +332,7 @@ fault_is text p e = elim (bind_err (all_read 1 0 (lines_of text)) _ p e) [
         let place : length bad.before + 1 ≡ 1 + length bad.before = omega arith in
         subst (λ q. HasFault text q.kind q.line q.column) ((λ i. record { kind = bad.kind; line = place i; column = bad.column + 1 }) ∙ bad.is_position)
         (of_line bad.before bad.after bad.bytes bad.program bad.split (record { are_lines = bad.are_lines; fits = omega arith }) (subst (λ k. IsFaultOfLine k bad.bytes bad.kind bad.column) count bad.is_fault))
+
     label_told : (ls : List code_lines.Line) × AreRead 0 (lines_of text) ls → insns_of (text_definitions text) 1 0 (lines_of text) ≡ Err p → HasFault text p.kind p.line p.column
     label_told (ls, read) e =
         let program = program_of (lines_of text) ls in
@@ -308,6 +343,6 @@ fault_is text p e = elim (bind_err (all_read 1 0 (lines_of text)) _ p e) [
         let place : length bad.lines_before + 1 ≡ 1 + length bad.lines_before = omega arith in
         subst (λ q. HasFault text q.kind q.line q.column) ((λ i. record { kind = bad.kind; line = place i; column = bad.column + 1 }) ∙ bad.is_position)
         (of_label bad.lines_before bad.lines_after bad.bytes bad.before bad.after bad.here bad.lines_split bad.are_lines
-          (subst (IsProgram (lines_of text)) bad.split is_program)
-          (subst (λ q. AreResolved q bad.before) bad.split bad.are_resolved)
-          (subst (λ q. IsFaultOfLabel q bad.before bad.bytes bad.here bad.kind bad.column) bad.split bad.is_fault))
+        (subst (IsProgram (lines_of text)) bad.split is_program)
+        (subst (λ q. AreResolved q bad.before) bad.split bad.are_resolved)
+        (subst (λ q. IsFaultOfLabel q bad.before bad.bytes bad.here bad.kind bad.column) bad.split bad.is_fault))

@@ -1,11 +1,10 @@
 -- Registers and numbers, as tokens and as the code reads them.
-use Rattle.std.proofs.Common.{◌≡◌, ◌≢◌, ℕ, zero, suc, ◌+◌, ◌-◌, ◌*◌, ◌/◌, ◌%◌, ◌<◌, ◌≤◌, ◌⊎◌, inl, inr, Bool, true, false, cond, ◌&&◌, nat_le, nat_lt, eqb, List, [], ◌∷◌, ◌++◌, length, refl, sym, ap, ◌∙◌, subst, arith, Option, Some, None, ℤ, pos, negsuc, neg_ℤ, ◌≤ℤ◌}
-use Rattle.std.specs.Prelude.{unsigned_abs, ◌==◌}
-use Rattle.std.specs.Fmt.{decimal}
+use Rattle.std.proofs.Common.{◌≡◌, ℕ, zero, suc, ◌+◌, ◌/◌, ◌%◌, ◌<◌, ◌≤◌, ◌⊎◌, inl, inr, Bool, true, false, cond, ◌&&◌, nat_le, nat_lt, eqb, List, [], ◌∷◌, ◌++◌, length, refl, sym, ap, ◌∙◌, arith, Option, Some, None, ℤ, pos, neg_ℤ, ◌≤ℤ◌}
+use Rattle.std.specs.Prelude.{unsigned_abs}
 use Rattle.std.specs.Str.Parse.{digits_value}
 use Rattle.std.proofs.lemmas.Fmt.{decimal_digit, decimal_step}
 use Rattle.std.proofs.lemmas.Int.{ints}
-use Rattle.std.proofs.lemmas.Bool.{cond_both, eqb-true}
+use Rattle.std.proofs.lemmas.Bool.{eqb-true}
 use Rattle.std.proofs.lemmas.Bool.Decides.{nat_tests}
 use Rattle.ci_asm.specs.declared.numbers.Number.{Number}
 use Rattle.ci_asm.specs.declared.slots.Field.{Field}
@@ -86,9 +85,9 @@ two_digit_name (a ∷ b ∷ c ∷ d ∷ text) r e found =
 pub register_named : (text : List ℕ) (r : ℕ) → register_of text ≡ Some r → (text ≡ register_name r) × (r < 32)
 unfolding register_of
 register_named text r e = elim (chosen (has_one_digit text) (has_two_digits text) _ _ r e) [
-    | inl one ↦ one_digit_name text r one.0 one.1
-    | inr two ↦ two_digit_name text r two.0 two.1
-  ]
+  | inl one ↦ one_digit_name text r one.0 one.1
+  | inr two ↦ two_digit_name text r two.0 two.1
+]
 
 -- ---- numbers
 

@@ -1,6 +1,5 @@
 -- The slots of a statement, filled by tokens.
-use Rattle.std.proofs.Common.{◌≡◌, ◌≢◌, ℕ, ◌+◌, ◌*◌, ◌<◌, ◌≤◌, ◌⊎◌, inl, inr, Bool, true, false, cond, eqb, List, [], ◌∷◌, ◌++◌, length, refl, sym, ap, ◌∙◌, subst, arith, Option, Some, None, Result, Ok, Err, ℤ, pos}
-use Rattle.std.specs.Prelude.{unsigned_abs, ◌==◌}
+use Rattle.std.proofs.Common.{◌≡◌, ℕ, ◌⊎◌, inl, inr, true, cond, eqb, List, [], ◌∷◌, ◌++◌, refl, sym, ap, ◌∙◌, subst, arith, Option, Some, None, Result, Ok, Err, ℤ, pos}
 use Rattle.std.proofs.lemmas.Bool.{eqb-true}
 use Rattle.ci_asm.specs.declared.scanner.Kind.{Kind}
 use Rattle.ci_asm.specs.declared.scanner.Kind.TheVariants.{Name, Numeral, Directive, Mark, End, Bad}
@@ -8,22 +7,20 @@ use Rattle.ci_asm.specs.declared.scanner.Token.{Token}
 use Rattle.ci_asm.specs.declared.numbers.Number.{Number}
 use Rattle.ci_asm.specs.declared.slots.Field.{Field}
 use Rattle.ci_asm.specs.declared.slots.Slot.{Slot}
-use Rattle.ci_asm.specs.declared.slots.Slot.TheVariants as slot
 use Rattle.ci_asm.specs.declared.slots.Slot.TheVariants.{Rd, Rs1, Rs2, Rs3, Value, Comma, Open, Close}
 use Rattle.ci_asm.specs.declared.faults.Rule.{Rule}
-use Rattle.ci_asm.specs.declared.faults.Rule.TheVariants.{NoToken, NoOperand, OutOfField, Surplus}
-use Rattle.ci_asm.specs.declared.faults.Fault.{Fault}
+use Rattle.ci_asm.specs.declared.faults.Rule.TheVariants.{NoToken, NoOperand, OutOfField}
 use Rattle.ci_asm.specs.declared.statements.Operands.{Operands}
 use Rattle.ci_asm.specs.Tokens.{next_token, text_of, number_of, register_of}
 use Rattle.ci_asm.specs.Shapes.{is_offset, fits}
-use Rattle.ci_asm.specs.Statements.{◌>>=◌, found, fault, at_place, not_due, register_in, mark_in, number_in, value_in, filled, ended, read_slots, signed_value, zero_number, no_operands}
+use Rattle.ci_asm.specs.Statements.{◌>>=◌, found, fault, at_place, register_in, mark_in, number_in, value_in, filled, ended, read_slots, signed_value}
 use Rattle.ci_asm.specs.Lexicon as lex
 use Rattle.ci_asm.specs.Lexicon.{name, decimal_number, hex_number, word, comma, open_bracket, close_bracket, colon, spelling, IsToken, line_end, stray_byte}
-use Rattle.ci_asm.specs.Forms.{IsIn, IsRegister, IsNumber, Writes, HasNumber}
+use Rattle.ci_asm.specs.Forms.{IsIn, IsRegister, IsNumber, HasNumber}
 use Rattle.ci_asm.proofs.Digits.{register_of-name}
-use Rattle.ci_asm.proofs.Operands.{bind_ok, same_ok, at_place_ok, cond_ok, found_ok}
+use Rattle.ci_asm.proofs.Operands.{bind_ok, same_ok, cond_ok, found_ok}
 use Rattle.ci_asm.proofs.Lexing.{kind_of}
-use Rattle.ci_asm.proofs.Scanning.{IsShown, Shows, Meets, next_symbol, by_test, same_symbol}
+use Rattle.ci_asm.proofs.Scanning.{IsShown, Shows, Meets, next_symbol}
 use Rattle.ci_asm.proofs.Fields.{register_named, number_result, number_of-token, number_writes, writes_number, writes_is_number, field_form, fits_in, in_fits}
 
 -- ---- values
@@ -55,9 +52,9 @@ pub data Fills : List Slot → List lex.Token → Values → Values → Type 0 w
   fill_rs2 : {slots : List Slot} {t : lex.Token} {ts : List lex.Token} {v w : Values} {r : ℕ} → IsRegister t r → Fills slots ts (record v { rs2 = r }) w → Fills (Rs2 ∷ slots) (t ∷ ts) v w
   fill_rs3 : {slots : List Slot} {t : lex.Token} {ts : List lex.Token} {v w : Values} {r : ℕ} → IsRegister t r → Fills slots ts (record v { rs3 = r }) w → Fills (Rs3 ∷ slots) (t ∷ ts) v w
   fill_number : {field : Field} {slots : List Slot} {t : lex.Token} {ts : List lex.Token} {v w : Values} {n : ℤ}
-    → HasNumber (field_form field) t n → Fills slots ts (record v { number = n }) w → Fills (Value field ∷ slots) (t ∷ ts) v w
+      → HasNumber (field_form field) t n → Fills slots ts (record v { number = n }) w → Fills (Value field ∷ slots) (t ∷ ts) v w
   fill_label : {field : Field} {slots : List Slot} {label : List ℕ} {ts : List lex.Token} {v w : Values}
-    → is_offset field ≡ true → Fills slots ts (record v { label = Some label }) w → Fills (Value field ∷ slots) (name label ∷ ts) v w
+      → is_offset field ≡ true → Fills slots ts (record v { label = Some label }) w → Fills (Value field ∷ slots) (name label ∷ ts) v w
   fill_comma : {slots : List Slot} {ts : List lex.Token} {v w : Values} → Fills slots ts v w → Fills (Comma ∷ slots) (comma ∷ ts) v w
   fill_open : {slots : List Slot} {ts : List lex.Token} {v w : Values} → Fills slots ts v w → Fills (Open ∷ slots) (open_bracket ∷ ts) v w
   fill_close : {slots : List Slot} {ts : List lex.Token} {v w : Values} → Fills slots ts v w → Fills (Close ∷ slots) (close_bracket ∷ ts) v w
@@ -340,7 +337,9 @@ read_fills line (slot ∷ slots) from o more e = by (filled line slot (next_toke
         let f = filled_token line slot (next_token line from) o p s.0 s.1 at in
         let others = rest p (sym (read_step line slot slots from o p at) ∙ e) in
         record {
-          tokens = f.0 ∷ others.tokens; column = others.column; meets = (f.1, others.meets);
+          tokens = f.0 ∷ others.tokens;
+          column = others.column;
+          meets = (f.1, others.meets);
           fills = fill_step line (next_token line from) f.0 slot slots others.tokens o p (values_of line more) f.1 f.2 others.fills;
         }
 
@@ -484,6 +483,7 @@ target_read line (slot ∷ slots) from o more t last none some e =
           meets = (is, others.meets);
           fills = fill_step line (next_token line from) shown slot slots (others.front ++ name (text_of line t) ∷ []) o p (values_of line more) is read others.fills;
         }
+
         is_last : (p : Operands) (shown : lex.Token) → IsShown line (next_token line from) shown → result_of (next_token line from) slot shown o ≡ Ok p → TakesLabel (next_token line from) slot shown p
             → slots ≡ [] → read_slots line slots (next_token line from).end p ≡ Ok more → HasTarget line (slot ∷ slots) (next_token line from) t (values_of line o) (values_of line more)
         is_last p shown is read takes none_left later =

@@ -1,19 +1,19 @@
 -- The token that the scanner finds is the longest that begins at its place.
-use Rattle.std.proofs.Common.{◌≡◌, ◌≢◌, ℕ, suc, ◌+◌, ◌-◌, ◌<◌, ◌≤◌, ◌⊎◌, inl, inr, Bool, true, false, cond, ◌&&◌, ◌||◌, not, nat_le, eqb, List, [], ◌∷◌, ◌++◌, length, get_or, take, drop, refl, sym, ap, ◌∙◌, subst, arith, lit<, add-one, drop-cons, length-drop, length-append}
-use Rattle.std.specs.List.{prefix_len, list_all, AllByRecursion}
+use Rattle.std.proofs.Common.{◌≡◌, ◌≢◌, ℕ, suc, ◌+◌, ◌<◌, ◌≤◌, ◌⊎◌, inl, inr, Bool, true, false, cond, ◌&&◌, not, eqb, List, [], ◌∷◌, ◌++◌, length, take, drop, refl, sym, ap, ◌∙◌, subst, arith, lit<}
+use Rattle.std.specs.List.{prefix_len, AllByRecursion}
 use Rattle.std.proofs.lemmas.Bool.{cond_both, eqb-true}
 use Rattle.std.proofs.lemmas.Bool.Decides.{nat_tests}
-use Rattle.std.proofs.lemmas.List.{drop-drop, get_or_past, take-append-drop}
+use Rattle.std.proofs.lemmas.List.{take-append-drop}
 use Rattle.std.proofs.lemmas.List.Folds.{length-prefix_len}
 use Rattle.ci_asm.specs.declared.scanner.ByteClass.{ByteClass}
 use Rattle.ci_asm.specs.declared.scanner.ByteClass.TheVariants.{Blank, NameByte, Digit, HexDigit}
 use Rattle.ci_asm.specs.declared.scanner.Kind.{Kind}
 use Rattle.ci_asm.specs.declared.scanner.Kind.TheVariants.{Name, Numeral, Directive, Mark, End, Bad}
 use Rattle.ci_asm.specs.declared.scanner.Token.{Token}
-use Rattle.ci_asm.specs.Tokens.{belongs, byte_at, run_end, is_line_end, is_letter, is_hex_start, is_digit, is_negative_start, is_directive, is_mark, token, token_at, next_token, text_of}
+use Rattle.ci_asm.specs.Tokens.{belongs, byte_at, run_end, is_line_end, is_letter, is_hex_start, is_digit, is_negative_start, is_directive, is_mark, token, token_at}
 use Rattle.ci_asm.specs.Lexicon as lex
 use Rattle.ci_asm.specs.Lexicon.{IsInRange, IsLetter, IsDigit, IsHexDigit, IsBlank, name, decimal_number, hex_number, word, comma, open_bracket, close_bracket, colon, spelling, StartsWith, IsToken, BeginsWith, BeginsWithLongest, Symbol, line_end, stray_byte}
-use Rattle.ci_asm.proofs.Tokens.{StandsAt, HasFirst, first_of, byte_of, behind_text, text_between, and_both, pick_true, pick_false, token_end}
+use Rattle.ci_asm.proofs.Tokens.{StandsAt, first_of, byte_of, and_both, token_end}
 
 -- ---- bytes
 
@@ -467,8 +467,8 @@ tells line i (c ∷ cs) at =
     (λ directive. cond_both (is_mark (byte_at line i)) _ _ P
     (λ e. subst (λ k. Tells line (c ∷ cs) i (token (Mark k) i (i + 1))) (sym byte) (tells_mark line i c cs (mark_cases c (ap is_mark (sym byte) ∙ e))))
     (λ mark. stray (λ h. true_is_not_false (at_comment_byte line i c cs at h) inside) (no_token c cs
-        (λ h. true_is_not_false (ap is_letter byte ∙ letter_no c h) letter)
-        (λ h. true_is_not_false (ap is_digit byte ∙ digit_no c h) digit)
-        (λ d ds same h. true_is_not_false (negative_here line i d ds (subst (StandsAt line i) same at) h) negative)
-        (λ ds same. true_is_not_false (directive_here line i ds (subst (StandsAt line i) same at)) directive)
-        (λ h. true_is_not_false (ap is_mark byte ∙ mark_no c h) mark)) refl)))))))
+    (λ h. true_is_not_false (ap is_letter byte ∙ letter_no c h) letter)
+    (λ h. true_is_not_false (ap is_digit byte ∙ digit_no c h) digit)
+    (λ d ds same h. true_is_not_false (negative_here line i d ds (subst (StandsAt line i) same at) h) negative)
+    (λ ds same. true_is_not_false (directive_here line i ds (subst (StandsAt line i) same at)) directive)
+    (λ h. true_is_not_false (ap is_mark byte ∙ mark_no c h) mark)) refl)))))))

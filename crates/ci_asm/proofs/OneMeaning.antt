@@ -1,5 +1,5 @@
 -- A text has one meaning at most, or one fault.
-use Rattle.std.proofs.Common.{◌≡◌, ◌≢◌, ℕ, suc, ◌+◌, ◌-◌, ◌*◌, ◌<◌, ◌≤◌, ◌⊎◌, inl, inr, Bool, true, false, cond, eqb, List, [], ◌∷◌, ◌++◌, length, refl, sym, ap, ◌∙◌, subst, arith, lit≤, append-nil, length-append, Option, Some, None, Result, Ok, Err, ℤ, pos, ◌-ℤ◌}
+use Rattle.std.proofs.Common.{◌≡◌, ◌≢◌, ℕ, ◌+◌, ◌*◌, ◌<◌, ◌≤◌, inl, inr, cond, eqb, List, [], ◌∷◌, ◌++◌, length, refl, sym, ap, ◌∙◌, subst, arith, append-nil, Option, Some, None, Result, Ok, Err, ℤ, pos, ◌-ℤ◌}
 use Rattle.std.specs.Option.{option_to_list}
 use Rattle.std.proofs.lemmas.Bool.{eqb-true}
 use Rattle.std.proofs.lemmas.Bool.Decides.{nat_tests}
@@ -10,13 +10,12 @@ use Rattle.ci_asm.specs.declared.faults.Rule.{Rule}
 use Rattle.ci_asm.specs.declared.faults.Rule.TheVariants.{OutOfField, Undefined, DefinedTwice}
 use Rattle.ci_asm.specs.declared.faults.Fault.{Fault}
 use Rattle.ci_asm.specs.declared.labels.Definition.{Definition}
-use Rattle.ci_asm.specs.declared.statements.Operands.{Operands}
 use Rattle.ci_asm.specs.declared.statements.Statement as code
 use Rattle.ci_asm.specs.declared.lines.Line as code_lines
 use Rattle.ci_asm.specs.Tokens.{next_token, text_of}
 use Rattle.ci_asm.specs.Shapes.{fits, field_of}
 use Rattle.ci_asm.specs.Statements.{◌>>=◌, fault, read_line, insn_of, signed_value}
-use Rattle.ci_asm.specs.Programs.{Position, position, kind_of, on_line, line_at, option_words, words_behind, all_read, Definitions, once_at, defined_once, offset_between, reaching, resolved, statement_insn, line_insn, option_length, insns_of, assembled}
+use Rattle.ci_asm.specs.Programs.{position, kind_of, on_line, line_at, option_words, all_read, Definitions, once_at, defined_once, offset_between, reaching, resolved, statement_insn, line_insn, option_length, insns_of, assembled}
 use Rattle.ci_asm.specs.Lines.{lines_of}
 use Rattle.ci_asm.specs.Lexicon as lex
 use Rattle.ci_asm.specs.Lexicon.{name, line_end, Stands}
@@ -28,10 +27,10 @@ use Rattle.ci_asm.proofs.Stated.{HasLabelFor, plain_says}
 use Rattle.ci_asm.proofs.Scanning.{Meets, same_symbol, line_meets, by_test}
 use Rattle.ci_asm.proofs.Fields.{field_form, fits_in}
 use Rattle.ci_asm.proofs.Assembly.{all_read-ok, all_read-err, insns_of-ok, insns_of-err, behind, assembled-read, assembled-unread}
-use Rattle.ci_asm.proofs.ReadLines.{statement_says, statement_read, line_says, HasRoom, HasLabels, IsReadLine, line_read, HasBody, body_of, same_label, ReachesInLine}
-use Rattle.ci_asm.proofs.ReadPrograms.{AreRead, program_of, words_with, WillReadLines, program_read, read-all_read, IsFoundAt, IsDefinition, AreDefinitions, text_definitions, definitions_known, defined_in, same_length, same_label_place, offset_signed, once_no, line_insn-read, line_no, IsInsnOfLine, IsResolvedAs, option_size, IsAt, next_at, start_at, AllResolved, resolved_first, resolved_rest}
+use Rattle.ci_asm.proofs.ReadLines.{statement_says, statement_read, line_says, HasRoom, HasLabels, line_read, body_of, same_label, ReachesInLine}
+use Rattle.ci_asm.proofs.ReadPrograms.{AreRead, program_of, words_with, program_read, read-all_read, IsDefinition, AreDefinitions, text_definitions, definitions_known, defined_in, same_length, same_label_place, offset_signed, once_no, line_insn-read, line_no, IsInsnOfLine, option_size, IsAt, next_at, start_at, AllResolved, resolved_first, resolved_rest}
 use Rattle.ci_asm.proofs.Faulty.{line_fault, statement_extends, one_kind}
-use Rattle.ci_asm.proofs.FaultyPrograms.{IsReach, reaches_label}
+use Rattle.ci_asm.proofs.FaultyPrograms.{reaches_label}
 
 -- ---- what stands in a line
 
@@ -76,10 +75,10 @@ front_of words a x rest (inr (room, (others, statement, is))) =
 -- a line has one fault at most
 one_fault : (words : ℕ) (line : List ℕ) (kind column other place : ℕ) → IsFaultOfLine words line kind column → IsFaultOfLine words line other place → (kind ≡ other) × (column ≡ place)
 one_fault words line kind column other place f g = elim (stand_compared line f.label g.label f.front g.front f.symbol g.symbol column place f.stands g.stands) [
-    | equal p q r ↦ (one_kind f.is_kind (subst (λ s. asm.IsKind f.front s other) (sym q) (subst (λ a. asm.IsKind a g.symbol other) (sym p) g.is_kind)), r)
-    | shorter x rest p q ↦ absurd (f.bad (subst (asm.IsGoodNext words f.front) (sym q) (front_of words f.front x rest (subst (IsGoodFront words) p g.good))))
-    | longer x rest p q ↦ absurd (g.bad (subst (asm.IsGoodNext words g.front) (sym q) (front_of words g.front x rest (subst (IsGoodFront words) p f.good))))
-  ]
+  | equal p q r ↦ (one_kind f.is_kind (subst (λ s. asm.IsKind f.front s other) (sym q) (subst (λ a. asm.IsKind a g.symbol other) (sym p) g.is_kind)), r)
+  | shorter x rest p q ↦ absurd (f.bad (subst (asm.IsGoodNext words f.front) (sym q) (front_of words f.front x rest (subst (IsGoodFront words) p g.good))))
+  | longer x rest p q ↦ absurd (g.bad (subst (asm.IsGoodNext words g.front) (sym q) (front_of words g.front x rest (subst (IsGoodFront words) p f.good))))
+]
 
 -- a line with a fault is no line of the language
 abbrev HasSpace : ℕ → Option Statement → Type 0
@@ -88,10 +87,10 @@ HasSpace words (Some s) = words < 262144
 
 no_fault : (words : ℕ) (line : List ℕ) (is : Line) (kind column : ℕ) → IsLine line is → HasSpace words is.statement → ¬ IsFaultOfLine words line kind column
 no_fault words line is kind column l room f = elim (stand_compared line f.label is.label f.front l.tokens f.symbol line_end column l.end f.stands l.ends) [
-    | equal p q r ↦ f.bad (subst (asm.IsGoodNext words f.front) (sym q) (is.statement, subst (λ a. HasStatement a is.statement) (sym p) l.has_statement))
-    | shorter x rest p q ↦ f.bad (subst (asm.IsGoodNext words f.front) (sym q) (good_front x rest is.statement p l.has_statement room))
-    | longer x rest p q ↦ absurd (cc)
-  ]
+  | equal p q r ↦ f.bad (subst (asm.IsGoodNext words f.front) (sym q) (is.statement, subst (λ a. HasStatement a is.statement) (sym p) l.has_statement))
+  | shorter x rest p q ↦ f.bad (subst (asm.IsGoodNext words f.front) (sym q) (good_front x rest is.statement p l.has_statement room))
+  | longer x rest p q ↦ absurd (cc)
+]
   where
     good_front : (x : lex.Token) (rest : List lex.Token) (s : Option Statement) → l.tokens ≡ f.front ++ x ∷ rest → HasStatement l.tokens s → HasSpace words s → IsGoodFront words (f.front ++ x ∷ [])
     good_front x rest None p has room = front_of words f.front x rest (inl (sym p ∙ has))
@@ -151,11 +150,11 @@ module _ (program : List Line) (definitions : Definitions) (known : AreDefinitio
       by None none = absurd (none (defined_in program before here after (text_of line t) split at))
       by (Some d) found = by_test (eqb d.line n)
           (λ same.
-            let line_is = found.line_is in
-            let number : d.line ≡ n = eqb-true d.line n same in
-            let size : length found.before ≡ length before = omega arith in
-            let lines = same_length found.before before found.line here found.after after size (sym found.split ∙ split) in
-            absurd (found.is_new (subst (λ b. Defines b (text_of line t)) (sym lines) defined)))
+          let line_is = found.line_is in
+          let number : d.line ≡ n = eqb-true d.line n same in
+          let size : length found.before ≡ length before = omega arith in
+          let lines = same_length found.before before found.line here found.after after size (sym found.split ∙ split) in
+          absurd (found.is_new (subst (λ b. Defines b (text_of line t)) (sym lines) defined)))
           (λ other. ap (λ b. cond b (Ok tt) (Err (fault DefinedTwice t.start))) other)
 
   nowhere_told : (s : code.Statement) (t : Token) → ¬ Defines program (text_of line t) → reaching words s t (definitions (text_of line t)) ≡ Err (fault Undefined t.start)
@@ -194,6 +193,7 @@ module _ (program : List Line) (definitions : Definitions) (known : AreDefinitio
           let plain_is = plain_says s.mnemonic line o.rd o.rs1 o.rs2 o.rs3 o.number in
           let there : statement_says line s ≡ plain (insn_of s.mnemonic (record o { label = None })) = ap (λ l. statement_says line (record s { operands = record o { label = l } })) same ∙ plain_is in
           cc
+
       by : (o : Option Token) → s.operands.label ≡ o → HasLabelToken s field label
       by None same = absurd (plain_by same)
       by (Some t) same =
@@ -206,15 +206,16 @@ module _ (program : List Line) (definitions : Definitions) (known : AreDefinitio
   -- the column of the label
   same_column : (label : Option (List ℕ)) (s : code.Statement) (t : Token) (said : Statement) (front : List lex.Token) (column : ℕ) → ReachesInLine line label t (statement_says line s) → IsStatement (front ++ name (text_of line t) ∷ []) said → StandsInLine line label front (lex.token (name (text_of line t))) column → t.start ≡ column
   same_column label s t said front column target is stands = elim (stand_compared line label label target.front front _ _ t.start column target.stands stands) [
-      | equal p q r ↦ r
-      | shorter x rest p q ↦ absurd (no_more target.front x rest front (statement_says line s) said p q target.is_statement is)
-      | longer x rest p q ↦ absurd (no_more front x rest target.front said (statement_says line s) p q is target.is_statement)
-    ]
+    | equal p q r ↦ r
+    | shorter x rest p q ↦ absurd (no_more target.front x rest front (statement_says line s) said p q target.is_statement is)
+    | longer x rest p q ↦ absurd (no_more front x rest target.front said (statement_says line s) p q is target.is_statement)
+  ]
     where
       more : (a : List lex.Token) (x : lex.Token) (rest : List lex.Token) (one two : Statement) → IsStatement (a ++ x ∷ []) one → IsStatement ((a ++ x ∷ rest) ++ x ∷ []) two → ⊥
       more a x [] one two first second = statement_extends (a ++ x ∷ []) x [] one two first second
       more a x (y ∷ rest) one two first second =
           statement_extends (a ++ x ∷ []) y (rest ++ x ∷ []) one two first (subst (λ k. IsStatement k two) (append_assoc a (x ∷ y ∷ rest) (x ∷ []) ∙ sym (append_assoc a (x ∷ []) (y ∷ (rest ++ x ∷ [])))) second)
+
       no_more : (a : List lex.Token) (x : lex.Token) (rest b : List lex.Token) (one two : Statement) → b ≡ a ++ x ∷ rest → lex.token (name (text_of line t)) ≡ lex.token x → IsStatement (a ++ name (text_of line t) ∷ []) one → IsStatement (b ++ name (text_of line t) ∷ []) two → ⊥
       no_more a x rest b one two p q first second =
           let last = name (text_of line t) in
@@ -286,7 +287,8 @@ module _ (program : List Line) (definitions : Definitions) (known : AreDefinitio
   label_told before after n l kind _ split place count read (too_far {label} {field} {with_offset} {front} {column} {n = z} new says is stands offset outside) =
       reach_told n l field with_offset label front column 4 read (once_no program definitions known words line before after (line_says line l) n l.label split refl place new) says is stands
       (λ s t text same. record {
-        rule = OutOfField; is_kind = refl;
+        rule = OutOfField;
+        is_kind = refl;
         reaches = far_told s t z (subst (λ k. IsOffset program words k z) (sym text) (subst (λ k. IsOffset program k label z) (sym count) offset)) (λ within. outside (subst (λ f. IsIn f z) same within));
       })
 
@@ -324,7 +326,7 @@ insns_bad program definitions known n words (line ∷ before) bytes after (l ∷
     let later = subst (λ d. AllResolved program d front) (ap (λ k. done ++ k ∷ []) (sym head)) (resolved_rest program done front x all) in
     let fault_there = subst (λ d. IsFaultOfLabel program d bytes here kind column) (ap (λ k. done ++ k ∷ front) (sym head) ∙ sym (append_assoc done (line_says line l ∷ []) front)) is in
     let more = insns_bad program definitions known (n + 1) (words + option_words l.statement) before bytes after ls (done ++ line_says line l ∷ []) front here back kind column read.1
-        (next_at program done line l (program_of (before ++ bytes ∷ after) ls) n words at) tail are.1 later fault_there in
+    (next_at program done line l (program_of (before ++ bytes ∷ after) ls) n words at) tail are.1 later fault_there in
     let rest : insns_of definitions (n + 1) (words + option_length f.0) (before ++ bytes ∷ after) ≡ Err (record { kind = kind; line = n + 1 + length before; column = column + 1 }) = ap (λ k. insns_of definitions (n + 1) (words + k) (before ++ bytes ∷ after)) size ∙ more in
     insns_of-ok definitions n words line (before ++ bytes ∷ after) f.0 (sym one)
     ∙ (ap (behind (option_to_list f.0)) rest ∙ (λ i. Err (record { kind = kind; line = place i; column = column + 1 })))

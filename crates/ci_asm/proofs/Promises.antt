@@ -1,12 +1,12 @@
 -- What the calls promise, by the definitions.
-use Rattle.std.proofs.Common.{◌≡◌, ℕ, Bool, true, List, [], ◌∷◌, ◌++◌, refl, sym, ap, ◌∙◌, subst, append-nil, Option, Some, None, Result, Ok, Err, ℤ, pos, negsuc}
+use Rattle.std.proofs.Common.{◌≡◌, ℕ, true, List, [], ◌∷◌, ◌++◌, refl, sym, ap, ◌∙◌, subst, append-nil, Option, Some, None, Result, Ok, Err, ℤ, pos, negsuc}
 use Rattle.std.specs.Prelude.{IfOk, IfErr, codes, is_some}
 use Rattle.std.specs.Fmt.{decimal, signed_decimal}
 use Rattle.ci_word.specs.declared.arithmetic.Op.{Op}
 use Rattle.ci_word.specs.declared.arithmetic.Op.TheVariants as ops
 use Rattle.ci_isa.specs.declared.instruction.Insn.{Insn}
 use Rattle.ci_isa.specs.declared.instruction.Insn.TheVariants as insn
-use Rattle.ci_isa.specs.Table.{IsWordOf, IsWellFormed}
+use Rattle.ci_isa.specs.Table.{IsWellFormed}
 use Rattle.ci_text.specs.Hex.{eight_hex_digits}
 use Rattle.ci_asm.specs.declared.numbers.Number.{Number}
 use Rattle.ci_asm.specs.Forms.{Field, operation_name, register_immediate, branch_name, load_name, store_name}

@@ -1,7 +1,6 @@
 -- The lines that the code reads are those of the definitions.
-use Rattle.std.proofs.Common.{◌≡◌, ◌≢◌, ℕ, ◌+◌, ◌*◌, ◌<◌, ◌≤◌, ◌⊎◌, inl, inr, Bool, true, false, cond, eqb, List, [], ◌∷◌, ◌++◌, length, refl, sym, ap, ◌∙◌, subst, arith, Option, Some, None, Result, Ok, Err}
+use Rattle.std.proofs.Common.{◌≡◌, ◌≢◌, ℕ, Bool, true, false, cond, List, [], ◌∷◌, ◌++◌, refl, sym, ap, ◌∙◌, subst, arith, Option, Some, None, Result, Ok, Err}
 use Rattle.std.specs.Prelude.{find}
-use Rattle.std.specs.Str.{bytes_eq}
 use Rattle.std.proofs.lemmas.Bool.{eqb-true}
 use Rattle.std.proofs.lemmas.Slice.Eq.{bytes_eq-Decides}
 use Rattle.ci_asm.specs.declared.scanner.Kind.{Kind}
@@ -10,7 +9,7 @@ use Rattle.ci_asm.specs.declared.scanner.Token.{Token}
 use Rattle.ci_asm.specs.declared.mnemonics.Mnemonic.{Mnemonic}
 use Rattle.ci_asm.specs.declared.mnemonics.Mnemonic.TheVariants.{Registers, Constant, Lui, Auipc, Jal, Jalr, Branch, Load, Store, Fence, Ecall, Ebreak, Custom, Cread, Data}
 use Rattle.ci_asm.specs.declared.faults.Rule.{Rule}
-use Rattle.ci_asm.specs.declared.faults.Rule.TheVariants.{NoToken, NoMnemonic, NoOperand, OutOfField, Surplus}
+use Rattle.ci_asm.specs.declared.faults.Rule.TheVariants.{NoToken, NoMnemonic, Surplus}
 use Rattle.ci_asm.specs.declared.faults.Fault.{Fault}
 use Rattle.ci_asm.specs.declared.statements.Operands.{Operands}
 use Rattle.ci_asm.specs.declared.statements.Statement as code
@@ -26,8 +25,8 @@ use Rattle.ci_asm.proofs.Operands.{bind_ok, same_ok, at_place_ok, found_ok, unle
 use Rattle.ci_asm.proofs.Shown.{found_by_name}
 use Rattle.ci_asm.proofs.Lexing.{kind_of, true_is_not_false}
 use Rattle.ci_asm.proofs.Scanning.{IsShown, Shows, Meets, next_symbol, by_test, same_symbol, line_meets, line_stands, kind_no_end}
-use Rattle.ci_asm.proofs.Filling.{Values, no_values, values_of, label_text, Fills, read_fills, fills_read, target_read}
-use Rattle.ci_asm.proofs.Stated.{says, mnemonic_token, fills_statement, HasSlots, statement_slots, HasLabelFor, label_for, offset_last}
+use Rattle.ci_asm.proofs.Filling.{values_of, label_text, read_fills, fills_read, target_read}
+use Rattle.ci_asm.proofs.Stated.{says, mnemonic_token, fills_statement, statement_slots, HasLabelFor, label_for, offset_last}
 
 -- ---- mnemonics
 
@@ -145,26 +144,30 @@ read_is line from full s e =
     let has = read_fills line (slots_of m) t.end no_operands c.0 slots in
     let mnemonic = at_place_ok t.start (mnemonic_in line t t.kind) m b.1 in
     let shown = token_read line from m mnemonic in
-    let statement = fills_statement m (mnemonic_in-statement line t t.kind m mnemonic) has.fills in
-    (subst (λ s. IsReadAs line t (statement_says line s)) (same_ok _ s c.2)
-      (record { tokens = mnemonic_token m ∷ has.tokens; column = has.column; meets = (shown, has.meets); is_statement = statement }),
-    not_full full (fault Surplus t.start) (read_slots line (slots_of m) t.end no_operands) c.0 c.1,
-    subst (λ s. HasLabelFor s.mnemonic (values_of line s.operands)) (same_ok _ s c.2) (label_for m has.fills),
-    subst (λ s. (t : Token) → s.operands.label ≡ Some t → ReachesLast line (next_token line from) t (statement_says line s)) (same_ok _ s c.2)
-      (λ u some. reaches line from m c.0 shown (mnemonic_in-statement line t t.kind m mnemonic) slots u some))
+    let statement = fills_statement m (mnemonic_in-statement line t t.kind m mnemonic) has.fills in (
+      subst (λ s. IsReadAs line t (statement_says line s)) (same_ok _ s c.2)
+          (record { tokens = mnemonic_token m ∷ has.tokens; column = has.column; meets = (shown, has.meets); is_statement = statement }),
+      not_full full (fault Surplus t.start) (read_slots line (slots_of m) t.end no_operands) c.0 c.1,
+      subst (λ s. HasLabelFor s.mnemonic (values_of line s.operands)) (same_ok _ s c.2) (label_for m has.fills),
+      subst (λ s. (t : Token) → s.operands.label ≡ Some t → ReachesLast line (next_token line from) t (statement_says line s)) (same_ok _ s c.2)
+          (λ u some. reaches line from m c.0 shown (mnemonic_in-statement line t t.kind m mnemonic) slots u some),
+    )
   where
     reaches : (line : List ℕ) (from : ℕ) (m : Mnemonic) (o : Operands) → IsShown line (next_token line from) (mnemonic_token m) → is_statement m ≡ true → read_slots line (slots_of m) (next_token line from).end no_operands ≡ Ok o
         → (u : Token) → o.label ≡ Some u → ReachesLast line (next_token line from) u (says m (values_of line o))
     reaches line from m o shown named slots u some =
         let h = target_read line (slots_of m) (next_token line from).end no_operands o u (offset_last m) refl some slots in
         record { front = mnemonic_token m ∷ h.front; meets = (shown, h.meets); is_statement = fills_statement m named h.fills }
+
     not_full : (full : Bool) (f : Fault) (r : Result Operands Fault) (o : Operands) → cond full (Err f) r ≡ Ok o → full ≡ false
     not_full true f r o e = absurd (cc)
     not_full false f r o e = refl
+
     token_by : (line : List ℕ) (t : Token) (m : Mnemonic) (symbol : lex.Symbol) → Shows line t symbol → mnemonic_in line t t.kind ≡ Ok m → IsShown line t (mnemonic_token m)
     token_by line t m (lex.token shown) shows e = subst (IsShown line t) (mnemonic_yes shown m shows.proper (sym (mnemonic_shown line t shown shows) ∙ e)) shows
     token_by line t m line_end shows e = let none : mnemonic_in line t t.kind ≡ Err NoMnemonic = ap (mnemonic_in line t) shows in absurd (cc)
     token_by line t m stray_byte shows e = let none : mnemonic_in line t t.kind ≡ Err NoToken = ap (mnemonic_in line t) shows in absurd (cc)
+
     token_read : (line : List ℕ) (from : ℕ) (m : Mnemonic) → mnemonic_in line (next_token line from) (next_token line from).kind ≡ Ok m → IsShown line (next_token line from) (mnemonic_token m)
     token_read line from m e = let s = next_symbol line from in token_by line (next_token line from) m s.0 s.1 e
 
@@ -429,7 +432,7 @@ line_is line full is l room =
         record {
           read = record { label = b.label; statement = Some r.read };
           reads = b.reads full ∙ (with_other line b.label t full t.kind (shown_not_end line t (mnemonic_token h.mnemonic) there.0)
-            ∙ (ap (λ f. read_statement line t f >>= λ s. Ok (record { label = b.label; statement = Some s })) room
-            ∙ ap (λ x. x >>= λ s. Ok (record { label = b.label; statement = Some s })) r.reads));
+              ∙ (ap (λ f. read_statement line t f >>= λ s. Ok (record { label = b.label; statement = Some s })) room
+              ∙ ap (λ x. x >>= λ s. Ok (record { label = b.label; statement = Some s })) r.reads));
           says = λ i. record { label = sym same i; statement = Some (r.meaning i) };
         }

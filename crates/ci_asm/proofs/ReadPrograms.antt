@@ -1,7 +1,6 @@
 -- The programs that the code reads are those of the definitions.
-use Rattle.std.proofs.Common.{◌≡◌, ◌≢◌, ℕ, suc, ◌+◌, ◌-◌, ◌*◌, ◌<◌, ◌≤◌, ◌⊎◌, inl, inr, Bool, true, false, cond, eqb, nat_lt, List, [], ◌∷◌, ◌++◌, length, refl, sym, ap, ◌∙◌, subst, arith, lit≤, append-nil, length-append, Option, Some, None, Result, Ok, Err, ℤ, pos, neg_ℤ, ◌-ℤ◌}
+use Rattle.std.proofs.Common.{◌≡◌, ◌≢◌, ℕ, ◌+◌, ◌-◌, ◌*◌, ◌<◌, ◌≤◌, inl, inr, Bool, true, false, cond, eqb, nat_lt, List, [], ◌∷◌, ◌++◌, length, refl, sym, ap, ◌∙◌, subst, arith, lit≤, append-nil, length-append, Option, Some, None, Result, Ok, Err, ℤ, pos, neg_ℤ, ◌-ℤ◌}
 use Rattle.std.specs.Option.{option_to_list}
-use Rattle.std.specs.Str.{bytes_eq}
 use Rattle.std.proofs.lemmas.Int.{ints}
 use Rattle.std.proofs.lemmas.Bool.{eqb-true}
 use Rattle.std.proofs.lemmas.Bool.Decides.{nat_tests}
@@ -9,33 +8,32 @@ use Rattle.std.proofs.lemmas.Slice.Eq.{bytes_eq-Decides}
 use mathlib.Core.List.{append_assoc}
 use Rattle.ci_isa.specs.declared.instruction.Insn.{Insn}
 use Rattle.ci_isa.specs.declared.instruction.Insn.TheVariants as insn
-use Rattle.ci_isa.specs.Table.{IsWordOf}
 use Rattle.ci_asm.specs.declared.scanner.Token.{Token}
 use Rattle.ci_asm.specs.declared.numbers.Number.{Number}
 use Rattle.ci_asm.specs.declared.faults.Fault.{Fault}
-use Rattle.ci_asm.specs.declared.faults.Rule.TheVariants.{OutOfField, Undefined, DefinedTwice}
+use Rattle.ci_asm.specs.declared.faults.Rule.TheVariants.{OutOfField, DefinedTwice}
 use Rattle.ci_asm.specs.declared.labels.Definition.{Definition}
 use Rattle.ci_asm.specs.declared.statements.Operands.{Operands}
 use Rattle.ci_asm.specs.declared.statements.Statement as code
 use Rattle.ci_asm.specs.declared.lines.Line as code_lines
 use Rattle.ci_asm.specs.Tokens.{text_of}
 use Rattle.ci_asm.specs.Shapes.{fits, field_of}
-use Rattle.ci_asm.specs.Statements.{◌>>=◌, read_line, insn_of, signed_value}
+use Rattle.ci_asm.specs.Statements.{◌>>=◌, insn_of, signed_value}
 use Rattle.ci_asm.specs.Definitions.{earlier}
 use Rattle.ci_asm.specs.Programs.{Position, position, on_line, line_at, option_words, words_in, label_in, words_behind, all_read, is_labelled, definition_on, definition_of, Definitions, once_at, defined_once, offset_between, reaching, resolved, statement_insn, line_insn, option_length, insns_of, assembled, AreWordsOf, AreWordsIn}
 use Rattle.ci_asm.specs.Lines.{lines_of}
-use Rattle.ci_asm.specs.Forms.{Statement, plain, to_label, IsIn}
+use Rattle.ci_asm.specs.Forms.{Statement, IsIn}
 use Rattle.ci_asm.specs.Assembly as asm
 use Rattle.ci_asm.specs.Assembly.{Line, IsLine, AreLines, IsProgram, with_statement_of, statements_of, Defines, IsLabelOf, IsOffset, IsInsnOf, AreWords, IsNew, IsResolved, AreResolved, IsAssembly, most_words}
 use Rattle.ci_asm.proofs.Operands.{bind_ok, same_ok, cond_ok}
 use Rattle.ci_asm.proofs.Assembly.{all_read-nil, all_read-ok, definition_of-nil, definition_of-cons, insns_of-nil, insns_of-ok, assembled-read}
 use Rattle.ci_asm.proofs.Filling.{values_of, label_text}
 use Rattle.ci_asm.proofs.Fields.{field_form, fits_in, in_fits}
-use Rattle.ci_asm.proofs.Stated.{says, HasLabelFor, plain_says}
+use Rattle.ci_asm.proofs.Stated.{HasLabelFor, plain_says}
 use Rattle.ci_asm.specs.declared.mnemonics.Mnemonic.{Mnemonic}
 use Rattle.ci_asm.specs.declared.mnemonics.Mnemonic.TheVariants.{Registers, Constant, Lui, Auipc, Jal, Jalr, Branch, Load, Store, Fence, Ecall, Ebreak, Custom, Cread, Data}
 use Rattle.ci_asm.proofs.Scanning.{by_test}
-use Rattle.ci_asm.proofs.ReadLines.{statement_says, statement_read, line_says, HasRoom, HasLabels, IsReadLine, line_read, IsRoomFor, WillReadLine, line_is}
+use Rattle.ci_asm.proofs.ReadLines.{statement_says, statement_read, line_says, HasRoom, HasLabels, line_read, IsRoomFor, line_is}
 
 -- ---- lines that were read
 
@@ -177,9 +175,14 @@ further label n words more line program (Some d) other count f =
     let words_is = f.words_is in
     let cons = count_cons line f.before words in
     record {
-      before = line ∷ f.before; line = f.line; after = f.after; split = ap (λ k. line ∷ k) f.split; labelled = f.labelled;
+      before = line ∷ f.before;
+      line = f.line;
+      after = f.after;
+      split = ap (λ k. line ∷ k) f.split;
+      labelled = f.labelled;
       is_new = λ defines. elim defines [ inl here ↦ other here | inr there ↦ f.is_new there ];
-      line_is = omega arith; words_is = omega arith;
+      line_is = omega arith;
+      words_is = omega arith;
     }
 
 -- the code's definitions are those of the program
@@ -190,18 +193,24 @@ definition_is label n words (line ∷ lines) [] read = absurd read
 definition_is label n words (line ∷ lines) (l ∷ ls) read =
     let more = definition_is label (n + 1) (words + option_words l.statement) lines ls read.1 in
     let first : definition_on label n words line ≡ cond (is_labelled label line l.label) (Some (record { line = n; words = words })) None =
-        ap (λ r. cond (is_labelled label line (label_in r)) (Some (record { line = n; words = words })) None) read.0 in
+    ap (λ r. cond (is_labelled label line (label_in r)) (Some (record { line = n; words = words })) None) read.0 in
     let count : words + words_in (line_at words line) ≡ words + option_words l.statement = ap (λ r. words + words_in r) read.0 in
     let rest : definition_of label (n + 1) (words + words_in (line_at words line)) lines ≡ definition_of label (n + 1) (words + option_words l.statement) lines = ap (λ k. definition_of label (n + 1) k lines) count in
     let all : definition_of label n words (line ∷ lines) ≡ earlier (cond (is_labelled label line l.label) (Some (record { line = n; words = words })) None) (definition_of label (n + 1) (words + option_words l.statement) lines) =
-        definition_of-cons label n words line lines ∙ (λ i. earlier (first i) (rest i)) in
+    definition_of-cons label n words line lines ∙ (λ i. earlier (first i) (rest i)) in
     subst (IsDefinition (program_of (line ∷ lines) (l ∷ ls)) label n words) (sym all) (by (is_labelled label line l.label) refl more)
   where
     by : (b : Bool) → is_labelled label line l.label ≡ b → IsDefinition (program_of lines ls) label (n + 1) (words + option_words l.statement) (definition_of label (n + 1) (words + option_words l.statement) lines)
         → IsDefinition (program_of (line ∷ lines) (l ∷ ls)) label n words (earlier (cond b (Some (record { line = n; words = words })) None) (definition_of label (n + 1) (words + option_words l.statement) lines))
     by true at more = record {
-      before = []; line = line_says line l; after = program_of lines ls; split = refl; labelled = labelled_yes label line l.label at;
-      is_new = λ none. none; line_is = omega arith; words_is = omega arith;
+      before = [];
+      line = line_says line l;
+      after = program_of lines ls;
+      split = refl;
+      labelled = labelled_yes label line l.label at;
+      is_new = λ none. none;
+      line_is = omega arith;
+      words_is = omega arith;
     }
     by false at more = further label n words (words + option_words l.statement) (line_says line l) (program_of lines ls) _ (λ e. let no = labelled_no label line l.label e in absurd (cc)) (ap (λ k. words + k) (sym (words_here line l.statement))) more
 
@@ -238,8 +247,8 @@ same_first a b k l rest others label e at_k at_l new_a new_b =
     by_test (nat_lt (length a) (length b))
     (λ t. let less : length a < length b = grind (arith, nat_tests) in absurd (new_b (split_less a b k l rest others label less e at_k)))
     (λ t. by_test (nat_lt (length b) (length a))
-      (λ u. let less : length b < length a = grind (arith, nat_tests) in absurd (new_a (split_less b a l k others rest label less (sym e) at_l)))
-      (λ u. let same : length a ≡ length b = grind (arith, nat_tests) in same_length a b k l rest others same e))
+    (λ u. let less : length b < length a = grind (arith, nat_tests) in absurd (new_a (split_less b a l k others rest label less (sym e) at_l)))
+    (λ u. let same : length a ≡ length b = grind (arith, nat_tests) in same_length a b k l rest others same e))
 
 -- ---- statements in a program
 
@@ -251,6 +260,7 @@ offset_signed from to = by_test (nat_lt to from) back forth
         let less : to < from = grind (arith, nat_tests) in
         let size : neg_ℤ (pos (4 * (from - to))) ≡ pos (4 * to) -ℤ pos (4 * from) = omega (arith, ints) in
         ap (λ b. signed_value (cond b (record { negative = true; magnitude = 4 * (from - to) }) (record { negative = false; magnitude = 4 * (to - from) }))) e ∙ size
+
     forth : nat_lt to from ≡ false → signed_value (offset_between from to) ≡ pos (4 * to) -ℤ pos (4 * from)
     forth e =
         let more : from ≤ to = grind (arith, nat_tests) in
@@ -589,7 +599,7 @@ insns_no program definitions known n words (line ∷ lines) (l ∷ ls) done insn
     let one = line_no program definitions known words line done (program_of lines ls) n l f.first at.split at.line_is read.0 (record { is_new = new; is_insn = f.is_insn }) in
     let size = option_size program words line l.statement f.first f.is_insn in
     let more = insns_no program definitions known (n + 1) (words + option_words l.statement) lines ls (done ++ here ∷ []) f.others read.1 (next_at program done line l (program_of lines ls) n words at) (resolved_rest program done (program_of lines ls) here all)
-        (subst (λ k. AreInsns program (words + k) (statements_of (program_of lines ls)) f.others) size f.are_insns) in
+    (subst (λ k. AreInsns program (words + k) (statements_of (program_of lines ls)) f.others) size f.are_insns) in
     let rest : insns_of definitions (n + 1) (words + option_length f.first) lines ≡ Ok f.others = ap (λ k. insns_of definitions (n + 1) (words + k) lines) size ∙ more in
     insns_of-ok definitions n words line lines f.first (sym one)
     ∙ (ap (λ r. r >>= λ others. Ok (option_to_list f.first ++ others)) rest ∙ ap Ok f.split)

@@ -1,19 +1,19 @@
 -- What stands behind the tokens of a line, as the scanner meets it.
-use Rattle.std.proofs.Common.{◌≡◌, ◌≢◌, ℕ, suc, ◌+◌, ◌-◌, ◌<◌, ◌≤◌, ◌⊎◌, inl, inr, Bool, true, false, cond, ◌&&◌, eqb, List, [], ◌∷◌, ◌++◌, length, get_or, take, drop, refl, sym, ap, ◌∙◌, subst, arith, nat_le, length-append, length-drop}
+use Rattle.std.proofs.Common.{◌≡◌, ◌≢◌, ℕ, ◌+◌, ◌≤◌, Bool, true, false, eqb, List, [], ◌∷◌, ◌++◌, length, take, drop, refl, sym, ap, ◌∙◌, subst, arith, nat_le, length-append, length-drop}
 use Rattle.std.specs.Prelude.{if◌then◌else◌, ◌==◌}
 use Rattle.std.specs.List.{prefix_len, AllByRecursion}
-use Rattle.std.proofs.lemmas.Bool.{cond_both, eqb-true}
+use Rattle.std.proofs.lemmas.Bool.{cond_both}
 use Rattle.std.proofs.lemmas.Bool.Decides.{nat_tests}
 use Rattle.std.proofs.Math.Seq.{take-append_seam}
 use Rattle.std.proofs.lemmas.List.{drop_all}
 use Rattle.ci_asm.specs.declared.scanner.ByteClass.TheVariants.{Blank}
-use Rattle.ci_asm.specs.declared.scanner.Kind.TheVariants.{Name, Numeral, Directive, Mark, End, Bad}
+use Rattle.ci_asm.specs.declared.scanner.Kind.TheVariants.{End, Bad}
 use Rattle.ci_asm.specs.declared.scanner.Token.{Token}
 use Rattle.ci_asm.specs.Tokens.{belongs, byte_at, run_end, is_letter, is_line_end, token, token_at, next_token, text_of}
 use Rattle.ci_asm.specs.Lexicon as lex
 use Rattle.ci_asm.specs.Lexicon.{IsLetter, IsDigit, IsBlank, name, decimal_number, hex_number, word, comma, open_bracket, close_bracket, colon, spelling, IsToken, BeginsWith, BeginsWithLongest, line_end, stray_byte, Stands, behind_blank, behind_token, at_token, at_end, at_comment, at_stray_byte}
-use Rattle.ci_asm.proofs.Tokens.{StandsAt, HasFirst, first_of, token_end, behind_text, text_between, pick_true, pick_false}
-use Rattle.ci_asm.proofs.Lexing.{letter_no, digit_no, blank_yes, blank_no, Heads, heads, kind_of, IsAtEnd, Tells, ended, found, stray, tells, at_comment_byte, true_is_not_false}
+use Rattle.ci_asm.proofs.Tokens.{StandsAt, first_of, token_end, behind_text, text_between, pick_true}
+use Rattle.ci_asm.proofs.Lexing.{letter_no, blank_yes, blank_no, Heads, heads, kind_of, IsAtEnd, Tells, ended, found, stray, tells, at_comment_byte, true_is_not_false}
 
 -- by the outcome of a test
 pub by_test : {P : Type 0} (b : Bool) → (b ≡ true → P) → (b ≡ false → P) → P
@@ -163,9 +163,11 @@ token_here line n text t rest at longest =
     not_empty open_bracket rest = λ b. let e = b.is_text in absurd (cc)
     not_empty close_bracket rest = λ b. let e = b.is_text in absurd (cc)
     not_empty colon rest = λ b. let e = b.is_text in absurd (cc)
+
     no_end : (text : List ℕ) → BeginsWith text t rest → ¬ IsAtEnd text
     no_end [] b = λ end. not_empty t rest b
     no_end (c ∷ cs) b = λ end. no_comment_head t (subst (Heads t) end (heads c cs t rest b))
+
     by : (text : List ℕ) → BeginsWithLongest text t rest → (u : Token) → Tells line text n u → u ≡ token (kind_of t) n (n + length (spelling t))
     by text longest u (ended end e) = absurd (no_end text longest.begins end)
     by text longest u (found other others there e) = e ∙ ap (λ k. token (kind_of k) n (n + length (spelling k))) (same_longest text other t others rest there longest)
@@ -233,10 +235,15 @@ skips line (c ∷ cs) n at size = by_test (belongs Blank c) (λ e. blank (skips 
     blank more e =
         let is = blank_yes c e in
         record {
-          place = more.place; rest = more.rest; at = more.at; solid = more.solid; size = more.size;
+          place = more.place;
+          rest = more.rest;
+          at = more.at;
+          solid = more.solid;
+          size = more.size;
           same = blank_step line n c cs at is ∙ more.same;
           back = λ tokens symbol column s. behind_blank is (more.back tokens symbol column s);
         }
+
     other : belongs Blank c ≡ false → Skips line (c ∷ cs) n
     other e =
         let solid : ¬ IsBlank c = λ b. true_is_not_false (blank_no c b) e in
@@ -351,6 +358,7 @@ next_symbol line n = by_test (nat_le n (length line)) inside outside
         let near : n ≤ length line = grind (arith, nat_tests) in
         let r = next_read line (drop n line) n (record { rest = refl }) (omega (arith, length-drop n line)) in
         (r.symbol, r.shows)
+
     outside : nat_le n (length line) ≡ false → (symbol : lex.Symbol) × Shows line (next_token line n) symbol
     outside e =
         let far : length line ≤ n = grind (arith, nat_tests) in

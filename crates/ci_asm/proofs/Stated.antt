@@ -1,5 +1,5 @@
 -- The statements that the code reads are those of the definitions.
-use Rattle.std.proofs.Common.{◌≡◌, ◌≢◌, ℕ, ◌+◌, ◌*◌, ◌<◌, ◌≤◌, ◌⊎◌, inl, inr, Bool, true, false, cond, eqb, List, [], ◌∷◌, ◌++◌, length, refl, sym, ap, ◌∙◌, subst, arith, Option, Some, None, Result, Ok, Err, ℤ, pos, negsuc, ◌≤ℤ◌}
+use Rattle.std.proofs.Common.{◌≡◌, ℕ, ◌*◌, true, false, cond, List, [], ◌∷◌, refl, sym, ap, ◌∙◌, subst, arith, Option, Some, None, ℤ, pos, negsuc, ◌≤ℤ◌}
 use Rattle.std.specs.Prelude.{unsigned_abs, is_some}
 use Rattle.std.proofs.lemmas.Int.{ints}
 use Rattle.ci_word.specs.declared.arithmetic.Op.{Op}
@@ -9,20 +9,17 @@ use Rattle.ci_isa.specs.declared.instruction.Insn.TheVariants as insn
 use Rattle.ci_asm.specs.declared.numbers.Number.{Number}
 use Rattle.ci_asm.specs.declared.mnemonics.Mnemonic.{Mnemonic}
 use Rattle.ci_asm.specs.declared.mnemonics.Mnemonic.TheVariants.{Registers, Constant, Lui, Auipc, Jal, Jalr, Branch, Load, Store, Fence, Ecall, Ebreak, Custom, Cread, Data}
-use Rattle.ci_asm.specs.declared.slots.Field.{Field}
-use Rattle.ci_asm.specs.declared.slots.Field.TheVariants.{Immediate, Amount, Upper, BranchOffset, JumpOffset, FenceBits, UnitNumber, Whole}
 use Rattle.ci_asm.specs.declared.slots.Slot.{Slot}
-use Rattle.ci_asm.specs.declared.slots.Slot.TheVariants.{Rd, Rs1, Rs2, Rs3, Value, Comma, Open, Close}
-use Rattle.ci_asm.specs.declared.statements.Operands.{Operands}
-use Rattle.ci_asm.specs.Shapes.{name_of, is_statement, is_offset, field_from, form_name, form_field, constant_name, constant_field, field_of, slots_of}
-use Rattle.ci_asm.specs.Statements.{signed_value, insn_of}
+use Rattle.ci_asm.specs.declared.slots.Slot.TheVariants.{Value}
+use Rattle.ci_asm.specs.Shapes.{name_of, is_statement, is_offset, form_name, form_field, constant_name, constant_field, slots_of}
+use Rattle.ci_asm.specs.Statements.{insn_of}
 use Rattle.ci_asm.specs.Lexicon as lex
 use Rattle.ci_asm.specs.Lexicon.{name, decimal_number, hex_number, word, comma, open_bracket, close_bracket, colon}
 use Rattle.ci_asm.specs.Forms as forms
 use Rattle.ci_asm.specs.Forms.{register_immediate, IsIn, IsRegister, HasNumber, Statement, plain, to_label, IsStatement, on_registers, on_immediate, lui, auipc, jump, jump_label, jump_register, branch, branch_label, load, store, fence, ecall, ebreak, custom, cread, data_word}
 use Rattle.ci_asm.proofs.Scanning.{by_test}
 use Rattle.ci_asm.proofs.Fields.{field_form, field_again, abs_signed}
-use Rattle.ci_asm.proofs.Filling.{Values, no_values, values_of, label_text, OffsetLast, Fills, done, fill_rd, fill_rs1, fill_rs2, fill_rs3, fill_number, fill_label, fill_comma, fill_open, fill_close}
+use Rattle.ci_asm.proofs.Filling.{Values, no_values, values_of, OffsetLast, Fills, done, fill_rd, fill_rs1, fill_rs2, fill_rs3, fill_number, fill_label, fill_comma, fill_open, fill_close}
 
 -- ---- what a statement says
 

@@ -29,7 +29,8 @@ label_tokens (Some label) = name label ∷ colon ∷ []
 label_tokens None = []
 
 -- in the line, the symbol stands behind the label, if there is one, and these tokens
-pub record StandsInLine (bytes : List ℕ) (label : Option (List ℕ)) (tokens : List Token) (symbol : Symbol) (column : ℕ) : Type 0 where
+pub record StandsInLine (bytes : List ℕ) (label : Option (List ℕ)) (tokens : List Token) (symbol : Symbol) (column : ℕ)
+    : Type 0 where
   pub has_label : HasLabel bytes label
   pub stands : Stands 0 bytes (label_tokens label ++ tokens) symbol column
 
@@ -97,9 +98,10 @@ AreWords program number [] [] = Unit {0}
 AreWords program number [] (w ∷ words) = ⊥
 AreWords program number (statement ∷ statements) [] = ⊥
 AreWords program number (statement ∷ statements) (w ∷ words) =
-    ((insn : Insn) × IsInsnOf program number statement insn × IsWordOf w insn) × AreWords program (number + 1) statements words
+    ((insn : Insn) × IsInsnOf program number statement insn × IsWordOf w insn)
+    × AreWords program (number + 1) statements words
 
--- no label of these lines is defined on an earlier one
+-- none of these lines defines the label
 abbrev pub IsNew : List Line → Option (List ℕ) → Type 0
 IsNew before (Some label) = ¬ Defines before label
 IsNew before None = Unit {0}
@@ -107,12 +109,14 @@ IsNew before None = Unit {0}
 -- a line behind these defines no label again, and its statement has an instruction
 pub record IsResolved (program before : List Line) (line : Line) : Type 0 where
   pub is_new : IsNew before line.label
-  pub has_insn : (statement : Statement) → line.statement ≡ Some statement → (insn : Insn) × IsInsnOf program (words_in before) statement insn
+  pub has_insn : (statement : Statement) → line.statement ≡ Some statement
+      → (insn : Insn) × IsInsnOf program (words_in before) statement insn
 
 -- the same of each of the program's first lines
 abbrev pub AreResolved : List Line → List Line → Type 0
 AreResolved program lines =
-    (before : List Line) (line : Line) (after : List Line) → lines ≡ before ++ line ∷ after → IsResolved program before line
+    (before : List Line) (line : Line) (after : List Line) → lines ≡ before ++ line ∷ after
+    → IsResolved program before line
 
 -- the text is the assembly of these words
 pub record IsAssembly (text words : List ℕ) : Type 0 where
@@ -126,7 +130,9 @@ pub record IsAssembly (text words : List ℕ) : Type 0 where
 -- the tokens go on to a statement, or there are none. Behind the last word no statement may come
 abbrev pub IsGoodFront : ℕ → List Token → Type 0
 IsGoodFront words tokens =
-    (tokens ≡ []) ⊎ ((words < most_words) × ((others : List Token) × (statement : Statement) × IsStatement (tokens ++ others) statement))
+    (tokens ≡ [])
+    ⊎ ((words < most_words)
+    × ((others : List Token) × (statement : Statement) × IsStatement (tokens ++ others) statement))
 
 -- the symbol does, too, or it ends the line where it may end
 abbrev pub IsGoodNext : ℕ → List Token → Symbol → Type 0
@@ -139,7 +145,9 @@ IsWhole front = (statement : Statement) × IsStatement front statement
 
 -- a number may stand behind the tokens
 abbrev pub IsNumberDue : List Token → Type 0
-IsNumberDue front = (t : Token) × (others : List Token) × (statement : Statement) × IsNumber t × IsStatement (front ++ t ∷ others) statement
+IsNumberDue front =
+    (t : Token) × (others : List Token) × (statement : Statement)
+    × IsNumber t × IsStatement (front ++ t ∷ others) statement
 
 -- the kind of a fault, by what is due behind the tokens and what stands there
 pub data IsKind : List Token → Symbol → ℕ → Type 0 where
@@ -148,7 +156,8 @@ pub data IsKind : List Token → Symbol → ℕ → Type 0 where
   -- another token where a statement is due
   no_statement : {t : Token} → ¬ IsMnemonic t → IsKind [] (token t) 2
   -- another token, or the line's end, where an operand, a comma or a bracket is due
-  no_operand : {front : List Token} {t : Token} → front ≢ [] → ¬ IsWhole front → ¬ (IsNumber t × IsNumberDue front) → IsKind front (token t) 3
+  no_operand : {front : List Token} {t : Token}
+      → front ≢ [] → ¬ IsWhole front → ¬ (IsNumber t × IsNumberDue front) → IsKind front (token t) 3
   too_short : {front : List Token} → IsKind front line_end 3
   -- a number out of its field
   out_of_field : {front : List Token} {t : Token} → IsNumber t → IsNumberDue front → IsKind front (token t) 4
@@ -166,34 +175,40 @@ pub record IsFaultOfLine (words : ℕ) (bytes : List ℕ) (kind column : ℕ) : 
   pub bad : ¬ IsGoodNext words front symbol
   pub is_kind : IsKind front symbol kind
 
--- The fault of a line by a label, in a program whose lines can all be read. These lines stand before it. The label that it defines
--- comes before the one that its statement is to reach.
+-- The fault of a line by a label, in a program whose lines can all be read. These lines stand before it. The label that
+-- it defines comes before the one that its statement is to reach.
 pub data IsFaultOfLabel (program before : List Line) (bytes : List ℕ) (line : Line) : ℕ → ℕ → Type 0 where
   -- a label that is defined again
   twice : {label : List ℕ} {column : ℕ}
-    → line.label ≡ Some label → Defines before label → Stands 0 bytes [] (token (name label)) column → IsFaultOfLabel program before bytes line 6 column
+      → line.label ≡ Some label → Defines before label → Stands 0 bytes [] (token (name label)) column
+      → IsFaultOfLabel program before bytes line 6 column
   -- a label that is not defined
   undefined : {label : List ℕ} {field : Field} {with_offset : ℤ → Insn} {front : List Token} {column : ℕ}
-    → IsNew before line.label → line.statement ≡ Some (to_label field with_offset label)
-    → IsStatement (front ++ name label ∷ []) (to_label field with_offset label) → StandsInLine bytes line.label front (token (name label)) column
-    → ¬ Defines program label → IsFaultOfLabel program before bytes line 5 column
+      → IsNew before line.label → line.statement ≡ Some (to_label field with_offset label)
+      → IsStatement (front ++ name label ∷ []) (to_label field with_offset label)
+      → StandsInLine bytes line.label front (token (name label)) column
+      → ¬ Defines program label → IsFaultOfLabel program before bytes line 5 column
   -- a label whose offset is out of its field
   too_far : {label : List ℕ} {field : Field} {with_offset : ℤ → Insn} {front : List Token} {column : ℕ} {n : ℤ}
-    → IsNew before line.label → line.statement ≡ Some (to_label field with_offset label)
-    → IsStatement (front ++ name label ∷ []) (to_label field with_offset label) → StandsInLine bytes line.label front (token (name label)) column
-    → IsOffset program (words_in before) label n → ¬ IsIn field n → IsFaultOfLabel program before bytes line 4 column
+      → IsNew before line.label → line.statement ≡ Some (to_label field with_offset label)
+      → IsStatement (front ++ name label ∷ []) (to_label field with_offset label)
+      → StandsInLine bytes line.label front (token (name label)) column
+      → IsOffset program (words_in before) label n → ¬ IsIn field n → IsFaultOfLabel program before bytes line 4 column
 
 -- The text has this fault. Lines and columns count from 1.
 pub data HasFault (text : List ℕ) : ℕ → ℕ → ℕ → Type 0 where
   -- the lines before this one can be read
   of_line : (before after : List (List ℕ)) (bytes : List ℕ) (program : List Line) {kind column : ℕ}
-    → lines_of text ≡ before ++ bytes ∷ after → IsProgram before program → IsFaultOfLine (words_in program) bytes kind column
-    → HasFault text kind (length before + 1) (column + 1)
+      → lines_of text ≡ before ++ bytes ∷ after → IsProgram before program
+      → IsFaultOfLine (words_in program) bytes kind column
+      → HasFault text kind (length before + 1) (column + 1)
   -- all lines can be read, and those before this one have no fault
-  of_label : (lines lines_after : List (List ℕ)) (bytes : List ℕ) (before after : List Line) (line : Line) {kind column : ℕ}
-    → lines_of text ≡ lines ++ bytes ∷ lines_after → AreLines lines before → IsProgram (lines_of text) (before ++ line ∷ after)
-    → AreResolved (before ++ line ∷ after) before → IsFaultOfLabel (before ++ line ∷ after) before bytes line kind column
-    → HasFault text kind (length lines + 1) (column + 1)
+  of_label : (lines lines_after : List (List ℕ)) (bytes : List ℕ) (before after : List Line) (line : Line)
+      {kind column : ℕ}
+      → lines_of text ≡ lines ++ bytes ∷ lines_after → AreLines lines before
+      → IsProgram (lines_of text) (before ++ line ∷ after) → AreResolved (before ++ line ∷ after) before
+      → IsFaultOfLabel (before ++ line ∷ after) before bytes line kind column
+      → HasFault text kind (length lines + 1) (column + 1)
 
 -- ---- what the calls promise
 

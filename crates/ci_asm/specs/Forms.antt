@@ -1,5 +1,5 @@
 -- The statements: the forms that their tokens have, and what each says.
-use Rattle.std.specs.Prelude.{◌≡◌, ℕ, ◌*◌, ◌%◌, ◌<◌, ◌≤◌, Bool, if◌then◌else◌, List, [], ◌∷◌, ◌++◌, length, codes, Option, Some, None, ℤ, pos, neg_ℤ, ◌≤ℤ◌, unsigned_abs}
+use Rattle.std.specs.Prelude.{◌≡◌, ℕ, ◌*◌, ◌%◌, ◌<◌, ◌≤◌, if◌then◌else◌, List, [], ◌∷◌, ◌++◌, length, codes, Option, Some, None, ℤ, pos, neg_ℤ, ◌≤ℤ◌, unsigned_abs}
 use Rattle.std.specs.Fmt.{decimal}
 use Rattle.std.specs.Str.Parse.{digits_value}
 use Rattle.ci_word.specs.declared.arithmetic.Op.{Op}
@@ -127,7 +127,8 @@ IsNumber colon = ⊥
 -- the token writes the number n, with at most ten digits
 abbrev pub Writes : Token → ℤ → Type 0
 Writes (decimal_number negative digits) n =
-    (length digits ≤ 10) × (n ≡ (if negative then neg_ℤ (pos (digits_value 10 digits)) else pos (digits_value 10 digits)))
+    (length digits ≤ 10)
+    × (n ≡ (if negative then neg_ℤ (pos (digits_value 10 digits)) else pos (digits_value 10 digits)))
 Writes (hex_number digits) n = (length digits ≤ 10) × (n ≡ pos (digits_value 16 digits))
 Writes (name bytes) n = ⊥
 Writes word n = ⊥
@@ -142,7 +143,8 @@ HasNumber field t n = Writes t n × IsIn field n
 
 -- ---- statements
 
--- what a statement says: an instruction, or a branch or a jump to a label, which is an instruction once the program gives the offset
+-- what a statement says: an instruction, or a branch or a jump to a label, which is an instruction once the program
+-- gives the offset
 pub data Statement : Type 0 where
   plain : Insn → Statement
   to_label : Field → (ℤ → Insn) → List ℕ → Statement
@@ -150,36 +152,44 @@ pub data Statement : Type 0 where
 -- the tokens are a statement that says this
 pub data IsStatement : List Token → Statement → Type 0 where
   on_registers : {op : Op} {x y z : Token} {d a b : ℕ} → IsRegister x d → IsRegister y a → IsRegister z b
-    → IsStatement (name (operation_name op) ∷ x ∷ comma ∷ y ∷ comma ∷ z ∷ []) (plain (insn.Alu op d a b))
+      → IsStatement (name (operation_name op) ∷ x ∷ comma ∷ y ∷ comma ∷ z ∷ []) (plain (insn.Alu op d a b))
   on_immediate : {op : Op} {x y z : Token} {d a : ℕ} {n : ℤ} {mnemonic : List ℕ} {field : Field}
-    → register_immediate op ≡ Some (mnemonic, field) → IsRegister x d → IsRegister y a → HasNumber field z n
-    → IsStatement (name mnemonic ∷ x ∷ comma ∷ y ∷ comma ∷ z ∷ []) (plain (insn.AluImm op d a n))
+      → register_immediate op ≡ Some (mnemonic, field) → IsRegister x d → IsRegister y a → HasNumber field z n
+      → IsStatement (name mnemonic ∷ x ∷ comma ∷ y ∷ comma ∷ z ∷ []) (plain (insn.AluImm op d a n))
   lui : {x y : Token} {d n : ℕ} → IsRegister x d → HasNumber upper_bits y (pos n)
-    → IsStatement (name (codes "lui") ∷ x ∷ comma ∷ y ∷ []) (plain (insn.Lui d (4096 * n)))
+      → IsStatement (name (codes "lui") ∷ x ∷ comma ∷ y ∷ []) (plain (insn.Lui d (4096 * n)))
   auipc : {x y : Token} {d n : ℕ} → IsRegister x d → HasNumber upper_bits y (pos n)
-    → IsStatement (name (codes "auipc") ∷ x ∷ comma ∷ y ∷ []) (plain (insn.Auipc d (4096 * n)))
+      → IsStatement (name (codes "auipc") ∷ x ∷ comma ∷ y ∷ []) (plain (insn.Auipc d (4096 * n)))
   jump : {x y : Token} {d : ℕ} {n : ℤ} → IsRegister x d → HasNumber jump_offset y n
-    → IsStatement (name (codes "jal") ∷ x ∷ comma ∷ y ∷ []) (plain (insn.Jal d n))
+      → IsStatement (name (codes "jal") ∷ x ∷ comma ∷ y ∷ []) (plain (insn.Jal d n))
   jump_label : {x : Token} {d : ℕ} {label : List ℕ} → IsRegister x d
-    → IsStatement (name (codes "jal") ∷ x ∷ comma ∷ name label ∷ []) (to_label jump_offset (insn.Jal d) label)
+      → IsStatement (name (codes "jal") ∷ x ∷ comma ∷ name label ∷ []) (to_label jump_offset (insn.Jal d) label)
   jump_register : {x y z : Token} {d a : ℕ} {n : ℤ} → IsRegister x d → HasNumber immediate y n → IsRegister z a
-    → IsStatement (name (codes "jalr") ∷ x ∷ comma ∷ y ∷ open_bracket ∷ z ∷ close_bracket ∷ []) (plain (insn.Jalr d a n))
-  branch : {cond : Cond} {x y z : Token} {a b : ℕ} {n : ℤ} → IsRegister x a → IsRegister y b → HasNumber branch_offset z n
-    → IsStatement (name (branch_name cond) ∷ x ∷ comma ∷ y ∷ comma ∷ z ∷ []) (plain (insn.Branch cond a b n))
+      → IsStatement (name (codes "jalr") ∷ x ∷ comma ∷ y ∷ open_bracket ∷ z ∷ close_bracket ∷ [])
+      (plain (insn.Jalr d a n))
+  branch : {cond : Cond} {x y z : Token} {a b : ℕ} {n : ℤ}
+      → IsRegister x a → IsRegister y b → HasNumber branch_offset z n
+      → IsStatement (name (branch_name cond) ∷ x ∷ comma ∷ y ∷ comma ∷ z ∷ []) (plain (insn.Branch cond a b n))
   branch_label : {cond : Cond} {x y : Token} {a b : ℕ} {label : List ℕ} → IsRegister x a → IsRegister y b
-    → IsStatement (name (branch_name cond) ∷ x ∷ comma ∷ y ∷ comma ∷ name label ∷ []) (to_label branch_offset (insn.Branch cond a b) label)
+      → IsStatement (name (branch_name cond) ∷ x ∷ comma ∷ y ∷ comma ∷ name label ∷ [])
+      (to_label branch_offset (insn.Branch cond a b) label)
   load : {kind : LoadKind} {x y z : Token} {d a : ℕ} {n : ℤ} → IsRegister x d → HasNumber immediate y n → IsRegister z a
-    → IsStatement (name (load_name kind) ∷ x ∷ comma ∷ y ∷ open_bracket ∷ z ∷ close_bracket ∷ []) (plain (insn.Load kind d a n))
+      → IsStatement (name (load_name kind) ∷ x ∷ comma ∷ y ∷ open_bracket ∷ z ∷ close_bracket ∷ [])
+      (plain (insn.Load kind d a n))
   store : {width : Width} {x y z : Token} {a b : ℕ} {n : ℤ} → IsRegister x b → HasNumber immediate y n → IsRegister z a
-    → IsStatement (name (store_name width) ∷ x ∷ comma ∷ y ∷ open_bracket ∷ z ∷ close_bracket ∷ []) (plain (insn.Store width a b n))
+      → IsStatement (name (store_name width) ∷ x ∷ comma ∷ y ∷ open_bracket ∷ z ∷ close_bracket ∷ [])
+      (plain (insn.Store width a b n))
   fence : {x y z : Token} {n a d : ℕ} → HasNumber fence_bits x (pos n) → IsRegister y a → IsRegister z d
-    → IsStatement (name (codes "fence") ∷ x ∷ comma ∷ y ∷ comma ∷ z ∷ []) (plain (insn.Fence n a d))
+      → IsStatement (name (codes "fence") ∷ x ∷ comma ∷ y ∷ comma ∷ z ∷ []) (plain (insn.Fence n a d))
   ecall : IsStatement (name (codes "ecall") ∷ []) (plain insn.Ecall)
   ebreak : IsStatement (name (codes "ebreak") ∷ []) (plain insn.Ebreak)
-  custom : {v w x y z : Token} {n d a b c : ℕ} → HasNumber unit_number v (pos n) → IsRegister w d → IsRegister x a → IsRegister y b → IsRegister z c
-    → IsStatement (name (codes "ci") ∷ v ∷ comma ∷ w ∷ comma ∷ x ∷ comma ∷ y ∷ comma ∷ z ∷ []) (plain (insn.Unit n d a b c))
+  custom : {v w x y z : Token} {n d a b c : ℕ}
+      → HasNumber unit_number v (pos n) → IsRegister w d → IsRegister x a → IsRegister y b → IsRegister z c
+      → IsStatement (name (codes "ci") ∷ v ∷ comma ∷ w ∷ comma ∷ x ∷ comma ∷ y ∷ comma ∷ z ∷ [])
+      (plain (insn.Unit n d a b c))
   cread : {x : Token} {d : ℕ} → IsRegister x d → IsStatement (name (codes "cread") ∷ x ∷ []) (plain (insn.Cread d))
-  data_word : {x : Token} {n : ℕ} → HasNumber whole_word x (pos n) → IsStatement (word ∷ x ∷ []) (plain (insn.Illegal n))
+  data_word : {x : Token} {n : ℕ}
+      → HasNumber whole_word x (pos n) → IsStatement (word ∷ x ∷ []) (plain (insn.Illegal n))
 
 -- the token begins a statement
 abbrev pub IsMnemonic : Token → Type 0

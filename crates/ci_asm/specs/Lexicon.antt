@@ -74,7 +74,8 @@ pub record BeginsWith (text : List ℕ) (token : Token) (rest : List ℕ) : Type
 -- and no longer token begins there
 pub record BeginsWithLongest (text : List ℕ) (token : Token) (rest : List ℕ) : Type 0 where
   pub begins : BeginsWith text token rest
-  pub is_longest : (other : Token) (others : List ℕ) → BeginsWith text other others → length (spelling other) ≤ length (spelling token)
+  pub is_longest : (other : Token) (others : List ℕ) → BeginsWith text other others
+      → length (spelling other) ≤ length (spelling token)
 
 -- ---- lines
 
@@ -85,15 +86,19 @@ pub data Symbol : Type 0 where
   -- a byte that begins no token
   stray_byte : Symbol
 
--- Stands n text tokens symbol column: in a line that goes on with this text behind n bytes, the symbol stands behind these tokens,
--- and `column` bytes of the line stand before it. A comment runs from `#` to the line's end, which stands behind the line's last byte.
+-- Stands n text tokens symbol column: in a line that goes on with this text behind n bytes, the symbol stands behind
+-- these tokens, and `column` bytes of the line stand before it. A comment runs from `#` to the line's end, which stands
+-- behind the line's last byte.
 pub data Stands : ℕ → List ℕ → List Token → Symbol → ℕ → Type 0 where
   behind_blank : {n c column : ℕ} {text : List ℕ} {tokens : List Token} {symbol : Symbol}
-    → IsBlank c → Stands (n + 1) text tokens symbol column → Stands n (c ∷ text) tokens symbol column
+      → IsBlank c → Stands (n + 1) text tokens symbol column → Stands n (c ∷ text) tokens symbol column
   behind_token : {n column : ℕ} {text rest : List ℕ} {first : Token} {tokens : List Token} {symbol : Symbol}
-    → BeginsWithLongest text first rest → Stands (n + length (spelling first)) rest tokens symbol column → Stands n text (first ∷ tokens) symbol column
-  at_token : {n : ℕ} {text rest : List ℕ} {first : Token} → BeginsWithLongest text first rest → Stands n text [] (token first) n
+      → BeginsWithLongest text first rest → Stands (n + length (spelling first)) rest tokens symbol column
+      → Stands n text (first ∷ tokens) symbol column
+  at_token : {n : ℕ} {text rest : List ℕ} {first : Token}
+      → BeginsWithLongest text first rest → Stands n text [] (token first) n
   at_end : {n : ℕ} → Stands n [] [] line_end n
   at_comment : {n : ℕ} {comment : List ℕ} → Stands n (35 ∷ comment) [] line_end (n + length (35 ∷ comment))
   at_stray_byte : {n c : ℕ} {text : List ℕ}
-    → ¬ IsBlank c → c ≢ 35 → ((other : Token) (others : List ℕ) → ¬ BeginsWith (c ∷ text) other others) → Stands n (c ∷ text) [] stray_byte n
+      → ¬ IsBlank c → c ≢ 35 → ((other : Token) (others : List ℕ) → ¬ BeginsWith (c ∷ text) other others)
+      → Stands n (c ∷ text) [] stray_byte n

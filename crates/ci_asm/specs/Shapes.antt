@@ -1,13 +1,11 @@
+-- What the table of statements computes (private: the public definitions of statements are in Forms).
 -- The table of statements: the mnemonics, their names, and the shape of each statement, slot by slot.
 use Rattle.std.specs.Prelude.{ℕ, ◌%◌, ◌==◌, Bool, true, false, ◌&&◌, if◌then◌else◌, List, [], ◌∷◌, codes, Option, Some, None, is_some, nat_le, find}
 use Rattle.std.specs.Str.{bytes_eq}
 use Rattle.ci_word.specs.declared.arithmetic.Op.{Op}
 use Rattle.ci_word.specs.declared.arithmetic.Op.TheVariants.{Add, Sub, Sll, Slt, Sltu, Xor, Srl, Sra, Or, And, Mul, Mulh, Mulhsu, Mulhu, Div, Divu, Rem, Remu}
-use Rattle.ci_isa.specs.declared.instruction.Cond.{Cond}
 use Rattle.ci_isa.specs.declared.instruction.Cond.TheVariants.{Eq, Ne, Lt, Ge, Ltu, Geu}
-use Rattle.ci_isa.specs.declared.instruction.LoadKind.{LoadKind}
 use Rattle.ci_isa.specs.declared.instruction.LoadKind.TheVariants.{B, H, W, Bu, Hu}
-use Rattle.ci_isa.specs.declared.instruction.Width.{Width}
 use Rattle.ci_isa.specs.declared.instruction.Width.TheVariants.{Byte, Half, Word}
 use Rattle.ci_asm.specs.Forms as forms
 use Rattle.ci_asm.specs.Forms.{operation_name, register_immediate, branch_name, load_name, store_name}

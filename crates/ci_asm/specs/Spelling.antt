@@ -1,5 +1,6 @@
+-- What the disassembler computes (private: the public definition of what is shown is in Shown).
 -- The one line that an instruction is shown by.
-use Rattle.std.specs.Prelude.{ℕ, suc, ◌/◌, ◌%◌, ◌^◌, true, false, if◌then◌else◌, List, [], ◌∷◌, ◌++◌, codes, ℤ, pos, negsuc}
+use Rattle.std.specs.Prelude.{ℕ, suc, ◌/◌, true, false, if◌then◌else◌, List, [], ◌∷◌, ◌++◌, codes, ℤ, pos, negsuc}
 use Rattle.std.specs.List.{flat_map}
 use Rattle.std.specs.Fmt.{decimal, digits}
 use Rattle.ci_text.specs.Hex.{eight_hex_digits}

@@ -44,22 +44,22 @@ impl<T: Drop> From<AllocFailed<T>> for AsmFault {
     }
 }
 
-/// A rule that a line can break.
+/// What may be wrong with a line.
 #[derive(Clone, Copy, Debug, PartialEq, Eq)]
 pub(crate) enum Rule {
-    /// A byte begins a token.
+    /// A byte that begins no token.
     NoToken,
-    /// A mnemonic begins a statement.
+    /// Another token than a mnemonic, where a statement is due.
     NoMnemonic,
-    /// The operands, commas and brackets of the statement follow.
+    /// Another token, or the line's end, where an operand, a comma or a bracket is due.
     NoOperand,
-    /// A number lies in its field.
+    /// A number or an offset out of its field, or an odd offset.
     OutOfField,
-    /// A label is defined.
+    /// A label that isn't defined.
     Undefined,
-    /// A label is defined once.
+    /// A label that is defined on an earlier line.
     DefinedTwice,
-    /// Nothing follows a statement, and no statement the last word.
+    /// A token behind a whole statement, or a statement past the last word.
     Surplus,
 }
 

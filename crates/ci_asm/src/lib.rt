@@ -22,8 +22,10 @@
 //! before the first digit or without, or `0x` and hex digits, and have at most ten digits. A token
 //! is the longest one that begins at its place.
 //!
-//! The definitions in `specs` say so exactly: tokens (`Tokens`), the table of statements
-//! (`Shapes`), one line (`Statements`), a text (`Programs`), and what is shown (`Spelling`).
+//! The definitions in `specs` say so exactly, as a relation on whole texts: tokens and where they
+//! stand (`Lexicon`), the forms of statements (`Forms`), lines, programs and faults (`Assembly`),
+//! and what is shown (`Shown`). The other files of `specs` say what the private functions compute;
+//! `proofs` shows that both agree.
 #![tactic(auto)]
 
 pub use assembler::assemble;

@@ -1,6 +1,7 @@
 //! Texts and their words. The words of RV32IM were made by GNU as, and read by GNU objdump.
 use crate::{AsmFault, assemble, show};
 use ci_isa::decode_x;
+use std::alloc::AllocError;
 use std::process::Abort;
 use std::test::Fail;
 
@@ -201,5 +202,64 @@ fn has_at_most_262144_words(rt: HostRuntime) -> Result<(), Fail> {
     assert_eq!(rt; words.len(), 262_144);
     text.push_str("# no word\nebreak @")?;
     has_fault(&rt, text.as_str(), (7, 262_146, 1));
+    Ok(())
+}
+
+/// A text with so many statements between two others.
+fn around(
+    rt: &impl AllocGlobal,
+    before: &str,
+    count: u32,
+    after: &str,
+) -> Result<String, AllocError> {
+    let mut text = String::from_str(rt.alloc(), before)?;
+    for _ in 0..count {
+        text.push_str("ecall\n")?;
+    }
+    text.push_str(after)?;
+    Ok(text)
+}
+
+#[test]
+fn reaches_the_farthest_labels_of_a_branch(rt: HostRuntime) -> Result<(), Fail> {
+    let text = around(&rt, "beq x0, x0, T\n", 1022, "T:\n")?;
+    let words = assembly(&rt, text.as_str())?;
+    assert_eq!(rt; words.as_slice().first().copied(), Some(0x7e00_0ee3));
+    let text = around(&rt, "T:\n", 1024, "beq x0, x0, T\n")?;
+    let words = assembly(&rt, text.as_str())?;
+    assert_eq!(rt; words.as_slice().last().copied(), Some(0x8000_0063));
+    Ok(())
+}
+
+#[test]
+fn reaches_no_label_beyond_the_range_of_a_branch(rt: HostRuntime) -> Result<(), Fail> {
+    let text = around(&rt, "beq x0, x0, T\n", 1023, "T:\n")?;
+    has_fault(&rt, text.as_str(), (4, 1, 13));
+    let text = around(&rt, "T:\n", 1025, "beq x0, x0, T\n")?;
+    has_fault(&rt, text.as_str(), (4, 1027, 13));
+    Ok(())
+}
+
+#[test]
+fn reaches_the_farthest_label_before_a_jump(rt: HostRuntime) -> Result<(), Fail> {
+    let text = around(&rt, "jal x0, T\n", 262_142, "T:\n")?;
+    let words = assembly(&rt, text.as_str())?;
+    assert_eq!(rt; words.as_slice().first().copied(), Some(0x7fdf_f06f));
+    Ok(())
+}
+
+#[test]
+fn reaches_the_farthest_label_behind_a_jump(rt: HostRuntime) -> Result<(), Fail> {
+    let text = around(&rt, "T:\n", 262_143, "jal x0, T\n")?;
+    let words = assembly(&rt, text.as_str())?;
+    assert_eq!(rt; words.as_slice().last().copied(), Some(0x8040_006f));
+    Ok(())
+}
+
+// A text has too few statements for a label that lies too far behind a jump.
+#[test]
+fn reaches_no_label_beyond_the_range_of_a_jump(rt: HostRuntime) -> Result<(), Fail> {
+    let text = around(&rt, "jal x0, T\n", 262_143, "T:\n")?;
+    has_fault(&rt, text.as_str(), (4, 1, 9));
     Ok(())
 }
