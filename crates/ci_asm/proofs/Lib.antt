@@ -19,3 +19,4 @@ pub mod FaultyPrograms
 pub mod Promises
 pub mod OneMeaning
 pub mod OneWord
+pub mod Total

@@ -1,5 +1,5 @@
 -- What `show` writes is read again: the mnemonic, each slot, the line.
-use Rattle.std.proofs.Common.{◌≡◌, ℕ, ◌+◌, ◌^◌, ◌<◌, Bool, true, false, cond, ◌&&◌, not, List, [], ◌∷◌, ◌++◌, length, refl, sym, ap, ◌∙◌, subst, arith, Some, None, Ok, Err, lit<}
+use Rattle.std.proofs.Common.{◌≡◌, ℕ, ◌+◌, ◌^◌, ◌<◌, Bool, true, false, cond, ◌&&◌, not, List, [], ◌∷◌, ◌++◌, length, refl, sym, ap, ◌∙◌, subst, arith, Option, Some, None, Ok, Err, lit<}
 use Rattle.std.specs.Prelude.{⊤}
 use Rattle.std.specs.List.{list_all, flat_map}
 use Rattle.std.specs.Fmt.{decimal, digits}
@@ -269,37 +269,31 @@ register_read line i r after below at =
     ap (λ text. found (register_of text) NoOperand) (text_between line i (register_name r) after Name at)
     ∙ ap (λ x. found x NoOperand) (register_of-name r below)
 
-fill_Rd : (o : Operands) (line : List ℕ) (from : ℕ) (old : Operands) (after : List ℕ) → o.rd < 32 → IsNext line from (register_name o.rd ++ after) → ends after ≡ true → IsFilled line Rd from old (copy o Rd old) after
-unfolding filled
-fill_Rd o line from old after below next end =
-    let i = next.place in
-    filled_by line Rd from old _ after (token Name i (i + length (register_name o.rd))) (next.next ∙ register_token line i o.rd after below next.at end)
-    (ap (λ x. x >>= λ r. Ok (record old { rd = r })) (register_read line i o.rd after below next.at))
-    (behind_text line i (register_name o.rd) after next.at)
+-- the register that o has in the slot
+abbrev slot_register : Operands → Slot → Option ℕ
+slot_register o Rd = Some o.rd
+slot_register o Rs1 = Some o.rs1
+slot_register o Rs2 = Some o.rs2
+slot_register o Rs3 = Some o.rs3
+slot_register o slot = None
 
-fill_Rs1 : (o : Operands) (line : List ℕ) (from : ℕ) (old : Operands) (after : List ℕ) → o.rs1 < 32 → IsNext line from (register_name o.rs1 ++ after) → ends after ≡ true → IsFilled line Rs1 from old (copy o Rs1 old) after
+register_filled : (o : Operands) (slot : Slot) (r : ℕ) (line : List ℕ) (t : Token) (old : Operands) → slot_register o slot ≡ Some r → register_in line t t.kind ≡ Ok r → filled line slot t old ≡ Ok (copy o slot old)
 unfolding filled
-fill_Rs1 o line from old after below next end =
-    let i = next.place in
-    filled_by line Rs1 from old _ after (token Name i (i + length (register_name o.rs1))) (next.next ∙ register_token line i o.rs1 after below next.at end)
-    (ap (λ x. x >>= λ r. Ok (record old { rs1 = r })) (register_read line i o.rs1 after below next.at))
-    (behind_text line i (register_name o.rs1) after next.at)
+register_filled o Rd r line t old e read = let same : r ≡ o.rd = cc in ap (λ x. x >>= λ r. Ok (record old { rd = r })) (read ∙ ap Ok same)
+register_filled o Rs1 r line t old e read = let same : r ≡ o.rs1 = cc in ap (λ x. x >>= λ r. Ok (record old { rs1 = r })) (read ∙ ap Ok same)
+register_filled o Rs2 r line t old e read = let same : r ≡ o.rs2 = cc in ap (λ x. x >>= λ r. Ok (record old { rs2 = r })) (read ∙ ap Ok same)
+register_filled o Rs3 r line t old e read = let same : r ≡ o.rs3 = cc in ap (λ x. x >>= λ r. Ok (record old { rs3 = r })) (read ∙ ap Ok same)
+register_filled o (Value field) r line t old e read = absurd (cc)
+register_filled o Comma r line t old e read = absurd (cc)
+register_filled o Open r line t old e read = absurd (cc)
+register_filled o Close r line t old e read = absurd (cc)
 
-fill_Rs2 : (o : Operands) (line : List ℕ) (from : ℕ) (old : Operands) (after : List ℕ) → o.rs2 < 32 → IsNext line from (register_name o.rs2 ++ after) → ends after ≡ true → IsFilled line Rs2 from old (copy o Rs2 old) after
-unfolding filled
-fill_Rs2 o line from old after below next end =
+fill_register : (o : Operands) (slot : Slot) (r : ℕ) (line : List ℕ) (from : ℕ) (old : Operands) (after : List ℕ) → slot_register o slot ≡ Some r → r < 32 → IsNext line from (register_name r ++ after) → ends after ≡ true → IsFilled line slot from old (copy o slot old) after
+fill_register o slot r line from old after is below next end =
     let i = next.place in
-    filled_by line Rs2 from old _ after (token Name i (i + length (register_name o.rs2))) (next.next ∙ register_token line i o.rs2 after below next.at end)
-    (ap (λ x. x >>= λ r. Ok (record old { rs2 = r })) (register_read line i o.rs2 after below next.at))
-    (behind_text line i (register_name o.rs2) after next.at)
-
-fill_Rs3 : (o : Operands) (line : List ℕ) (from : ℕ) (old : Operands) (after : List ℕ) → o.rs3 < 32 → IsNext line from (register_name o.rs3 ++ after) → ends after ≡ true → IsFilled line Rs3 from old (copy o Rs3 old) after
-unfolding filled
-fill_Rs3 o line from old after below next end =
-    let i = next.place in
-    filled_by line Rs3 from old _ after (token Name i (i + length (register_name o.rs3))) (next.next ∙ register_token line i o.rs3 after below next.at end)
-    (ap (λ x. x >>= λ r. Ok (record old { rs3 = r })) (register_read line i o.rs3 after below next.at))
-    (behind_text line i (register_name o.rs3) after next.at)
+    filled_by line slot from old _ after (token Name i (i + length (register_name r))) (next.next ∙ register_token line i r after below next.at end)
+    (register_filled o slot r line (token Name i (i + length (register_name r))) old is (register_read line i r after below next.at))
+    (behind_text line i (register_name r) after next.at)
 
 number_read : (field : Field) (n : Number) (old : Operands) → fits field n ≡ true → number_in field (Some n) old ≡ Ok (record old { number = n })
 number_read field n old ok = pick_true (fits field n) _ _ ok
@@ -345,16 +339,16 @@ read_operand field o line slot slots from old answer good for f others =
 read_shown : (field : Field) (o : Operands) (line : List ℕ) (slots : List Slot) (from : ℕ) (old : Operands) → AreShowable field o → AreFor field slots → AreApart slots → IsNext line from (flat_map (spelled o) slots) → read_slots line slots from old ≡ Ok (copied o slots old)
 read_shown field o line [] from old good for apart next = read_end line from old next
 read_shown field o line (Rd ∷ slots) from old good for apart next =
-    read_operand field o line Rd slots from old _ good for.1 (fill_Rd o line from old (flat_map (spelled o) slots) good.registers.rd next (apart_ends o slots apart.0))
+    read_operand field o line Rd slots from old _ good for.1 (fill_register o Rd o.rd line from old (flat_map (spelled o) slots) refl good.registers.rd next (apart_ends o slots apart.0))
     (read_shown field o line slots (next_token line from).end (copy o Rd old) good for.1 apart.1)
 read_shown field o line (Rs1 ∷ slots) from old good for apart next =
-    read_operand field o line Rs1 slots from old _ good for.1 (fill_Rs1 o line from old (flat_map (spelled o) slots) good.registers.rs1 next (apart_ends o slots apart.0))
+    read_operand field o line Rs1 slots from old _ good for.1 (fill_register o Rs1 o.rs1 line from old (flat_map (spelled o) slots) refl good.registers.rs1 next (apart_ends o slots apart.0))
     (read_shown field o line slots (next_token line from).end (copy o Rs1 old) good for.1 apart.1)
 read_shown field o line (Rs2 ∷ slots) from old good for apart next =
-    read_operand field o line Rs2 slots from old _ good for.1 (fill_Rs2 o line from old (flat_map (spelled o) slots) good.registers.rs2 next (apart_ends o slots apart.0))
+    read_operand field o line Rs2 slots from old _ good for.1 (fill_register o Rs2 o.rs2 line from old (flat_map (spelled o) slots) refl good.registers.rs2 next (apart_ends o slots apart.0))
     (read_shown field o line slots (next_token line from).end (copy o Rs2 old) good for.1 apart.1)
 read_shown field o line (Rs3 ∷ slots) from old good for apart next =
-    read_operand field o line Rs3 slots from old _ good for.1 (fill_Rs3 o line from old (flat_map (spelled o) slots) good.registers.rs3 next (apart_ends o slots apart.0))
+    read_operand field o line Rs3 slots from old _ good for.1 (fill_register o Rs3 o.rs3 line from old (flat_map (spelled o) slots) refl good.registers.rs3 next (apart_ends o slots apart.0))
     (read_shown field o line slots (next_token line from).end (copy o Rs3 old) good for.1 apart.1)
 read_shown field o line (Value other ∷ slots) from old good for apart next =
     read_operand field o line (Value other) slots from old _ good for.1

@@ -1,4 +1,4 @@
--- What a map of labels answers (private: the public definition of labels is in Assembly).
+-- For private contracts: what a map of labels answers. The public definition of labels is in Assembly.
 -- What a map of labels says of each label.
 use Rattle.std.specs.Prelude.{ℕ, List, Option, Some, None}
 use Rattle.std.specs.BTreeMap.{BTreeMap, get_by}

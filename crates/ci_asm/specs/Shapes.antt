@@ -1,4 +1,4 @@
--- What the table of statements computes (private: the public definitions of statements are in Forms).
+-- For private contracts: what the table of statements computes. The public definitions of statements are in Forms.
 -- The table of statements: the mnemonics, their names, and the shape of each statement, slot by slot.
 use Rattle.std.specs.Prelude.{ℕ, ◌%◌, ◌==◌, Bool, true, false, ◌&&◌, if◌then◌else◌, List, [], ◌∷◌, codes, Option, Some, None, is_some, nat_le, find}
 use Rattle.std.specs.Str.{bytes_eq}

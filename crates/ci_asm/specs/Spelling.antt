@@ -1,4 +1,4 @@
--- What the disassembler computes (private: the public definition of what is shown is in Shown).
+-- For private contracts: what the disassembler computes. The public definition of what is shown is in Shown.
 -- The one line that an instruction is shown by.
 use Rattle.std.specs.Prelude.{ℕ, suc, ◌/◌, true, false, if◌then◌else◌, List, [], ◌∷◌, ◌++◌, codes, ℤ, pos, negsuc}
 use Rattle.std.specs.List.{flat_map}

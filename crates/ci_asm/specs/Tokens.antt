@@ -1,4 +1,4 @@
--- What the scanner computes (private: the public definitions of tokens are in Lexicon).
+-- For private contracts: what the scanner computes. The public definitions of tokens are in Lexicon.
 -- The tokens of a line. A place in a line is the number of bytes before it, and a token is the longest one that begins at its place.
 use Rattle.std.specs.Prelude.{ℕ, ◌+◌, ◌-◌, ◌*◌, ◌==◌, Bool, true, false, ◌&&◌, not, ◌||◌, List, length, drop, Option, Some, None, nat_le, nat_lt, if◌then◌else◌, slice_index, slice_range}
 use Rattle.std.specs.List.{prefix_len}

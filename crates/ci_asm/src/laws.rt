@@ -1,5 +1,5 @@
 //! Laws of assembler text. Nothing happens when they run.
-ghost use Rattle.std.specs.Prelude.{◌≡◌, ℕ, List};
+ghost use Rattle.std.specs.Prelude.{◌≡◌, ◌⊎◌, ℕ, List};
 ghost use Rattle.ci_asm.specs.Assembly.{IsAssembly, HasFault};
 
 /// A text is the assembly of one list of words at most.
@@ -19,4 +19,10 @@ pub fn a_text_has_one_fault()
     ensures { (text : List ℕ) (kind line column other row place : ℕ)
         → HasFault text kind line column → HasFault text other row place
         → (kind ≡ other) × (line ≡ row) × (column ≡ place) }
+{}
+
+/// A text is the assembly of some words, or has a fault.
+pub fn a_text_has_words_or_a_fault()
+    ensures { (text : List ℕ) → ((words : List ℕ) × IsAssembly text words)
+        ⊎ ((kind : ℕ) × (line : ℕ) × (column : ℕ) × HasFault text kind line column) }
 {}

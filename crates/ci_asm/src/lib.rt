@@ -31,7 +31,10 @@
 pub use assembler::assemble;
 pub use disassembler::show;
 pub use faults::AsmFault;
-pub use laws::{a_text_has_one_assembly, a_text_has_one_fault, an_assembly_has_no_fault};
+pub use laws::{
+    a_text_has_one_assembly, a_text_has_one_fault, a_text_has_words_or_a_fault,
+    an_assembly_has_no_fault,
+};
 
 mod assembler;
 mod disassembler;
