@@ -1,0 +1,4 @@
+pub mod Latencies
+pub mod Keys
+pub mod Faults
+pub mod Stored
