@@ -15,13 +15,13 @@ use Rattle.ci_isa.specs.declared.instruction.Insn.TheVariants.{Alu, AluImm, Load
 use Rattle.ci_isa.specs.Decoding.{jump_row, branch_row, load_row, store_row, immediate_row, shift_row, constant_row, operation_row, fence_row, environment_row, plain_row}
 use Rattle.ci_machine.specs.declared.ends.End.{End}
 use Rattle.ci_machine.specs.declared.ends.End.TheVariants as ends
-use Rattle.ci_machine.specs.Cores.{Core, hidden, register}
+use Rattle.ci_machine.specs.Cores.{Core, hidden, register, with_register}
 use Rattle.ci_machine.specs.Outcomes.{Next, Ended, Reached, reached}
 use Rattle.ci_machine.specs.Actions.{Units, acted}
-use Rattle.ci_machine.specs.Programs.{Program, opening}
+use Rattle.ci_machine.specs.Programs.{Program, State, at_pc, opening}
 use Rattle.ci_machine.specs.Calls.{call}
-use Rattle.ci_machine.specs.Steps.{Meaning, control}
-use Rattle.ci_machine.specs.Runs.{Latencies, after, cost, steps_made, entries}
+use Rattle.ci_machine.specs.Steps.{Meaning, control, step, touched}
+use Rattle.ci_machine.specs.Runs.{Latencies, jalr_target, after, cost, steps_made, entries}
 
 -- x5 has 100, x6 has 80000010, and the two bytes at 100 are mapped
 core : Core
@@ -228,3 +228,41 @@ sample_output = refl
 sample_cost : cost plain sample usual 61 (opening sample []) ≡ 75
 unfolding plain sample units usual sum_below
 sample_cost = refl
+
+sample_entries : (steps_made plain sample 70 (opening sample []) ≡ 61) × (entries plain sample 61 (opening sample []) 0x10080 ≡ 4)
+    × (entries plain sample 61 (opening sample []) 0x100c4 ≡ 2) × (entries plain sample 61 (opening sample []) 0x100b8 ≡ 1)
+unfolding plain sample units count_below
+sample_entries = (refl, refl, refl, refl)
+
+-- the first call of the loop leads to f0
+sample_target : jalr_target plain sample (after plain sample 5 (opening sample [])).state ≡ Some 0x100c4
+unfolding plain sample units
+sample_target = refl
+
+-- ---- touches
+
+-- lw x5, 0(x2): from FFE on two of its bytes are not mapped, and two are text
+reader : Program
+reader = record {
+  entry = 0x1000;
+  segments = record { address = 0x1000; size = 4; bytes = 0x83 ∷ 0x22 ∷ 0x01 ∷ 0x00 ∷ [] } ∷ [];
+  text = record { start = 0x1000; words = 1 } ∷ [];
+}
+
+reading : ℕ → State
+reading address = at_pc 0x1000 (with_register (opening reader []).core 2 address)
+
+-- a load touches the text also where it ends
+touch_at_end : (touched plain reader (reading 0xffe) ≡ Some 0x1000) × (step plain reader (reading 0xffe) ≡ Ended (ends.Access 0xffe widths.Word))
+unfolding plain units reader reading
+touch_at_end = (refl, refl)
+
+-- it does not where it moves no byte of it
+no_touch : (touched plain reader (reading 0xffc) ≡ None) × (touched plain reader (reading 0x7ff00000) ≡ None)
+unfolding plain units reader reading
+no_touch = (refl, refl)
+
+-- outside the text and between its words nothing is fetched
+no_fetch : (step plain reader (at_pc 0x1002 core) ≡ Ended (ends.Fetch 0x1002)) × (step plain reader (at_pc 0x1004 core) ≡ Ended (ends.Fetch 0x1004))
+unfolding plain units reader
+no_fetch = (refl, refl)
