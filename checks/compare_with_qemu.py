@@ -1,0 +1,190 @@
+#!/usr/bin/env python3
+"""Compares `rumtsafi run` with qemu-riscv32 and with a plain interpreter in C.
+
+    compare_with_qemu.py [PROGRAM]
+
+PROGRAM is the built program; with none it is the script at the top of the repository, which builds the program if need
+be. It may also be the interpreter of benchmarks/, which takes the same words.
+
+Each C program of checks/programs is compiled for RV32IM by GCC with -O2 and with -Os, and linked with picolibc; the
+executables of samples/ are taken as they are. Each runs in turn by `rumtsafi run`, by qemu-riscv32 and by the
+interpreter, on the same input. The output and the end have to be those of qemu, where a signal stands for an end other
+than an exit, and the end line with its counts has to be that of the interpreter. Every executable has to keep the
+layout that `run` takes, and every instruction of RV32IM has to be among those that qemu executed.
+
+It ends with status 0 where all agree, and where the tools are missing, with a line that says so.
+"""
+import os
+import re
+import shutil
+import signal
+import struct
+import subprocess
+import sys
+import tempfile
+
+HERE = os.path.dirname(os.path.abspath(__file__))
+TOP = os.path.join(HERE, "..")
+RUMTSAFI = os.path.abspath(sys.argv[1] if len(sys.argv) > 1 else os.path.join(TOP, "rumtsafi"))
+PROGRAMS, SAMPLES = os.path.join(HERE, "programs"), os.path.join(TOP, "samples")
+INTERPRETER = os.path.join(TOP, "benchmarks", "interpreter.c")
+GCC, LINKER, QEMU, HOST_GCC = "riscv64-unknown-elf-gcc", "riscv64-unknown-elf-ld", "qemu-riscv32", "gcc"
+TARGET = ["-march=rv32im", "-mabi=ilp32", "-static", "--specs=picolibc.specs", "-nostartfiles"]
+LEVELS = ("-O2", "-Os")
+INPUT = os.path.join(PROGRAMS, "count.c")
+LIMIT = 60
+SIGNALS = {"break": signal.SIGTRAP, "access": signal.SIGSEGV, "illegal": signal.SIGILL}
+END = re.compile(rb"end (exit|break|access|misaligned|fetch|illegal|limit)((?: [0-9a-f]+)*) steps \d+ cost \d+\n\Z")
+
+BRANCHES = {0: "beq", 1: "bne", 4: "blt", 5: "bge", 6: "bltu", 7: "bgeu"}
+LOADS = {0: "lb", 1: "lh", 2: "lw", 4: "lbu", 5: "lhu"}
+STORES = {0: "sb", 1: "sh", 2: "sw"}
+IMMEDIATES = {0: "addi", 1: "slli", 2: "slti", 3: "sltiu", 4: "xori", 5: "srli", 6: "ori", 7: "andi"}
+OPERATIONS = {0: ("add", "sll", "slt", "sltu", "xor", "srl", "or", "and"),
+              1: ("mul", "mulh", "mulhsu", "mulhu", "div", "divu", "rem", "remu")}
+SPECIAL = {0x00000073: "ecall", 0x00100073: "ebreak"}
+ALL = {"lui", "auipc", "jal", "jalr", "fence", "srai", "sub", "sra", *SPECIAL.values(), *BRANCHES.values(),
+       *LOADS.values(), *STORES.values(), *IMMEDIATES.values(), *OPERATIONS[0], *OPERATIONS[1]}
+
+
+def mnemonic(word):
+    """The name of an instruction of RV32IM, by the tables of the standard's chapter 24; None for another word."""
+    opcode, funct3, funct7 = word & 0x7F, word >> 12 & 7, word >> 25
+    if opcode in (0x37, 0x17, 0x6F):
+        return {0x37: "lui", 0x17: "auipc", 0x6F: "jal"}[opcode]
+    if opcode in (0x67, 0x0F):
+        return {0x67: "jalr", 0x0F: "fence"}[opcode] if funct3 == 0 else None
+    if opcode == 0x13:
+        if funct3 == 5 and funct7 == 0x20:
+            return "srai"
+        return IMMEDIATES[funct3] if funct3 not in (1, 5) or funct7 == 0 else None
+    if opcode == 0x33 and funct7 == 0x20:
+        return {0: "sub", 5: "sra"}.get(funct3)
+    if opcode == 0x33:
+        return OPERATIONS[funct7][funct3] if funct7 in OPERATIONS else None
+    if opcode == 0x73:
+        return SPECIAL.get(word)
+    return {0x63: BRANCHES, 0x03: LOADS, 0x23: STORES}.get(opcode, {}).get(funct3)
+
+
+def executed(log):
+    """The instructions in qemu's log of the blocks that it translated, which it does just before it executes them."""
+    with open(log, encoding="utf-8", errors="replace") as file:
+        words = re.findall(r"^0x[0-9a-f]+:\s+([0-9a-f]{8})\s", file.read(), re.M)
+    return {mnemonic(int(word, 16)) for word in set(words)} - {None}
+
+
+def layout_faults(name):
+    """What of an executable is not as `run` takes it: a static one for RV32 with sections, its text in one segment."""
+    with open(name, "rb") as file:
+        data = file.read()
+    if data[:7] != b"\x7fELF\x01\x01\x01":
+        return ["no ELF file for 32 bits"]
+    kind, machine, _, entry, headers, sections, flags, _, header_size, header_count, section_size, section_count = \
+        struct.unpack_from("<HHIIIIIHHHHH", data, 16)
+    faults = [] if (kind, machine, flags & 1, header_size, section_size) == (2, 243, 0, 32, 40) else ["header"]
+    loads = [struct.unpack_from("<8I", data, headers + 32 * i) for i in range(header_count)]
+    faults += ["interpreter" for load in loads if load[0] == 3]
+    loads = [load for load in loads if load[0] == 1 and load[5] > 0]
+    for place, (_, offset, address, _, file_size, size, _, _) in enumerate(loads):
+        past = address + size
+        if offset + file_size > len(data) or file_size > size or past > 0xFFFF0000:
+            faults.append(f"segment {place}")
+        others = [(0x7FF00000, 0x80000000)] + [(load[2], load[2] + load[5]) for load in loads[:place]]
+        if any(address < other_past and other < past for other, other_past in others):
+            faults.append(f"segment {place} meets another")
+    if sum(load[5] for load in loads) + 0x100000 > 67108864:
+        faults.append("too much memory")
+    text = [struct.unpack_from("<10I", data, sections + 40 * i) for i in range(section_count)]
+    text = [(section[3], section[4], section[5]) for section in text if section[1] == 1 and section[2] & 6 == 6]
+    for address, offset, size in text:
+        holders = [load for load in loads if load[1] <= offset and offset + size <= load[1] + load[4]]
+        if len(holders) != 1 or address - holders[0][2] != offset - holders[0][1]:
+            faults.append("the text is not in one segment")
+    if not any(address <= entry < address + size for address, _, size in text) or entry % 4 or not section_count:
+        faults.append("the entry is not in text")
+    return faults
+
+
+def run(words, **options):
+    """What a program prints, and how it ends; where it doesn't end in time, that is its status."""
+    try:
+        return subprocess.run(words, stdout=subprocess.PIPE, timeout=LIMIT, check=False, **options)
+    except subprocess.TimeoutExpired:
+        return subprocess.CompletedProcess(words, f"none after {LIMIT} s", b"")
+
+
+def compare(name, program, interpreter, log):
+    """The lines that say where an executable does something else than by qemu and the interpreter."""
+    ours = run([RUMTSAFI, "run", program, "--input", INPUT])
+    plain = run([interpreter, "run", program, "--input", INPUT])
+    with open(INPUT, "rb") as file:
+        # Both files that a program may write to are one output in `run`.
+        qemu = run([QEMU, "-d", "in_asm", "-D", log, program], stdin=file, stderr=subprocess.STDOUT)
+    faults = [f"{name}: the layout: {fault}" for fault in layout_faults(program)]
+    found = END.search(ours.stdout)
+    if ours.returncode != 0 or not found:
+        return faults + [f"{name}: status {ours.returncode}, {ours.stdout[-80:]!r}"]
+    kind = found.group(1).decode()
+    code = int(found.group(2), 16) & 255 if kind == "exit" else -SIGNALS.get(kind, 0)
+    output = qemu.stdout
+    if code < 0:
+        # What qemu itself says of the signal comes after the program's output.
+        output = output.split(b"qemu: uncaught target signal")[0]
+    if ours.stdout[:found.start()] != output:
+        faults.append(f"{name}: the output is another than that of {QEMU}")
+    if qemu.returncode != code:
+        faults.append(f"{name}: {kind}{found.group(2).decode()} against status {qemu.returncode} of {QEMU}")
+    if ours.stdout != plain.stdout:
+        faults.append(f"{name}: {ours.stdout[found.start():]!r} against {plain.stdout[-80:]!r} of the interpreter")
+    return faults
+
+
+def write_layout(name):
+    """Writes the linker's own layout. It stands in the place of picolibc's, which is for a board with two memories."""
+    verbose = subprocess.run([LINKER, "-m", "elf32lriscv", "--verbose"], check=True, capture_output=True, text=True)
+    with open(name, "w", encoding="utf-8") as file:
+        file.write(re.split("^=+$", verbose.stdout, flags=re.M)[1])
+
+
+def executables(folder):
+    """Each executable with a name: those of samples/, and those of checks/programs, which are built here."""
+    layout = os.path.join(folder, "layout")
+    write_layout(layout)
+    found = [(name, os.path.join(SAMPLES, name)) for name in sorted(os.listdir(SAMPLES)) if name.endswith(".elf")]
+    for name in sorted(os.listdir(PROGRAMS)):
+        for level in LEVELS:
+            if name.endswith(".c") and name != "support.c":
+                program = os.path.join(folder, name[:-2] + level)
+                subprocess.run([GCC, *TARGET, level, "-T", layout, os.path.join(PROGRAMS, name),
+                                os.path.join(PROGRAMS, "support.c"), "-o", program], check=True)
+                found.append((f"{name} {level}", program))
+    return found
+
+
+def main():
+    missing = [tool for tool in (GCC, LINKER, QEMU, HOST_GCC) if not shutil.which(tool)]
+    if not missing and run([GCC, "-print-file-name=picolibc.specs"]).stdout.strip() == b"picolibc.specs":
+        missing = ["picolibc.specs"]
+    if missing:
+        print(f"skipped: {', '.join(missing)} not found "
+              "(Debian's gcc-riscv64-unknown-elf, picolibc-riscv64-unknown-elf, qemu-user, gcc)")
+        return 0
+    if len(sys.argv) == 1:
+        # Builds the program, which takes longer than a run may.
+        subprocess.run([RUMTSAFI, "dis", os.devnull], check=True)
+    with tempfile.TemporaryDirectory() as folder:
+        interpreter, log = os.path.join(folder, "interpreter"), os.path.join(folder, "log")
+        subprocess.run([HOST_GCC, "-O2", INTERPRETER, "-o", interpreter], check=True)
+        programs, faults, seen = executables(folder), [], set()
+        for name, program in programs:
+            faults += compare(name, program, interpreter, log)
+            seen |= executed(log)
+    faults += [f"no program executed {name}" for name in sorted(ALL - seen)]
+    for fault in faults:
+        print(fault)
+    print(f"{len(programs)} executables compared, {len(seen)} of {len(ALL)} instructions executed, {len(faults)} faults")
+    return 1 if faults or len(programs) < 20 else 0
+
+
+sys.exit(main())
