@@ -31,8 +31,10 @@ struct region {
     unsigned char *bytes;
 };
 
+/* A range of the text, whose bytes lie in one region. */
 struct range {
     uint32_t start, size;
+    const unsigned char *bytes;
     uint64_t *entries;
     bool *targets;
 };
@@ -395,7 +397,7 @@ static void interpret(uint64_t limit)
             return;
         }
         range->entries[(pc - range->start) / 4]++;
-        memcpy(&word, find(pc, 4), 4);
+        memcpy(&word, range->bytes + (pc - range->start), 4);
         step(word);
     }
     if (!ended)
@@ -460,7 +462,8 @@ static void add_ranges(const unsigned char *bytes, uint32_t length)
         if (field(bytes, length, at + 4, 4) != 1 || (field(bytes, length, at + 8, 4) & 6) != 6 || first >= past)
             continue;
         ranges[range_count++] = (struct range){
-            first, past - first, claim((past - first) / 4, sizeof(uint64_t)), claim((past - first) / 4, sizeof(bool)),
+            first, past - first, find(first, past - first),
+            claim((past - first) / 4, sizeof(uint64_t)), claim((past - first) / 4, sizeof(bool)),
         };
     }
 }

@@ -10,7 +10,7 @@ Each C program of checks/programs is compiled for RV32IM by GCC with -O2 and wit
 executables of samples/ are taken as they are. Each runs in turn by `rumtsafi run`, by qemu-riscv32 and by the
 interpreter, on the same input. The output and the end have to be those of qemu, where a signal stands for an end other
 than an exit, and the end line with its counts has to be that of the interpreter. Every executable has to keep the
-layout that `run` takes, and every instruction of RV32IM has to be among those that qemu executed.
+rules of executables, and every instruction of RV32IM has to be among those that qemu executed.
 
 It ends with status 0 where all agree, and where the tools are missing, with a line that says so.
 """
@@ -18,10 +18,11 @@ import os
 import re
 import shutil
 import signal
-import struct
 import subprocess
 import sys
 import tempfile
+
+import executable
 
 HERE = os.path.dirname(os.path.abspath(__file__))
 TOP = os.path.join(HERE, "..")
@@ -74,38 +75,6 @@ def executed(log):
     return {mnemonic(int(word, 16)) for word in set(words)} - {None}
 
 
-def layout_faults(name):
-    """What of an executable is not as `run` takes it: a static one for RV32 with sections, its text in one segment."""
-    with open(name, "rb") as file:
-        data = file.read()
-    if data[:7] != b"\x7fELF\x01\x01\x01":
-        return ["no ELF file for 32 bits"]
-    kind, machine, _, entry, headers, sections, flags, _, header_size, header_count, section_size, section_count = \
-        struct.unpack_from("<HHIIIIIHHHHH", data, 16)
-    faults = [] if (kind, machine, flags & 1, header_size, section_size) == (2, 243, 0, 32, 40) else ["header"]
-    loads = [struct.unpack_from("<8I", data, headers + 32 * i) for i in range(header_count)]
-    faults += ["interpreter" for load in loads if load[0] == 3]
-    loads = [load for load in loads if load[0] == 1 and load[5] > 0]
-    for place, (_, offset, address, _, file_size, size, _, _) in enumerate(loads):
-        past = address + size
-        if offset + file_size > len(data) or file_size > size or past > 0xFFFF0000:
-            faults.append(f"segment {place}")
-        others = [(0x7FF00000, 0x80000000)] + [(load[2], load[2] + load[5]) for load in loads[:place]]
-        if any(address < other_past and other < past for other, other_past in others):
-            faults.append(f"segment {place} meets another")
-    if sum(load[5] for load in loads) + 0x100000 > 67108864:
-        faults.append("too much memory")
-    text = [struct.unpack_from("<10I", data, sections + 40 * i) for i in range(section_count)]
-    text = [(section[3], section[4], section[5]) for section in text if section[1] == 1 and section[2] & 6 == 6]
-    for address, offset, size in text:
-        holders = [load for load in loads if load[1] <= offset and offset + size <= load[1] + load[4]]
-        if len(holders) != 1 or address - holders[0][2] != offset - holders[0][1]:
-            faults.append("the text is not in one segment")
-    if not any(address <= entry < address + size for address, _, size in text) or entry % 4 or not section_count:
-        faults.append("the entry is not in text")
-    return faults
-
-
 def run(words, **options):
     """What a program prints, and how it ends; where it doesn't end in time, that is its status."""
     try:
@@ -121,7 +90,9 @@ def compare(name, program, interpreter, log):
     with open(INPUT, "rb") as file:
         # Both files that a program may write to are one output in `run`.
         qemu = run([QEMU, "-d", "in_asm", "-D", log, program], stdin=file, stderr=subprocess.STDOUT)
-    faults = [f"{name}: the layout: {fault}" for fault in layout_faults(program)]
+    with open(program, "rb") as file:
+        broken = executable.fault(file.read())
+    faults = [f"{name}: the executable breaks rule {broken}"] if broken else []
     found = END.search(ours.stdout)
     if ours.returncode != 0 or not found:
         return faults + [f"{name}: status {ours.returncode}, {ours.stdout[-80:]!r}"]

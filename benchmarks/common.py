@@ -1,0 +1,40 @@
+"""What the benchmarks share: where the program is, and how long a call takes and how much memory."""
+import os
+import signal
+import subprocess
+import sys
+import tempfile
+import threading
+import time
+
+# The seconds after which a call is stopped.
+PATIENCE = 120
+HERE = os.path.dirname(os.path.abspath(__file__))
+
+
+def program():
+    """The built program: the first word, or the script at the top of the repository."""
+    return os.path.abspath(sys.argv[1] if len(sys.argv) > 1 else os.path.join(HERE, "..", "rumtsafi"))
+
+
+def build():
+    """Lets the script build the program, if that is what is measured."""
+    subprocess.run([program(), "dis", os.devnull], check=len(sys.argv) == 1)
+
+
+def measure(*words):
+    """What a call prints, its status, its seconds of the clock, and its greatest resident memory in MiB.
+
+    The system counts the memory that this script holds at the call as the call's own, so it should be little.
+    """
+    with tempfile.TemporaryFile() as output:
+        begin = time.perf_counter()
+        child = os.posix_spawnp(words[0], words, os.environ, file_actions=[
+            (os.POSIX_SPAWN_DUP2, output.fileno(), 1)])
+        stop = threading.Timer(PATIENCE, os.kill, (child, signal.SIGKILL))
+        stop.start()
+        _, ended, usage = os.wait4(child, 0)
+        seconds = time.perf_counter() - begin
+        stop.cancel()
+        output.seek(0)
+        return output.read(), os.waitstatus_to_exitcode(ended), seconds, usage.ru_maxrss / 1024
