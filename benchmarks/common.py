@@ -10,16 +10,18 @@ import time
 # The seconds after which a call is stopped.
 PATIENCE = 120
 HERE = os.path.dirname(os.path.abspath(__file__))
+TOP = os.path.join(HERE, "..")
 
 
 def program():
-    """The built program: the first word, or the script at the top of the repository."""
-    return os.path.abspath(sys.argv[1] if len(sys.argv) > 1 else os.path.join(HERE, "..", "rumtsafi"))
+    """The built program: the first word, or what the script at the top of the repository has built."""
+    return os.path.abspath(sys.argv[1] if len(sys.argv) > 1 else os.path.join(TOP, "out", "rumtsafi"))
 
 
 def build():
-    """Lets the script build the program, if that is what is measured."""
-    subprocess.run([program(), "dis", os.devnull], check=len(sys.argv) == 1)
+    """Lets the script build the program, where no word names one."""
+    if len(sys.argv) == 1:
+        subprocess.run([os.path.join(TOP, "rumtsafi"), "dis", os.devnull], check=True)
 
 
 def measure(*words):

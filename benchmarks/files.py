@@ -3,9 +3,9 @@
 
     files.py [PROGRAM]
 
-PROGRAM is the built program; with none it is the script at the top of the repository. A line for each file has the
-seconds of the faster of two runs, the limit, the greatest resident memory, and the answer. It ends with status 0 where
-each answer is the right one and comes within its limit.
+PROGRAM is the built program; with none the script at the top of the repository builds it, if need be. A line for each
+file has the seconds of the faster of two runs, the limit, the greatest resident memory, and the answer. It ends with
+status 0 where each answer is the right one and comes within its limit.
 """
 import multiprocessing
 import os

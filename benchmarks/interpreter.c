@@ -4,9 +4,9 @@
        interpreter run FILE [--steps N] [--input FILE] [--entries]
 
    It decodes at each step, by one switch; memory is one array of bytes for each segment, one for the stack and one for
-   the heap. It keeps the counts that `run` keeps: steps, cost by the usual latencies, steps at each address of the text,
-   targets of JALR, and the first step that touches the text. It prints the program's output and then the same end line.
-   With --entries it prints the addresses at which steps began, and how many, on standard error.
+   the heap. It keeps the counts that `run` keeps: steps, cost by the usual latencies, steps at each address of the
+   text, targets of JALR there, and the first step that touches the text. It prints the program's output and then the
+   same end line. With --entries it prints the addresses at which steps began, and how many, on standard error.
 
    It takes the executable as given: a file that `rumtsafi run` refuses may do anything here. */
 #include <inttypes.h>

@@ -3,9 +3,10 @@
 
     run.py [PROGRAM]
 
-PROGRAM is the built program; with none it is the script at the top of the repository. Both run the executable that GCC
-makes of work.c, more than 200 million steps, in one go, each of them ROUNDS times in turn; the least time of each
-counts. What they print has to be the same. The last line is how many times longer `rumtsafi run` takes.
+PROGRAM is the built program; with none the script at the top of the repository builds it, if need be. Both run the
+executable that GCC makes of work.c, more than 200 million steps, in one go, each of them ROUNDS times in turn; the
+least time of each counts. What they print has to be the same. The last line is how many times longer `rumtsafi run`
+takes.
 
 It ends with status 0 where both print the same, and where the tools are missing, with a line that says so.
 """

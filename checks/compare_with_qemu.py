@@ -154,7 +154,8 @@ def main():
     faults += [f"no program executed {name}" for name in sorted(ALL - seen)]
     for fault in faults:
         print(fault)
-    print(f"{len(programs)} executables compared, {len(seen)} of {len(ALL)} instructions executed, {len(faults)} faults")
+    print(f"{len(programs)} executables compared, {len(seen)} of {len(ALL)} instructions executed, "
+          f"{len(faults)} faults")
     return 1 if faults or len(programs) < 20 else 0
 
 

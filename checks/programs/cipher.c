@@ -44,7 +44,7 @@ static void encrypt(uint32_t *state, unsigned char *bytes, int length)
 int main(void)
 {
     uint32_t state[16] = { 0x61707865, 0x3320646e, 0x79622d32, 0x6b206574 }, out[16];
-    unsigned char text[] = "A text that is longer than one block of the key stream, so that the counter has to count on.";
+    unsigned char text[] = "A text that is longer than one block of the key stream: the counter counts on.";
     for (uint32_t i = 0; i < 8; i++)
         state[4 + i] = 0x03020100 + 0x04040404 * i;
     state[12] = 1, state[13] = 0x09000000, state[14] = 0x4a000000;
