@@ -16,6 +16,7 @@ It ends with status 0 where all agree, and where the tools are missing, with a l
 """
 import os
 import re
+import resource
 import shutil
 import signal
 import subprocess
@@ -141,6 +142,8 @@ def main():
         print(f"skipped: {', '.join(missing)} not found "
               "(Debian's gcc-riscv64-unknown-elf, picolibc-riscv64-unknown-elf, qemu-user, gcc)")
         return 0
+    # A program that ends by a signal leaves no dump of its memory.
+    resource.setrlimit(resource.RLIMIT_CORE, (0, resource.getrlimit(resource.RLIMIT_CORE)[1]))
     if len(sys.argv) == 1:
         # Builds the program, which takes longer than a run may.
         subprocess.run([RUMTSAFI, "dis", os.devnull], check=True)
