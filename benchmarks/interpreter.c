@@ -163,16 +163,23 @@ static inline void store(uint32_t address, uint32_t width, uint32_t value)
 
 /* Environment calls. */
 
-static uint32_t call_read(uint32_t file, uint32_t address, uint32_t count)
+/* What a call answers whose bytes can't be moved, or 0. */
+static uint32_t refusal(bool is_open, uint32_t address, uint32_t count)
 {
-    if (count > input_left)
-        count = input_left;
-    if (file != 0)
+    if (!is_open)
         return WRONG_FILE;
     if (!is_mapped(address, count))
         return WRONG_ADDRESS;
     if (count)
         touch(address, count);
+    return 0;
+}
+
+static uint32_t call_read(uint32_t file, uint32_t address, uint32_t most)
+{
+    uint32_t count = most < input_left ? most : input_left, refused = refusal(file == 0, address, count);
+    if (refused)
+        return refused;
     for (uint32_t i = 0; i < count; i++)
         *find(address + i, 1) = *input++;
     input_left -= count;
@@ -181,15 +188,10 @@ static uint32_t call_read(uint32_t file, uint32_t address, uint32_t count)
 
 static uint32_t call_write(uint32_t file, uint32_t address, uint32_t count)
 {
-    if (file != 1 && file != 2)
-        return WRONG_FILE;
-    if (!is_mapped(address, count))
-        return WRONG_ADDRESS;
-    if (count)
-        touch(address, count);
-    for (uint32_t i = 0; i < count; i++)
+    uint32_t refused = refusal(file == 1 || file == 2, address, count);
+    for (uint32_t i = 0; i < count && !refused; i++)
         putchar(*find(address + i, 1));
-    return count;
+    return refused ? refused : count;
 }
 
 static uint32_t call_brk(uint32_t due)

@@ -1,19 +1,12 @@
 /* The four divisions, the special cases among them, as instructions and as GCC writes them. */
 #include <stdint.h>
 #include <stdio.h>
+#include "instruction.h"
 
-#define DIVISION(name) \
-    static uint32_t name(uint32_t left, uint32_t right) \
-    { \
-        uint32_t result; \
-        __asm__ volatile(#name " %0, %1, %2" : "=r"(result) : "r"(left), "r"(right)); \
-        return result; \
-    }
-
-DIVISION(div)
-DIVISION(divu)
-DIVISION(rem)
-DIVISION(remu)
+INSTRUCTION(div)
+INSTRUCTION(divu)
+INSTRUCTION(rem)
+INSTRUCTION(remu)
 
 static const uint32_t values[] = { 0, 1, 2, 3, 7, 10, 0x7fffffff, 0x80000000, 0x80000001, 0xfffffff9, 0xffffffff };
 enum { COUNT = sizeof values / sizeof *values };

@@ -1,19 +1,12 @@
 /* The four multiplications with the signs that matter, as instructions and in products of many words. */
 #include <stdint.h>
 #include <stdio.h>
+#include "instruction.h"
 
-#define MULTIPLICATION(name) \
-    static uint32_t name(uint32_t left, uint32_t right) \
-    { \
-        uint32_t result; \
-        __asm__ volatile(#name " %0, %1, %2" : "=r"(result) : "r"(left), "r"(right)); \
-        return result; \
-    }
-
-MULTIPLICATION(mul)
-MULTIPLICATION(mulh)
-MULTIPLICATION(mulhsu)
-MULTIPLICATION(mulhu)
+INSTRUCTION(mul)
+INSTRUCTION(mulh)
+INSTRUCTION(mulhsu)
+INSTRUCTION(mulhu)
 
 static const uint32_t values[] = { 0, 1, 2, 0x10001, 0x7fffffff, 0x80000000, 0x80000001, 0xdeadbeef, 0xffffffff };
 enum { COUNT = sizeof values / sizeof *values, WORDS = 18 };
