@@ -116,14 +116,21 @@ static inline struct range *range_at(uint32_t address)
     return NULL;
 }
 
+/* Keeps the first byte of the text, in the order of the access, that the first such access moves. */
 static inline void touch(uint32_t address, uint32_t length)
 {
-    for (struct range *range = ranges; range < ranges + range_count && !touched; range++) {
-        if (address - range->start >= range->size && range->start - address >= length)
-            continue;
+    uint32_t least = length;
+    if (touched)
+        return;
+    for (struct range *range = ranges; range < ranges + range_count; range++) {
+        uint32_t before = address - range->start < range->size ? 0 : range->start - address;
+        if (before < least)
+            least = before;
+    }
+    if (least < length) {
         touched = true;
         touched_pc = pc;
-        touched_address = address - range->start < range->size ? address : range->start;
+        touched_address = address + least;
     }
 }
 
@@ -197,7 +204,7 @@ static uint32_t call_write(uint32_t file, uint32_t address, uint32_t count)
 static uint32_t call_brk(uint32_t due)
 {
     uint32_t size = due - heap->start;
-    bool meets_stack = due > STACK_START && heap->start < STACK_START;
+    bool meets_stack = due > STACK_START && heap->start < STACK_START + (uint32_t)STACK_SIZE;
     bool fits = due >= heap->start && due <= HIGHEST_END && !meets_stack
         && (uint64_t)segment_bytes + STACK_SIZE + size <= MEMORY_LIMIT;
     if (fits) {
