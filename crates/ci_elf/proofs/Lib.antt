@@ -1,0 +1,17 @@
+pub mod FieldLaws
+pub mod BrokenLaws
+pub mod CheckLaws
+pub mod SegmentLaws
+pub mod PartLaws
+pub mod PairLaws
+pub mod CoverageLaws
+pub mod PairRuleLaws
+pub mod MemoryLaws
+pub mod SegmentOrderLaws
+pub mod SectionLaws
+pub mod MeetingLaws
+pub mod SharingLaws
+pub mod RangeLaws
+pub mod ImageLaws
+pub mod ReadingLaws
+pub mod FrameLaws

@@ -1,0 +1,108 @@
+-- From the rules, tested in stages, to what reading answers.
+use Rattle.std.proofs.Common.{◌≡◌, ◌≢◌, ℕ, ◌<◌, true, List, [], ◌∷◌, ◌++◌, refl, sym, ◌∙◌, ap, subst, arith, append_assoc, Result, IsErrAnd}
+use Rattle.std.proofs.lemmas.Result.{err_from_is_err_and}
+use Rattle.std.specs.List.{Contains}
+use Rattle.std.specs.List.Sorted.{IsPermutation}
+use Rattle.std.proofs.lemmas.List.Sorted.{Contains-permutation, IsPermutation-sym, IsPermutation-refl}
+use Rattle.ci_elf.specs.declared.faults.ElfFault.{ElfFault}
+use Rattle.ci_elf.specs.declared.faults.ElfFault.TheVariants.{NoMemory}
+use Rattle.ci_elf.specs.declared.ranges.Range.{Range}
+use Rattle.ci_elf.specs.declared.segments.Segment.{Segment}
+use Rattle.ci_elf.specs.Fields.{e_entry, e_phnum, e_shnum, is_loadable, p_offset, p_filesz}
+use Rattle.ci_elf.specs.Executables.{Executable, IsImageOf, IsWellFormed, IsAscending, IsTextWord, LoadsRange, range_of, has_words, ranges_of, segment_of, segments_of, symbols_of}
+use Rattle.ci_elf.specs.Rules.{Rule, NamesNoInterpreter, HasFilePart, IsPlaced, MemoryIsBounded, TextIsBounded, EntryIsText, Holds, LiesIn, KeepsRules, BreaksFirst, IsReadAs, rules, file_header_rules, kind_rules, table_rules, segment_rules, memory_rules, section_rules, sharing_rules}
+use Rattle.ci_elf.proofs.BrokenLaws.{kept_at, contained_those, those_contain}
+use Rattle.ci_elf.proofs.CheckLaws.{keeps_append}
+use Rattle.ci_elf.proofs.SectionLaws.{laid_out, text_filled}
+use Rattle.ci_elf.proofs.RangeLaws.{loaded_at, words_some, text_permuted}
+
+abbrev pub header_stage : List Rule
+header_stage = file_header_rules ++ (kind_rules ++ table_rules)
+
+abbrev pub loading_stage : List ℕ → List Rule
+loading_stage bytes = segment_rules bytes ++ (memory_rules bytes ++ MemoryIsBounded ∷ [])
+
+abbrev pub text_stage : List ℕ → List Rule
+text_stage bytes = section_rules bytes ++ sharing_rules bytes
+
+abbrev pub last_stage : List Rule
+last_stage = TextIsBounded ∷ EntryIsText ∷ []
+
+module _ (bytes : List ℕ) where
+  pub stages : header_stage ++ (loading_stage bytes ++ (text_stage bytes ++ last_stage)) ≡ rules bytes
+  stages =
+      ap (λ l. header_stage ++ l)
+      (append_assoc (segment_rules bytes) (memory_rules bytes ++ MemoryIsBounded ∷ []) (text_stage bytes ++ last_stage)
+      ∙ ap (λ l. segment_rules bytes ++ l)
+      (append_assoc (memory_rules bytes) (MemoryIsBounded ∷ []) (text_stage bytes ++ last_stage)
+      ∙ ap (λ l. memory_rules bytes ++ (MemoryIsBounded ∷ l)) (append_assoc (section_rules bytes) (sharing_rules bytes) last_stage)))
+
+  pub kept_stages :
+      KeepsRules bytes header_stage → KeepsRules bytes (loading_stage bytes) → KeepsRules bytes (text_stage bytes) → KeepsRules bytes last_stage
+      → KeepsRules bytes (rules bytes)
+  kept_stages header loading text last =
+      subst (KeepsRules bytes) stages
+      (keeps_append bytes header_stage (loading_stage bytes ++ (text_stage bytes ++ last_stage)) header
+      (keeps_append bytes (loading_stage bytes) (text_stage bytes ++ last_stage) loading
+      (keeps_append bytes (text_stage bytes) last_stage text last)))
+
+  -- the exit of a `?` that hands a fault of the stages on
+  pub read_handed_on :
+      (result : Result Executable ElfFault) (fault : ElfFault) → IsErrAnd result (λ f. f ≡ fault)
+      → (fault ≢ NoMemory → BreaksFirst bytes (header_stage ++ (loading_stage bytes ++ (text_stage bytes ++ last_stage))) fault) → IsReadAs bytes result
+  read_handed_on result fault err b =
+      let p = err_from_is_err_and result err in
+      rw (p.1, p.2) (λ real. subst (λ l. BreaksFirst bytes l fault) stages (b real))
+
+  module _ (placed : KeepsRules bytes (segment_rules bytes)) (memory : KeepsRules bytes (memory_rules bytes)) (sections : KeepsRules bytes (section_rules bytes))
+      (ranges : List Range) (moved : IsPermutation (ranges_of bytes) ranges) where
+    range_among : (range : Range) → Contains ranges range → (n : ℕ) × (n < e_shnum bytes) × (has_words bytes n ≡ true) × (range ≡ range_of bytes n)
+    unfolding ranges_of
+    range_among range c =
+        contained_those (has_words bytes) (range_of bytes) (e_shnum bytes) range
+        (Contains-permutation ranges (ranges_of bytes) range (IsPermutation-sym (ranges_of bytes) ranges moved) c)
+
+    file_part : (k : ℕ) → k < e_phnum bytes → is_loadable bytes k ≡ true → LiesIn bytes (p_offset bytes k) (p_filesz bytes k)
+    file_part k h is = (kept_at (Holds bytes) (e_phnum bytes) k (λ n. NamesNoInterpreter n ∷ HasFilePart n ∷ IsPlaced n ∷ []) h placed).1.0 is
+
+    range_loaded : (range : Range) → Contains ranges range → (s : Segment) × Contains (segments_of bytes) s × LoadsRange bytes s range
+    unfolding segments_of
+    range_loaded range c =
+        let r = range_among range c in
+        let words = words_some bytes placed sections memory r.0 r.2 in
+        let l = loaded_at bytes placed sections r.0 r.1 words.0 in
+        let by = l.1 in
+        let some = text_filled bytes r.0 words.0 in (
+          segment_of bytes l.0,
+          those_contain (is_loadable bytes) (segment_of bytes) (e_phnum bytes) l.0 by.exists by.loadable,
+          subst (LoadsRange bytes (segment_of bytes l.0)) (sym r.3) (record {
+            from = omega (arith, by.from, by.agrees);
+            to = omega (arith, by.to, by.agrees, by.from, words.1);
+            in_file = file_part l.0 by.exists by.loadable (omega (arith, by.from, by.to, some));
+          }),
+        )
+
+    pub well_formed_from :
+        (symbols : List ℕ) → IsAscending ranges → IsTextWord (ranges_of bytes) (e_entry bytes)
+        → IsWellFormed (record { bytes = bytes; entry = e_entry bytes; segments = segments_of bytes; ranges = ranges; symbols = symbols })
+    well_formed_from symbols ascending entry = record {
+      ascending = ascending;
+      aligned = λ range c. let r = range_among range c in rw r.3 (omega arith);
+      worded = λ range c. let r = range_among range c in rw r.3 ((words_some bytes placed sections memory r.0 r.2).1);
+      loaded = range_loaded;
+      filled = (laid_out bytes placed memory (segments_of bytes) (IsPermutation-refl (segments_of bytes))).filled;
+      apart = (laid_out bytes placed memory (segments_of bytes) (IsPermutation-refl (segments_of bytes))).one;
+      entry = (entry.0, text_permuted (ranges_of bytes) ranges (e_entry bytes) moved entry.1);
+    }
+
+    pub image_from :
+        IsAscending ranges
+        → IsImageOf bytes (record { bytes = bytes; entry = e_entry bytes; segments = segments_of bytes; ranges = ranges; symbols = symbols_of bytes })
+    image_from ascending = record {
+      same_bytes = refl;
+      entry = refl;
+      segments = refl;
+      symbols = refl;
+      same_ranges = moved;
+      ascending = ascending;
+    }

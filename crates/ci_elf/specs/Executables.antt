@@ -1,0 +1,128 @@
+-- What an executable file means: its segments, its text and its symbols.
+use Rattle.std.specs.Prelude.{◌≡◌, ℕ, ◌+◌, ◌-◌, ◌*◌, ◌/◌, ◌%◌, ◌<◌, ◌≤◌, ◌&&◌, Bool, if◌then◌else◌, List, [], ◌∷◌, ◌++◌, length, take, drop, nat_lt, nat_le}
+use Rattle.std.specs.List.{AllPairs, Any, Contains}
+use Rattle.std.specs.List.Sorted.{IsPermutation}
+use Rattle.ci_elf.specs.declared.segments.Segment.{Segment}
+use Rattle.ci_elf.specs.declared.ranges.Range.{Range}
+use Rattle.ci_elf.specs.Fields.{e_entry, e_phnum, e_shnum, p_offset, p_vaddr, p_filesz, p_memsz, is_loadable, sh_addr, sh_size, is_symbol_table, is_text, st_value}
+use Rattle.byteorder.specs.Endian.{little_bytes}
+use Rattle.ci_elf.specs.Broken.{each_below, those_below}
+
+-- an executable file and what it means
+pub record Executable : Type 0 where
+  pub bytes : List ℕ
+  pub entry : ℕ
+  pub segments : List Segment
+  pub ranges : List Range
+  pub symbols : List ℕ
+
+abbrev pub executable : List ℕ → ℕ → List Segment → List Range → List ℕ → Executable
+executable bytes entry segments ranges symbols =
+    record { bytes = bytes; entry = entry; segments = segments; ranges = ranges; symbols = symbols }
+
+-- ---- segments and symbols, in the order of the file's tables
+
+abbrev pub segment_of : List ℕ → ℕ → Segment
+segment_of bytes n = record {
+  address = p_vaddr bytes n;
+  memory_size = p_memsz bytes n;
+  offset = p_offset bytes n;
+  file_size = p_filesz bytes n;
+}
+
+-- the loadable segments that have memory
+unfoldable pub segments_of : List ℕ → List Segment
+segments_of bytes = those_below (e_phnum bytes) (is_loadable bytes) (segment_of bytes)
+
+-- how many entries the symbol table has that section n is
+abbrev pub symbol_count : List ℕ → ℕ → ℕ
+symbol_count bytes n = sh_size bytes n / 16
+
+-- the values of the entries of section n
+abbrev pub symbols_in : List ℕ → ℕ → List ℕ
+symbols_in bytes n = each_below (symbol_count bytes n) (λ k. st_value bytes n k ∷ [])
+
+-- the value of every entry of every symbol table
+unfoldable pub symbols_of : List ℕ → List ℕ
+symbols_of bytes = each_below (e_shnum bytes) (λ n. if is_symbol_table bytes n then symbols_in bytes n else [])
+
+-- ---- text
+
+-- The whole words at multiples of four in section n: the first of them, and how many they are.
+abbrev pub range_of : List ℕ → ℕ → Range
+range_of bytes n = record {
+  start = (sh_addr bytes n + 3) / 4 * 4;
+  words = (sh_addr bytes n + sh_size bytes n) / 4 - (sh_addr bytes n + 3) / 4;
+}
+
+-- section n has text with at least one whole word
+abbrev pub has_words : List ℕ → ℕ → Bool
+has_words bytes n = is_text bytes n && nat_lt 0 (range_of bytes n).words
+
+-- the text: the whole words of each text section that has some
+unfoldable pub ranges_of : List ℕ → List Range
+ranges_of bytes = those_below (e_shnum bytes) (has_words bytes) (range_of bytes)
+
+-- the address behind the last word
+abbrev pub end_of : Range → ℕ
+end_of range = range.start + 4 * range.words
+
+-- the byte at the address is text
+abbrev pub InText : List Range → ℕ → Type 0
+InText ranges address = Any (λ range. (range.start ≤ address) × (address < end_of range)) ranges
+
+-- a whole word of the text begins at the address
+abbrev pub IsTextWord : List Range → ℕ → Type 0
+IsTextWord ranges address = (address % 4 ≡ 0) × InText ranges address
+
+-- by address, and no two of them overlap
+abbrev pub IsAscending : List Range → Type 0
+IsAscending ranges = AllPairs (λ left right. end_of left ≤ right.start) ranges
+
+-- ---- the image
+
+-- the executable that the bytes of a file are, where they break no rule
+pub record IsImageOf (bytes : List ℕ) (image : Executable) : Type 0 where
+  pub same_bytes : image.bytes ≡ bytes
+  pub entry : image.entry ≡ e_entry bytes
+  pub segments : image.segments ≡ segments_of bytes
+  pub symbols : image.symbols ≡ symbols_of bytes
+  pub same_ranges : IsPermutation (ranges_of bytes) image.ranges
+  pub ascending : IsAscending image.ranges
+
+-- ---- where bytes of memory stand in the file
+
+-- the segment loads the byte at the address from the file
+abbrev pub has_in_file : Segment → ℕ → Bool
+has_in_file segment address = nat_le segment.address address && nat_lt address (segment.address + segment.file_size)
+
+-- where in the file the byte at an address stands, for a byte that some segment loads
+unfoldable pub place_of : List Segment → ℕ → ℕ
+place_of [] address = 0
+place_of (segment ∷ segments) address =
+    if has_in_file segment address then segment.offset + (address - segment.address) else place_of segments address
+
+-- the bytes with the word at this place
+abbrev pub with_word : List ℕ → ℕ → ℕ → List ℕ
+with_word bytes place word = take place bytes ++ little_bytes 4 word ++ drop (place + 4) bytes
+
+-- the segment loads the range from the file
+pub record LoadsRange (bytes : List ℕ) (segment : Segment) (range : Range) : Type 0 where
+  pub from : segment.address ≤ range.start
+  pub to : end_of range ≤ segment.address + segment.file_size
+  pub in_file : segment.offset + segment.file_size ≤ length bytes
+
+-- What holds of every image: its text is whole words in file parts of its segments, by address, and its segments don't
+-- overlap in memory.
+pub record IsWellFormed (image : Executable) : Type 0 where
+  pub ascending : IsAscending image.ranges
+  pub aligned : (range : Range) → Contains image.ranges range → range.start % 4 ≡ 0
+  pub worded : (range : Range) → Contains image.ranges range → 0 < range.words
+  pub loaded :
+      (range : Range) → Contains image.ranges range
+      → (segment : Segment) × Contains image.segments segment × LoadsRange image.bytes segment range
+  pub filled : (segment : Segment) → Contains image.segments segment → segment.file_size ≤ segment.memory_size
+  pub apart :
+      (s t : Segment) → Contains image.segments s → Contains image.segments t
+      → s.address ≤ t.address → t.address < s.address + s.memory_size → s ≡ t
+  pub entry : IsTextWord image.ranges image.entry

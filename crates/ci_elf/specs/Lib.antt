@@ -1,0 +1,11 @@
+pub mod Fields
+pub mod Broken
+pub mod Executables
+pub mod Rules
+pub mod Places
+pub mod Checks
+pub mod Parts
+pub mod SectionChecks
+pub mod RangeChecks
+pub mod SymbolChecks
+pub mod Frames

@@ -1,0 +1,31 @@
+//! Executable files: ELF32 for RISC-V, as the System V gABI has it (chapter 4, "Object Files", and
+//! chapter 5, "Program Header").
+//!
+//! The rules that a file keeps, in the order in which they are tested, stand in `specs/Rules.antt`,
+//! over the fields of `specs/Fields.antt`; what a file means stands in `specs/Executables.antt`, and
+//! the smallest file with some text in `specs/Frames.antt`.
+#![tactic(auto)]
+
+pub use faults::ElfFault;
+pub use frames::frame;
+pub use image::Image;
+pub use ranges::Range;
+pub use reading::read;
+pub use segments::Segment;
+
+mod coverage;
+mod faults;
+mod fields;
+mod file_header;
+mod frames;
+mod image;
+mod memory;
+mod parts;
+mod ranges;
+mod reading;
+mod sections;
+mod segments;
+mod sharing;
+mod symbols;
+#[cfg(test)]
+mod tests;

@@ -1,0 +1,95 @@
+//! From the bytes of a file to its image.
+ghost use Rattle.std.specs.Prelude.{◌≡◌, ◌+◌, ◌<◌, ◌≤◌, ◌++◌, [], ◌∷◌, length, IfOk, OnOk};
+ghost use Rattle.std.specs.List.Sorted.{IsPermutation};
+ghost use Rattle.ci_elf.specs.Executables.{IsAscending, ranges_of, segments_of};
+ghost use Rattle.ci_elf.specs.Rules.{EntryIsText, IsReadAs, KeepsRules, MemoryIsBounded, TextIsBounded, file_header_rules, kind_rules, memory_rules, section_rules, segment_rules, sharing_rules, table_rules};
+ghost use Rattle.ci_elf.specs.Checks.{HasTables, IsTestOf};
+
+use crate::fields::entry;
+use crate::file_header::{check_file_header, check_kind, check_tables};
+use crate::memory::{check_apart, check_size};
+use crate::ranges::{check_entry, check_text_size, text_ranges};
+use crate::sections::check_sections;
+use crate::segments::{check_segments, segments_of};
+use crate::sharing::check_sharing;
+use crate::symbols::symbol_values;
+use crate::{ElfFault, Image, Range, Segment};
+use std::alloc::Global;
+
+/// The rules on the file header and the tables of headers.
+fn check_headers(bytes: &[u8]) -> Result<(), ElfFault>
+    requires { length bytes.now ≤ 268435456 }
+    ensures { IsTestOf bytes.now (file_header_rules ++ (kind_rules ++ table_rules)) result }
+{
+    check_file_header(bytes)?;
+    check_kind(bytes)?;
+    check_tables(bytes)
+}
+
+/// The rule on the size of the memory, and the segments.
+fn checked_segments(alloc: Global, bytes: &[u8]) -> Result<Vec<Segment>, ElfFault>
+    requires { HasTables bytes.now }
+    ensures test { IsTestOf bytes.now (MemoryIsBounded ∷ []) result }
+    ensures value { IfOk result (λ v. v.items ≡ segments_of bytes.now) }
+{
+    let segments = segments_of(alloc, bytes)?;
+    check_size(&segments)?;
+    Ok(segments)
+}
+
+/// The rules on the segments, which are handed out.
+fn check_loading(alloc: Global, bytes: &[u8]) -> Result<Vec<Segment>, ElfFault>
+    requires { HasTables bytes.now }
+    ensures test { IsTestOf bytes.now (segment_rules bytes.now ++ (memory_rules bytes.now ++ MemoryIsBounded ∷ [])) result }
+    ensures value { IfOk result (λ v. v.items ≡ segments_of bytes.now) }
+{
+    check_segments(bytes)?;
+    check_apart(alloc, bytes)?;
+    checked_segments(alloc, bytes)
+}
+
+/// The rules on the sections.
+fn check_texts(alloc: Global, bytes: &[u8], segments: &[Segment]) -> Result<(), ElfFault>
+    requires tables { HasTables bytes.now }
+    requires segments { segments.now ≡ segments_of bytes.now }
+    requires placed { KeepsRules bytes.now (segment_rules bytes.now) }
+    requires memory { KeepsRules bytes.now (memory_rules bytes.now) }
+    ensures { IsTestOf bytes.now (section_rules bytes.now ++ sharing_rules bytes.now) result }
+{
+    check_sections(alloc, bytes, segments)?;
+    check_sharing(alloc, bytes)
+}
+
+/// The rules on the text as a whole, whose ranges are handed out by address.
+fn checked_ranges(alloc: Global, bytes: &[u8]) -> Result<Vec<Range>, ElfFault>
+    requires tables { HasTables bytes.now }
+    requires placed { KeepsRules bytes.now (segment_rules bytes.now) }
+    requires memory { KeepsRules bytes.now (memory_rules bytes.now) }
+    requires sections { KeepsRules bytes.now (section_rules bytes.now) }
+    ensures test { IsTestOf bytes.now (TextIsBounded ∷ EntryIsText ∷ []) result }
+    ensures same { IfOk result (λ v. IsPermutation (ranges_of bytes.now) v.items) }
+    ensures ascending { IfOk result (λ v. IsAscending v.items) }
+{
+    let mut ranges = text_ranges(alloc, bytes)?;
+    check_text_size(&ranges)?;
+    ranges.sort_unstable_by_key(|range| range.start);
+    check_entry(&ranges, entry(bytes))?;
+    Ok(ranges)
+}
+
+/// The image of an executable file.
+///
+/// Errors: the fault of the first rule that the file breaks, or `NoMemory`.
+pub fn read(alloc: Global, bytes: &[u8]) -> Result<Image, ElfFault>
+    requires { length bytes.now ≤ 268435456 }
+    ensures { IsReadAs bytes.now result }
+{
+    check_headers(bytes)?;
+    let segments = check_loading(alloc, bytes)?;
+    check_texts(alloc, bytes, &segments)?;
+    let ranges = checked_ranges(alloc, bytes)?;
+    let symbols = symbol_values(alloc, bytes)?;
+    let copy = Vec::from_slice(alloc, bytes)?;
+    let image = Image::new(alloc, copy, entry(bytes), segments, ranges, symbols)?;
+    Ok(image)
+}
