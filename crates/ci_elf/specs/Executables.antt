@@ -81,7 +81,8 @@ IsAscending ranges = AllPairs (λ left right. end_of left ≤ right.start) range
 
 -- ---- the image
 
--- the executable that the bytes of a file are, where they break no rule
+-- The executable that the bytes of a file are, where they break no rule. There is one: each range has a word and no two
+-- overlap, so their starts differ, and just one order of them ascends.
 pub record IsImageOf (bytes : List ℕ) (image : Executable) : Type 0 where
   pub same_bytes : image.bytes ≡ bytes
   pub entry : image.entry ≡ e_entry bytes

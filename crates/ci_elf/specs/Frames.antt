@@ -23,8 +23,8 @@ values_address = 0x20000
 abbrev pub identification : List ℕ
 identification = 0x7f ∷ 0x45 ∷ 0x4c ∷ 0x46 ∷ 1 ∷ 1 ∷ 1 ∷ 0 ∷ 0 ∷ 0 ∷ 0 ∷ 0 ∷ 0 ∷ 0 ∷ 0 ∷ 0 ∷ []
 
--- e_type, e_machine; e_version, e_entry, e_phoff, e_shoff, e_flags; e_ehsize, e_phentsize, e_phnum, e_shentsize, e_shnum,
--- e_shstrndx
+-- e_type, e_machine; e_version, e_entry, e_phoff, e_shoff, e_flags; e_ehsize, e_phentsize, e_phnum, e_shentsize,
+-- e_shnum, e_shstrndx
 abbrev pub file_header : ℕ → List ℕ
 file_header section_table =
     identification ++ halves (2 ∷ 243 ∷ []) ++ words (1 ∷ text_address ∷ 52 ∷ section_table ∷ 0 ∷ [])
@@ -45,16 +45,16 @@ headers values_offset values_size =
     file_header (values_offset + values_size) ++ load_header 0 0x10000 values_offset 5
     ++ load_header values_offset values_address values_size 6
 
--- The section headers: an empty one, then text (SHT_PROGBITS, allocated and executable), constants (allocated), and values
--- (allocated and writable).
+-- The section headers: an empty one, then text (SHT_PROGBITS, allocated and executable), constants (allocated), and
+-- values (allocated and writable).
 abbrev pub sections : (text_size constants_size values_size : ℕ) → List ℕ
 sections text_size constants_size values_size =
     section 0 0 0 0 0 ++ section 1 6 text_address text_offset text_size
     ++ section 1 2 (0x10000 + (text_offset + text_size)) (text_offset + text_size) constants_size
     ++ section 1 3 values_address (text_offset + text_size + constants_size) values_size
 
--- Text and constants lie in one segment, readable and executable, with the file's headers before them. The values lie in
--- another, readable and writable.
+-- Text and constants lie in one segment, readable and executable, with the file's headers before them. The values lie
+-- in another, readable and writable.
 unfoldable pub frame_of : (text constants values : List ℕ) → List ℕ
 frame_of text constants values =
     headers (text_offset + 4 * length text + 4 * length constants) (4 * length values)

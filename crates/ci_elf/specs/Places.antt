@@ -32,5 +32,6 @@ IsLoadedIn segments address = (s : Segment) × Contains segments s × LoadsByte 
 pub record AreOffsets (segments : List Segment) (ranges : List Range) (count : ℕ) (offsets : List ℕ) : Type 0 where
   pub many : length offsets ≡ count
   pub each :
-      (k : ℕ) (d : Range) (s : Segment) → k < count → Contains segments s → LoadsByte s (slice_index_or ranges k d).start
+      (k : ℕ) (d : Range) (s : Segment) → k < count → Contains segments s
+      → LoadsByte s (slice_index_or ranges k d).start
       → slice_index offsets k ≡ s.offset + ((slice_index_or ranges k d).start - s.address)

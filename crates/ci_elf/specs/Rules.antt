@@ -75,7 +75,8 @@ pub record IsAlone (bytes : List ℕ) (n : ℕ) : Type 0 where
   pub program_table : IsApartFrom bytes n (e_phoff bytes) (32 * e_phnum bytes)
   pub section_table : IsApartFrom bytes n (e_shoff bytes) (40 * e_shnum bytes)
   pub symbols :
-      (k : ℕ) → k < e_shnum bytes → IsTrue (is_symbol_table bytes k) → IsApartFrom bytes n (sh_offset bytes k) (sh_size bytes k)
+      (k : ℕ) → k < e_shnum bytes → IsTrue (is_symbol_table bytes k)
+      → IsApartFrom bytes n (sh_offset bytes k) (sh_size bytes k)
   pub texts :
       (k : ℕ) → k < n → IsTrue (is_text bytes k) → IsApartFrom bytes n (sh_offset bytes k) (sh_size bytes k)
 

@@ -36,7 +36,8 @@ impl Model for Image {
 
     ghost view = { λ i. executable i.bytes.items i.entry i.segments.items i.ranges.items i.symbols.items };
 
-    ghost invariant = { λ i. IsSound (executable i.bytes.items i.entry i.segments.items i.ranges.items i.symbols.items) i.offsets.items };
+    ghost invariant = { λ i. IsSound
+        (executable i.bytes.items i.entry i.segments.items i.ranges.items i.symbols.items) i.offsets.items };
 }
 
 /// Where in the file the byte at an address stands, which a segment loads, of segments in the order
@@ -95,7 +96,8 @@ impl Image {
         symbols: Vec<u32>,
     ) -> Result<Self, AllocError>
         requires { IsWellFormed (executable bytes.items entry segments.items ranges.items symbols.items) }
-        ensures { IfOk result (λ image. image ≡ executable bytes.items entry segments.items ranges.items symbols.items) }
+        ensures { IfOk result (λ image.
+            image ≡ executable bytes.items entry segments.items ranges.items symbols.items) }
     {
         let offsets = offsets_of(alloc, &segments, &ranges)?;
         Ok(Image {

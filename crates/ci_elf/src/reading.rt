@@ -40,7 +40,8 @@ fn checked_segments(alloc: Global, bytes: &[u8]) -> Result<Vec<Segment>, ElfFaul
 /// The rules on the segments, which are handed out.
 fn check_loading(alloc: Global, bytes: &[u8]) -> Result<Vec<Segment>, ElfFault>
     requires { HasTables bytes.now }
-    ensures test { IsTestOf bytes.now (segment_rules bytes.now ++ (memory_rules bytes.now ++ MemoryIsBounded ∷ [])) result }
+    ensures test { IsTestOf bytes.now
+        (segment_rules bytes.now ++ (memory_rules bytes.now ++ MemoryIsBounded ∷ [])) result }
     ensures value { IfOk result (λ v. v.items ≡ segments_of bytes.now) }
 {
     check_segments(bytes)?;
