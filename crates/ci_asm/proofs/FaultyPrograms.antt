@@ -8,7 +8,6 @@ use Rattle.ci_isa.specs.declared.instruction.Insn.TheVariants as insn
 use Rattle.ci_asm.specs.declared.scanner.Token.{Token}
 use Rattle.ci_asm.specs.declared.numbers.Number.{Number}
 use Rattle.ci_asm.specs.declared.mnemonics.Mnemonic.{Mnemonic}
-use Rattle.ci_asm.specs.declared.mnemonics.Mnemonic.TheVariants.{Registers, Constant, Lui, Auipc, Jal, Jalr, Branch, Load, Store, Fence, Ecall, Ebreak, Custom, Cread, Data}
 use Rattle.ci_asm.specs.declared.faults.Rule.TheVariants.{OutOfField, Undefined, DefinedTwice}
 use Rattle.ci_asm.specs.declared.faults.Fault.{Fault}
 use Rattle.ci_asm.specs.declared.labels.Definition.{Definition}
@@ -26,7 +25,7 @@ use Rattle.ci_asm.specs.Forms.{Statement, plain, to_label, IsIn, IsStatement}
 use Rattle.ci_asm.specs.Assembly as asm
 use Rattle.ci_asm.specs.Assembly.{Line, StandsInLine, IsLine, AreLines, IsProgram, statements_of, Defines, IsOffset, IsNew, IsResolved, AreResolved, IsFaultOfLine, IsFaultOfLabel, twice, undefined, too_far, HasFault, of_line, of_label}
 use Rattle.ci_asm.proofs.Filling.{values_of, label_text}
-use Rattle.ci_asm.proofs.Stated.{HasLabelFor}
+use Rattle.ci_asm.proofs.Stated.{HasLabelFor, TakesLabel, jal, branches, takes_label}
 use Rattle.ci_asm.proofs.Scanning.{by_test}
 use Rattle.ci_asm.proofs.Fields.{field_form, in_fits}
 use Rattle.ci_asm.proofs.ReadLines.{statement_says, statement_read, line_says, HasLabels, IsReadLine, line_read, ReachesInLine}
@@ -165,22 +164,9 @@ module _ (program : List Line) (definitions : Definitions) (known : AreDefinitio
     pub says : statement_says line s ≡ to_label field with_offset (text_of line t)
     pub same : field_form (field_of s.mnemonic) ≡ field
 
-  reaches : (m : Mnemonic) (rd rs1 rs2 rs3 : ℕ) (number : Number) (t : Token) → let s : code.Statement = record { mnemonic = m; operands = record { rd = rd; rs1 = rs1; rs2 = rs2; rs3 = rs3; number = number; label = Some t } } in HasLabelFor m (values_of line s.operands) → IsReach s t
-  reaches Jal rd rs1 rs2 rs3 number t for = record { field = forms.jump_offset; with_offset = insn.Jal rd; says = refl; same = refl }
-  reaches (Branch cond) rd rs1 rs2 rs3 number t for = record { field = forms.branch_offset; with_offset = insn.Branch cond rs1 rs2; says = refl; same = refl }
-  reaches (Registers op) rd rs1 rs2 rs3 number t for = absurd (cc)
-  reaches (Constant op) rd rs1 rs2 rs3 number t for = absurd (cc)
-  reaches Lui rd rs1 rs2 rs3 number t for = absurd (cc)
-  reaches Auipc rd rs1 rs2 rs3 number t for = absurd (cc)
-  reaches Jalr rd rs1 rs2 rs3 number t for = absurd (cc)
-  reaches (Load kind) rd rs1 rs2 rs3 number t for = absurd (cc)
-  reaches (Store width) rd rs1 rs2 rs3 number t for = absurd (cc)
-  reaches Fence rd rs1 rs2 rs3 number t for = absurd (cc)
-  reaches Ecall rd rs1 rs2 rs3 number t for = absurd (cc)
-  reaches Ebreak rd rs1 rs2 rs3 number t for = absurd (cc)
-  reaches Custom rd rs1 rs2 rs3 number t for = absurd (cc)
-  reaches Cread rd rs1 rs2 rs3 number t for = absurd (cc)
-  reaches Data rd rs1 rs2 rs3 number t for = absurd (cc)
+  reaches : {m : Mnemonic} → TakesLabel m → (rd rs1 rs2 rs3 : ℕ) (number : Number) (t : Token) → IsReach (record { mnemonic = m; operands = record { rd = rd; rs1 = rs1; rs2 = rs2; rs3 = rs3; number = number; label = Some t } }) t
+  reaches jal rd rs1 rs2 rs3 number t = record { field = forms.jump_offset; with_offset = insn.Jal rd; says = refl; same = refl }
+  reaches (branches {cond}) rd rs1 rs2 rs3 number t = record { field = forms.branch_offset; with_offset = insn.Branch cond rs1 rs2; says = refl; same = refl }
 
   pub reaches_label : (s : code.Statement) (t : Token) → s.operands.label ≡ Some t → HasLabelFor s.mnemonic (values_of line s.operands) → IsReach s t
   reaches_label s t e for = by s.operands.label e for
@@ -189,7 +175,7 @@ module _ (program : List Line) (definitions : Definitions) (known : AreDefinitio
       by None e for = absurd (cc)
       by (Some u) e for =
           let same : u ≡ t = cc in
-          subst (λ k. IsReach (record s { operands = record s.operands { label = Some u } }) k) same (reaches s.mnemonic s.operands.rd s.operands.rs1 s.operands.rs2 s.operands.rs3 s.operands.number u for)
+          subst (λ k. IsReach (record s { operands = record s.operands { label = Some u } }) k) same (reaches (takes_label s.mnemonic (values_of line (record s.operands { label = Some u })) (text_of line u) for refl) s.operands.rd s.operands.rs1 s.operands.rs2 s.operands.rs3 s.operands.number u)
 
   statement_fault : (before : List Line) (here : Line) (s : code.Statement) (f : Fault) → words ≡ asm.words_in before → IsNew before here.label → here.statement ≡ Some (statement_says line s) → HasLabelFor s.mnemonic (values_of line s.operands)
       → ((t : Token) → s.operands.label ≡ Some t → ReachesInLine line here.label t (statement_says line s))

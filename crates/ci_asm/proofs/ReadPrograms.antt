@@ -29,9 +29,9 @@ use Rattle.ci_asm.proofs.Operands.{bind_ok, same_ok, cond_ok}
 use Rattle.ci_asm.proofs.Assembly.{all_read-nil, all_read-ok, definition_of-nil, definition_of-cons, insns_of-nil, insns_of-ok, assembled-read}
 use Rattle.ci_asm.proofs.Filling.{values_of, label_text}
 use Rattle.ci_asm.proofs.Fields.{field_form, fits_in, in_fits}
-use Rattle.ci_asm.proofs.Stated.{HasLabelFor, plain_says}
+use Rattle.ci_asm.proofs.Stated.{HasLabelFor, plain_says, TakesLabel, jal, branches, takes_label}
 use Rattle.ci_asm.specs.declared.mnemonics.Mnemonic.{Mnemonic}
-use Rattle.ci_asm.specs.declared.mnemonics.Mnemonic.TheVariants.{Registers, Constant, Lui, Auipc, Jal, Jalr, Branch, Load, Store, Fence, Ecall, Ebreak, Custom, Cread, Data}
+use Rattle.ci_asm.specs.declared.mnemonics.Mnemonic.TheVariants.{Jal, Branch}
 use Rattle.ci_asm.proofs.Scanning.{by_test}
 use Rattle.ci_asm.proofs.ReadLines.{statement_says, statement_read, line_says, HasRoom, HasLabels, line_read, IsRoomFor, line_is}
 
@@ -332,6 +332,18 @@ pub record IsResolvedAs (program : List Line) (words : ℕ) (before : List Line)
   pub is_insn : IsInsnOfLine program words here.statement first
 
 module _ (program : List Line) (definitions : Definitions) (known : AreDefinitions program definitions) (words : ℕ) (line : List ℕ) where
+  insn_label : {m : Mnemonic} → TakesLabel m → (rd rs1 rs2 rs3 : ℕ) (number : Number) (t : Token) (o : Operands)
+      → resolved definitions words line (statement_with m rd rs1 rs2 rs3 number (Some t)) (Some t) ≡ Ok o
+      → IsInsnOf program words (statement_says line (statement_with m rd rs1 rs2 rs3 number (Some t))) (insn_of m o)
+  insn_label jal rd rs1 rs2 rs3 number t o e =
+      let s = statement_with Jal rd rs1 rs2 rs3 number (Some t) in
+      let h = reaching_yes program words s t (text_of line t) (definitions (text_of line t)) o (known (text_of line t)) e in
+      (signed_value h.number, h.is_offset, h.is_in, ap (insn_of Jal) (sym h.same))
+  insn_label (branches {cond}) rd rs1 rs2 rs3 number t o e =
+      let s = statement_with (Branch cond) rd rs1 rs2 rs3 number (Some t) in
+      let h = reaching_yes program words s t (text_of line t) (definitions (text_of line t)) o (known (text_of line t)) e in
+      (signed_value h.number, h.is_offset, h.is_in, ap (insn_of (Branch cond)) (sym h.same))
+
   -- the instruction of a statement is that of the definitions
   insn_parts : (m : Mnemonic) (rd rs1 rs2 rs3 : ℕ) (number : Number) (label : Option Token) (o : Operands)
       → HasLabelFor m (values_of line (statement_with m rd rs1 rs2 rs3 number label).operands)
@@ -339,27 +351,8 @@ module _ (program : List Line) (definitions : Definitions) (known : AreDefinitio
       → IsInsnOf program words (statement_says line (statement_with m rd rs1 rs2 rs3 number label)) (insn_of m o)
   insn_parts m rd rs1 rs2 rs3 number None o for e =
       subst (λ s. IsInsnOf program words s (insn_of m o)) (sym (plain_says m line rd rs1 rs2 rs3 number)) (ap (insn_of m) (sym (same_ok {E = Fault} _ o e)))
-  insn_parts Jal rd rs1 rs2 rs3 number (Some t) o for e =
-      let s = statement_with Jal rd rs1 rs2 rs3 number (Some t) in
-      let h = reaching_yes program words s t (text_of line t) (definitions (text_of line t)) o (known (text_of line t)) e in
-      (signed_value h.number, h.is_offset, h.is_in, ap (insn_of Jal) (sym h.same))
-  insn_parts (Branch cond) rd rs1 rs2 rs3 number (Some t) o for e =
-      let s = statement_with (Branch cond) rd rs1 rs2 rs3 number (Some t) in
-      let h = reaching_yes program words s t (text_of line t) (definitions (text_of line t)) o (known (text_of line t)) e in
-      (signed_value h.number, h.is_offset, h.is_in, ap (insn_of (Branch cond)) (sym h.same))
-  insn_parts (Registers op) rd rs1 rs2 rs3 number (Some t) o for e = absurd (cc)
-  insn_parts (Constant op) rd rs1 rs2 rs3 number (Some t) o for e = absurd (cc)
-  insn_parts Lui rd rs1 rs2 rs3 number (Some t) o for e = absurd (cc)
-  insn_parts Auipc rd rs1 rs2 rs3 number (Some t) o for e = absurd (cc)
-  insn_parts Jalr rd rs1 rs2 rs3 number (Some t) o for e = absurd (cc)
-  insn_parts (Load kind) rd rs1 rs2 rs3 number (Some t) o for e = absurd (cc)
-  insn_parts (Store width) rd rs1 rs2 rs3 number (Some t) o for e = absurd (cc)
-  insn_parts Fence rd rs1 rs2 rs3 number (Some t) o for e = absurd (cc)
-  insn_parts Ecall rd rs1 rs2 rs3 number (Some t) o for e = absurd (cc)
-  insn_parts Ebreak rd rs1 rs2 rs3 number (Some t) o for e = absurd (cc)
-  insn_parts Custom rd rs1 rs2 rs3 number (Some t) o for e = absurd (cc)
-  insn_parts Cread rd rs1 rs2 rs3 number (Some t) o for e = absurd (cc)
-  insn_parts Data rd rs1 rs2 rs3 number (Some t) o for e = absurd (cc)
+  insn_parts m rd rs1 rs2 rs3 number (Some t) o for e =
+      insn_label (takes_label m (values_of line (statement_with m rd rs1 rs2 rs3 number (Some t)).operands) (text_of line t) for refl) rd rs1 rs2 rs3 number t o e
 
   pub insn_yes : (s : code.Statement) (o : Operands) → HasLabelFor s.mnemonic (values_of line s.operands) → resolved definitions words line s s.operands.label ≡ Ok o → IsInsnOf program words (statement_says line s) (insn_of s.mnemonic o)
   insn_yes s o for e = insn_parts s.mnemonic s.operands.rd s.operands.rs1 s.operands.rs2 s.operands.rs3 s.operands.number s.operands.label o for e
@@ -370,6 +363,18 @@ module _ (program : List Line) (definitions : Definitions) (known : AreDefinitio
     pub resolves : resolved definitions words line s s.operands.label ≡ Ok operands
     pub gives : insn_of s.mnemonic operands ≡ i
 
+  resolve_label : {m : Mnemonic} → TakesLabel m → (rd rs1 rs2 rs3 : ℕ) (number : Number) (t : Token) (i : Insn)
+      → IsInsnOf program words (statement_says line (statement_with m rd rs1 rs2 rs3 number (Some t))) i
+      → WillResolve (statement_with m rd rs1 rs2 rs3 number (Some t)) i
+  resolve_label jal rd rs1 rs2 rs3 number t i is =
+      let s = statement_with Jal rd rs1 rs2 rs3 number (Some t) in
+      let h = reaching_no program words s t (text_of line t) (definitions (text_of line t)) is.0 (known (text_of line t)) is.1 is.2 in
+      record { operands = record s.operands { number = h.number }; resolves = h.reaches; gives = ap (insn.Jal rd) h.signed ∙ sym is.3 }
+  resolve_label (branches {cond}) rd rs1 rs2 rs3 number t i is =
+      let s = statement_with (Branch cond) rd rs1 rs2 rs3 number (Some t) in
+      let h = reaching_no program words s t (text_of line t) (definitions (text_of line t)) is.0 (known (text_of line t)) is.1 is.2 in
+      record { operands = record s.operands { number = h.number }; resolves = h.reaches; gives = ap (insn.Branch cond rs1 rs2) h.signed ∙ sym is.3 }
+
   resolve_parts : (m : Mnemonic) (rd rs1 rs2 rs3 : ℕ) (number : Number) (label : Option Token) (i : Insn)
       → HasLabelFor m (values_of line (statement_with m rd rs1 rs2 rs3 number label).operands)
       → IsInsnOf program words (statement_says line (statement_with m rd rs1 rs2 rs3 number label)) i
@@ -377,27 +382,8 @@ module _ (program : List Line) (definitions : Definitions) (known : AreDefinitio
   resolve_parts m rd rs1 rs2 rs3 number None i for is =
       let o = (statement_with m rd rs1 rs2 rs3 number None).operands in
       record { operands = o; resolves = refl; gives = sym (subst (λ s. IsInsnOf program words s i) (plain_says m line rd rs1 rs2 rs3 number) is) }
-  resolve_parts Jal rd rs1 rs2 rs3 number (Some t) i for is =
-      let s = statement_with Jal rd rs1 rs2 rs3 number (Some t) in
-      let h = reaching_no program words s t (text_of line t) (definitions (text_of line t)) is.0 (known (text_of line t)) is.1 is.2 in
-      record { operands = record s.operands { number = h.number }; resolves = h.reaches; gives = ap (insn.Jal rd) h.signed ∙ sym is.3 }
-  resolve_parts (Branch cond) rd rs1 rs2 rs3 number (Some t) i for is =
-      let s = statement_with (Branch cond) rd rs1 rs2 rs3 number (Some t) in
-      let h = reaching_no program words s t (text_of line t) (definitions (text_of line t)) is.0 (known (text_of line t)) is.1 is.2 in
-      record { operands = record s.operands { number = h.number }; resolves = h.reaches; gives = ap (insn.Branch cond rs1 rs2) h.signed ∙ sym is.3 }
-  resolve_parts (Registers op) rd rs1 rs2 rs3 number (Some t) i for is = absurd (cc)
-  resolve_parts (Constant op) rd rs1 rs2 rs3 number (Some t) i for is = absurd (cc)
-  resolve_parts Lui rd rs1 rs2 rs3 number (Some t) i for is = absurd (cc)
-  resolve_parts Auipc rd rs1 rs2 rs3 number (Some t) i for is = absurd (cc)
-  resolve_parts Jalr rd rs1 rs2 rs3 number (Some t) i for is = absurd (cc)
-  resolve_parts (Load kind) rd rs1 rs2 rs3 number (Some t) i for is = absurd (cc)
-  resolve_parts (Store width) rd rs1 rs2 rs3 number (Some t) i for is = absurd (cc)
-  resolve_parts Fence rd rs1 rs2 rs3 number (Some t) i for is = absurd (cc)
-  resolve_parts Ecall rd rs1 rs2 rs3 number (Some t) i for is = absurd (cc)
-  resolve_parts Ebreak rd rs1 rs2 rs3 number (Some t) i for is = absurd (cc)
-  resolve_parts Custom rd rs1 rs2 rs3 number (Some t) i for is = absurd (cc)
-  resolve_parts Cread rd rs1 rs2 rs3 number (Some t) i for is = absurd (cc)
-  resolve_parts Data rd rs1 rs2 rs3 number (Some t) i for is = absurd (cc)
+  resolve_parts m rd rs1 rs2 rs3 number (Some t) i for is =
+      resolve_label (takes_label m (values_of line (statement_with m rd rs1 rs2 rs3 number (Some t)).operands) (text_of line t) for refl) rd rs1 rs2 rs3 number t i is
 
   pub insn_no : (s : code.Statement) (i : Insn) → HasLabelFor s.mnemonic (values_of line s.operands) → IsInsnOf program words (statement_says line s) i → WillResolve s i
   insn_no s i for is = resolve_parts s.mnemonic s.operands.rd s.operands.rs1 s.operands.rs2 s.operands.rs3 s.operands.number s.operands.label i for is

@@ -4,6 +4,7 @@ use Rattle.std.specs.Prelude.{unsigned_abs, is_some}
 use Rattle.std.proofs.lemmas.Int.{ints}
 use Rattle.ci_word.specs.declared.arithmetic.Op.{Op}
 use Rattle.ci_word.specs.declared.arithmetic.Op.TheVariants as ops
+use Rattle.ci_isa.specs.declared.instruction.Cond.{Cond}
 use Rattle.ci_isa.specs.declared.instruction.Insn.{Insn}
 use Rattle.ci_isa.specs.declared.instruction.Insn.TheVariants as insn
 use Rattle.ci_asm.specs.declared.numbers.Number.{Number}
@@ -197,6 +198,28 @@ label_for Ebreak fills = keeps_label fills tt
 label_for Custom fills = keeps_label fills (refl, tt)
 label_for Cread fills = keeps_label fills tt
 label_for Data fills = keeps_label fills (refl, tt)
+
+-- the mnemonics whose last operand may be a label
+pub data TakesLabel : Mnemonic → Type 0 where
+  jal : TakesLabel Jal
+  branches : {cond : Cond} → TakesLabel (Branch cond)
+
+pub takes_label : (m : Mnemonic) (v : Values) (label : List ℕ) → HasLabelFor m v → v.label ≡ Some label → TakesLabel m
+takes_label Jal v label for some = jal
+takes_label (Branch cond) v label for some = branches
+takes_label (Registers op) v label for some = absurd (cc)
+takes_label (Constant op) v label for some = absurd (cc)
+takes_label Lui v label for some = absurd (cc)
+takes_label Auipc v label for some = absurd (cc)
+takes_label Jalr v label for some = absurd (cc)
+takes_label (Load kind) v label for some = absurd (cc)
+takes_label (Store width) v label for some = absurd (cc)
+takes_label Fence v label for some = absurd (cc)
+takes_label Ecall v label for some = absurd (cc)
+takes_label Ebreak v label for some = absurd (cc)
+takes_label Custom v label for some = absurd (cc)
+takes_label Cread v label for some = absurd (cc)
+takes_label Data v label for some = absurd (cc)
 
 -- ---- instructions
 

@@ -1,5 +1,5 @@
 -- Each text has words or a fault.
-use Rattle.std.proofs.Common.{◌≡◌, ℕ, ◌+◌, ◌≤◌, ◌⊎◌, inl, inr, Bool, true, false, cond, eqb, List, [], ◌∷◌, ◌++◌, length, refl, sym, ap, ◌∙◌, subst, Option, Some, None, Result, Ok, Err}
+use Rattle.std.proofs.Common.{◌≡◌, ℕ, ◌+◌, ◌⊎◌, inl, inr, Bool, true, false, cond, eqb, List, [], ◌∷◌, ◌++◌, length, refl, sym, ap, ◌∙◌, subst, Option, Some, None, Result, Ok, Err}
 use Rattle.std.specs.Prelude.{IfSome, IfOk}
 use Rattle.std.specs.Option.{option_to_list}
 use Rattle.ci_isa.specs.declared.instruction.Insn.{Insn}
@@ -13,7 +13,7 @@ use Rattle.ci_asm.specs.declared.statements.Statement as code
 use Rattle.ci_asm.specs.declared.lines.Line as code_lines
 use Rattle.ci_asm.specs.Tokens.{next_token}
 use Rattle.ci_asm.specs.Shapes.{fits, field_of}
-use Rattle.ci_asm.specs.Statements.{◌>>=◌, is_label, with_statement, read_line, insn_of, IsRead, IsLineOf}
+use Rattle.ci_asm.specs.Statements.{is_label, with_statement, read_line, IsRead, IsLineOf}
 use Rattle.ci_asm.specs.Programs.{Position, on_line, line_at, Definitions, defined_once, offset_between, reaching, resolved, statement_insn, line_insn, option_length, insns_of, all_read, assembled, AreWordsOf}
 use Rattle.ci_asm.specs.Lines.{lines_of}
 use Rattle.ci_asm.specs.Assembly.{IsAssembly, HasFault}
