@@ -21,7 +21,7 @@ use Rattle.ci_asm.specs.declared.statements.Operands.{Operands}
 use Rattle.ci_asm.specs.declared.numbers.Number.{Number}
 use Rattle.ci_asm.proofs.Operands.{same_ok}
 use Rattle.ci_asm.specs.Statements.{◌>>=◌, HasRegisters}
-use Rattle.ci_asm.specs.Definitions.{earlier}
+use Rattle.ci_asm.specs.LabelMap.{earlier}
 use Rattle.ci_asm.specs.Programs.{Position, position, on_line, option_words, words_in, words_behind, line_at, all_read, definition_on, definition_of, Definitions, line_insn, insns_of, option_length, offset_between, reaching, resolved, AreWordsOf, IsFaultIn, assembled}
 use Rattle.ci_asm.specs.Lines.{lines_of}
 

@@ -9,7 +9,7 @@ use Rattle.ci_isa.proofs.WellFormed as isa
 use Rattle.ci_isa.specs.FieldBounds.{IsOfWidth, IsEven, ConstantFits, FieldsFit}
 use Rattle.ci_asm.specs.declared.numbers.Number.{Number}
 use Rattle.ci_asm.specs.declared.mnemonics.Mnemonic.{Mnemonic}
-use Rattle.ci_asm.specs.declared.mnemonics.Mnemonic.TheVariants.{Registers, Constant, Lui, Auipc, Jal, Jalr, Branch, Load, Store, Fence, Ecall, Ebreak, Custom, Cread, Data}
+use Rattle.ci_asm.specs.declared.mnemonics.Mnemonic.TheVariants.{RegisterRegister, RegisterImmediate, Lui, Auipc, Jal, Jalr, Branch, Load, Store, Fence, Ecall, Ebreak, Custom, Cread, Data}
 use Rattle.ci_asm.specs.declared.slots.Field.{Field}
 use Rattle.ci_asm.specs.declared.slots.Field.TheVariants.{Immediate, Amount, Upper, BranchOffset, JumpOffset, FenceBits, UnitNumber, Whole}
 use Rattle.ci_asm.specs.declared.statements.Operands.{Operands}
@@ -77,7 +77,7 @@ amount_between n ok = by n.negative n.magnitude (fits_near Amount n ok)
 
 -- ---- instructions
 
-constant_fits : (op : Op) (n : Number) → is_statement (Constant op) ≡ true → fits (field_of (Constant op)) n ≡ true → ConstantFits (constant_form op) (signed_value n)
+constant_fits : (op : Op) (n : Number) → is_statement (RegisterImmediate op) ≡ true → fits (field_of (RegisterImmediate op)) n ≡ true → ConstantFits (constant_form op) (signed_value n)
 constant_fits Add n named ok = width_12 n ok
 constant_fits Slt n named ok = width_12 n ok
 constant_fits Sltu n named ok = width_12 n ok
@@ -105,8 +105,8 @@ upper_below : (n : Number) → fits Upper n ≡ true → n.magnitude < 2 ^ 20
 upper_below n ok = below_both n.negative n.magnitude 0 0xfffff (2 ^ 20) (lit< tt) (lit< tt) (fits_near Upper n ok)
 
 fields_fit : (m : Mnemonic) (o : Operands) → is_statement m ≡ true → HasRegisters o → fits (field_of m) o.number ≡ true → FieldsFit (insn_of m o)
-fields_fit (Registers op) o named r ok = (r.rd, r.rs1, r.rs2)
-fields_fit (Constant op) o named r ok = (r.rd, r.rs1, constant_fits op o.number named ok)
+fields_fit (RegisterRegister op) o named r ok = (r.rd, r.rs1, r.rs2)
+fields_fit (RegisterImmediate op) o named r ok = (r.rd, r.rs1, constant_fits op o.number named ok)
 fields_fit Lui o named r ok = let u = upper_whole o.number.magnitude (upper_below o.number ok) in (r.rd, u.0, u.1)
 fields_fit Auipc o named r ok = let u = upper_whole o.number.magnitude (upper_below o.number ok) in (r.rd, u.0, u.1)
 fields_fit Jal o named r ok = (r.rd, width_21 o.number ok, offset_even JumpOffset o.number refl ok)

@@ -9,7 +9,7 @@ use Rattle.ci_asm.specs.declared.scanner.Token.{Token}
 use Rattle.ci_asm.specs.declared.scanner.ByteClass.TheVariants.{Blank}
 use Rattle.ci_asm.specs.declared.numbers.Number.{Number}
 use Rattle.ci_asm.specs.declared.mnemonics.Mnemonic.{Mnemonic}
-use Rattle.ci_asm.specs.declared.mnemonics.Mnemonic.TheVariants.{Registers, Constant, Lui, Auipc, Jal, Jalr, Branch, Load, Store, Fence, Ecall, Ebreak, Custom, Cread, Data}
+use Rattle.ci_asm.specs.declared.mnemonics.Mnemonic.TheVariants.{RegisterRegister, RegisterImmediate, Lui, Auipc, Jal, Jalr, Branch, Load, Store, Fence, Ecall, Ebreak, Custom, Cread, Data}
 use Rattle.ci_asm.specs.declared.slots.Field.{Field}
 use Rattle.ci_asm.specs.declared.slots.Field.TheVariants.{Immediate, Amount, Upper, BranchOffset, JumpOffset, FenceBits, UnitNumber, Whole}
 use Rattle.ci_asm.specs.declared.slots.Slot.{Slot}
@@ -118,8 +118,8 @@ AreFor field [] = ⊤
 AreFor field (slot ∷ slots) = IsFor field slot × AreFor field slots
 
 pub slots_of-for : (m : Mnemonic) → AreFor (field_of m) (slots_of m)
-slots_of-for (Registers op) = (tt, (tt, (tt, (tt, (tt, tt)))))
-slots_of-for (Constant op) = (tt, (tt, (tt, (tt, (refl, tt)))))
+slots_of-for (RegisterRegister op) = (tt, (tt, (tt, (tt, (tt, tt)))))
+slots_of-for (RegisterImmediate op) = (tt, (tt, (tt, (tt, (refl, tt)))))
 slots_of-for Lui = (tt, (tt, (refl, tt)))
 slots_of-for Auipc = (tt, (tt, (refl, tt)))
 slots_of-for Jal = (tt, (tt, (refl, tt)))

@@ -10,7 +10,7 @@ use Rattle.ci_isa.specs.Table.{IsWellFormed}
 use Rattle.ci_text.specs.Hex.{eight_hex_digits}
 use Rattle.ci_asm.specs.declared.numbers.Number.{Number}
 use Rattle.ci_asm.specs.Forms.{Field, operation_name, register_immediate, branch_name, load_name, store_name}
-use Rattle.ci_asm.specs.Shapes.{is_statement, constant_field, form_name}
+use Rattle.ci_asm.specs.Shapes.{is_statement, immediate_field, form_name}
 use Rattle.ci_asm.specs.Shown.{register_name, address, upper_text, statement_line, immediate_line, shown}
 use Rattle.ci_asm.specs.Spelling as spelling
 use Rattle.ci_asm.specs.Spelling.{number_from, with_sign, spelled_number, statement_of}
@@ -83,7 +83,7 @@ signed_same : (z : ℤ) → signed_decimal z ≡ with_sign (number_from z)
 signed_same (pos n) = refl
 signed_same (negsuc n) = refl
 
-plain_number : (op : Op) (n : Number) → with_sign n ≡ spelled_number (constant_field op) n
+plain_number : (op : Op) (n : Number) → with_sign n ≡ spelled_number (immediate_field op) n
 plain_number ops.Add n = refl
 plain_number ops.Sub n = refl
 plain_number ops.Sll n = refl

@@ -7,7 +7,7 @@ use Rattle.ci_asm.specs.declared.scanner.Kind.{Kind}
 use Rattle.ci_asm.specs.declared.scanner.Kind.TheVariants.{Name, Numeral, Directive, Mark, End, Bad}
 use Rattle.ci_asm.specs.declared.scanner.Token.{Token}
 use Rattle.ci_asm.specs.declared.mnemonics.Mnemonic.{Mnemonic}
-use Rattle.ci_asm.specs.declared.mnemonics.Mnemonic.TheVariants.{Registers, Constant, Lui, Auipc, Jal, Jalr, Branch, Load, Store, Fence, Ecall, Ebreak, Custom, Cread, Data}
+use Rattle.ci_asm.specs.declared.mnemonics.Mnemonic.TheVariants.{RegisterRegister, RegisterImmediate, Lui, Auipc, Jal, Jalr, Branch, Load, Store, Fence, Ecall, Ebreak, Custom, Cread, Data}
 use Rattle.ci_asm.specs.declared.faults.Rule.{Rule}
 use Rattle.ci_asm.specs.declared.faults.Rule.TheVariants.{NoToken, NoMnemonic, Surplus}
 use Rattle.ci_asm.specs.declared.faults.Fault.{Fault}
@@ -43,8 +43,8 @@ unfolding mnemonic_of
 named_so text m e = (bytes_eq-Decides text (name_of m)).0 (find_passes (is_named text) mnemonics m e)
 
 name_token : (m : Mnemonic) → IsToken (name (name_of m)) → mnemonic_token m ≡ name (name_of m)
-name_token (Registers op) proper = refl
-name_token (Constant op) proper = refl
+name_token (RegisterRegister op) proper = refl
+name_token (RegisterImmediate op) proper = refl
 name_token Lui proper = refl
 name_token Auipc proper = refl
 name_token Jal proper = refl
@@ -98,8 +98,8 @@ found_again : (m : Mnemonic) → is_statement m ≡ true → mnemonic_result (na
 found_again m named = ap (λ o. found o NoMnemonic) (found_by_name m named)
 
 pub mnemonic_no : (m : Mnemonic) → is_statement m ≡ true → mnemonic_result (mnemonic_token m) ≡ Ok m
-mnemonic_no (Registers op) named = found_again (Registers op) named
-mnemonic_no (Constant op) named = found_again (Constant op) named
+mnemonic_no (RegisterRegister op) named = found_again (RegisterRegister op) named
+mnemonic_no (RegisterImmediate op) named = found_again (RegisterImmediate op) named
 mnemonic_no Lui named = found_again Lui named
 mnemonic_no Auipc named = found_again Auipc named
 mnemonic_no Jal named = found_again Jal named

@@ -10,11 +10,11 @@ use Rattle.ci_isa.specs.Table.{constant_form, IsWellFormed}
 use Rattle.ci_isa.specs.FieldBounds.{IsOfWidth, IsEven, ConstantFits, FieldsFit}
 use Rattle.ci_isa.proofs.WellFormed.{fields_fit}
 use Rattle.ci_asm.specs.declared.numbers.Number.{Number}
-use Rattle.ci_asm.specs.declared.mnemonics.Mnemonic.TheVariants.{Constant}
+use Rattle.ci_asm.specs.declared.mnemonics.Mnemonic.TheVariants.{RegisterImmediate}
 use Rattle.ci_asm.specs.declared.slots.Field.{Field}
 use Rattle.ci_asm.specs.declared.slots.Field.TheVariants.{Immediate, Amount, Upper, BranchOffset, JumpOffset, FenceBits, UnitNumber, Whole}
 use Rattle.ci_asm.specs.declared.statements.Statement.{Statement}
-use Rattle.ci_asm.specs.Shapes.{is_statement, constant_field, is_offset, lowest, highest, fits, field_of, slots_of}
+use Rattle.ci_asm.specs.Shapes.{is_statement, immediate_field, is_offset, lowest, highest, fits, field_of, slots_of}
 use Rattle.ci_asm.specs.Statements.{◌>>=◌, no_operands, read_line, signed_value, insn_of}
 use Rattle.ci_asm.specs.Spelling.{number_from, unsigned, statement_of, statement_text, shown}
 use Rattle.ci_asm.specs.Programs.{on_line, option_words, words_behind, all_read, Definitions, definition_of, defined_once, resolved, statement_insn, line_insn, insns_of, assembled}
@@ -92,7 +92,7 @@ unsigned_fits field n near plain = near_fits field (unsigned n) near (λ offset.
 
 -- ---- instructions
 
-constant_statement : (op : Op) (rd rs1 : ℕ) (imm : ℤ) → rd < 32 → rs1 < 32 → is_statement (Constant op) ≡ true → fits (constant_field op) (number_from imm) ≡ true → HasPlainSign (constant_field op) (number_from imm) → IsStatementOf (insn.AluImm op rd rs1 imm) (statement_of (insn.AluImm op rd rs1 imm))
+constant_statement : (op : Op) (rd rs1 : ℕ) (imm : ℤ) → rd < 32 → rs1 < 32 → is_statement (RegisterImmediate op) ≡ true → fits (immediate_field op) (number_from imm) ≡ true → HasPlainSign (immediate_field op) (number_from imm) → IsStatementOf (insn.AluImm op rd rs1 imm) (statement_of (insn.AluImm op rd rs1 imm))
 constant_statement op rd rs1 imm a b named ok sign = record {
   good = record { named = named; in_field = ok; sign = sign; registers = record { rd = a; rs1 = b; rs2 = lit< tt; rs3 = lit< tt } };
   same = refl;

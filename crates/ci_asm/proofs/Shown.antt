@@ -14,7 +14,7 @@ use Rattle.ci_asm.specs.declared.scanner.ByteClass.TheVariants.{Blank, NameByte,
 use Rattle.ci_asm.specs.declared.scanner.Token.{Token}
 use Rattle.ci_asm.specs.declared.numbers.Number.{Number}
 use Rattle.ci_asm.specs.declared.mnemonics.Mnemonic.{Mnemonic}
-use Rattle.ci_asm.specs.declared.mnemonics.Mnemonic.TheVariants.{Registers, Constant, Lui, Auipc, Jal, Jalr, Branch, Load, Store, Fence, Ecall, Ebreak, Custom, Cread, Data}
+use Rattle.ci_asm.specs.declared.mnemonics.Mnemonic.TheVariants.{RegisterRegister, RegisterImmediate, Lui, Auipc, Jal, Jalr, Branch, Load, Store, Fence, Ecall, Ebreak, Custom, Cread, Data}
 use Rattle.ci_asm.specs.declared.slots.Field.{Field}
 use Rattle.ci_asm.specs.declared.slots.Field.TheVariants.{Immediate, Amount, Upper, BranchOffset, JumpOffset, FenceBits, UnitNumber, Whole}
 use Rattle.ci_asm.specs.declared.slots.Slot.{Slot}
@@ -183,8 +183,8 @@ AreApart (Rs3 ∷ slots) = StartsApart slots × AreApart slots
 AreApart (Value field ∷ slots) = StartsApart slots × AreApart slots
 
 slots_of-apart : (m : Mnemonic) → AreApart (slots_of m)
-slots_of-apart (Registers op) = (tt, (tt, (tt, tt)))
-slots_of-apart (Constant op) = (tt, (tt, (tt, tt)))
+slots_of-apart (RegisterRegister op) = (tt, (tt, (tt, tt)))
+slots_of-apart (RegisterImmediate op) = (tt, (tt, (tt, tt)))
 slots_of-apart Lui = (tt, (tt, tt))
 slots_of-apart Auipc = (tt, (tt, tt))
 slots_of-apart Jal = (tt, (tt, tt))
@@ -409,42 +409,42 @@ word_solid [] word after = absurd (cc)
 word_solid (c ∷ cs) word after = letter_solid c (and_both (is_letter c) (list_all (belongs NameByte) (c ∷ cs)) word).0
 
 is_word-name : (m : Mnemonic) → is_statement m ≡ true → kind_of_name m ≡ Name → is_word (name_of m) ≡ true
-is_word-name (Registers Add) named kind = refl
-is_word-name (Registers Sub) named kind = refl
-is_word-name (Registers Sll) named kind = refl
-is_word-name (Registers Slt) named kind = refl
-is_word-name (Registers Sltu) named kind = refl
-is_word-name (Registers Xor) named kind = refl
-is_word-name (Registers Srl) named kind = refl
-is_word-name (Registers Sra) named kind = refl
-is_word-name (Registers Or) named kind = refl
-is_word-name (Registers And) named kind = refl
-is_word-name (Registers Mul) named kind = refl
-is_word-name (Registers Mulh) named kind = refl
-is_word-name (Registers Mulhsu) named kind = refl
-is_word-name (Registers Mulhu) named kind = refl
-is_word-name (Registers Div) named kind = refl
-is_word-name (Registers Divu) named kind = refl
-is_word-name (Registers Rem) named kind = refl
-is_word-name (Registers Remu) named kind = refl
-is_word-name (Constant Add) named kind = refl
-is_word-name (Constant Slt) named kind = refl
-is_word-name (Constant Sltu) named kind = refl
-is_word-name (Constant Xor) named kind = refl
-is_word-name (Constant Or) named kind = refl
-is_word-name (Constant And) named kind = refl
-is_word-name (Constant Sll) named kind = refl
-is_word-name (Constant Srl) named kind = refl
-is_word-name (Constant Sra) named kind = refl
-is_word-name (Constant Sub) named kind = absurd (cc)
-is_word-name (Constant Mul) named kind = absurd (cc)
-is_word-name (Constant Mulh) named kind = absurd (cc)
-is_word-name (Constant Mulhsu) named kind = absurd (cc)
-is_word-name (Constant Mulhu) named kind = absurd (cc)
-is_word-name (Constant Div) named kind = absurd (cc)
-is_word-name (Constant Divu) named kind = absurd (cc)
-is_word-name (Constant Rem) named kind = absurd (cc)
-is_word-name (Constant Remu) named kind = absurd (cc)
+is_word-name (RegisterRegister Add) named kind = refl
+is_word-name (RegisterRegister Sub) named kind = refl
+is_word-name (RegisterRegister Sll) named kind = refl
+is_word-name (RegisterRegister Slt) named kind = refl
+is_word-name (RegisterRegister Sltu) named kind = refl
+is_word-name (RegisterRegister Xor) named kind = refl
+is_word-name (RegisterRegister Srl) named kind = refl
+is_word-name (RegisterRegister Sra) named kind = refl
+is_word-name (RegisterRegister Or) named kind = refl
+is_word-name (RegisterRegister And) named kind = refl
+is_word-name (RegisterRegister Mul) named kind = refl
+is_word-name (RegisterRegister Mulh) named kind = refl
+is_word-name (RegisterRegister Mulhsu) named kind = refl
+is_word-name (RegisterRegister Mulhu) named kind = refl
+is_word-name (RegisterRegister Div) named kind = refl
+is_word-name (RegisterRegister Divu) named kind = refl
+is_word-name (RegisterRegister Rem) named kind = refl
+is_word-name (RegisterRegister Remu) named kind = refl
+is_word-name (RegisterImmediate Add) named kind = refl
+is_word-name (RegisterImmediate Slt) named kind = refl
+is_word-name (RegisterImmediate Sltu) named kind = refl
+is_word-name (RegisterImmediate Xor) named kind = refl
+is_word-name (RegisterImmediate Or) named kind = refl
+is_word-name (RegisterImmediate And) named kind = refl
+is_word-name (RegisterImmediate Sll) named kind = refl
+is_word-name (RegisterImmediate Srl) named kind = refl
+is_word-name (RegisterImmediate Sra) named kind = refl
+is_word-name (RegisterImmediate Sub) named kind = absurd (cc)
+is_word-name (RegisterImmediate Mul) named kind = absurd (cc)
+is_word-name (RegisterImmediate Mulh) named kind = absurd (cc)
+is_word-name (RegisterImmediate Mulhsu) named kind = absurd (cc)
+is_word-name (RegisterImmediate Mulhu) named kind = absurd (cc)
+is_word-name (RegisterImmediate Div) named kind = absurd (cc)
+is_word-name (RegisterImmediate Divu) named kind = absurd (cc)
+is_word-name (RegisterImmediate Rem) named kind = absurd (cc)
+is_word-name (RegisterImmediate Remu) named kind = absurd (cc)
 is_word-name (Branch cond_of.Eq) named kind = refl
 is_word-name (Branch cond_of.Ne) named kind = refl
 is_word-name (Branch cond_of.Lt) named kind = refl
@@ -472,42 +472,42 @@ is_word-name Data named kind = absurd (cc)
 
 pub found_by_name : (m : Mnemonic) → is_statement m ≡ true → mnemonic_of (name_of m) ≡ Some m
 unfolding mnemonic_of
-found_by_name (Registers Add) named = refl
-found_by_name (Registers Sub) named = refl
-found_by_name (Registers Sll) named = refl
-found_by_name (Registers Slt) named = refl
-found_by_name (Registers Sltu) named = refl
-found_by_name (Registers Xor) named = refl
-found_by_name (Registers Srl) named = refl
-found_by_name (Registers Sra) named = refl
-found_by_name (Registers Or) named = refl
-found_by_name (Registers And) named = refl
-found_by_name (Registers Mul) named = refl
-found_by_name (Registers Mulh) named = refl
-found_by_name (Registers Mulhsu) named = refl
-found_by_name (Registers Mulhu) named = refl
-found_by_name (Registers Div) named = refl
-found_by_name (Registers Divu) named = refl
-found_by_name (Registers Rem) named = refl
-found_by_name (Registers Remu) named = refl
-found_by_name (Constant Add) named = refl
-found_by_name (Constant Slt) named = refl
-found_by_name (Constant Sltu) named = refl
-found_by_name (Constant Xor) named = refl
-found_by_name (Constant Or) named = refl
-found_by_name (Constant And) named = refl
-found_by_name (Constant Sll) named = refl
-found_by_name (Constant Srl) named = refl
-found_by_name (Constant Sra) named = refl
-found_by_name (Constant Sub) named = absurd (cc)
-found_by_name (Constant Mul) named = absurd (cc)
-found_by_name (Constant Mulh) named = absurd (cc)
-found_by_name (Constant Mulhsu) named = absurd (cc)
-found_by_name (Constant Mulhu) named = absurd (cc)
-found_by_name (Constant Div) named = absurd (cc)
-found_by_name (Constant Divu) named = absurd (cc)
-found_by_name (Constant Rem) named = absurd (cc)
-found_by_name (Constant Remu) named = absurd (cc)
+found_by_name (RegisterRegister Add) named = refl
+found_by_name (RegisterRegister Sub) named = refl
+found_by_name (RegisterRegister Sll) named = refl
+found_by_name (RegisterRegister Slt) named = refl
+found_by_name (RegisterRegister Sltu) named = refl
+found_by_name (RegisterRegister Xor) named = refl
+found_by_name (RegisterRegister Srl) named = refl
+found_by_name (RegisterRegister Sra) named = refl
+found_by_name (RegisterRegister Or) named = refl
+found_by_name (RegisterRegister And) named = refl
+found_by_name (RegisterRegister Mul) named = refl
+found_by_name (RegisterRegister Mulh) named = refl
+found_by_name (RegisterRegister Mulhsu) named = refl
+found_by_name (RegisterRegister Mulhu) named = refl
+found_by_name (RegisterRegister Div) named = refl
+found_by_name (RegisterRegister Divu) named = refl
+found_by_name (RegisterRegister Rem) named = refl
+found_by_name (RegisterRegister Remu) named = refl
+found_by_name (RegisterImmediate Add) named = refl
+found_by_name (RegisterImmediate Slt) named = refl
+found_by_name (RegisterImmediate Sltu) named = refl
+found_by_name (RegisterImmediate Xor) named = refl
+found_by_name (RegisterImmediate Or) named = refl
+found_by_name (RegisterImmediate And) named = refl
+found_by_name (RegisterImmediate Sll) named = refl
+found_by_name (RegisterImmediate Srl) named = refl
+found_by_name (RegisterImmediate Sra) named = refl
+found_by_name (RegisterImmediate Sub) named = absurd (cc)
+found_by_name (RegisterImmediate Mul) named = absurd (cc)
+found_by_name (RegisterImmediate Mulh) named = absurd (cc)
+found_by_name (RegisterImmediate Mulhsu) named = absurd (cc)
+found_by_name (RegisterImmediate Mulhu) named = absurd (cc)
+found_by_name (RegisterImmediate Div) named = absurd (cc)
+found_by_name (RegisterImmediate Divu) named = absurd (cc)
+found_by_name (RegisterImmediate Rem) named = absurd (cc)
+found_by_name (RegisterImmediate Remu) named = absurd (cc)
 found_by_name (Branch cond_of.Eq) named = refl
 found_by_name (Branch cond_of.Ne) named = refl
 found_by_name (Branch cond_of.Lt) named = refl
@@ -558,8 +558,8 @@ named_directive = record {
 }
 
 name_read : (m : Mnemonic) → is_statement m ≡ true → IsNamed m
-name_read (Registers op) named = named_word (Registers op) named refl
-name_read (Constant op) named = named_word (Constant op) named refl
+name_read (RegisterRegister op) named = named_word (RegisterRegister op) named refl
+name_read (RegisterImmediate op) named = named_word (RegisterImmediate op) named refl
 name_read Lui named = named_word Lui named refl
 name_read Auipc named = named_word Auipc named refl
 name_read Jal named = named_word Jal named refl
@@ -589,8 +589,8 @@ StartsByOperand (Open ∷ slots) = ⊥
 StartsByOperand (Close ∷ slots) = ⊥
 
 slots_of-starts : (m : Mnemonic) → StartsByOperand (slots_of m)
-slots_of-starts (Registers op) = tt
-slots_of-starts (Constant op) = tt
+slots_of-starts (RegisterRegister op) = tt
+slots_of-starts (RegisterImmediate op) = tt
 slots_of-starts Lui = tt
 slots_of-starts Auipc = tt
 slots_of-starts Jal = tt

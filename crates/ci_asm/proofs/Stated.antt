@@ -9,10 +9,10 @@ use Rattle.ci_isa.specs.declared.instruction.Insn.{Insn}
 use Rattle.ci_isa.specs.declared.instruction.Insn.TheVariants as insn
 use Rattle.ci_asm.specs.declared.numbers.Number.{Number}
 use Rattle.ci_asm.specs.declared.mnemonics.Mnemonic.{Mnemonic}
-use Rattle.ci_asm.specs.declared.mnemonics.Mnemonic.TheVariants.{Registers, Constant, Lui, Auipc, Jal, Jalr, Branch, Load, Store, Fence, Ecall, Ebreak, Custom, Cread, Data}
+use Rattle.ci_asm.specs.declared.mnemonics.Mnemonic.TheVariants.{RegisterRegister, RegisterImmediate, Lui, Auipc, Jal, Jalr, Branch, Load, Store, Fence, Ecall, Ebreak, Custom, Cread, Data}
 use Rattle.ci_asm.specs.declared.slots.Slot.{Slot}
 use Rattle.ci_asm.specs.declared.slots.Slot.TheVariants.{Value}
-use Rattle.ci_asm.specs.Shapes.{name_of, is_statement, is_offset, form_name, form_field, constant_name, constant_field, slots_of}
+use Rattle.ci_asm.specs.Shapes.{name_of, is_statement, is_offset, form_name, form_field, immediate_name, immediate_field, slots_of}
 use Rattle.ci_asm.specs.Statements.{insn_of}
 use Rattle.ci_asm.specs.Lexicon as lex
 use Rattle.ci_asm.specs.Lexicon.{name, decimal_number, hex_number, word, comma, open_bracket, close_bracket, colon}
@@ -30,8 +30,8 @@ offset_statement field with_offset n (Some label) = to_label field with_offset l
 
 -- the statement with this mnemonic and these values
 abbrev pub says : Mnemonic → Values → Statement
-says (Registers op) v = plain (insn.Alu op v.rd v.rs1 v.rs2)
-says (Constant op) v = plain (insn.AluImm op v.rd v.rs1 v.number)
+says (RegisterRegister op) v = plain (insn.Alu op v.rd v.rs1 v.rs2)
+says (RegisterImmediate op) v = plain (insn.AluImm op v.rd v.rs1 v.number)
 says Lui v = plain (insn.Lui v.rd (4096 * unsigned_abs v.number))
 says Auipc v = plain (insn.Auipc v.rd (4096 * unsigned_abs v.number))
 says Jal v = offset_statement forms.jump_offset (insn.Jal v.rd) v.number v.label
@@ -60,7 +60,7 @@ form_of : (o : Option (List ℕ × forms.Field)) → is_some o ≡ true → o �
 form_of (Some (mnemonic, field)) e = λ i. Some (mnemonic, sym (field_again field) i)
 form_of None e = absurd (cc)
 
-no_label : (op : Op) → is_offset (constant_field op) ≡ true → ⊥
+no_label : (op : Op) → is_offset (immediate_field op) ≡ true → ⊥
 no_label ops.Add e = cc
 no_label ops.Sub e = cc
 no_label ops.Sll e = cc
@@ -86,9 +86,9 @@ natural_number high (negsuc n) h = absurd (omega (arith, ints, h.0))
 
 -- tokens that fill the slots are a statement
 pub fills_statement : (m : Mnemonic) {ts : List lex.Token} {w : Values} → is_statement m ≡ true → Fills (slots_of m) ts no_values w → IsStatement (mnemonic_token m ∷ ts) (says m w)
-fills_statement (Registers op) st (fill_rd a (fill_comma (fill_rs1 b (fill_comma (fill_rs2 c done))))) = on_registers a b c
-fills_statement (Constant op) st (fill_rd a (fill_comma (fill_rs1 b (fill_comma (fill_number n done))))) = on_immediate (form_of (register_immediate op) st) a b n
-fills_statement (Constant op) st (fill_rd a (fill_comma (fill_rs1 b (fill_comma (fill_label offset done))))) = absurd (no_label op offset)
+fills_statement (RegisterRegister op) st (fill_rd a (fill_comma (fill_rs1 b (fill_comma (fill_rs2 c done))))) = on_registers a b c
+fills_statement (RegisterImmediate op) st (fill_rd a (fill_comma (fill_rs1 b (fill_comma (fill_number n done))))) = on_immediate (form_of (register_immediate op) st) a b n
+fills_statement (RegisterImmediate op) st (fill_rd a (fill_comma (fill_rs1 b (fill_comma (fill_label offset done))))) = absurd (no_label op offset)
 fills_statement Lui st (fill_rd a (fill_comma (fill_number {n} h done))) = lui a (natural forms.upper_bits _ n (natural_number (pos 0xfffff)) h)
 fills_statement Lui st (fill_rd a (fill_comma (fill_label offset done))) = absurd (cc)
 fills_statement Auipc st (fill_rd a (fill_comma (fill_number {n} h done))) = auipc a (natural forms.upper_bits _ n (natural_number (pos 0xfffff)) h)
@@ -130,15 +130,15 @@ slots_from m {ts} {w} named fills = record { mnemonic = m; others = ts; values =
 -- of a register-immediate form
 immediate_slots : (op : Op) (x y z : lex.Token) (d a : ℕ) (n : ℤ) (mnemonic : List ℕ) (field : forms.Field) → register_immediate op ≡ Some (mnemonic, field) → IsRegister x d → IsRegister y a → HasNumber field z n → HasSlots (name mnemonic ∷ x ∷ comma ∷ y ∷ comma ∷ z ∷ []) (plain (insn.AluImm op d a n))
 immediate_slots op x y z d a n mnemonic field e rd rs1 number =
-    let named : is_statement (Constant op) ≡ true = ap is_some e in
-    let text : constant_name op ≡ mnemonic = ap form_name e in
-    let same : field_form (constant_field op) ≡ field = ap (λ o. field_form (form_field o)) e ∙ field_again field in
-    let fits : HasNumber (field_form (constant_field op)) z n = subst (λ f. HasNumber f z n) (sym same) number in
+    let named : is_statement (RegisterImmediate op) ≡ true = ap is_some e in
+    let text : immediate_name op ≡ mnemonic = ap form_name e in
+    let same : field_form (immediate_field op) ≡ field = ap (λ o. field_form (form_field o)) e ∙ field_again field in
+    let fits : HasNumber (field_form (immediate_field op)) z n = subst (λ f. HasNumber f z n) (sym same) number in
     subst (λ t. HasSlots (name t ∷ x ∷ comma ∷ y ∷ comma ∷ z ∷ []) (plain (insn.AluImm op d a n))) text
-    (slots_from (Constant op) named (fill_rd rd (fill_comma (fill_rs1 rs1 (fill_comma (fill_number fits done))))))
+    (slots_from (RegisterImmediate op) named (fill_rd rd (fill_comma (fill_rs1 rs1 (fill_comma (fill_number fits done))))))
 
 pub statement_slots : {ts : List lex.Token} {statement : Statement} → IsStatement ts statement → HasSlots ts statement
-statement_slots (on_registers {op} a b c) = slots_from (Registers op) refl (fill_rd a (fill_comma (fill_rs1 b (fill_comma (fill_rs2 c done)))))
+statement_slots (on_registers {op} a b c) = slots_from (RegisterRegister op) refl (fill_rd a (fill_comma (fill_rs1 b (fill_comma (fill_rs2 c done)))))
 statement_slots (on_immediate {op} {x} {y} {z} {d} {a} {n} {mnemonic} {field} e rd rs1 number) = immediate_slots op x y z d a n mnemonic field e rd rs1 number
 statement_slots (lui a h) = slots_from Lui refl (fill_rd a (fill_comma (fill_number h done)))
 statement_slots (auipc a h) = slots_from Auipc refl (fill_rd a (fill_comma (fill_number h done)))
@@ -183,8 +183,8 @@ HasLabelFor (Branch cond) v = Unit {0}
 HasLabelFor m v = v.label ≡ None
 
 pub label_for : (m : Mnemonic) {ts : List lex.Token} {w : Values} → Fills (slots_of m) ts no_values w → HasLabelFor m w
-label_for (Registers op) fills = keeps_label fills tt
-label_for (Constant op) fills = keeps_label fills (by_test (is_offset (constant_field op)) (λ e. absurd (no_label op e)) (λ e. e), tt)
+label_for (RegisterRegister op) fills = keeps_label fills tt
+label_for (RegisterImmediate op) fills = keeps_label fills (by_test (is_offset (immediate_field op)) (λ e. absurd (no_label op e)) (λ e. e), tt)
 label_for Lui fills = keeps_label fills (refl, tt)
 label_for Auipc fills = keeps_label fills (refl, tt)
 label_for Jal fills = tt
@@ -207,8 +207,8 @@ pub data TakesLabel : Mnemonic → Type 0 where
 pub takes_label : (m : Mnemonic) (v : Values) (label : List ℕ) → HasLabelFor m v → v.label ≡ Some label → TakesLabel m
 takes_label Jal v label for some = jal
 takes_label (Branch cond) v label for some = branches
-takes_label (Registers op) v label for some = absurd (cc)
-takes_label (Constant op) v label for some = absurd (cc)
+takes_label (RegisterRegister op) v label for some = absurd (cc)
+takes_label (RegisterImmediate op) v label for some = absurd (cc)
 takes_label Lui v label for some = absurd (cc)
 takes_label Auipc v label for some = absurd (cc)
 takes_label Jalr v label for some = absurd (cc)
@@ -225,8 +225,8 @@ takes_label Data v label for some = absurd (cc)
 
 -- a statement without a label says its instruction
 pub plain_says : (m : Mnemonic) (line : List ℕ) (rd rs1 rs2 rs3 : ℕ) (number : Number) → says m (values_of line (record { rd = rd; rs1 = rs1; rs2 = rs2; rs3 = rs3; number = number; label = None })) ≡ plain (insn_of m (record { rd = rd; rs1 = rs1; rs2 = rs2; rs3 = rs3; number = number; label = None }))
-plain_says (Registers op) line rd rs1 rs2 rs3 number = refl
-plain_says (Constant op) line rd rs1 rs2 rs3 number = refl
+plain_says (RegisterRegister op) line rd rs1 rs2 rs3 number = refl
+plain_says (RegisterImmediate op) line rd rs1 rs2 rs3 number = refl
 plain_says Lui line rd rs1 rs2 rs3 number = ap (λ m. plain (insn.Lui rd (4096 * m))) (abs_signed number)
 plain_says Auipc line rd rs1 rs2 rs3 number = ap (λ m. plain (insn.Auipc rd (4096 * m))) (abs_signed number)
 plain_says Jal line rd rs1 rs2 rs3 number = refl
@@ -243,8 +243,8 @@ plain_says Data line rd rs1 rs2 rs3 number = ap (λ m. plain (insn.Illegal m)) (
 
 -- the label of a branch or of JAL is its last operand
 pub offset_last : (m : Mnemonic) → OffsetLast (slots_of m)
-offset_last (Registers op) = tt
-offset_last (Constant op) = (λ e. refl, tt)
+offset_last (RegisterRegister op) = tt
+offset_last (RegisterImmediate op) = (λ e. refl, tt)
 offset_last Lui = (λ e. refl, tt)
 offset_last Auipc = (λ e. refl, tt)
 offset_last Jal = (λ e. refl, tt)

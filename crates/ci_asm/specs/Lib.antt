@@ -6,6 +6,6 @@ pub mod Shown
 pub mod Tokens
 pub mod Shapes
 pub mod Statements
-pub mod Definitions
+pub mod LabelMap
 pub mod Programs
 pub mod Spelling

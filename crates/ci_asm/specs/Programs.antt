@@ -19,7 +19,7 @@ use Rattle.ci_asm.specs.declared.statements.Statement.{Statement}
 use Rattle.ci_asm.specs.declared.lines.Line.{Line}
 use Rattle.ci_asm.specs.declared.scanner.ByteClass.TheVariants.{InLine}
 use Rattle.ci_asm.specs.Assembly.{most_words}
-use Rattle.ci_asm.specs.Definitions.{earlier}
+use Rattle.ci_asm.specs.LabelMap.{earlier}
 use Rattle.ci_asm.specs.Lines.{lines_of}
 use Rattle.ci_asm.specs.Tokens.{belongs, text_of}
 use Rattle.ci_asm.specs.Shapes.{fits, field_of}

@@ -11,7 +11,7 @@ use Rattle.ci_asm.specs.Forms as forms
 use Rattle.ci_asm.specs.Forms.{operation_name, register_immediate, branch_name, load_name, store_name}
 use Rattle.ci_asm.specs.declared.numbers.Number.{Number}
 use Rattle.ci_asm.specs.declared.mnemonics.Mnemonic.{Mnemonic}
-use Rattle.ci_asm.specs.declared.mnemonics.Mnemonic.TheVariants.{Registers, Constant, Lui, Auipc, Jal, Jalr, Branch, Load, Store, Fence, Ecall, Ebreak, Custom, Cread, Data}
+use Rattle.ci_asm.specs.declared.mnemonics.Mnemonic.TheVariants.{RegisterRegister, RegisterImmediate, Lui, Auipc, Jal, Jalr, Branch, Load, Store, Fence, Ecall, Ebreak, Custom, Cread, Data}
 use Rattle.ci_asm.specs.declared.slots.Field.{Field}
 use Rattle.ci_asm.specs.declared.slots.Field.TheVariants.{Immediate, Amount, Upper, BranchOffset, JumpOffset, FenceBits, UnitNumber, Whole}
 use Rattle.ci_asm.specs.declared.slots.Slot.{Slot}
@@ -39,12 +39,12 @@ abbrev pub form_field : Option (List ℕ × forms.Field) → Field
 form_field (Some (name, field)) = field_from field
 form_field None = Immediate
 
-abbrev pub constant_name : Op → List ℕ
-constant_name op = form_name (register_immediate op)
+abbrev pub immediate_name : Op → List ℕ
+immediate_name op = form_name (register_immediate op)
 
 abbrev pub name_of : Mnemonic → List ℕ
-name_of (Registers op) = operation_name op
-name_of (Constant op) = constant_name op
+name_of (RegisterRegister op) = operation_name op
+name_of (RegisterImmediate op) = immediate_name op
 name_of Lui = codes "lui"
 name_of Auipc = codes "auipc"
 name_of Jal = codes "jal"
@@ -62,9 +62,9 @@ name_of Data = codes ".word"
 -- all mnemonics
 abbrev pub mnemonics : List Mnemonic
 mnemonics =
-    Registers Add ∷ Registers Sub ∷ Registers Sll ∷ Registers Slt ∷ Registers Sltu ∷ Registers Xor ∷ Registers Srl ∷ Registers Sra ∷ Registers Or ∷ Registers And
-    ∷ Registers Mul ∷ Registers Mulh ∷ Registers Mulhsu ∷ Registers Mulhu ∷ Registers Div ∷ Registers Divu ∷ Registers Rem ∷ Registers Remu
-    ∷ Constant Add ∷ Constant Slt ∷ Constant Sltu ∷ Constant Xor ∷ Constant Or ∷ Constant And ∷ Constant Sll ∷ Constant Srl ∷ Constant Sra
+    RegisterRegister Add ∷ RegisterRegister Sub ∷ RegisterRegister Sll ∷ RegisterRegister Slt ∷ RegisterRegister Sltu ∷ RegisterRegister Xor ∷ RegisterRegister Srl ∷ RegisterRegister Sra ∷ RegisterRegister Or ∷ RegisterRegister And
+    ∷ RegisterRegister Mul ∷ RegisterRegister Mulh ∷ RegisterRegister Mulhsu ∷ RegisterRegister Mulhu ∷ RegisterRegister Div ∷ RegisterRegister Divu ∷ RegisterRegister Rem ∷ RegisterRegister Remu
+    ∷ RegisterImmediate Add ∷ RegisterImmediate Slt ∷ RegisterImmediate Sltu ∷ RegisterImmediate Xor ∷ RegisterImmediate Or ∷ RegisterImmediate And ∷ RegisterImmediate Sll ∷ RegisterImmediate Srl ∷ RegisterImmediate Sra
     ∷ Lui ∷ Auipc ∷ Jal ∷ Jalr
     ∷ Branch Eq ∷ Branch Ne ∷ Branch Lt ∷ Branch Ge ∷ Branch Ltu ∷ Branch Geu
     ∷ Load B ∷ Load H ∷ Load W ∷ Load Bu ∷ Load Hu
@@ -81,12 +81,12 @@ mnemonic_of text = find (is_named text) mnemonics
 -- ---- the fields that hold a number
 
 -- the operation has a register-immediate form
-abbrev pub has_constant : Op → Bool
-has_constant op = is_some (register_immediate op)
+abbrev pub has_immediate : Op → Bool
+has_immediate op = is_some (register_immediate op)
 
 -- some statement has this mnemonic
 abbrev pub is_statement : Mnemonic → Bool
-is_statement (Constant op) = has_constant op
+is_statement (RegisterImmediate op) = has_immediate op
 is_statement m = true
 
 -- how far below 0 and how far above a field's numbers go
@@ -128,13 +128,13 @@ fits field n =
 
 -- ---- the shapes
 
-abbrev pub constant_field : Op → Field
-constant_field op = form_field (register_immediate op)
+abbrev pub immediate_field : Op → Field
+immediate_field op = form_field (register_immediate op)
 
 -- what stands behind the mnemonic
 abbrev pub slots_of : Mnemonic → List Slot
-slots_of (Registers op) = Rd ∷ Comma ∷ Rs1 ∷ Comma ∷ Rs2 ∷ []
-slots_of (Constant op) = Rd ∷ Comma ∷ Rs1 ∷ Comma ∷ Value (constant_field op) ∷ []
+slots_of (RegisterRegister op) = Rd ∷ Comma ∷ Rs1 ∷ Comma ∷ Rs2 ∷ []
+slots_of (RegisterImmediate op) = Rd ∷ Comma ∷ Rs1 ∷ Comma ∷ Value (immediate_field op) ∷ []
 slots_of Lui = Rd ∷ Comma ∷ Value Upper ∷ []
 slots_of Auipc = Rd ∷ Comma ∷ Value Upper ∷ []
 slots_of Jal = Rd ∷ Comma ∷ Value JumpOffset ∷ []
@@ -151,8 +151,8 @@ slots_of Data = Value Whole ∷ []
 
 -- the field that holds the statement's number, and one that holds 0 where the statement has none
 abbrev pub field_of : Mnemonic → Field
-field_of (Registers op) = Amount
-field_of (Constant op) = constant_field op
+field_of (RegisterRegister op) = Amount
+field_of (RegisterImmediate op) = immediate_field op
 field_of Lui = Upper
 field_of Auipc = Upper
 field_of Jal = JumpOffset

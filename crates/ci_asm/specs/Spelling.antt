@@ -9,7 +9,7 @@ use Rattle.ci_isa.specs.declared.instruction.Insn.{Insn}
 use Rattle.ci_isa.specs.declared.instruction.Insn.TheVariants as insn
 use Rattle.ci_asm.specs.declared.numbers.Number.{Number}
 use Rattle.ci_asm.specs.declared.mnemonics.Mnemonic.{Mnemonic}
-use Rattle.ci_asm.specs.declared.mnemonics.Mnemonic.TheVariants.{Registers, Constant, Lui, Auipc, Jal, Jalr, Branch, Load, Store, Fence, Ecall, Ebreak, Custom, Cread, Data}
+use Rattle.ci_asm.specs.declared.mnemonics.Mnemonic.TheVariants.{RegisterRegister, RegisterImmediate, Lui, Auipc, Jal, Jalr, Branch, Load, Store, Fence, Ecall, Ebreak, Custom, Cread, Data}
 use Rattle.ci_asm.specs.declared.slots.Field.{Field}
 use Rattle.ci_asm.specs.declared.slots.Field.TheVariants.{Immediate, Amount, Upper, BranchOffset, JumpOffset, FenceBits, UnitNumber, Whole}
 use Rattle.ci_asm.specs.declared.slots.Slot.{Slot}
@@ -32,8 +32,8 @@ abbrev pub statement : Mnemonic → Operands → Statement
 statement m o = record { mnemonic = m; operands = o }
 
 abbrev pub statement_of : Insn → Statement
-statement_of (insn.Alu op rd rs1 rs2) = statement (Registers op) (record no_operands { rd = rd; rs1 = rs1; rs2 = rs2 })
-statement_of (insn.AluImm op rd rs1 imm) = statement (Constant op) (record no_operands { rd = rd; rs1 = rs1; number = number_from imm })
+statement_of (insn.Alu op rd rs1 rs2) = statement (RegisterRegister op) (record no_operands { rd = rd; rs1 = rs1; rs2 = rs2 })
+statement_of (insn.AluImm op rd rs1 imm) = statement (RegisterImmediate op) (record no_operands { rd = rd; rs1 = rs1; number = number_from imm })
 statement_of (insn.Lui rd upper) = statement Lui (record no_operands { rd = rd; number = unsigned (upper / 4096) })
 statement_of (insn.Auipc rd upper) = statement Auipc (record no_operands { rd = rd; number = unsigned (upper / 4096) })
 statement_of (insn.Jal rd offset) = statement Jal (record no_operands { rd = rd; number = number_from offset })

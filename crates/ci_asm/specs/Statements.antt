@@ -8,7 +8,7 @@ use Rattle.ci_asm.specs.declared.scanner.Kind.TheVariants.{Name, Numeral, Direct
 use Rattle.ci_asm.specs.declared.scanner.Token.{Token}
 use Rattle.ci_asm.specs.declared.numbers.Number.{Number}
 use Rattle.ci_asm.specs.declared.mnemonics.Mnemonic.{Mnemonic}
-use Rattle.ci_asm.specs.declared.mnemonics.Mnemonic.TheVariants.{Registers, Constant, Lui, Auipc, Jal, Jalr, Branch, Load, Store, Fence, Ecall, Ebreak, Custom, Cread, Data}
+use Rattle.ci_asm.specs.declared.mnemonics.Mnemonic.TheVariants.{RegisterRegister, RegisterImmediate, Lui, Auipc, Jal, Jalr, Branch, Load, Store, Fence, Ecall, Ebreak, Custom, Cread, Data}
 use Rattle.ci_asm.specs.declared.slots.Field.{Field}
 use Rattle.ci_asm.specs.declared.slots.Slot.{Slot}
 use Rattle.ci_asm.specs.declared.slots.Slot.TheVariants.{Rd, Rs1, Rs2, Rs3, Value, Comma, Open, Close}
@@ -187,8 +187,8 @@ signed_value n = if n.negative then neg_ℤ (pos n.magnitude) else pos n.magnitu
 
 -- the instruction of a statement whose operands are all numbers
 abbrev pub insn_of : Mnemonic → Operands → Insn
-insn_of (Registers op) o = insn.Alu op o.rd o.rs1 o.rs2
-insn_of (Constant op) o = insn.AluImm op o.rd o.rs1 (signed_value o.number)
+insn_of (RegisterRegister op) o = insn.Alu op o.rd o.rs1 o.rs2
+insn_of (RegisterImmediate op) o = insn.AluImm op o.rd o.rs1 (signed_value o.number)
 insn_of Lui o = insn.Lui o.rd (4096 * o.number.magnitude)
 insn_of Auipc o = insn.Auipc o.rd (4096 * o.number.magnitude)
 insn_of Jal o = insn.Jal o.rd (signed_value o.number)

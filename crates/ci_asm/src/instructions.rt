@@ -24,8 +24,8 @@ pub(crate) fn insn_of(mnemonic: Mnemonic, operands: Operands) -> Insn
         label: _,
     } = operands;
     match mnemonic {
-        Mnemonic::Registers(op) => Insn::Alu { op, rd, rs1, rs2 },
-        Mnemonic::Constant(op) => Insn::AluImm {
+        Mnemonic::RegisterRegister(op) => Insn::Alu { op, rd, rs1, rs2 },
+        Mnemonic::RegisterImmediate(op) => Insn::AluImm {
             op,
             rd,
             rs1,
@@ -120,8 +120,8 @@ fn mnemonic_for(insn: &Insn) -> Mnemonic
     ensures { result ≡ (statement_of insn.now).mnemonic }
 {
     match *insn {
-        Insn::Alu { op, .. } => Mnemonic::Registers(op),
-        Insn::AluImm { op, .. } => Mnemonic::Constant(op),
+        Insn::Alu { op, .. } => Mnemonic::RegisterRegister(op),
+        Insn::AluImm { op, .. } => Mnemonic::RegisterImmediate(op),
         Insn::Lui { .. } => Mnemonic::Lui,
         Insn::Auipc { .. } => Mnemonic::Auipc,
         Insn::Jal { .. } => Mnemonic::Jal,

@@ -1,6 +1,6 @@
 //! The names of statements.
 ghost use Rattle.std.specs.Prelude.{◌≡◌, find};
-ghost use Rattle.ci_asm.specs.Shapes.{constant_name, name_of, mnemonics, is_named, mnemonic_of};
+ghost use Rattle.ci_asm.specs.Shapes.{immediate_name, name_of, mnemonics, is_named, mnemonic_of};
 ghost use Rattle.ci_asm.specs.Forms.{operation_name, branch_name, load_name, store_name};
 
 use ci_isa::{Cond, LoadKind, Width};
@@ -9,10 +9,10 @@ use ci_word::Op;
 /// What a statement says, but for its operands.
 #[derive(Clone, Copy, Debug, PartialEq, Eq)]
 pub(crate) enum Mnemonic {
-    /// An operation on two registers.
-    Registers(Op),
-    /// An operation on a register and a constant.
-    Constant(Op),
+    /// A register-register form.
+    RegisterRegister(Op),
+    /// A register-immediate form.
+    RegisterImmediate(Op),
     Lui,
     Auipc,
     Jal,
@@ -32,33 +32,33 @@ pub(crate) enum Mnemonic {
 
 /// All mnemonics.
 const MNEMONICS: [Mnemonic; 51] = [
-    Mnemonic::Registers(Op::Add),
-    Mnemonic::Registers(Op::Sub),
-    Mnemonic::Registers(Op::Sll),
-    Mnemonic::Registers(Op::Slt),
-    Mnemonic::Registers(Op::Sltu),
-    Mnemonic::Registers(Op::Xor),
-    Mnemonic::Registers(Op::Srl),
-    Mnemonic::Registers(Op::Sra),
-    Mnemonic::Registers(Op::Or),
-    Mnemonic::Registers(Op::And),
-    Mnemonic::Registers(Op::Mul),
-    Mnemonic::Registers(Op::Mulh),
-    Mnemonic::Registers(Op::Mulhsu),
-    Mnemonic::Registers(Op::Mulhu),
-    Mnemonic::Registers(Op::Div),
-    Mnemonic::Registers(Op::Divu),
-    Mnemonic::Registers(Op::Rem),
-    Mnemonic::Registers(Op::Remu),
-    Mnemonic::Constant(Op::Add),
-    Mnemonic::Constant(Op::Slt),
-    Mnemonic::Constant(Op::Sltu),
-    Mnemonic::Constant(Op::Xor),
-    Mnemonic::Constant(Op::Or),
-    Mnemonic::Constant(Op::And),
-    Mnemonic::Constant(Op::Sll),
-    Mnemonic::Constant(Op::Srl),
-    Mnemonic::Constant(Op::Sra),
+    Mnemonic::RegisterRegister(Op::Add),
+    Mnemonic::RegisterRegister(Op::Sub),
+    Mnemonic::RegisterRegister(Op::Sll),
+    Mnemonic::RegisterRegister(Op::Slt),
+    Mnemonic::RegisterRegister(Op::Sltu),
+    Mnemonic::RegisterRegister(Op::Xor),
+    Mnemonic::RegisterRegister(Op::Srl),
+    Mnemonic::RegisterRegister(Op::Sra),
+    Mnemonic::RegisterRegister(Op::Or),
+    Mnemonic::RegisterRegister(Op::And),
+    Mnemonic::RegisterRegister(Op::Mul),
+    Mnemonic::RegisterRegister(Op::Mulh),
+    Mnemonic::RegisterRegister(Op::Mulhsu),
+    Mnemonic::RegisterRegister(Op::Mulhu),
+    Mnemonic::RegisterRegister(Op::Div),
+    Mnemonic::RegisterRegister(Op::Divu),
+    Mnemonic::RegisterRegister(Op::Rem),
+    Mnemonic::RegisterRegister(Op::Remu),
+    Mnemonic::RegisterImmediate(Op::Add),
+    Mnemonic::RegisterImmediate(Op::Slt),
+    Mnemonic::RegisterImmediate(Op::Sltu),
+    Mnemonic::RegisterImmediate(Op::Xor),
+    Mnemonic::RegisterImmediate(Op::Or),
+    Mnemonic::RegisterImmediate(Op::And),
+    Mnemonic::RegisterImmediate(Op::Sll),
+    Mnemonic::RegisterImmediate(Op::Srl),
+    Mnemonic::RegisterImmediate(Op::Sra),
     Mnemonic::Lui,
     Mnemonic::Auipc,
     Mnemonic::Jal,
@@ -91,8 +91,8 @@ impl Mnemonic {
         ensures { result.now ≡ name_of self }
     {
         match self {
-            Mnemonic::Registers(op) => operation_name(op),
-            Mnemonic::Constant(op) => constant_name(op),
+            Mnemonic::RegisterRegister(op) => operation_name(op),
+            Mnemonic::RegisterImmediate(op) => immediate_name(op),
             Mnemonic::Lui => "lui",
             Mnemonic::Auipc => "auipc",
             Mnemonic::Jal => "jal",
@@ -162,9 +162,9 @@ fn operation_name(op: Op) -> &'static str
     }
 }
 
-/// The name of the operation with a constant. Nine operations have none.
-fn constant_name(op: Op) -> &'static str
-    ensures { result.now ≡ constant_name op }
+/// The name of the register-immediate form of an operation. Nine operations have none.
+fn immediate_name(op: Op) -> &'static str
+    ensures { result.now ≡ immediate_name op }
 {
     match op {
         Op::Add => "addi",

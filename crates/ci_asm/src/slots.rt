@@ -1,6 +1,6 @@
 //! The shapes of statements.
 ghost use Rattle.std.specs.Prelude.{◌≡◌};
-ghost use Rattle.ci_asm.specs.Shapes.{lowest, highest, is_offset, fits, constant_field, slots_of, field_of};
+ghost use Rattle.ci_asm.specs.Shapes.{lowest, highest, is_offset, fits, immediate_field, slots_of, field_of};
 
 use crate::mnemonics::Mnemonic;
 use crate::numbers::Number;
@@ -91,9 +91,9 @@ impl Field {
     }
 }
 
-/// The field of the constant of an operation.
-fn constant_field(op: Op) -> Field
-    ensures { result ≡ constant_field op }
+/// The field of the immediate of a register-immediate form.
+fn immediate_field(op: Op) -> Field
+    ensures { result ≡ immediate_field op }
 {
     match op {
         Op::Sll | Op::Srl | Op::Sra => Field::Amount,
@@ -108,10 +108,9 @@ impl Mnemonic {
         ensures { result ≡ field_of self }
     {
         match self {
-            Mnemonic::Registers(_) | Mnemonic::Ecall | Mnemonic::Ebreak | Mnemonic::Cread => {
-                Field::Amount
-            }
-            Mnemonic::Constant(op) => constant_field(op),
+            Mnemonic::RegisterRegister(_) | Mnemonic::Ecall | Mnemonic::Ebreak | Mnemonic::Cread =>
+                { Field::Amount }
+            Mnemonic::RegisterImmediate(op) => immediate_field(op),
             Mnemonic::Lui | Mnemonic::Auipc => Field::Upper,
             Mnemonic::Jal => Field::JumpOffset,
             Mnemonic::Jalr | Mnemonic::Load(_) | Mnemonic::Store(_) => Field::Immediate,
@@ -127,8 +126,14 @@ impl Mnemonic {
         ensures { result.now ≡ slots_of self }
     {
         match self {
-            Mnemonic::Registers(_) => &[Slot::Rd, Slot::Comma, Slot::Rs1, Slot::Comma, Slot::Rs2],
-            Mnemonic::Constant(op) => match constant_field(op) {
+            Mnemonic::RegisterRegister(_) => &[
+                Slot::Rd,
+                Slot::Comma,
+                Slot::Rs1,
+                Slot::Comma,
+                Slot::Rs2,
+            ],
+            Mnemonic::RegisterImmediate(op) => match immediate_field(op) {
                 Field::Amount => &[
                     Slot::Rd,
                     Slot::Comma,

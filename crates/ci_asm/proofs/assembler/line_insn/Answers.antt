@@ -1,7 +1,7 @@
 use Rattle.std.proofs.Common.{◌≡◌, length, sym, subst, Some}
 use Rattle.std.specs.Prelude.{IfSome}
 use Rattle.std.proofs.lemmas.Result.{err_from_is_err_and}
-use Rattle.ci_asm.specs.Definitions.{found_in}
+use Rattle.ci_asm.specs.LabelMap.{found_in}
 use Rattle.ci_asm.specs.Statements.{IsRead}
 use Rattle.ci_asm.proofs.Assembly.{resolved-place, resolved-registers}
 use Rattle.ci_asm.proofs.Encodings.{well_formed}
