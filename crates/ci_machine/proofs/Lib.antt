@@ -9,3 +9,10 @@ pub mod BlockSteps
 pub mod Computations
 pub mod ControlFrame
 pub mod Rows
+pub mod PartLaws
+pub mod AccessLaws
+pub mod PartReads
+pub mod PartWrites
+pub mod HeapLaws
+pub mod HeapFacts
+pub mod CallLaws

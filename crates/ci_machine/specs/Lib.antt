@@ -9,3 +9,5 @@ pub mod Runs
 pub mod Agreement
 pub mod Blocks
 pub mod Laws
+pub mod Parts
+pub mod States

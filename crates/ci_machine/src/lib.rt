@@ -5,6 +5,13 @@
 #![tactic(auto)]
 
 pub use ends::End;
+pub use state::{Call, State, Unmapped};
 
+mod bytes;
+mod calls;
 mod ends;
 pub mod laws;
+mod memory;
+mod parts;
+mod state;
+mod text;

@@ -1,0 +1,262 @@
+-- What accesses read and write, at addresses in a row.
+use Rattle.std.proofs.Common.{◌≡◌, ℕ, zero, suc, ◌+◌, ◌-◌, ◌*◌, ◌%◌, ◌/◌, ◌^◌, ◌<◌, ◌≤◌, Bool, true, false, cond, List, [], ◌∷◌, ◌++◌, length, get_or, set, refl, sym, ◌∙◌, ap, subst, arith, eqb, Option, Some, None, is_some, ◌⊎◌, inl, inr, ◌≢◌, lit≤, drop}
+use Rattle.std.proofs.lemmas.List.{drop_more, length-set, get_or-set_same, get_or-set_other}
+use borrow.Author.Tests.{eqb-true, eqb-false}
+use Rattle.std.specs.Option.{option_map}
+use Rattle.ci_machine.specs.Accesses.{addresses, joined, bytes_at, with_bytes, number_of_bytes, bytes_of_number}
+use Rattle.ci_machine.specs.Programs.{lies_in}
+use Rattle.ci_machine.specs.Parts.{bytes_from, overwritten}
+use Rattle.ci_machine.proofs.PartLaws.{lies_in-bounds, bounds-lies_in, taken, passed}
+
+-- ---- addresses
+
+pub mod_small : (a : ℕ) → a < 2 ^ 32 → a % 2 ^ 32 ≡ a
+mod_small a h = omega arith
+
+mod_next : (a : ℕ) → (a % 2 ^ 32 + 1) % 2 ^ 32 ≡ (a + 1) % 2 ^ 32
+mod_next a = omega arith
+
+mod_twice : (a : ℕ) → (a % 2 ^ 32) % 2 ^ 32 ≡ a % 2 ^ 32
+mod_twice a = omega arith
+
+pub addresses-wrap : (n a : ℕ) → addresses n (a % 2 ^ 32) ≡ addresses n a
+addresses-wrap zero a = refl
+addresses-wrap (suc n) a =
+    let more : addresses n (a % 2 ^ 32 + 1) ≡ addresses n (a + 1) =
+    sym (addresses-wrap n (a % 2 ^ 32 + 1)) ∙ ap (addresses n) (mod_next a) ∙ addresses-wrap n (a + 1) in
+    λ k. mod_twice a k ∷ more k
+
+-- ---- bytes that are read
+
+both_some : (byte : Option ℕ) (bytes : Option (List ℕ)) → is_some (joined byte bytes) ≡ true
+    → (is_some byte ≡ true) × (is_some bytes ≡ true)
+both_some None bytes h = absurd (let e : false ≡ true = h in cc)
+both_some (Some byte) None h = absurd (let e : false ≡ true = h in cc)
+both_some (Some byte) (Some bytes) h = (refl, refl)
+
+from_some : {a b : List ℕ} → Some a ≡ Some b → a ≡ b
+from_some e = cc
+
+plain_some : {a b : ℕ} → Some a ≡ Some b → a ≡ b
+plain_some e = cc
+
+split : (byte : Option ℕ) (bytes : Option (List ℕ)) (all : List ℕ) → joined byte bytes ≡ Some all
+    → (x : ℕ) × ((xs : List ℕ) × ((byte ≡ Some x) × ((bytes ≡ Some xs) × (all ≡ x ∷ xs))))
+split None bytes all h = absurd (let e : None ≡ Some all = h in cc)
+split (Some byte) None all h = absurd (let e : None ≡ Some all = h in cc)
+split (Some byte) (Some bytes) all h = (byte, (bytes, (refl, (refl, sym (from_some h)))))
+
+module _ (memory : ℕ → Option ℕ) where
+  -- bytes that stand in a list from an index on
+  pub bytes_at_row : (n a : ℕ) (bytes : List ℕ) (i : ℕ) → a + n ≤ 2 ^ 32
+      → ((k : ℕ) → k < n → memory (a + k) ≡ Some (get_or bytes (i + k) 0)) → bytes_at memory (addresses n a) ≡ Some (bytes_from n bytes i)
+  bytes_at_row zero a bytes i fits row = refl
+  bytes_at_row (suc n) a bytes i fits row =
+      let first : memory (a % 2 ^ 32) ≡ Some (get_or bytes i 0) =
+      ap memory (mod_small a (omega arith) ∙ omega arith) ∙ row 0 (omega arith) ∙ ap (λ (j : ℕ). Some (get_or bytes j 0)) (omega arith) in
+      let more : bytes_at memory (addresses n (a + 1)) ≡ Some (bytes_from n bytes (i + 1)) =
+      bytes_at_row n (a + 1) bytes (i + 1) (omega arith)
+      (λ k h. ap memory (omega arith) ∙ row (k + 1) (omega arith) ∙ ap (λ (j : ℕ). Some (get_or bytes j 0)) (omega arith)) in
+      λ k. joined (first k) (more k)
+
+  joined_none : (byte : Option ℕ) → joined byte None ≡ None
+  joined_none None = refl
+  joined_none (Some byte) = refl
+
+  -- a byte that is not mapped
+  pub bytes_at_none : (n a k : ℕ) → k < n → memory ((a + k) % 2 ^ 32) ≡ None → bytes_at memory (addresses n a) ≡ None
+  bytes_at_none zero a k lt h = absurd (omega arith)
+  bytes_at_none (suc n) a zero lt h =
+      let first : memory (a % 2 ^ 32) ≡ None = ap (λ (b : ℕ). memory (b % 2 ^ 32)) (omega arith) ∙ h in
+      ap (λ (o : Option ℕ). joined o (bytes_at memory (addresses n (a + 1)))) first
+  bytes_at_none (suc n) a (suc k) lt h =
+      let more : bytes_at memory (addresses n (a + 1)) ≡ None =
+      bytes_at_none n (a + 1) k (omega arith) (ap (λ (b : ℕ). memory (b % 2 ^ 32)) (omega arith) ∙ h) in
+      ap (λ (o : Option (List ℕ)). joined (memory (a % 2 ^ 32)) o) more ∙ joined_none _
+
+  pushed : (n a : ℕ) (bytes : List ℕ) (byte : ℕ) → bytes_at memory (addresses n a) ≡ Some bytes
+      → memory ((a + n) % 2 ^ 32) ≡ Some byte → bytes_at memory (addresses (suc n) a) ≡ Some (bytes ++ byte ∷ [])
+  pushed zero a bytes byte h b =
+      let none : bytes ≡ [] = from_some (sym h) in
+      let first : memory (a % 2 ^ 32) ≡ Some byte = ap (λ (c : ℕ). memory (c % 2 ^ 32)) (omega arith) ∙ b in
+      let P : List ℕ → Type 0 = λ bs. joined (memory (a % 2 ^ 32)) (Some []) ≡ Some (bs ++ byte ∷ []) in
+      subst P (sym none) (λ k. joined (first k) (Some []))
+  pushed (suc n) a bytes byte h b =
+      let s = split (memory (a % 2 ^ 32)) (bytes_at memory (addresses n (a + 1))) bytes h in
+      let last : memory ((a + 1 + n) % 2 ^ 32) ≡ Some byte = ap (λ (c : ℕ). memory (c % 2 ^ 32)) (omega arith) ∙ b in
+      let rest : bytes_at memory (addresses (suc n) (a + 1)) ≡ Some (s.1.0 ++ byte ∷ []) = pushed n (a + 1) s.1.0 byte s.1.1.1.0 last in
+      let P : List ℕ → Type 0 = λ bs. joined (memory (a % 2 ^ 32)) (bytes_at memory (addresses (suc n) (a + 1))) ≡ Some (bs ++ byte ∷ []) in
+      subst P (sym s.1.1.1.1) (λ k. joined (s.1.1.0 k) (rest k))
+
+  -- bytes that are mapped
+  pub bytes_at_first : (n a : ℕ) → is_some (bytes_at memory (addresses (suc n) a)) ≡ true
+      → (is_some (memory (a % 2 ^ 32)) ≡ true) × (is_some (bytes_at memory (addresses n (a + 1))) ≡ true)
+  bytes_at_first n a h = both_some (memory (a % 2 ^ 32)) (bytes_at memory (addresses n (a + 1))) h
+
+  pub bytes_at_mapped : (n a k : ℕ) → k < n → is_some (bytes_at memory (addresses n a)) ≡ true → is_some (memory ((a + k) % 2 ^ 32)) ≡ true
+  bytes_at_mapped zero a k lt h = absurd (omega arith)
+  bytes_at_mapped (suc n) a zero lt h = ap (λ (b : ℕ). is_some (memory (b % 2 ^ 32))) (omega arith) ∙ (bytes_at_first n a h).0
+  bytes_at_mapped (suc n) a (suc k) lt h =
+      ap (λ (b : ℕ). is_some (memory (b % 2 ^ 32))) (omega arith) ∙ bytes_at_mapped n (a + 1) k (omega arith) (bytes_at_first n a h).1
+
+  some_both : (byte : Option ℕ) (bytes : Option (List ℕ)) → is_some byte ≡ true → is_some bytes ≡ true → is_some (joined byte bytes) ≡ true
+  some_both None bytes h k = absurd (let e : false ≡ true = h in cc)
+  some_both (Some byte) None h k = absurd (let e : false ≡ true = k in cc)
+  some_both (Some byte) (Some bytes) h k = refl
+
+  -- one byte more before bytes that are mapped
+  pub bytes_at_before : (n m a : ℕ) → m ≡ n + 1 → is_some (memory (a % 2 ^ 32)) ≡ true
+      → is_some (bytes_at memory (addresses n (a + 1))) ≡ true → is_some (bytes_at memory (addresses m a)) ≡ true
+  bytes_at_before n m a e h k =
+      let P : ℕ → Type 0 = λ j. is_some (bytes_at memory (addresses j a)) ≡ true in
+      subst P (let f : suc n ≡ m = omega arith in f) (some_both (memory (a % 2 ^ 32)) (bytes_at memory (addresses n (a + 1))) h k)
+
+  -- one byte more
+  pub bytes_at_push : (n a : ℕ) (bytes : List ℕ) (byte : ℕ) → bytes_at memory (addresses n a) ≡ Some bytes
+      → memory ((a + n) % 2 ^ 32) ≡ Some byte → bytes_at memory (addresses (n + 1) a) ≡ Some (bytes ++ byte ∷ [])
+  bytes_at_push n a bytes byte h b =
+      let P : ℕ → Type 0 = λ m. bytes_at memory (addresses m a) ≡ Some (bytes ++ byte ∷ []) in
+      subst P (let e : suc n ≡ n + 1 = omega arith in e) (pushed n a bytes byte h b)
+
+-- ---- numbers that are read
+
+joined_number : (byte : Option ℕ) (bytes : Option (List ℕ)) (low high : ℕ) → byte ≡ Some low → option_map number_of_bytes bytes ≡ Some high
+    → option_map number_of_bytes (joined byte bytes) ≡ Some (low + 256 * high)
+joined_number None bytes low high h k = absurd (let e : None ≡ Some low = h in cc)
+joined_number (Some byte) None low high h k = absurd (let e : None ≡ Some high = k in cc)
+joined_number (Some byte) (Some bytes) low high h k =
+    let e : byte ≡ low = plain_some h in let f : number_of_bytes bytes ≡ high = plain_some k in
+    λ i. Some (e i + 256 * f i)
+
+joined_nothing : (byte : Option ℕ) (bytes : Option (List ℕ)) → option_map number_of_bytes bytes ≡ None
+    → option_map number_of_bytes (joined byte bytes) ≡ None
+joined_nothing None bytes h = refl
+joined_nothing (Some byte) None h = refl
+joined_nothing (Some byte) (Some bytes) h = absurd (let e : Some (number_of_bytes bytes) ≡ None = h in cc)
+
+module _ (memory : ℕ → Option ℕ) where
+  unwrapped : (n a : ℕ) → option_map number_of_bytes (bytes_at memory (addresses n ((a + 1) % 2 ^ 32)))
+      ≡ option_map number_of_bytes (bytes_at memory (addresses n (a + 1)))
+  unwrapped n a = ap (λ (row : List ℕ). option_map number_of_bytes (bytes_at memory row)) (addresses-wrap n (a + 1))
+
+  pub number_more : (n count a low high : ℕ) → count ≡ n + 1 → a < 2 ^ 32 → memory a ≡ Some low
+      → option_map number_of_bytes (bytes_at memory (addresses n ((a + 1) % 2 ^ 32))) ≡ Some high
+      → option_map number_of_bytes (bytes_at memory (addresses count a)) ≡ Some (low + 256 * high)
+  number_more n count a low high e small h k =
+      let P : ℕ → Type 0 = λ j. option_map number_of_bytes (bytes_at memory (addresses j a)) ≡ Some (low + 256 * high) in
+      subst P (let f : suc n ≡ count = omega arith in f)
+      (joined_number (memory (a % 2 ^ 32)) (bytes_at memory (addresses n (a + 1))) low high
+      (ap memory (mod_small a small) ∙ h) (sym (unwrapped n a) ∙ k))
+
+  pub number_none : (n count a : ℕ) → count ≡ n + 1
+      → option_map number_of_bytes (bytes_at memory (addresses n ((a + 1) % 2 ^ 32))) ≡ None
+      → option_map number_of_bytes (bytes_at memory (addresses count a)) ≡ None
+  number_none n count a e k =
+      let P : ℕ → Type 0 = λ j. option_map number_of_bytes (bytes_at memory (addresses j a)) ≡ None in
+      subst P (let f : suc n ≡ count = omega arith in f)
+      (joined_nothing (memory (a % 2 ^ 32)) (bytes_at memory (addresses n (a + 1))) (sym (unwrapped n a) ∙ k))
+
+bound_suc : (low high n : ℕ) → n ≤ 3 → low < 256 → high < 256 ^ n → (low + 256 * high < 256 ^ suc n) × (256 ^ suc n ≤ 2 ^ 32)
+bound_suc low high zero small l h = (omega arith, lit≤ tt)
+bound_suc low high (suc zero) small l h = (omega arith, lit≤ tt)
+bound_suc low high (suc (suc zero)) small l h = (omega arith, lit≤ tt)
+bound_suc low high (suc (suc (suc zero))) small l h = (omega arith, lit≤ tt)
+bound_suc low high (suc (suc (suc (suc n)))) small l h = absurd (omega arith)
+
+pub number_bound : (low high n count : ℕ) → count ≡ n + 1 → count ≤ 4 → low < 256 → high < 256 ^ n
+    → (low + 256 * high < 256 ^ count) × (256 ^ count ≤ 2 ^ 32)
+number_bound low high n count e small l h =
+    let P : ℕ → Type 0 = λ j. (low + 256 * high < 256 ^ j) × (256 ^ j ≤ 2 ^ 32) in
+    subst P (let f : suc n ≡ count = omega arith in f) (bound_suc low high n (omega arith) l h)
+
+-- ---- bytes that are written
+
+-- memory with a list of bytes from an address on
+abbrev pub over : (ℕ → Option ℕ) → ℕ → List ℕ → ℕ → Option ℕ
+over memory start bytes x = cond (lies_in start (start + length bytes) x) (Some (get_or bytes (x - start) 0)) (memory x)
+
+pub inside_or_not : (b : Bool) → (b ≡ true) ⊎ (b ≡ false)
+inside_or_not true = inl refl
+inside_or_not false = inr refl
+
+module _ (memory : ℕ → Option ℕ) (start : ℕ) where
+  over_at : (bytes : List ℕ) (i : ℕ) → i < length bytes → over memory start bytes (start + i) ≡ Some (get_or bytes i 0)
+  over_at bytes i lt =
+      taken _ _ _ (bounds-lies_in start (start + length bytes) (start + i) (omega arith) (omega arith))
+      ∙ ap (λ (j : ℕ). Some (get_or bytes j 0)) (omega arith)
+
+  over_other : (bytes : List ℕ) (i byte x : ℕ) → x ≢ start + i → over memory start (set bytes i byte) x ≡ over memory start bytes x
+  over_other bytes i byte x other =
+      let same : lies_in start (start + length (set bytes i byte)) x ≡ lies_in start (start + length bytes) x =
+      ap (λ (n : ℕ). lies_in start (start + n) x) (length-set bytes i byte) in
+      elim (inside_or_not (lies_in start (start + length bytes) x)) [
+        | inl h ↦ let low : start ≤ x = (lies_in-bounds start (start + length bytes) x h).0 in
+            let apart : x - start ≢ i = λ e. other (omega arith) in
+            taken _ _ _ (same ∙ h) ∙ ap Some (get_or-set_other bytes i (x - start) byte 0 apart) ∙ sym (taken _ _ _ h)
+        | inr h ↦ passed _ _ _ (same ∙ h) ∙ sym (passed _ _ _ h)
+      ]
+
+  over_set : (bytes : List ℕ) (i byte x : ℕ) → i < length bytes → start + length bytes ≤ 2 ^ 32
+      → over memory start (set bytes i byte) x ≡ cond (eqb x ((start + i) % 2 ^ 32)) (Some byte) (over memory start bytes x)
+  over_set bytes i byte x lt fits =
+      let here : (start + i) % 2 ^ 32 ≡ start + i = mod_small (start + i) (omega arith) in
+      elim (inside_or_not (eqb x ((start + i) % 2 ^ 32))) [
+        | inl h ↦ let at : x ≡ start + i = eqb-true x _ h ∙ here in
+            let P : ℕ → Type 0 = λ y. over memory start (set bytes i byte) y ≡ Some byte in
+            let got : over memory start (set bytes i byte) (start + i) ≡ Some byte =
+            over_at (set bytes i byte) i (omega (arith, length-set bytes i byte)) ∙ ap Some (get_or-set_same bytes i byte 0 lt) in
+            subst P (sym at) got ∙ sym (taken _ _ _ h)
+        | inr h ↦ over_other bytes i byte x (λ e. eqb-false x _ h (e ∙ sym here)) ∙ sym (passed _ _ _ h)
+      ]
+
+  pub length_overwritten : (bytes : List ℕ) (new : List ℕ) (i : ℕ) → length (overwritten bytes i new) ≡ length bytes
+  length_overwritten bytes [] i = refl
+  length_overwritten bytes (b ∷ new) i = length-set (overwritten bytes (i + 1) new) i b ∙ length_overwritten bytes new (i + 1)
+
+  pub over-overwritten : (bytes : List ℕ) → start + length bytes ≤ 2 ^ 32 → (new : List ℕ) (i : ℕ) → i + length new ≤ length bytes
+      → (x : ℕ) → over memory start (overwritten bytes i new) x
+      ≡ with_bytes (over memory start bytes) (addresses (length new) (start + i)) new x
+  over-overwritten bytes fits [] i inside x = refl
+  over-overwritten bytes fits (b ∷ new) i inside x =
+      let same : length (overwritten bytes (i + 1) new) ≡ length bytes = length_overwritten bytes new (i + 1) in
+      over_set (overwritten bytes (i + 1) new) i b x (omega arith) (omega arith)
+      ∙ ap (λ (o : Option ℕ). cond (eqb x ((start + i) % 2 ^ 32)) (Some b) o)
+      (over-overwritten bytes fits new (i + 1) (omega arith) x
+      ∙ ap (λ (a : ℕ). with_bytes (over memory start bytes) (addresses (length new) a) new x) (omega arith))
+
+pub none_from_is_some : (o : Option ℕ) → is_some o ≡ false → o ≡ None
+none_from_is_some None h = refl
+none_from_is_some (Some n) h = absurd (let e : true ≡ false = h in cc)
+
+-- ---- bytes that are written one after the other
+
+pub with_bytes-mapped : (memory : ℕ → Option ℕ) (row bytes : List ℕ) (x : ℕ) → is_some (memory x) ≡ true
+    → is_some (with_bytes memory row bytes x) ≡ true
+with_bytes-mapped memory [] bytes x h = h
+with_bytes-mapped memory (a ∷ row) [] x h = h
+with_bytes-mapped memory (a ∷ row) (b ∷ bytes) x h = some_either (eqb x a) b _ (with_bytes-mapped memory row bytes x h)
+  where
+    some_either : (here : Bool) (byte : ℕ) (o : Option ℕ) → is_some o ≡ true → is_some (cond here (Some byte) o) ≡ true
+    some_either true byte o k = refl
+    some_either false byte o k = k
+
+pub mapped_still : (memory later : ℕ → Option ℕ) (row bytes : List ℕ) (x : ℕ) → later ≡ with_bytes memory row bytes
+    → is_some (memory x) ≡ true → is_some (later x) ≡ true
+mapped_still memory later row bytes x e h = ap (λ (m : ℕ → Option ℕ). is_some (m x)) e ∙ with_bytes-mapped memory row bytes x h
+
+-- one byte more before those that were written
+pub with_bytes-before : (memory later : ℕ → Option ℕ) (n count a i byte : ℕ) (bytes : List ℕ) → count ≡ n + 1 → i < length bytes
+    → byte ≡ get_or bytes i 0 → later ≡ with_bytes memory (addresses n (a + 1)) (drop (i + 1) bytes)
+    → with_bytes later (a % 2 ^ 32 ∷ []) (byte ∷ []) ≡ with_bytes memory (addresses count a) (drop i bytes)
+with_bytes-before memory later n count a i byte bytes e lt is h =
+    let P : ℕ → Type 0 = λ m. with_bytes later (a % 2 ^ 32 ∷ []) (byte ∷ []) ≡ with_bytes memory (addresses m a) (drop i bytes) in
+    let Q : List ℕ → Type 0 = λ bs. with_bytes later (a % 2 ^ 32 ∷ []) (byte ∷ []) ≡ with_bytes memory (addresses (suc n) a) bs in
+    let R : ℕ → Type 0 = λ b. with_bytes later (a % 2 ^ 32 ∷ []) (byte ∷ [])
+    ≡ with_bytes memory (addresses (suc n) a) (b ∷ drop (i + 1) bytes) in
+    subst P (let f : suc n ≡ count = omega arith in f)
+    (subst Q (sym (drop_more bytes i 0 lt))
+    (subst R is (λ k y. cond (eqb y (a % 2 ^ 32)) (Some byte) (h k y))))
+
+pub length-bytes_of_number : (k n : ℕ) → length (bytes_of_number k n) ≡ k
+length-bytes_of_number zero n = refl
+length-bytes_of_number (suc k) n = ap (λ (m : ℕ). suc m) (length-bytes_of_number k (n / 256))

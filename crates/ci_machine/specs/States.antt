@@ -1,0 +1,40 @@
+-- What the definitions see of a machine's state.
+use Rattle.std.specs.Prelude.{map, drop, slice_index, Option, Some, None}
+use Rattle.ci_machine.specs.declared.state.State.{State as Machine}
+use Rattle.ci_machine.specs.declared.text.TextWords.{TextWords}
+use Rattle.ci_machine.specs.declared.state.Call.{Call}
+use Rattle.ci_machine.specs.declared.state.Call.TheVariants.{Goes, Exit}
+use Rattle.ci_machine.specs.declared.ends.End.{End}
+use Rattle.ci_machine.specs.declared.ends.End.TheVariants as ends
+use Rattle.ci_machine.specs.Cores.{Core}
+use Rattle.ci_machine.specs.Programs.{Program, TextRange, State}
+use Rattle.ci_machine.specs.Parts.{byte_in, places, segments_in, heap_end_in}
+
+-- everything of it but the pc
+unfoldable pub core_of : Machine → Core
+core_of machine = record {
+  registers = slice_index machine.registers;
+  memory = byte_in machine.memory.parts.items;
+  heap_end = heap_end_in (places machine.memory.parts.items);
+  input = drop machine.read machine.input.items;
+  output = machine.output.items;
+}
+
+unfoldable pub state_of : Machine → State
+state_of machine = record { pc = machine.pc; core = core_of machine }
+
+abbrev pub range_of : TextWords → TextRange
+range_of range = record { start = range.start; words = range.words }
+
+-- Where its program lies: the places of the segments, and the text. What the segments hold stands in memory alone.
+unfoldable pub program_of : Machine → Program
+program_of machine = record {
+  entry = 0;
+  segments = segments_in (places machine.memory.parts.items);
+  text = map range_of machine.text.items;
+}
+
+-- the end that an environment call comes to, if any
+abbrev pub end_of : Call → Option End
+end_of Goes = None
+end_of (Exit code) = Some (ends.Exit code)

@@ -1,0 +1,134 @@
+//! The state of a machine.
+#![tactic(auto, unfolding(crate::specs::States::state_of, crate::specs::States::core_of, crate::specs::States::program_of))]
+
+ghost use Rattle.std.specs.Prelude.{◌≡◌, ℕ, ◌≤◌, length, slice_index};
+
+use crate::memory::Memory;
+use crate::text::{TextWords, in_ranges};
+use ci_isa::{Reg, Width};
+
+/// A byte of an access is not mapped.
+#[derive(Clone, Copy, Debug, PartialEq, Eq)]
+pub struct Unmapped;
+
+/// What an environment call comes to: the run goes on, or ends with this exit code.
+#[derive(Clone, Copy, Debug, PartialEq, Eq)]
+pub enum Call {
+    Goes,
+    Exit(u32),
+}
+
+/// The place of the hidden register among the registers.
+const HIDDEN: usize = 32;
+
+/// The state of a machine: pc, registers, memory, what is left of the input, and the output.
+#[derive(Drop)]
+pub struct State {
+    pub(crate) pc: u32,
+    /// x0 to x31, and the hidden register. x0 stays 0.
+    pub(crate) registers: [u32; 33],
+    pub(crate) memory: Memory,
+    pub(crate) text: Vec<TextWords>,
+    pub(crate) input: Vec<u8>,
+    /// How many bytes of the input were read.
+    pub(crate) read: usize,
+    pub(crate) output: Vec<u8>,
+    ghost zero: { slice_index registers 0 ≡ 0 },
+    ghost within: { read ≤ length input.items },
+}
+
+impl State {
+    ghost use Rattle.std.specs.Prelude.{◌==◌, ◌&&◌, is_ok, is_some};
+    ghost use Rattle.std.specs.Option.{option_map};
+    ghost use Rattle.std.specs.Result.{result_ok};
+    ghost use Rattle.ci_machine.specs.Accesses.{addresses, bytes_at, number_of_bytes, width_bytes};
+    ghost use Rattle.ci_machine.specs.Actions.{stored};
+    ghost use Rattle.ci_machine.specs.Cores.{register, with_register, hidden};
+    ghost use Rattle.ci_machine.specs.Outcomes.{reached};
+    ghost use Rattle.ci_machine.specs.Programs.{in_text};
+    ghost use Rattle.ci_machine.specs.States.{state_of, program_of};
+
+    /// The address of the next instruction.
+    pub fn pc(&self) -> u32
+        ensures { result ≡ (state_of self.now).pc }
+    {
+        self.pc
+    }
+
+    /// Sets the address of the next instruction.
+    pub fn set_pc(&mut self, pc: u32)
+        ensures state { state_of self.new ≡ record (state_of self.old) { pc = pc } }
+        ensures program { program_of self.new ≡ program_of self.old }
+    {
+        self.pc = pc;
+    }
+
+    /// The register's value. x0 is always 0.
+    pub fn register(&self, r: Reg) -> u32
+        ensures { result ≡ register (state_of self.now).core r }
+    {
+        self.registers[r.number() as usize]
+    }
+
+    /// Sets the register. A write to x0 is dropped.
+    pub fn set_register(&mut self, r: Reg, value: u32)
+        ensures state { state_of self.new ≡ record (state_of self.old) { core = with_register (state_of self.old).core r value } }
+        ensures program { program_of self.new ≡ program_of self.old }
+    {
+        let number = r.number() as usize;
+        if number != 0 {
+            self.registers[number] = value;
+        }
+    }
+
+    /// The hidden register's value.
+    pub fn hidden(&self) -> u32
+        ensures { result ≡ register (state_of self.now).core hidden }
+    {
+        self.registers[HIDDEN]
+    }
+
+    /// Sets the hidden register.
+    pub fn set_hidden(&mut self, value: u32)
+        ensures state { state_of self.new ≡ record (state_of self.old) { core = with_register (state_of self.old).core hidden value } }
+        ensures program { program_of self.new ≡ program_of self.old }
+    {
+        self.registers[HIDDEN] = value;
+    }
+
+    /// The bytes that were written to the output.
+    pub fn output(&self) -> &[u8]
+        ensures { result.now ≡ (state_of self.now).core.output }
+    {
+        &self.output
+    }
+
+    /// Whether the byte at the address is text.
+    pub fn in_text(&self, address: u32) -> bool
+        ensures { result ≡ in_text (program_of self.now) address }
+    {
+        in_ranges(&self.text, address)
+    }
+
+    /// The number of the bytes at the address, the lowest first, where all are mapped. Addresses wrap
+    /// (RISC-V Unprivileged ISA 20191213, section 2.6).
+    pub fn load(&self, address: u32, width: Width) -> Result<u32, Unmapped>
+        ensures { result_ok result ≡ option_map number_of_bytes (bytes_at (state_of self.now).core.memory (addresses (width_bytes width) address)) }
+    {
+        self.memory.load(address, width).ok_or(Unmapped)
+    }
+
+    /// Writes the low bytes of the value at the address, the lowest first, where all are mapped. Addresses wrap
+    /// (RISC-V Unprivileged ISA 20191213, section 2.6). Nothing changes where one is not.
+    pub fn store(&mut self, address: u32, width: Width, value: u32) -> Result<(), Unmapped>
+        ensures mapped { is_ok result ≡ is_some (bytes_at (state_of self.old).core.memory (addresses (width_bytes width) address)) }
+        ensures state { state_of self.new ≡ record (state_of self.old) { core = (reached (state_of self.old).core (stored (state_of self.old).core width address value (bytes_at (state_of self.old).core.memory (addresses (width_bytes width) address)))).state } }
+        ensures program { program_of self.new ≡ program_of self.old }
+    {
+        if self.memory.store(address, width, value) {
+            Ok(())
+        } else {
+            Err(Unmapped)
+        }
+    }
+}
