@@ -5,7 +5,7 @@ use native.Mathlib.Nat.{ℕ_set}
 use native.Mathlib.Bridge.{le_prop}
 use Rattle.ci_machine.specs.declared.parts.Part.{Part}
 use Rattle.ci_isa.specs.declared.instruction.Width.{Width}
-use Rattle.ci_machine.specs.Accesses.{addresses, bytes_of_number, width_bytes, with_bytes}
+use Rattle.ci_machine.specs.Accesses.{addresses, bytes_at, bytes_of_number, width_bytes, with_bytes}
 use Rattle.ci_machine.specs.Programs.{Segment, TextRange, Program, lies_in, stack_start, stack_end, greatest_end, loaded_size}
 
 -- the address is one of the part's
@@ -17,6 +17,10 @@ unfoldable pub byte_in : List Part → ℕ → Option ℕ
 byte_in [] address = None
 byte_in (part ∷ parts) address =
     if holds part address then Some (slice_index part.bytes.items (address - part.start)) else byte_in parts address
+
+-- the bytes at so many addresses from one on, where all are mapped
+abbrev pub bytes_in : List Part → ℕ → ℕ → Option (List ℕ)
+bytes_in parts address n = bytes_at (byte_in parts) (addresses n address)
 
 -- no two parts hold one address
 unfoldable pub IsApart : List Part → Type 0
@@ -85,7 +89,8 @@ overwritten bytes i (new ∷ more) = slice_set (overwritten bytes (i + 1) more) 
 -- memory with the low bytes of a number at an address, or as it is
 abbrev pub with_number : (ℕ → Option ℕ) → ℕ → Width → ℕ → Bool → ℕ → Option ℕ
 with_number memory address width value stored =
-    if stored then with_bytes memory (addresses (width_bytes width) address) (bytes_of_number (width_bytes width) value) else memory
+    if stored then with_bytes memory (addresses (width_bytes width) address) (bytes_of_number (width_bytes width) value)
+    else memory
 
 -- ---- each of these facts holds in one way alone
 

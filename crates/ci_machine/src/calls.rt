@@ -15,14 +15,14 @@ const NO_SUCH_CALL: u32 = 0xffffffda;
 
 impl State {
     ghost use Rattle.std.specs.Prelude.{◌≡◌, ◌++◌, Option, Some, None, OnOk, OnErr, IfOk, is_some, min, length, ◌==◌};
-    ghost use Rattle.ci_machine.specs.Calls.{answering, bad_address, bad_file, call, heap_call, no_such_call, read_call, write_call};
+    ghost use Rattle.ci_machine.specs.Calls.{answering, bad_address, bad_file, heap_call, no_such_call, read_call, write_call};
     ghost use Rattle.ci_machine.specs.Cores.{register};
-    ghost use Rattle.ci_machine.specs.Outcomes.{reached};
-    ghost use Rattle.ci_machine.specs.States.{end_of, state_of, program_of};
+    ghost use Rattle.ci_machine.specs.States.{called, end_of, state_of, program_of};
 
     /// Gives the answer of a call.
     fn answer(&mut self, value: u32)
-        ensures state { state_of self.new ≡ record (state_of self.old) { core = answering (state_of self.old).core value } }
+        ensures state { state_of self.new
+            ≡ record (state_of self.old) { core = answering (state_of self.old).core value } }
         ensures program { program_of self.new ≡ program_of self.old }
     {
         self.registers[10] = value;
@@ -30,7 +30,8 @@ impl State {
 
     /// Reads from the input.
     fn read_call(&mut self)
-        ensures state { state_of self.new ≡ record (state_of self.old) { core = read_call (state_of self.old).core } }
+        ensures state { state_of self.new
+            ≡ record (state_of self.old) { core = read_call (state_of self.old).core } }
         ensures program { program_of self.new ≡ program_of self.old }
     {
         if self.registers[10] != 0 {
@@ -52,7 +53,8 @@ impl State {
 
     /// Writes to the output. Nothing changes where there is no memory.
     fn write_call(&mut self, alloc: Global) -> Result<(), AllocError>
-        ensures state { OnOk result (state_of self.new ≡ record (state_of self.old) { core = write_call (state_of self.old).core }) }
+        ensures state { OnOk result (state_of self.new
+            ≡ record (state_of self.old) { core = write_call (state_of self.old).core }) }
         ensures refused { OnErr result (state_of self.new ≡ state_of self.old) }
         ensures program { program_of self.new ≡ program_of self.old }
     {
@@ -73,7 +75,8 @@ impl State {
 
     /// Sets the end of the heap. Nothing changes where there is no memory.
     fn heap_call(&mut self, alloc: Global) -> Result<(), AllocError>
-        ensures state { OnOk result (state_of self.new ≡ record (state_of self.old) { core = heap_call (program_of self.old) (state_of self.old).core }) }
+        ensures state { OnOk result (state_of self.new
+            ≡ record (state_of self.old) { core = heap_call (program_of self.old) (state_of self.old).core }) }
         ensures refused { OnErr result (state_of self.new ≡ state_of self.old) }
         ensures program { program_of self.new ≡ program_of self.old }
     {
@@ -89,8 +92,10 @@ impl State {
     /// The environment call that the registers ask for: its number in x17, its arguments in x10, x11 and x12, its
     /// answer in x10. Nothing changes where there is no memory.
     pub fn environment_call(&mut self, alloc: Global) -> Result<Call, AllocError>
-        ensures state { OnOk result (state_of self.new ≡ record (state_of self.old) { core = (reached (state_of self.old).core (call (program_of self.old) (state_of self.old).core)).state }) }
-        ensures answer { IfOk result (λ answer. end_of answer ≡ (reached (state_of self.old).core (call (program_of self.old) (state_of self.old).core)).end) }
+        ensures state { OnOk result (state_of self.new
+            ≡ record (state_of self.old) { core = (called (program_of self.old) (state_of self.old).core).state }) }
+        ensures answer { IfOk result (λ answer. end_of answer
+            ≡ (called (program_of self.old) (state_of self.old).core).end) }
         ensures refused { OnErr result (state_of self.new ≡ state_of self.old) }
         ensures program { program_of self.new ≡ program_of self.old }
     {

@@ -4,7 +4,7 @@ ghost use Rattle.std.specs.Option.{option_map};
 ghost use Rattle.ci_machine.specs.Accesses.{addresses, bytes_at, bytes_of_number, number_of_bytes, width_bytes, with_bytes};
 ghost use Rattle.ci_machine.specs.Programs.{TextRange, greatest_end, stack_end, stack_start};
 ghost use Rattle.ci_machine.specs.Calls.{may_end_at, range_at};
-ghost use Rattle.ci_machine.specs.Parts.{IsFound, heap_end_in, program_in, segments_in, with_heap_moved, holds, byte_in, overwritten, with_number, IsApart, IsApart-prop, places, IsLaidOut, IsLaidOut-prop};
+ghost use Rattle.ci_machine.specs.Parts.{IsFound, bytes_in, heap_end_in, program_in, segments_in, with_heap_moved, holds, byte_in, overwritten, with_number, IsApart, IsApart-prop, places, IsLaidOut, IsLaidOut-prop};
 
 use crate::bytes::{bytes_of, number_at, put_number};
 use crate::parts::{Part, size};
@@ -63,7 +63,7 @@ impl Memory {
 
     /// Whether so many bytes from an address on are all mapped. Addresses wrap.
     pub(crate) fn is_mapped(&self, address: u32, count: u32) -> bool
-        ensures { result ≡ is_some (bytes_at (byte_in self.now.parts.items) (addresses count address)) }
+        ensures { result ≡ is_some (bytes_in self.now.parts.items address count) }
     {
         let mut left = count;
         while left > 0 {
@@ -78,7 +78,7 @@ impl Memory {
     /// The number of a few bytes, each wherever it is.
     fn load_bytes(&self, address: u32, count: u32) -> Option<u32>
         requires { count ≤ 4 }
-        ensures value { result ≡ option_map number_of_bytes (bytes_at (byte_in self.now.parts.items) (addresses count address)) }
+        ensures value { result ≡ option_map number_of_bytes (bytes_in self.now.parts.items address count) }
         ensures below { IfSome result (λ n. n < 256 ^ count) }
     {
         if count == 0 {
@@ -91,7 +91,7 @@ impl Memory {
 
     /// The number of the bytes at an address, where all are mapped.
     pub(crate) fn load(&self, address: u32, width: Width) -> Option<u32>
-        ensures { result ≡ option_map number_of_bytes (bytes_at (byte_in self.now.parts.items) (addresses (width_bytes width) address)) }
+        ensures { result ≡ option_map number_of_bytes (bytes_in self.now.parts.items address (width_bytes width)) }
     {
         let index = find(&self.parts, address)?;
         let part = &self.parts[index];
@@ -105,7 +105,8 @@ impl Memory {
     /// Writes one byte, at an address that is mapped.
     fn put(&mut self, address: u32, byte: u8)
         requires { is_some (byte_in self.old.parts.items address) ≡ true }
-        ensures written { byte_in self.new.parts.items ≡ with_bytes (byte_in self.old.parts.items) (address ∷ []) (byte ∷ []) }
+        ensures written { byte_in self.new.parts.items
+            ≡ with_bytes (byte_in self.old.parts.items) (address ∷ []) (byte ∷ []) }
         ensures places { places self.new.parts.items ≡ places self.old.parts.items }
         ensures loaded { self.new.loaded ≡ self.old.loaded }
     {
@@ -121,9 +122,10 @@ impl Memory {
 
     /// Writes bytes from an address on, where all are mapped. Addresses wrap.
     pub(crate) fn put_all(&mut self, address: u32, bytes: &[u8])
-        requires mapped { is_some (bytes_at (byte_in self.old.parts.items) (addresses (length bytes.now) address)) ≡ true }
+        requires mapped { is_some (bytes_in self.old.parts.items address (length bytes.now)) ≡ true }
         requires short { length bytes.now < 2 ^ 32 }
-        ensures written { byte_in self.new.parts.items ≡ with_bytes (byte_in self.old.parts.items) (addresses (length bytes.now) address) bytes.now }
+        ensures written { byte_in self.new.parts.items
+            ≡ with_bytes (byte_in self.old.parts.items) (addresses (length bytes.now) address) bytes.now }
         ensures places { places self.new.parts.items ≡ places self.old.parts.items }
         ensures loaded { self.new.loaded ≡ self.old.loaded }
     {
@@ -136,8 +138,9 @@ impl Memory {
 
     /// Writes the low bytes of a number, each wherever it is, where all are mapped. Says whether they are.
     fn store_bytes(&mut self, address: u32, width: Width, value: u32) -> bool
-        ensures mapped { result ≡ is_some (bytes_at (byte_in self.old.parts.items) (addresses (width_bytes width) address)) }
-        ensures written { byte_in self.new.parts.items ≡ with_number (byte_in self.old.parts.items) address width value result }
+        ensures mapped { result ≡ is_some (bytes_in self.old.parts.items address (width_bytes width)) }
+        ensures written { byte_in self.new.parts.items
+            ≡ with_number (byte_in self.old.parts.items) address width value result }
         ensures places { places self.new.parts.items ≡ places self.old.parts.items }
         ensures loaded { self.new.loaded ≡ self.old.loaded }
     {
@@ -151,8 +154,9 @@ impl Memory {
 
     /// Writes the low bytes of a number at an address, where all are mapped. Says whether they are.
     pub(crate) fn store(&mut self, address: u32, width: Width, value: u32) -> bool
-        ensures mapped { result ≡ is_some (bytes_at (byte_in self.old.parts.items) (addresses (width_bytes width) address)) }
-        ensures written { byte_in self.new.parts.items ≡ with_number (byte_in self.old.parts.items) address width value result }
+        ensures mapped { result ≡ is_some (bytes_in self.old.parts.items address (width_bytes width)) }
+        ensures written { byte_in self.new.parts.items
+            ≡ with_number (byte_in self.old.parts.items) address width value result }
         ensures places { places self.new.parts.items ≡ places self.old.parts.items }
         ensures loaded { self.new.loaded ≡ self.old.loaded }
     {
@@ -172,7 +176,9 @@ impl Memory {
         address: u32,
         count: u32,
     ) -> Result<Option<Vec<u8>>, AllocError>
-        ensures { IfOk result (λ copied. MatchOption copied (bytes_at (byte_in self.now.parts.items) (addresses count address) ≡ None) (λ bytes. bytes_at (byte_in self.now.parts.items) (addresses count address) ≡ Some bytes.items)) }
+        ensures { IfOk result (λ copied. MatchOption copied
+            (bytes_in self.now.parts.items address count ≡ None)
+            (λ bytes. bytes_in self.now.parts.items address count ≡ Some bytes.items)) }
     {
         let mut bytes = Vec::new(alloc);
         for i in 0..count {
@@ -198,7 +204,9 @@ impl Memory {
         address: u32,
         count: u32,
     ) -> Result<Option<Vec<u8>>, AllocError>
-        ensures { IfOk result (λ copied. MatchOption copied (range_at (byte_in self.now.parts.items) address count ≡ None) (λ bytes. range_at (byte_in self.now.parts.items) address count ≡ Some bytes.items)) }
+        ensures { IfOk result (λ copied. MatchOption copied
+            (range_at (byte_in self.now.parts.items) address count ≡ None)
+            (λ bytes. range_at (byte_in self.now.parts.items) address count ≡ Some bytes.items)) }
     {
         if u64::from(address) + u64::from(count) > 4294967296 {
             return Ok(None);
@@ -225,8 +233,11 @@ impl Memory {
     /// Moves the heap's end, to where it may end. The heap stays as it is where there is no memory.
     pub(crate) fn set_heap_end(&mut self, alloc: Global, end: u32) -> Result<(), AllocError>
         requires { may_end_at (program_in (places self.old.parts.items) []) end ≡ true }
-        ensures moved { byte_in self.new.parts.items ≡ with_heap_moved (heap_end_in (places self.old.parts.items)) (if is_ok result then end else heap_end_in (places self.old.parts.items)) (byte_in self.old.parts.items) }
-        ensures end { heap_end_in (places self.new.parts.items) ≡ (if is_ok result then end else heap_end_in (places self.old.parts.items)) }
+        ensures moved { byte_in self.new.parts.items ≡ with_heap_moved (heap_end_in (places self.old.parts.items))
+            (if is_ok result then end else heap_end_in (places self.old.parts.items))
+            (byte_in self.old.parts.items) }
+        ensures end { heap_end_in (places self.new.parts.items)
+            ≡ (if is_ok result then end else heap_end_in (places self.old.parts.items)) }
         ensures segments { segments_in (places self.new.parts.items) ≡ segments_in (places self.old.parts.items) }
         ensures loaded { self.new.loaded ≡ self.old.loaded }
     {
@@ -239,7 +250,9 @@ impl Memory {
 /// Whether a heap from `start` may end there, where the segments and the stack take so many bytes.
 fn is_room(start: u32, loaded: u32, end: u32) -> bool
     requires { loaded ≤ 67108864 }
-    ensures { result ≡ (nat_le start end && nat_le end 0xffff0000 && (nat_le end stack_start || nat_le stack_end start) && nat_le (loaded + (end - start)) 67108864) }
+    ensures { result ≡ (nat_le start end && nat_le end 0xffff0000
+        && (nat_le end stack_start || nat_le stack_end start)
+        && nat_le (loaded + (end - start)) 67108864) }
 {
     let clear = is_clear(start, end);
     start <= end && end <= HEAP_LIMIT && clear && loaded + (end - start) <= MEMORY_LIMIT
@@ -281,7 +294,8 @@ fn put_in(part: &mut Part, address: u32, width: Width, value: u32) -> bool
     requires { holds part.old address ≡ true }
     ensures fits { IsTrue result ↔ (width_bytes width ≤ length part.old.bytes.items - (address - part.old.start)) }
     ensures start { part.new.start ≡ part.old.start }
-    ensures bytes { part.new.bytes.items ≡ overwritten part.old.bytes.items (address - part.old.start) (if result then bytes_of_number (width_bytes width) value else []) }
+    ensures bytes { part.new.bytes.items ≡ overwritten part.old.bytes.items (address - part.old.start)
+        (if result then bytes_of_number (width_bytes width) value else []) }
 {
     let offset = (address - part.start) as usize;
     if part.bytes.len() - offset < size(width) as usize {

@@ -41,12 +41,10 @@ impl State {
     ghost use Rattle.std.specs.Prelude.{◌==◌, ◌&&◌, is_ok, is_some};
     ghost use Rattle.std.specs.Option.{option_map};
     ghost use Rattle.std.specs.Result.{result_ok};
-    ghost use Rattle.ci_machine.specs.Accesses.{addresses, bytes_at, number_of_bytes, width_bytes};
-    ghost use Rattle.ci_machine.specs.Actions.{stored};
+    ghost use Rattle.ci_machine.specs.Accesses.{number_of_bytes};
     ghost use Rattle.ci_machine.specs.Cores.{register, with_register, hidden};
-    ghost use Rattle.ci_machine.specs.Outcomes.{reached};
     ghost use Rattle.ci_machine.specs.Programs.{in_text};
-    ghost use Rattle.ci_machine.specs.States.{state_of, program_of};
+    ghost use Rattle.ci_machine.specs.States.{after_store, bytes_of, state_of, program_of};
 
     /// The address of the next instruction.
     pub fn pc(&self) -> u32
@@ -72,7 +70,8 @@ impl State {
 
     /// Sets the register. A write to x0 is dropped.
     pub fn set_register(&mut self, r: Reg, value: u32)
-        ensures state { state_of self.new ≡ record (state_of self.old) { core = with_register (state_of self.old).core r value } }
+        ensures state { state_of self.new
+            ≡ record (state_of self.old) { core = with_register (state_of self.old).core r value } }
         ensures program { program_of self.new ≡ program_of self.old }
     {
         let number = r.number() as usize;
@@ -90,7 +89,8 @@ impl State {
 
     /// Sets the hidden register.
     pub fn set_hidden(&mut self, value: u32)
-        ensures state { state_of self.new ≡ record (state_of self.old) { core = with_register (state_of self.old).core hidden value } }
+        ensures state { state_of self.new
+            ≡ record (state_of self.old) { core = with_register (state_of self.old).core hidden value } }
         ensures program { program_of self.new ≡ program_of self.old }
     {
         self.registers[HIDDEN] = value;
@@ -113,7 +113,7 @@ impl State {
     /// The number of the bytes at the address, the lowest first, where all are mapped. Addresses wrap
     /// (RISC-V Unprivileged ISA 20191213, section 2.6).
     pub fn load(&self, address: u32, width: Width) -> Result<u32, Unmapped>
-        ensures { result_ok result ≡ option_map number_of_bytes (bytes_at (state_of self.now).core.memory (addresses (width_bytes width) address)) }
+        ensures { result_ok result ≡ option_map number_of_bytes (bytes_of (state_of self.now).core address width) }
     {
         self.memory.load(address, width).ok_or(Unmapped)
     }
@@ -121,8 +121,9 @@ impl State {
     /// Writes the low bytes of the value at the address, the lowest first, where all are mapped. Addresses wrap
     /// (RISC-V Unprivileged ISA 20191213, section 2.6). Nothing changes where one is not.
     pub fn store(&mut self, address: u32, width: Width, value: u32) -> Result<(), Unmapped>
-        ensures mapped { is_ok result ≡ is_some (bytes_at (state_of self.old).core.memory (addresses (width_bytes width) address)) }
-        ensures state { state_of self.new ≡ record (state_of self.old) { core = (reached (state_of self.old).core (stored (state_of self.old).core width address value (bytes_at (state_of self.old).core.memory (addresses (width_bytes width) address)))).state } }
+        ensures mapped { is_ok result ≡ is_some (bytes_of (state_of self.old).core address width) }
+        ensures state { state_of self.new
+            ≡ record (state_of self.old) { core = after_store (state_of self.old).core address width value } }
         ensures program { program_of self.new ≡ program_of self.old }
     {
         if self.memory.store(address, width, value) {
