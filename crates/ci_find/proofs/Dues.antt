@@ -1,9 +1,9 @@
 -- What is due to the words over the files that a shelf tells: one status.
-use Rattle.std.proofs.Common.{◌≡◌, ℕ, ◌≤◌, ◌<◌, ◌⊎◌, inl, inr, List, [], ◌∷◌, Option, Some, None, length, refl, sym, ap, subst, ◌∙◌, arith}
+use Rattle.std.proofs.Common.{◌≡◌, ℕ, ◌⊎◌, inl, inr, List, [], ◌∷◌, Option, Some, None, length, refl, sym, ap, subst, ◌∙◌, arith}
 use Rattle.ci_io.specs.Outcomes.{Files}
 use Rattle.ci_words.specs.Words.{Reading, ReadsAs, HasNoReading, best, asm, dis}
 use Rattle.ci_find.specs.Commands.{inputs_of, IsMade, IsUnmade}
-use Rattle.ci_find.specs.Endings.{IsDone, IsRefusal, usage, file, unmade, IsDue}
+use Rattle.ci_find.specs.Endings.{IsRefusal, usage, file, unmade, IsDue}
 use Rattle.ci_find.specs.Forms.{Form, any_bytes, assembler_text, IsWellFormed, IsMalformed}
 use Rattle.ci_find.specs.Inputs.{Input, IsGood, AreRead, IsRefusedFile, absent, too_large, malformed, IsFileRefusal}
 use Rattle.ci_find.specs.Success.{Success}

@@ -1,11 +1,11 @@
 -- How a call of the program ends.
-use Rattle.std.proofs.Common.{◌≡◌, ℕ, ◌⊎◌, inl, inr, List, ◌∷◌, [], Contains, lit<, Bool, Option, Some, None, IfSome, refl, sym, ap, subst, ◌∙◌}
-use Rattle.ci_io.specs.Outcomes.{Files, Rises, SinkState}
+use Rattle.std.proofs.Common.{◌≡◌, ℕ, inl, inr, List, ◌∷◌, [], Contains, lit<, Option, Some, None, IfSome, refl, sym, ap, subst}
+use Rattle.ci_io.specs.Outcomes.{Files}
 use Rattle.ci_words.specs.Words.{Reading, best, asm, dis}
 use Rattle.ci_find.specs.declared.faults.Refusal.{Refusal}
 use Rattle.ci_find.specs.declared.faults.Refusal.TheVariants.{NoMemory}
 use Rattle.ci_find.specs.Commands.{inputs_of, IsUnmade}
-use Rattle.ci_find.specs.Endings.{IsDone, IsRefusal, usage, file, unmade, IsDue, Change, IsPut, IsUnwritten, Finishes, done, write_fault, put_fault, no_memory_in_write, no_memory_in_put, Ends, finished, refused, read_fault, no_memory, IsAnswered}
+use Rattle.ci_find.specs.Endings.{IsRefusal, usage, file, unmade, IsDue, Change, IsPut, IsUnwritten, Finishes, done, write_fault, put_fault, no_memory_in_write, no_memory_in_put, Ends, finished, refused, read_fault, no_memory, IsAnswered}
 use Rattle.ci_find.specs.Forms.{Form, any_bytes, assembler_text, IsMalformed}
 use Rattle.ci_find.specs.Inputs.{Input, IsRefusedFile, absent, too_large, malformed, IsFileRefusal}
 use Rattle.ci_find.specs.Lines.{usage_line, read_fault_line, no_memory_line}

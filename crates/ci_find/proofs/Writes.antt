@@ -1,5 +1,5 @@
 -- Files written one after the other.
-use Rattle.std.proofs.Common.{◌≡◌, ◌∙◌, ℕ, ◌+◌, ◌<◌, ◌≤◌, List, [], ◌∷◌, ◌++◌, length, map, take, drop, Option, Some, None, String, refl, sym, ap, subst, append_assoc}
+use Rattle.std.proofs.Common.{◌≡◌, ◌∙◌, ℕ, ◌+◌, ◌<◌, List, [], ◌∷◌, ◌++◌, length, map, take, drop, Option, Some, None, String, refl, sym, ap, subst, append_assoc}
 use Rattle.std.specs.Option.{option_map}
 use Rattle.std.specs.String.{string_bytes}
 use Rattle.std.specs.Prelude.{slice_index_or}
@@ -8,7 +8,7 @@ use Rattle.std.proofs.lemmas.List.{map-append, take_more, take-append-drop}
 use Rattle.ci_io.specs.Outcomes.{Files, Rises, ShelfState, with_file}
 use Rattle.ci_find.specs.declared.commands.Written.{Written as MadeFile}
 use Rattle.ci_find.specs.declared.finish.WriteErr.TheVariants.{Fault, NoMemory}
-use Rattle.ci_find.specs.Endings.{Change, IsPut, AreWritten, HasWritten, IsWriteFault, IsMemoryFaultInWrite, Finishes, done, write_fault, put_fault, no_memory_in_write, no_memory_in_put}
+use Rattle.ci_find.specs.Endings.{Change, IsPut, AreWritten, HasWritten, Finishes, done, write_fault, put_fault, no_memory_in_write, no_memory_in_put}
 use Rattle.ci_find.specs.Lines.{no_memory_line}
 use Rattle.ci_find.specs.Finish.{written_of, AreUnwritten, IsTextPut, taken, fault, no_memory}
 use Rattle.ci_find.specs.Success.{Written, Success, with_files}

@@ -9,7 +9,7 @@ use Rattle.ci_find.specs.declared.finish.WriteErr.{WriteErr}
 use Rattle.ci_find.specs.declared.finish.WriteErr.TheVariants.{Fault, NoMemory}
 use Rattle.ci_find.specs.Endings.{Takes, NeverFalls, IsPut, AreWritten}
 use Rattle.ci_find.specs.Lines.{write_fault_line, sink_name, no_memory_line}
-use Rattle.ci_find.specs.Success.{Written, Success, with_files}
+use Rattle.ci_find.specs.Success.{Written, Success}
 
 abbrev pub written_of : MadeFile → Written
 written_of file = record { name = file.name.now; bytes = file.bytes.items }

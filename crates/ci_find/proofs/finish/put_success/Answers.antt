@@ -1,8 +1,7 @@
 -- After a put that failed, or ran out of memory, the fault line is put.
-use Rattle.std.proofs.Common.{◌≡◌, ◌≢◌, [], ◌++◌, Err, ap, Option, None, Some, List, ℕ, ◌∙◌, sym, append-nil, rules}
+use Rattle.std.proofs.Common.{◌≡◌, ◌≢◌, [], ◌++◌, Err, ap, Option, None, Some, List, ℕ, sym, append-nil, rules}
 use Rattle.std.specs.Option.{option_map}
 use Rattle.std.proofs.lemmas.List.{nil_from_length}
-use Rattle.ci_find.specs.Endings.{Takes}
 use Rattle.ci_find.specs.Finish.{taken, fault, no_memory}
 use Rattle.ci_find.proofs.finish.put_success.Goals as goal
 

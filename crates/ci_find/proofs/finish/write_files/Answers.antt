@@ -1,5 +1,5 @@
 -- The files up to the present one were written.
-use Rattle.std.proofs.Common.{◌≡◌, ◌∙◌, ◌+◌, map, take, drop, length, refl, ap, subst, arith, rules}
+use Rattle.std.proofs.Common.{◌∙◌, ◌+◌, map, take, drop, length, refl, ap, subst, arith}
 use Rattle.std.proofs.lemmas.List.{take_all, length-map}
 use Rattle.ci_find.specs.Endings.{AreWritten}
 use Rattle.ci_find.specs.Finish.{written_of}

@@ -1,5 +1,5 @@
 -- A refusal of the first file of a list, whatever comes after it.
-use Rattle.std.proofs.Common.{Err, ap, inl, inr}
+use Rattle.std.proofs.Common.{Err, ap, inl}
 use Rattle.ci_find.specs.Inputs.{absent, too_large}
 use Rattle.ci_find.proofs.Told.{IsAbsent-told, longer_told}
 use Rattle.ci_find.proofs.inputs.read_file.Goals as goal
