@@ -28,7 +28,7 @@ const MOST_WORDS: u32 = 262_144;
 /// # Errors
 ///
 /// `Bad` is the first fault of the text. What is due for labels (that they are defined, once, and
-/// near enough) is looked at once the whole text has no other fault. `NoMemory` is want of memory.
+/// near enough) is looked at once the whole text has no other fault. `NoMemory`: out of memory.
 pub fn assemble(alloc: Global, text: &str) -> Result<Vec<u32>, AsmFault>
     requires { length text.now ≤ 268435456 }
     ensures words { IfOk result (λ words. IsAssembly text.now words.items) }

@@ -1,7 +1,7 @@
 //! What may be wrong with a file.
 use std::alloc::{AllocError, AllocFailed};
 
-/// The first rule of `specs/Rules.antt` that a file breaks, or want of memory.
+/// The first rule of `specs/Rules.antt` that a file breaks, or out of memory.
 #[derive(Debug, Drop, PartialEq, Eq, thiserror::Error)]
 pub enum ElfFault {
     /// The file ends before the part that begins at this offset does.

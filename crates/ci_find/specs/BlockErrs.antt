@@ -5,7 +5,7 @@ use Rattle.ci_find.specs.declared.commands.best.block.BlockErr.{BlockErr}
 use Rattle.ci_find.specs.declared.commands.best.block.BlockErr.TheVariants.{Unsupported, NoMemory}
 use Rattle.ci_find.specs.Block.{IsBlock, IsUnsupported}
 
--- They are no block, for this reason. Want of memory says nothing of them.
+-- They are no block, for this reason. Out of memory says nothing of them.
 abbrev pub IsCauseOf : List ℕ → BlockErr → Type 0
 IsCauseOf bytes (Unsupported position word) =
     IsUnsupported bytes position word × ((operations : List Operation) → IsBlock bytes operations → ⊥)

@@ -8,8 +8,8 @@ use Rattle.ci_io.specs.declared.shelves.ShelfErr.{ShelfErr}
 use Rattle.ci_io.specs.declared.shelves.ShelfErr.TheVariants.{Absent, Fault, TooLarge, NoMemory}
 use Rattle.ci_io.specs.Outcomes.{Files}
 
--- The file's bytes, at most as many as the limit; or no file has the name; or it is longer than the limit. A fault and
--- want of memory say nothing of the file.
+-- The file's bytes, at most as many as the limit; or no file has the name; or it is longer than the limit. A fault
+-- and "out of memory" say nothing of the file.
 abbrev pub IsReadOf : Files → List ℕ → ℕ → Result (Vec ℕ Global) ShelfErr → Type 0
 IsReadOf files name limit (Ok bytes) = (map.get files name ≡ Some bytes.items) × (length bytes.items ≤ limit)
 IsReadOf files name limit (Err Absent) = map.get files name ≡ None

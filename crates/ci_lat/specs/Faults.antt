@@ -110,7 +110,7 @@ abbrev pub HaveFirst : List ℕ → LatFault → Type 0
 HaveFirst bytes fault =
     (document : Members) × AreDocument bytes document × (first_fault (causes document) ≡ Some fault)
 
--- The bytes have this fault: they are no document, or the document has it first. Want of memory is no fault of bytes.
+-- The bytes have this fault: they are no document, or the document has it first. Out of memory is no fault of bytes.
 abbrev pub HaveFault : List ℕ → LatFault → Type 0
 HaveFault bytes NotToml = ¬ ((document : Members) × AreDocument bytes document)
 HaveFault bytes NoMemory = ⊥
