@@ -1,5 +1,5 @@
 -- What accesses read and write, at addresses in a row.
-use Rattle.std.proofs.Common.{◌≡◌, ℕ, zero, suc, ◌+◌, ◌-◌, ◌*◌, ◌%◌, ◌/◌, ◌^◌, ◌<◌, ◌≤◌, Bool, true, false, cond, List, [], ◌∷◌, ◌++◌, length, get_or, set, refl, sym, ◌∙◌, ap, subst, arith, eqb, Option, Some, None, is_some, ◌⊎◌, inl, inr, ◌≢◌, lit≤, drop}
+use Rattle.std.proofs.Common.{◌≡◌, ℕ, zero, suc, ◌+◌, ◌-◌, ◌*◌, ◌%◌, ◌/◌, ◌^◌, ◌<◌, ◌≤◌, Bool, true, false, cond, List, [], ◌∷◌, ◌++◌, length, get_or, set, refl, sym, ◌∙◌, ap, subst, arith, eqb, Option, Some, None, is_some, ◌⊎◌, inl, inr, ◌≢◌, lit≤, drop, find}
 use Rattle.std.proofs.lemmas.List.{drop_more, length-set, get_or-set_same, get_or-set_other}
 use borrow.Author.Tests.{eqb-true, eqb-false}
 use Rattle.std.specs.Option.{option_map}
@@ -260,3 +260,23 @@ with_bytes-before memory later n count a i byte bytes e lt is h =
 pub length-bytes_of_number : (k n : ℕ) → length (bytes_of_number k n) ≡ k
 length-bytes_of_number zero n = refl
 length-bytes_of_number (suc k) n = ap (λ (m : ℕ). suc m) (length-bytes_of_number k (n / 256))
+
+-- ---- the first of several addresses with a property
+
+-- the addresses from one of them on
+addresses_from : (count i address : ℕ) → i < count → addresses (count - i) (address + i) ≡ (address + i) % 2 ^ 32 ∷ addresses (count - (i + 1)) (address + (i + 1))
+addresses_from count i address within =
+    let e : count - i ≡ suc (count - (i + 1)) = omega arith in
+    let next : address + i + 1 ≡ address + (i + 1) = omega arith in
+    rw (e, next) refl
+
+pub find_here : (p : ℕ → Bool) (count i address : ℕ) → i < count → p ((address + i) % 2 ^ 32) ≡ true
+    → find p (addresses (count - i) (address + i)) ≡ Some ((address + i) % 2 ^ 32)
+find_here p count i address within holds = rw (addresses_from count i address within, holds) refl
+
+pub find_later : (p : ℕ → Bool) (count i address : ℕ) → i < count → p ((address + i) % 2 ^ 32) ≡ false
+    → find p (addresses (count - i) (address + i)) ≡ find p (addresses (count - (i + 1)) (address + (i + 1)))
+find_later p count i address within fails = rw (addresses_from count i address within, fails) refl
+
+pub find_none : (p : ℕ → Bool) (count i address : ℕ) → count ≤ i → find p (addresses (count - i) (address + i)) ≡ None
+find_none p count i address past = let e : count - i ≡ 0 = omega arith in rw e refl

@@ -1,17 +1,12 @@
 -- What an environment call makes of a core.
-use Rattle.std.proofs.Common.{◌≡◌, ℕ, ◌-◌, ◌≤◌, Bool, true, false, cond, List, [], ◌∷◌, Option, Some, None, is_some, length, ◌||◌, take, drop, map, eqb, refl, sym, ap, ◌∙◌, arith}
+use Rattle.std.proofs.Common.{◌≡◌, ℕ, ◌-◌, ◌≤◌, true, false, cond, List, Option, Some, None, is_some, length, take, drop, eqb, refl, sym, ap, ◌∙◌, arith}
 use Rattle.std.proofs.lemmas.List.{length-take-le, length-drop}
-use Rattle.std.specs.List.{list_any}
 use Rattle.ci_machine.specs.declared.state.State.{State as Machine}
 use Rattle.ci_machine.specs.States.{core_of, program_of, state_of}
 use Rattle.ci_machine.specs.Cores.{Core, register}
 use Rattle.ci_machine.specs.Accesses.{addresses, with_bytes}
 use Rattle.ci_machine.specs.Programs.{Program}
 use Rattle.ci_machine.specs.Calls.{answering, range_at, read_length, read_into, read_call, may_end_at, with_heap_end, heap_call}
-
-pub list_any-map : {X Y : Type 0} (p : Y → Bool) (f : X → Y) (xs : List X) → list_any p (map f xs) ≡ list_any (λ x. p (f x)) xs
-list_any-map p f [] = refl
-list_any-map p f (x ∷ xs) = ap (λ (b : Bool). p (f x) || b) (list_any-map p f xs)
 
 pub heap_call-is : (program : Program) (core next new : Core) (result : ℕ)
     → next ≡ cond (may_end_at program (register core 10)) (with_heap_end core (register core 10)) core

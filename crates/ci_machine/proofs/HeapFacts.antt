@@ -1,8 +1,9 @@
 -- What is known of the heap, the second part.
 use Rattle.std.proofs.Common.{◌≡◌, ℕ, ◌+◌, ◌-◌, ◌*◌, ◌/◌, ◌<◌, ◌≤◌, List, [], ◌∷◌, length, get_or, set, sym, subst, arith, Bool, true, false, ◌^◌, ◌∙◌, refl, cond, leb, ◌&&◌, ◌||◌}
 use Rattle.std.proofs.lemmas.Bool.Decides.{nat_tests}
+use Rattle.ci_elf.specs.declared.ranges.Range.{Range}
 use Rattle.ci_machine.specs.declared.parts.Part.{Part}
-use Rattle.ci_machine.specs.Programs.{TextRange, greatest_end, loaded_size, lies_in, stack_start, stack_end}
+use Rattle.ci_machine.specs.Programs.{greatest_end, loaded_size, lies_in, stack_start, stack_end}
 use Rattle.ci_machine.specs.Parts.{IsApart, IsLaidOut, places, heap_end_in, program_in, segments_in}
 use Rattle.ci_machine.specs.Calls.{may_end_at}
 use Rattle.ci_machine.proofs.HeapLaws.{IsMoved, moved, not_heap}
@@ -94,6 +95,6 @@ heap-set (stack ∷ h ∷ segments) loaded heap new end ok apart laid within is 
 
 -- the heap may end there
 pub room_is : (parts : List Part) (loaded end : ℕ) (heap : Part) → IsLaidOut (places parts) loaded → heap ≡ get_or parts 1 heap
-    → (text : List TextRange) → room heap.start loaded end ≡ may_end_at (program_in (places parts) text) end
+    → (text : List Range) → room heap.start loaded end ≡ may_end_at (program_in (places parts) text) end
 room_is parts loaded end heap laid is text =
     let h = heap_is parts loaded heap laid is in λ k. room (h.begins k) (h.counted k) end

@@ -3,7 +3,7 @@ use Rattle.std.proofs.Common.{◌≡◌, ℕ, zero, suc, ◌+◌, ◌-◌, ◌<�
 use Rattle.std.proofs.lemmas.List.{drop_more, drop_all, get_or_read}
 use Rattle.std.proofs.lemmas.Bool.Decides.{nat_tests}
 use Rattle.ci_machine.specs.declared.parts.Part.{Part}
-use Rattle.ci_machine.specs.Programs.{Segment, lies_in, greatest_end}
+use Rattle.ci_machine.specs.Programs.{Extent, lies_in, greatest_end}
 use Rattle.ci_machine.specs.Parts.{holds, byte_in, IsApart, IsFound, place_of, places}
 
 -- ---- tests
@@ -101,13 +101,13 @@ module _ (part new : Part) (begins : new.start ≡ part.start) (ends : length ne
   )
 
   same_place : place_of new ≡ place_of part
-  same_place = λ k. record { address = begins k; size = ends k; bytes = [] }
+  same_place = λ k. record { address = begins k; size = ends k }
 
   pub places-set : (parts : List Part) (i : ℕ) → i < length parts → part ≡ get_or parts i part → places (set parts i new) ≡ places parts
   unfolding places
   places-set [] i lt is = absurd (omega arith)
-  places-set (p ∷ ps) zero lt is = ap (λ (s : Segment). s ∷ places ps) (same_place ∙ ap place_of is)
-  places-set (p ∷ ps) (suc i) lt is = ap (λ (s : List Segment). place_of p ∷ s) (places-set ps i (omega arith) is)
+  places-set (p ∷ ps) zero lt is = ap (λ (s : Extent). s ∷ places ps) (same_place ∙ ap place_of is)
+  places-set (p ∷ ps) (suc i) lt is = ap (λ (s : List Extent). place_of p ∷ s) (places-set ps i (omega arith) is)
 
 -- no part goes past the greatest end
 pub end_of_part : (parts : List Part) (i : ℕ) (part : Part) → i < length parts → part ≡ get_or parts i part

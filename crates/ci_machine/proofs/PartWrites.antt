@@ -3,7 +3,7 @@ use Rattle.std.proofs.Common.{◌≡◌, ℕ, ◌+◌, ◌-◌, ◌^◌, ◌≤�
 use Rattle.ci_machine.specs.declared.parts.Part.{Part}
 use Rattle.ci_isa.specs.declared.instruction.Width.{Width}
 use Rattle.ci_machine.specs.Accesses.{addresses, bytes_of_number, width_bytes, with_bytes}
-use Rattle.ci_machine.specs.Programs.{Segment, greatest_end, lies_in}
+use Rattle.ci_machine.specs.Programs.{Extent, greatest_end, lies_in}
 use Rattle.ci_machine.specs.Parts.{holds, byte_in, overwritten, with_number, IsApart, IsFound, IsLaidOut, places}
 use Rattle.ci_machine.proofs.PartLaws.{absorbed, byte_in_part, byte_in-set, IsApart-set, places-set, lies_in-bounds, end_of_part}
 use Rattle.ci_machine.proofs.AccessLaws.{over, over-overwritten, length_overwritten, length-bytes_of_number}
@@ -22,10 +22,10 @@ pub record IsStored (old new : List Part) (x : ℕ) (width : Width) (value : ℕ
 
 -- what is kept of a memory whose parts lie where they lay
 pub within_still : (old new : List Part) → places new ≡ places old → greatest_end (places old) ≤ 2 ^ 32 → greatest_end (places new) ≤ 2 ^ 32
-within_still old new same h = let P : List Segment → Type 0 = λ ss. greatest_end ss ≤ 2 ^ 32 in subst P (sym same) h
+within_still old new same h = let P : List Extent → Type 0 = λ ss. greatest_end ss ≤ 2 ^ 32 in subst P (sym same) h
 
 pub laid_out_still : (old new : List Part) (loaded : ℕ) → places new ≡ places old → IsLaidOut (places old) loaded → IsLaidOut (places new) loaded
-laid_out_still old new loaded same h = let P : List Segment → Type 0 = λ ss. IsLaidOut ss loaded in subst P (sym same) h
+laid_out_still old new loaded same h = let P : List Extent → Type 0 = λ ss. IsLaidOut ss loaded in subst P (sym same) h
 
 module _ (parts : List Part) (i x : ℕ) (part new : Part) (apart : IsApart parts) (within : greatest_end (places parts) ≤ 2 ^ 32)
     (found : IsFound parts i x) (is : part ≡ get_or parts i part) (begins : new.start ≡ part.start) where

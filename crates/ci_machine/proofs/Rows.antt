@@ -18,7 +18,8 @@ use Rattle.ci_machine.specs.declared.ends.End.TheVariants as ends
 use Rattle.ci_machine.specs.Cores.{Core, hidden, register, with_register}
 use Rattle.ci_machine.specs.Outcomes.{Next, Ended, Reached, reached}
 use Rattle.ci_machine.specs.Actions.{Units, acted}
-use Rattle.ci_machine.specs.Programs.{Program, State, at_pc, opening}
+use Rattle.ci_elf.specs.Executables.{Executable}
+use Rattle.ci_machine.specs.Programs.{Program, State, at_pc, loaded_program, opening}
 use Rattle.ci_machine.specs.Calls.{call}
 use Rattle.ci_machine.specs.Steps.{Meaning, control, step, touched}
 use Rattle.ci_machine.specs.Runs.{Latencies, jalr_target, after, cost, steps_made, entries}
@@ -92,7 +93,7 @@ unit_results = (refl, refl)
 -- ---- control
 
 empty : Program
-empty = record { entry = 0; segments = []; text = [] }
+empty = record { segments = []; text = [] }
 
 -- JALR clears bit 0 of 105, and its link comes after the target
 jump_to_even : control empty (Jalr 5 5 (pos 5)) 0x200 core ≡ Next (record { pc = 0x104; core = (acted units (AluImm Add 5 0 (pos 0x204)) core).state })
@@ -161,49 +162,54 @@ unfolding jump_row branch_row load_row store_row immediate_row shift_row constan
 plain = record { insn = λ word. unwrap_or (plain_row word) (Illegal word); units = units }
 
 -- addi x10, x0, 7; addi x17, x0, 93; addi x0, x0, 0; ecall
-program : Program
-program = record {
+file : Executable
+file = record {
+  bytes = 0x13 ∷ 0x05 ∷ 0x70 ∷ 0x00 ∷ 0x93 ∷ 0x08 ∷ 0xd0 ∷ 0x05 ∷ 0x13 ∷ 0x00 ∷ 0x00 ∷ 0x00 ∷ 0x73 ∷ 0x00 ∷ 0x00 ∷ 0x00 ∷ [];
   entry = 0x1000;
-  segments = record {
-    address = 0x1000;
-    size = 16;
-    bytes = 0x13 ∷ 0x05 ∷ 0x70 ∷ 0x00 ∷ 0x93 ∷ 0x08 ∷ 0xd0 ∷ 0x05 ∷ 0x13 ∷ 0x00 ∷ 0x00 ∷ 0x00 ∷ 0x73 ∷ 0x00 ∷ 0x00 ∷ 0x00 ∷ [];
-  } ∷ [];
-  text = record { start = 0x1000; words = 4 } ∷ [];
+  segments = record { address = 0x1000; memory_size = 20; offset = 0; file_size = 16 } ∷ [];
+  ranges = record { start = 0x1000; words = 4 } ∷ [];
+  symbols = [];
 }
+
+program : Program
+program = loaded_program file
+
+-- behind the file's part of the segment stand zeros
+loaded_bytes : ((opening file []).core.memory 0x1002 ≡ Some 0x70) × ((opening file []).core.memory 0x1010 ≡ Some 0) × ((opening file []).core.memory 0x1014 ≡ None)
+unfolding file
+loaded_bytes = (refl, refl, refl)
 
 latencies : Latencies
 latencies = record { of_class = λ _. 10; pad = 3; read = 1; of_unit = λ _. 1 }
 
-ends_by_exit : (after plain program 9 (opening program [])).end ≡ Some (ends.Exit 7)
-unfolding plain program units
+ends_by_exit : (after plain program 9 (opening file [])).end ≡ Some (ends.Exit 7)
+unfolding plain program file units
 ends_by_exit = refl
 
 -- ends by its fourth step, and costs 10 + 10 + 3 + 10
-run_accounts : (steps_made plain program 9 (opening program []) ≡ 4) × (cost plain program latencies 9 (opening program []) ≡ 33) × (entries plain program 9 (opening program []) 0x1008 ≡ 1)
-unfolding plain program units latencies count_below sum_below
+run_accounts : (steps_made plain program 9 (opening file []) ≡ 4) × (cost plain program latencies 9 (opening file []) ≡ 33) × (entries plain program 9 (opening file []) 0x1008 ≡ 1)
+unfolding plain program file units latencies count_below sum_below
 run_accounts = (refl, refl, refl)
 
 -- ---- a program of thirty words, with calls through a table, loads of constants and a word of output
 
-sample : Program
-sample = record {
+sample_file : Executable
+sample_file = record {
+  bytes = flat_map (bytes_of_number 4) (
+      0x00020437 ∷ 0x00400493 ∷ 0x00000913 ∷ 0x00042283 ∷ 0x00090513 ∷ 0x000280e7 ∷ 0x00050913 ∷ 0x00440413 ∷ 0xfff48493 ∷ 0xfe0494e3
+      ∷ 0x000205b7 ∷ 0x0125a823 ∷ 0x01058593 ∷ 0x00100513 ∷ 0x00400613 ∷ 0x04000893 ∷ 0x00000073 ∷ 0x00000513 ∷ 0x05d00893 ∷ 0x00000073
+      ∷ 0x00351313 ∷ 0x00a34333 ∷ 0x00530513 ∷ 0x00008067 ∷ 0x000103b7 ∷ 0x0ec3a383 ∷ 0x00750533 ∷ 0x00155313 ∷ 0x00654533 ∷ 0x00008067
+      ∷ 0x000003e8 ∷ 0x100c4 ∷ 0x100d4 ∷ 0x100c4 ∷ 0x100d4 ∷ 0 ∷ []);
   entry = 0x10074;
-  segments = record {
-    address = 0x10074;
-    size = 124;
-    bytes = flat_map (bytes_of_number 4) (
-        0x00020437 ∷ 0x00400493 ∷ 0x00000913 ∷ 0x00042283 ∷ 0x00090513 ∷ 0x000280e7 ∷ 0x00050913 ∷ 0x00440413 ∷ 0xfff48493 ∷ 0xfe0494e3
-        ∷ 0x000205b7 ∷ 0x0125a823 ∷ 0x01058593 ∷ 0x00100513 ∷ 0x00400613 ∷ 0x04000893 ∷ 0x00000073 ∷ 0x00000513 ∷ 0x05d00893 ∷ 0x00000073
-        ∷ 0x00351313 ∷ 0x00a34333 ∷ 0x00530513 ∷ 0x00008067 ∷ 0x000103b7 ∷ 0x0ec3a383 ∷ 0x00750533 ∷ 0x00155313 ∷ 0x00654533 ∷ 0x00008067
-        ∷ 0x000003e8 ∷ []);
-  } ∷ record {
-    address = 0x20000;
-    size = 20;
-    bytes = flat_map (bytes_of_number 4) (0x100c4 ∷ 0x100d4 ∷ 0x100c4 ∷ 0x100d4 ∷ 0 ∷ []);
-  } ∷ [];
-  text = record { start = 0x10074; words = 30 } ∷ [];
+  segments =
+      record { address = 0x10074; memory_size = 124; offset = 0; file_size = 124 }
+      ∷ record { address = 0x20000; memory_size = 20; offset = 124; file_size = 20 } ∷ [];
+  ranges = record { start = 0x10074; words = 30 } ∷ [];
+  symbols = [];
 }
+
+sample : Program
+sample = loaded_program sample_file
 
 usual : Latencies
 usual = record { of_class = by_class; pad = 0; read = 1; of_unit = λ _. 1 }
@@ -217,52 +223,57 @@ usual = record { of_class = by_class; pad = 0; read = 1; of_unit = λ _. 1 }
     by_class class.Free = 0
     by_class other = 1
 
-sample_ends : (after plain sample 61 (opening sample [])).end ≡ Some (ends.Exit 0)
-unfolding plain sample units
+sample_ends : (after plain sample 61 (opening sample_file [])).end ≡ Some (ends.Exit 0)
+unfolding plain sample sample_file units
 sample_ends = refl
 
-sample_output : (after plain sample 61 (opening sample [])).state.core.output ≡ 0xe8 ∷ 0x1d ∷ 0x00 ∷ 0x00 ∷ []
-unfolding plain sample units
+sample_output : (after plain sample 61 (opening sample_file [])).state.core.output ≡ 0xe8 ∷ 0x1d ∷ 0x00 ∷ 0x00 ∷ []
+unfolding plain sample sample_file units
 sample_output = refl
 
-sample_cost : cost plain sample usual 61 (opening sample []) ≡ 75
-unfolding plain sample units usual sum_below
+sample_cost : cost plain sample usual 61 (opening sample_file []) ≡ 75
+unfolding plain sample sample_file units usual sum_below
 sample_cost = refl
 
-sample_entries : (steps_made plain sample 70 (opening sample []) ≡ 61) × (entries plain sample 61 (opening sample []) 0x10080 ≡ 4)
-    × (entries plain sample 61 (opening sample []) 0x100c4 ≡ 2) × (entries plain sample 61 (opening sample []) 0x100b8 ≡ 1)
-unfolding plain sample units count_below
+sample_entries : (steps_made plain sample 70 (opening sample_file []) ≡ 61) × (entries plain sample 61 (opening sample_file []) 0x10080 ≡ 4)
+    × (entries plain sample 61 (opening sample_file []) 0x100c4 ≡ 2) × (entries plain sample 61 (opening sample_file []) 0x100b8 ≡ 1)
+unfolding plain sample sample_file units count_below
 sample_entries = (refl, refl, refl, refl)
 
 -- the first call of the loop leads to f0
-sample_target : jalr_target plain sample (after plain sample 5 (opening sample [])).state ≡ Some 0x100c4
-unfolding plain sample units
+sample_target : jalr_target plain sample (after plain sample 5 (opening sample_file [])).state ≡ Some 0x100c4
+unfolding plain sample sample_file units
 sample_target = refl
 
 -- ---- touches
 
 -- lw x5, 0(x2): from FFE on two of its bytes are not mapped, and two are text
-reader : Program
-reader = record {
+reader_file : Executable
+reader_file = record {
+  bytes = 0x83 ∷ 0x22 ∷ 0x01 ∷ 0x00 ∷ [];
   entry = 0x1000;
-  segments = record { address = 0x1000; size = 4; bytes = 0x83 ∷ 0x22 ∷ 0x01 ∷ 0x00 ∷ [] } ∷ [];
-  text = record { start = 0x1000; words = 1 } ∷ [];
+  segments = record { address = 0x1000; memory_size = 4; offset = 0; file_size = 4 } ∷ [];
+  ranges = record { start = 0x1000; words = 1 } ∷ [];
+  symbols = [];
 }
 
+reader : Program
+reader = loaded_program reader_file
+
 reading : ℕ → State
-reading address = at_pc 0x1000 (with_register (opening reader []).core 2 address)
+reading address = at_pc 0x1000 (with_register (opening reader_file []).core 2 address)
 
 -- a load touches the text also where it ends
 touch_at_end : (touched plain reader (reading 0xffe) ≡ Some 0x1000) × (step plain reader (reading 0xffe) ≡ Ended (ends.Access 0xffe widths.Word))
-unfolding plain units reader reading
+unfolding plain units reader reader_file reading
 touch_at_end = (refl, refl)
 
 -- it does not where it moves no byte of it
 no_touch : (touched plain reader (reading 0xffc) ≡ None) × (touched plain reader (reading 0x7ff00000) ≡ None)
-unfolding plain units reader reading
+unfolding plain units reader reader_file reading
 no_touch = (refl, refl)
 
 -- outside the text and between its words nothing is fetched
 no_fetch : (step plain reader (at_pc 0x1002 core) ≡ Ended (ends.Fetch 0x1002)) × (step plain reader (at_pc 0x1004 core) ≡ Ended (ends.Fetch 0x1004))
-unfolding plain units reader
+unfolding plain units reader reader_file
 no_fetch = (refl, refl)

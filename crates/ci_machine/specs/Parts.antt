@@ -3,10 +3,11 @@ use Rattle.std.specs.Prelude.{◌≡◌, ℕ, suc, zero, ◌+◌, ◌-◌, ◌*�
 use Rattle.std.proofs.Props.{props}
 use native.Mathlib.Nat.{ℕ_set}
 use native.Mathlib.Bridge.{le_prop}
+use Rattle.ci_elf.specs.declared.ranges.Range.{Range}
 use Rattle.ci_machine.specs.declared.parts.Part.{Part}
 use Rattle.ci_isa.specs.declared.instruction.Width.{Width}
 use Rattle.ci_machine.specs.Accesses.{addresses, bytes_at, bytes_of_number, width_bytes, with_bytes}
-use Rattle.ci_machine.specs.Programs.{Segment, TextRange, Program, lies_in, stack_start, stack_end, greatest_end, loaded_size}
+use Rattle.ci_machine.specs.Programs.{Extent, Program, lies_in, stack_start, stack_end, greatest_end, loaded_size}
 
 -- the address is one of the part's
 abbrev pub holds : Part → ℕ → Bool
@@ -34,15 +35,15 @@ pub record IsFound (parts : List Part) (index address : ℕ) : Type 0 where
 
 -- ---- where parts lie
 
--- where a part lies, its bytes left out
-abbrev pub place_of : Part → Segment
-place_of part = record { address = part.start; size = length part.bytes.items; bytes = [] }
+-- where a part lies
+abbrev pub place_of : Part → Extent
+place_of part = record { address = part.start; size = length part.bytes.items }
 
-unfoldable pub places : List Part → List Segment
+unfoldable pub places : List Part → List Extent
 places parts = map place_of parts
 
 -- the stack, the heap and the segments, whose bytes and the stack's are counted
-pub record AreLoaded (stack heap : Segment) (segments : List Segment) (loaded : ℕ) : Type 0 where
+pub record AreLoaded (stack heap : Extent) (segments : List Extent) (loaded : ℕ) : Type 0 where
   pub stack_begins : stack.address ≡ stack_start
   pub stack_ends : stack.address + stack.size ≡ stack_end
   pub heap_begins : heap.address ≡ (greatest_end segments + 15) / 16 * 16
@@ -51,23 +52,23 @@ pub record AreLoaded (stack heap : Segment) (segments : List Segment) (loaded : 
   pub fits : loaded ≤ 67108864
 
 -- the parts of a machine's memory: the stack, the heap, and the segments
-unfoldable pub IsLaidOut : List Segment → ℕ → Type 0
+unfoldable pub IsLaidOut : List Extent → ℕ → Type 0
 IsLaidOut [] loaded = ⊥
 IsLaidOut (stack ∷ []) loaded = ⊥
 IsLaidOut (stack ∷ heap ∷ segments) loaded = AreLoaded stack heap segments loaded
 
 -- the segments, and where the heap ends
-abbrev pub segments_in : List Segment → List Segment
+abbrev pub segments_in : List Extent → List Extent
 segments_in (stack ∷ heap ∷ segments) = segments
 segments_in all = []
 
-abbrev pub heap_end_in : List Segment → ℕ
+abbrev pub heap_end_in : List Extent → ℕ
 heap_end_in (stack ∷ heap ∷ segments) = heap.address + heap.size
 heap_end_in all = 0
 
 -- the program whose segments and heap lie so
-abbrev pub program_in : List Segment → List TextRange → Program
-program_in all text = record { entry = 0; segments = segments_in all; text = text }
+abbrev pub program_in : List Extent → List Range → Program
+program_in all text = record { segments = segments_in all; text = text }
 
 -- memory where the heap ended and now ends
 abbrev pub with_heap_moved : ℕ → ℕ → (ℕ → Option ℕ) → ℕ → Option ℕ
@@ -99,7 +100,7 @@ unfolding IsApart
 IsApart-prop [] = hlevel
 IsApart-prop (part ∷ parts) = hlevel (ℕ_set, props, IsApart-prop parts)
 
-pub IsLaidOut-prop : (segments : List Segment) (loaded : ℕ) → IsProp (IsLaidOut segments loaded)
+pub IsLaidOut-prop : (segments : List Extent) (loaded : ℕ) → IsProp (IsLaidOut segments loaded)
 unfolding IsLaidOut
 IsLaidOut-prop [] loaded = hlevel
 IsLaidOut-prop (stack ∷ []) loaded = hlevel

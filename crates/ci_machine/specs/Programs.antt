@@ -1,23 +1,27 @@
--- A program, and the state in which its run opens.
-use Rattle.std.specs.Prelude.{ℕ, ◌+◌, ◌-◌, ◌*◌, ◌/◌, Bool, ◌==◌, ◌&&◌, nat_le, nat_lt, max, if◌then◌else◌, List, [], ◌∷◌, Option, Some, None, slice_index}
+-- A program, where it lies in memory, and the state in which its run opens.
+use Rattle.std.specs.Prelude.{ℕ, ◌+◌, ◌-◌, ◌*◌, ◌/◌, Bool, ◌==◌, ◌&&◌, nat_le, nat_lt, max, if◌then◌else◌, List, [], ◌∷◌, map, Option, Some, None, slice_index}
 use Rattle.std.specs.List.{list_any}
+use Rattle.ci_elf.specs.declared.ranges.Range.{Range}
+use Rattle.ci_elf.specs.declared.segments.Segment.{Segment}
+use Rattle.ci_elf.specs.Executables.{Executable}
 use Rattle.ci_machine.specs.Cores.{Core}
 
--- a part of memory that is loaded: its first bytes, which zeros follow up to its size
-pub record Segment : Type 0 where
+-- where a segment lies in memory
+pub record Extent : Type 0 where
   pub address : ℕ
   pub size : ℕ
-  pub bytes : List ℕ
 
--- words of text in a row, from an address on
-pub record TextRange : Type 0 where
-  pub start : ℕ
-  pub words : ℕ
-
+-- What a run needs to know of an executable file: where its segments lie, and its text.
 pub record Program : Type 0 where
-  pub entry : ℕ
-  pub segments : List Segment
-  pub text : List TextRange
+  pub segments : List Extent
+  pub text : List Range
+
+abbrev pub extent_of : Segment → Extent
+extent_of segment = record { address = segment.address; size = segment.memory_size }
+
+-- the program that the file is
+abbrev pub loaded_program : Executable → Program
+loaded_program file = record { segments = map extent_of file.segments; text = file.ranges }
 
 -- the address is not below the start, and below the end
 abbrev pub lies_in : ℕ → ℕ → ℕ → Bool
@@ -36,20 +40,25 @@ stack_start = 0x7ff00000
 abbrev pub stack_end : ℕ
 stack_end = 0x80000000
 
--- the memory of the segments, the first one that has an address first, and of the stack
-abbrev pub loaded_memory : List Segment → ℕ → Option ℕ
-loaded_memory [] address = if lies_in stack_start stack_end address then Some 0 else None
-loaded_memory (segment ∷ segments) address =
-    if lies_in segment.address (segment.address + segment.size) address
-    then Some (slice_index segment.bytes (address - segment.address))
-    else loaded_memory segments address
+-- The byte of a segment that is so far behind its first one: its part of the file, and zeros behind that.
+abbrev pub loaded_byte : List ℕ → Segment → ℕ → ℕ
+loaded_byte bytes segment distance =
+    if nat_lt distance segment.file_size then slice_index bytes (segment.offset + distance) else 0
+
+-- The memory of segments of a file with these bytes, the first one that has an address first, and of the stack.
+abbrev pub loaded_memory : List ℕ → List Segment → ℕ → Option ℕ
+loaded_memory bytes [] address = if lies_in stack_start stack_end address then Some 0 else None
+loaded_memory bytes (segment ∷ segments) address =
+    if lies_in segment.address (segment.address + segment.memory_size) address
+    then Some (loaded_byte bytes segment (address - segment.address))
+    else loaded_memory bytes segments address
 
 -- how many bytes the segments and the stack take
-abbrev pub loaded_size : List Segment → ℕ
+abbrev pub loaded_size : List Extent → ℕ
 loaded_size [] = stack_end - stack_start
 loaded_size (segment ∷ segments) = segment.size + loaded_size segments
 
-abbrev pub greatest_end : List Segment → ℕ
+abbrev pub greatest_end : List Extent → ℕ
 greatest_end [] = 0
 greatest_end (segment ∷ segments) = max (segment.address + segment.size) (greatest_end segments)
 
@@ -66,14 +75,14 @@ pub record State : Type 0 where
 abbrev pub at_pc : ℕ → Core → State
 at_pc pc core = record { pc = pc; core = core }
 
--- the state in which a run on this input opens
-abbrev pub opening : Program → List ℕ → State
-opening program input = record {
-  pc = program.entry;
+-- the state in which a run of the file on this input opens
+abbrev pub opening : Executable → List ℕ → State
+opening file input = record {
+  pc = file.entry;
   core = record {
     registers = λ r. if r == 2 then 0x7ffffff0 else 0;
-    memory = loaded_memory program.segments;
-    heap_end = heap_start program;
+    memory = loaded_memory file.bytes file.segments;
+    heap_end = heap_start (loaded_program file);
     input = input;
     output = [];
   };

@@ -1,7 +1,6 @@
 -- What the definitions see of a machine's state.
-use Rattle.std.specs.Prelude.{ℕ, List, map, drop, slice_index, Option, Some, None}
+use Rattle.std.specs.Prelude.{ℕ, List, drop, slice_index, Option, Some, None}
 use Rattle.ci_machine.specs.declared.state.State.{State as Machine}
-use Rattle.ci_machine.specs.declared.text.TextWords.{TextWords}
 use Rattle.ci_machine.specs.declared.state.Call.{Call}
 use Rattle.ci_machine.specs.declared.state.Call.TheVariants.{Goes, Exit}
 use Rattle.ci_machine.specs.declared.ends.End.{End}
@@ -12,7 +11,7 @@ use Rattle.ci_machine.specs.Accesses.{addresses, bytes_at, width_bytes}
 use Rattle.ci_machine.specs.Outcomes.{Reached, reached}
 use Rattle.ci_machine.specs.Actions.{stored}
 use Rattle.ci_machine.specs.Calls.{call}
-use Rattle.ci_machine.specs.Programs.{Program, TextRange, State}
+use Rattle.ci_machine.specs.Programs.{Program, State}
 use Rattle.ci_machine.specs.Parts.{byte_in, places, segments_in, heap_end_in}
 
 -- everything of it but the pc
@@ -28,16 +27,10 @@ core_of machine = record {
 unfoldable pub state_of : Machine → State
 state_of machine = record { pc = machine.pc; core = core_of machine }
 
-abbrev pub range_of : TextWords → TextRange
-range_of range = record { start = range.start; words = range.words }
-
--- Where its program lies: the places of the segments, and the text. What the segments hold stands in memory alone.
+-- the program that it runs
 unfoldable pub program_of : Machine → Program
-program_of machine = record {
-  entry = 0;
-  segments = segments_in (places machine.memory.parts.items);
-  text = map range_of machine.text.items;
-}
+program_of machine =
+    record { segments = segments_in (places machine.memory.parts.items); text = machine.text.items }
 
 -- the end that an environment call comes to, if any
 abbrev pub end_of : Call → Option End

@@ -15,3 +15,4 @@ mod memory;
 mod parts;
 mod state;
 mod text;
+mod touches;

@@ -2,7 +2,8 @@
 ghost use Rattle.std.specs.Prelude.{◌≡◌, ℕ, ◌+◌, ◌-◌, ◌*◌, ◌/◌, ◌%◌, ◌^◌, ◌<◌, ◌≤◌, Bool, true, false, ◌&&◌, ◌==◌, if◌then◌else◌, Option, Some, None, IfSome, IfOk, OnErr, MatchOption, is_some, length, slice_index_or, List, [], ◌∷◌, IsTrue, ◌↔◌, slice_index, is_ok, replicate, nat_le, ◌||◌};
 ghost use Rattle.std.specs.Option.{option_map};
 ghost use Rattle.ci_machine.specs.Accesses.{addresses, bytes_at, bytes_of_number, number_of_bytes, width_bytes, with_bytes};
-ghost use Rattle.ci_machine.specs.Programs.{TextRange, greatest_end, stack_end, stack_start};
+ghost use Rattle.ci_elf.specs.declared.ranges.Range.{Range};
+ghost use Rattle.ci_machine.specs.Programs.{greatest_end, stack_end, stack_start};
 ghost use Rattle.ci_machine.specs.Calls.{may_end_at, range_at};
 ghost use Rattle.ci_machine.specs.Parts.{IsFound, bytes_in, heap_end_in, program_in, segments_in, with_heap_moved, holds, byte_in, overwritten, with_number, IsApart, IsApart-prop, places, IsLaidOut, IsLaidOut-prop};
 
@@ -224,7 +225,7 @@ impl Memory {
 
     /// Whether the heap may end there.
     pub(crate) fn may_end_at(&self, end: u32) -> bool
-        ensures { (text : List TextRange) → result ≡ may_end_at (program_in (places self.now.parts.items) text) end }
+        ensures { (text : List Range) → result ≡ may_end_at (program_in (places self.now.parts.items) text) end }
     {
         let heap = &self.parts[HEAP];
         is_room(heap.start, self.loaded, end)

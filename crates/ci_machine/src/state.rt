@@ -4,7 +4,8 @@
 ghost use Rattle.std.specs.Prelude.{◌≡◌, ℕ, ◌≤◌, length, slice_index};
 
 use crate::memory::Memory;
-use crate::text::{TextWords, in_ranges};
+use crate::text::in_ranges;
+use ci_elf::Range;
 use ci_isa::{Reg, Width};
 
 /// A byte of an access is not mapped.
@@ -28,7 +29,7 @@ pub struct State {
     /// x0 to x31, and the hidden register. x0 stays 0.
     pub(crate) registers: [u32; 33],
     pub(crate) memory: Memory,
-    pub(crate) text: Vec<TextWords>,
+    pub(crate) text: Vec<Range>,
     pub(crate) input: Vec<u8>,
     /// How many bytes of the input were read.
     pub(crate) read: usize,
@@ -101,6 +102,13 @@ impl State {
         ensures { result.now ≡ (state_of self.now).core.output }
     {
         &self.output
+    }
+
+    /// The ranges of the text.
+    pub fn text(&self) -> &[Range]
+        ensures { result.now ≡ (program_of self.now).text }
+    {
+        &self.text
     }
 
     /// Whether the byte at the address is text.

@@ -1,6 +1,6 @@
-use Rattle.std.proofs.Common.{ap, sym, ◌∙◌, [], drop, map, slice_index}
+use Rattle.std.proofs.Common.{ap, sym, ◌∙◌, [], drop, slice_index}
 use Rattle.ci_machine.specs.declared.state.State.{State as Machine}
-use Rattle.ci_machine.specs.States.{program_of, state_of, core_of, range_of}
+use Rattle.ci_machine.specs.States.{program_of, state_of, core_of}
 use Rattle.ci_machine.proofs.PartLaws.{taken, passed}
 use Rattle.ci_machine.proofs.CallLaws.{heap_called}
 use Rattle.ci_machine.proofs.state.State.heap_call.Goals as goal
@@ -13,7 +13,7 @@ pub returns-clause-state : goal.returns-clause-state
 unfolding program_of state_of core_of
 returns-clause-state c =
     let old = c.args.self.now in
-    let text = map range_of old.text.items in
+    let text = old.text.items in
     elim c.if-may_end_at.branch [
       | then-may_end_at+in_ok-set_heap_end w ↦
           let after = w.in_ok-set_heap_end.ensures in

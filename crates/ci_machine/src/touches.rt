@@ -1,0 +1,67 @@
+//! Which byte of the text an instruction touches first.
+#![tactic(auto, unfolding(crate::specs::States::state_of, crate::specs::States::core_of, crate::specs::States::program_of))]
+
+use crate::parts::size;
+use crate::state::State;
+use ci_isa::Width;
+
+impl State {
+    ghost use Rattle.std.specs.Prelude.{◌≡◌, ◌+◌, ◌-◌, ◌≤◌, find, length};
+    ghost use Rattle.ci_machine.specs.Accesses.{addresses, width_bytes};
+    ghost use Rattle.ci_machine.specs.Calls.{moved_by_call, moved_range, read_length};
+    ghost use Rattle.ci_machine.specs.Programs.{in_text};
+    ghost use Rattle.ci_machine.specs.States.{state_of, program_of};
+
+    /// The first byte of text among so many bytes from an address on. Addresses wrap.
+    fn first_in_text(&self, address: u32, count: u32) -> Option<u32>
+        ensures { result ≡ find (in_text (program_of self.now)) (addresses count address) }
+    {
+        for i in 0..count {
+            let place = address.wrapping_add(i);
+            if self.in_text(place) {
+                return Some(place);
+            }
+        }
+        None
+    }
+
+    /// The first byte of text that an access of this width at the address moves, in the order of the access, also where
+    /// it ends the run.
+    pub fn touched_by_access(&self, address: u32, width: Width) -> Option<u32>
+        ensures { result ≡ find (in_text (program_of self.now)) (addresses (width_bytes width) address) }
+    {
+        self.first_in_text(address, size(width))
+    }
+
+    /// The first byte of text that the environment call that the registers ask for moves. One that answers a fault
+    /// moves none.
+    pub fn touched_by_call(&self) -> Option<u32>
+        ensures { result ≡ find (in_text (program_of self.now)) (moved_by_call (state_of self.now).core) }
+    {
+        let file = self.registers[10];
+        match self.registers[17] {
+            63 if file == 0 => self.touched_by_move(self.read_length()),
+            64 if file == 1 || file == 2 => self.touched_by_move(self.registers[12]),
+            _ => None,
+        }
+    }
+
+    /// The first byte of text among so many from the address in x11 on, where they are all mapped.
+    fn touched_by_move(&self, count: u32) -> Option<u32>
+        ensures { result ≡ find (in_text (program_of self.now)) (moved_range (state_of self.now).core count) }
+    {
+        let address = self.registers[11];
+        if !self.memory.is_range(address, count) {
+            return None;
+        }
+        self.first_in_text(address, count)
+    }
+
+    /// How many bytes a read gives: those that are wanted, or those that are left.
+    fn read_length(&self) -> u32
+        ensures { result ≡ read_length (state_of self.now).core }
+    {
+        let left = self.input.len() - self.read;
+        left.min(self.registers[12] as usize) as u32
+    }
+}
