@@ -10,3 +10,4 @@ pub mod TableLaws
 pub mod Matches
 pub mod Readings
 pub mod NameLaws
+pub mod FileLaws

@@ -1,18 +1,19 @@
 -- The readings of words, against the matches of the command that the first word names.
-use Rattle.std.proofs.Common.{◌≡◌, ◌≢◌, ◌∙◌, ◌<◌, ◌≤◌, ◌⊎◌, ℕ, Bool, true, false, List, [], ◌∷◌, length, codes, Some, refl, sym, ap, ap₂, subst, arith, inl, inr, zero, suc}
-use Rattle.std.specs.Prelude.{All, AllPairs, Contains, slice_get, zip, unwrap_or, if◌then◌else◌}
+use Rattle.std.proofs.Common.{◌≡◌, ◌≢◌, ◌∙◌, ◌<◌, ◌≤◌, ◌⊎◌, ℕ, Bool, true, false, List, [], ◌∷◌, length, codes, Some, refl, sym, ap, subst, arith, inl, inr, zero, suc}
+use Rattle.std.specs.Prelude.{All, AllPairs, Contains, Option, None, filter, slice_get, zip, unwrap_or, if◌then◌else◌}
 use Rattle.std.specs.List.{slice_index_or}
 use Rattle.std.specs.Str.{bytes_eq}
 use Rattle.std.proofs.lemmas.Slice.Eq.{bytes_eq-Decides}
-use Rattle.std.proofs.lemmas.List.Elements.{All-head, All-tail, All-weaker}
+use Rattle.std.proofs.lemmas.List.Elements.{All-filter, All-head, All-map, All-tail, All-weaker}
 use Rattle.clap.specs.Walk.{Row}
 use Rattle.clap.specs.Simple.{matches_of}
 use Rattle.clap.specs.Faults.{fault_of}
-use Rattle.ci_words.specs.Tables.{CommandName, command_row, Kind, number, OptionName, inputs, outputs, option_row}
-use Rattle.ci_words.specs.Tables as table
-use Rattle.ci_words.specs.Words.{AreApart, AreMixed, IsName, IsNumber, IsOptionOf, Reading, ReadsAs, HasNoReading, Setting, Settings, Sets, Text, best, asm, dis}
-use Rattle.ci_words.specs.Words.{command_of, names_of, setting_of, settings_of, to_number, values_of}
-use Rattle.ci_words.specs.Parses.{Gives, IsParsed, app_named, has_option, known_to, option_name, values_in}
+use Rattle.ci_words.specs.Tables.{CommandName, command_row, Kind, number, OptionName, inputs, outputs, steps, table, input, option_row}
+use Rattle.ci_words.specs.Tables as tables
+use Rattle.ci_words.specs.Words.{AreApart, AreMixed, IsName, IsOptionOf, Reading, ReadsAs, HasNoReading, Setting, Settings, Sets, Text, best, asm, dis, run}
+use Rattle.ci_words.specs.Words.{command_of, is_named, names_of, setting_of, settings_of, to_file, to_number, values_of}
+use Rattle.ci_words.specs.Parses.{Gives, IsParsed, app_named, has_option, known_to, option_name, option_values, values_in}
+use Rattle.ci_words.proofs.FileLaws.{files_apart, names_apart}
 use Rattle.ci_words.proofs.Matches.{some-same}
 use Rattle.ci_words.proofs.Levels.{AreRead, passed_reads, read_meets}
 use Rattle.ci_words.proofs.Rows.{AreOf, listed}
@@ -22,24 +23,20 @@ use Rattle.ci_words.proofs.TableLaws.{fits, has_option-from, is_known, known_fit
 
 -- ---- values
 
--- digits are no hyphen
-number_is_name : (text : Text) (n : ℕ) → IsNumber text n → IsName text
-number_is_name [] n is =
-    let some = is.some in
-    absurd (omega arith)
-number_is_name (c ∷ cs) n is = λ e.
-    let digit = is.digits 0 c (omega arith) in
-    let low = digit.0 in
-    absurd (omega (arith, e))
-
--- what sets an option does not begin with a hyphen
-sets_name : (kind : Kind) (text : Text) (more : List Text) (setting : Setting) → Sets kind (text ∷ more) setting → IsName text
-sets_name (number least greatest usual) text more (to_number n) is = number_is_name text n is.0
-
 -- values set an option one way
 sets_one : (kind : Kind) (values : List Text) (one other : Setting) → Sets kind values one → Sets kind values other → one ≡ other
 sets_one (number least greatest usual) [] (to_number n) (to_number m) a b = ap to_number (a ∙ sym b)
 sets_one (number least greatest usual) (text ∷ more) (to_number n) (to_number m) a b = ap to_number (sym a.0.value ∙ b.0.value)
+sets_one (tables.file access) [] (to_file f) (to_file g) a b = ap to_file (a ∙ sym b)
+sets_one (tables.file access) (text ∷ more) (to_file f) (to_file g) a b = ap to_file (a ∙ sym b)
+sets_one (number least greatest usual) [] (to_file f) other a b = absurd a
+sets_one (number least greatest usual) [] (to_number n) (to_file g) a b = absurd b
+sets_one (number least greatest usual) (text ∷ more) (to_file f) other a b = absurd a
+sets_one (number least greatest usual) (text ∷ more) (to_number n) (to_file g) a b = absurd b
+sets_one (tables.file access) [] (to_number n) other a b = absurd a
+sets_one (tables.file access) [] (to_file f) (to_number m) a b = absurd b
+sets_one (tables.file access) (text ∷ more) (to_number n) other a b = absurd a
+sets_one (tables.file access) (text ∷ more) (to_file f) (to_number m) a b = absurd b
 
 -- ---- options that are given
 
@@ -85,28 +82,46 @@ value_of (o ∷ os) once (suc k) d lt = go (bytes_eq o.0 name) refl (value_of os
         absurd (omega (arith, once (slice_index_or os k d).0, ap length here, ap length found))
     go false e found = rw e found
 
+-- values of options are names where all values that are given are
+values_good : (name : Text) (given : List (Text × Text)) → All (λ o. IsName o.1) given → All IsName (values_of name given)
+values_good name given good = All-map IsName (λ (o : Text × Text). o.1) (filter (is_named name) given) (All-filter (is_named name) (λ o. IsName o.1) given good)
+
 -- ---- a reading's parts
 
 -- the reading with these parts
 remade : CommandName → List Text → Settings → Reading
-remade table.best names settings = best (slice_index_or names 0 []) settings
-remade table.asm names settings = asm (slice_index_or names 0 []) (slice_index_or names 1 [])
-remade table.dis names settings = dis (slice_index_or names 0 [])
+remade tables.best names settings = best (slice_index_or names 0 []) settings
+remade tables.asm names settings = asm (slice_index_or names 0 []) (slice_index_or names 1 [])
+remade tables.dis names settings = dis (slice_index_or names 0 [])
+remade tables.run names settings = run (slice_index_or names 0 []) settings
 
 remade-parts : (reading : Reading) → remade (command_of reading) (names_of reading) (settings_of reading) ≡ reading
 unfolding remade
 remade-parts (best file settings) = refl
 remade-parts (asm text out) = refl
 remade-parts (dis file) = refl
+remade-parts (run file settings) = refl
 
 -- a setting's number
 number_in : Setting → ℕ
 number_in (to_number n) = n
+number_in (to_file f) = 0
+
+-- a setting's file
+file_in : Setting → Option Text
+file_in (to_number n) = None
+file_in (to_file f) = f
 
 -- settings are what each option is set to
 settings_one : (one other : Settings) → ((option : OptionName) → setting_of option one ≡ setting_of option other) → one ≡ other
-unfolding number_in
-settings_one one other same = ap₂ (λ i o. record { inputs = i; outputs = o }) (ap number_in (same inputs)) (ap number_in (same outputs))
+unfolding number_in file_in
+settings_one one other same = λ i. record {
+  inputs = number_in (same inputs i);
+  outputs = number_in (same outputs i);
+  steps = number_in (same steps i);
+  input = file_in (same input i);
+  table = file_in (same table i);
+}
 
 -- ---- words against matches
 
@@ -142,8 +157,7 @@ module _ (command : CommandName) (rows : List Row) (names : List Text) (given : 
   names_in = ap (λ o. unwrap_or o []) are.of_names ∙ unlisted names
 
   -- the values that they have for an option of the command, and none for another
-  values_are : All (λ o. IsOptionOf command o.0) given → (option : OptionName)
-      → (if has_option command option then values_in (option_name option) rows else []) ≡ values_of (option_name option) given
+  values_are : All (λ o. IsOptionOf command o.0) given → (option : OptionName) → option_values command option rows ≡ values_of (option_name option) given
   values_are among option = go (has_option command option) refl
     where
       go : (b : Bool) → has_option command option ≡ b → (if b then values_in (option_name option) rows else []) ≡ values_of (option_name option) given
@@ -169,21 +183,22 @@ reading_found words reading reads =
       record {
         named = refl;
         names = names_in command rows (names_of reading) reads.given meets.stands;
-        good = record { as_many = reads.as_many; good = reads.good_names; apart = reads.apart };
+        good = record { as_many = reads.as_many; good = reads.good_names; apart = names_apart reading reads.apart };
+        good_values = λ option. subst (All IsName) (sym (values_are command rows (names_of reading) reads.given meets.stands reads.of_command option))
+            (values_good (option_name option) reads.given reads.good_values);
         set = λ option. subst (λ vs. Sets (option_row option).kind vs (setting_of option (settings_of reading)))
             (sym (values_are command rows (names_of reading) reads.given meets.stands reads.of_command option)) (reads.set option);
       },
     )
 
--- values that set the options of a command are no flags
-good_values : (command : CommandName) (given : List (Text × Text)) (settings : Settings) → All (λ o. IsOptionOf command o.0) given → AreOnce given
-    → ((option : OptionName) → Sets (option_row option).kind (values_of (option_name option) given) (setting_of option settings)) → All (λ o. IsName o.1) given
-good_values command given settings among once set k d lt =
+-- all values that are given are names where those of each option are
+good_values : (command : CommandName) (given : List (Text × Text)) → All (λ o. IsOptionOf command o.0) given → AreOnce given
+    → ((option : OptionName) → All IsName (values_of (option_name option) given)) → All (λ o. IsName o.1) given
+good_values command given among once good k d lt =
     let o = slice_index_or given k d in
     let is = among k d lt in
     let found : values_of (option_name is.option) given ≡ o.1 ∷ [] = ap (λ n. values_of n given) (sym is.named) ∙ value_of given once k d lt in
-    sets_name (option_row is.option).kind o.1 [] (setting_of is.option settings)
-    (subst (λ vs. Sets (option_row is.option).kind vs (setting_of is.option settings)) found (set is.option))
+    All-head IsName o.1 [] (subst (All IsName) found (good is.option))
 
 -- matches without a fault give a reading of the words
 matches_read : (words : List Text) (command : CommandName) (reading : Reading) → slice_get words 0 ≡ Some (command_row command).word → fault_of (app_named command) words ≡ []
@@ -197,8 +212,8 @@ matches_read words command reading first none gives =
     let among : All (λ o. IsOptionOf command o.0) reads.given =
     All-weaker (λ o. Contains (known_to command) o.0) (λ o. IsOptionOf command o.0) (λ o. known_is command o.0) reads.given reads.of_command in
     let named : reads.names ≡ names_of reading = sym (names_in command rows reads.names reads.given reads.stands) ∙ here.names in
-    let set : (option : OptionName) → Sets (option_row option).kind (values_of (option_name option) reads.given) (setting_of option (settings_of reading)) =
-    λ option. subst (λ vs. Sets (option_row option).kind vs (setting_of option (settings_of reading))) (values_are command rows reads.names reads.given reads.stands among option) (here.set option) in
+    let values : (option : OptionName) → option_values command option rows ≡ values_of (option_name option) reads.given =
+    values_are command rows reads.names reads.given reads.stands among in
     record {
       rest = rest.0;
       given = reads.given;
@@ -206,11 +221,11 @@ matches_read words command reading first none gives =
       mixed = subst (λ ns. AreMixed rest.0 ns reads.given) named reads.mixed;
       as_many = here.good.as_many ∙ ap (λ c. length (command_row c).names) (sym here.named);
       good_names = here.good.good;
-      apart = subst (λ c. AllPairs AreApart (zip (command_row c).names (names_of reading))) (sym here.named) here.good.apart;
+      apart = files_apart reading (subst (λ c. AllPairs AreApart (zip (command_row c).names (names_of reading))) (sym here.named) here.good.apart);
       of_command = subst (λ c. All (λ o. IsOptionOf c o.0) reads.given) (sym here.named) among;
-      good_values = good_values command reads.given (settings_of reading) among reads.once set;
+      good_values = good_values command reads.given among reads.once (λ option. subst (All IsName) (values option) (here.good_values option));
       once = λ option _. reads.once (option_name option);
-      set = set;
+      set = λ option. subst (λ vs. Sets (option_row option).kind vs (setting_of option (settings_of reading))) (values option) (here.set option);
     }
 
 -- and no other

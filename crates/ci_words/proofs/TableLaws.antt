@@ -7,9 +7,9 @@ use Rattle.std.proofs.lemmas.Bool.Decides.{eqb_tells}
 use Rattle.std.proofs.lemmas.List.Folds.{find_at, Any-from_list_any, list_any-from_Any}
 use Rattle.std.proofs.lemmas.Option.{get_or_from_slice_get, slice_get_within}
 use Rattle.clap.proofs.CutLemmas.{Lacks}
-use Rattle.ci_words.specs.Tables.{CommandName, best, asm, dis, command_row, OptionName, inputs, outputs, option_row}
+use Rattle.ci_words.specs.Tables.{CommandName, best, asm, dis, run, command_row, OptionName, inputs, outputs, steps, table, input, option_row, every_option}
 use Rattle.ci_words.specs.Words.{IsOptionOf, Text}
-use Rattle.ci_words.specs.Parses.{every_command, every_option, has_option, known_to, names_known, option_name, place_of}
+use Rattle.ci_words.specs.Parses.{every_command, has_option, known_to, names_known, option_name, place_of}
 use Rattle.ci_words.proofs.Matches.{some-same}
 use Rattle.ci_words.proofs.States.{IsOption}
 
@@ -31,12 +31,14 @@ unfolding command_called
 command_called-word best = refl
 command_called-word asm = refl
 command_called-word dis = refl
+command_called-word run = refl
 
 -- and by its place
 command_at-place : (command : CommandName) → slice_get every_command (place_of command) ≡ Some command
 command_at-place best = refl
 command_at-place asm = refl
 command_at-place dis = refl
+command_at-place run = refl
 
 -- so no two commands have one word
 pub same_command : (one other : CommandName) → (command_row one).word ≡ (command_row other).word → one ≡ other
@@ -76,11 +78,17 @@ fits_as first others apart lacks = record { apart = apart; first = first; others
 pub fits : (option : OptionName) → IsOption (option_name option)
 fits inputs = fits_as 105 (codes "n") refl refl
 fits outputs = fits_as 111 (codes "ut") refl refl
+fits steps = fits_as 115 (codes "teps") refl refl
+fits table = fits_as 116 (codes "able") refl refl
+fits input = fits_as 105 (codes "nput") refl refl
 
 -- no option may stand more than once
 pub once_only : (option : OptionName) → (option_row option).repeatable ≡ false
 once_only inputs = refl
 once_only outputs = refl
+once_only steps = refl
+once_only table = refl
+once_only input = refl
 
 -- the option of a name
 option_called : Text → Option OptionName
@@ -91,13 +99,16 @@ option_called-name : (option : OptionName) → option_called (option_name option
 unfolding option_called
 option_called-name inputs = refl
 option_called-name outputs = refl
+option_called-name steps = refl
+option_called-name table = refl
+option_called-name input = refl
 
 -- so no two options have one name
 pub same_option : (one other : OptionName) → option_name one ≡ option_name other → one ≡ other
 same_option one other same = some-same one other (sym (option_called-name one) ∙ (ap option_called same ∙ option_called-name other))
 
 -- and the table has each option
-every_option-all : (option : OptionName) → Contains every_option option
+pub every_option-all : (option : OptionName) → Contains every_option option
 unfolding option_called
 every_option-all option = in_list (λ other. bytes_eq (option_name other) (option_name option)) every_option option (option_called-name option)
 

@@ -1,9 +1,19 @@
 -- For every reader: what a command says.
-use Rattle.ci_words.specs.Words.{Reading, best, asm, dis}
+use Rattle.std.specs.Prelude.{Option}
+use Rattle.std.specs.Option.{option_map}
+use Rattle.std.specs.Borrow.{Bor}
+use Rattle.ci_words.specs.Words.{Text, Reading, best, asm, dis, run, usual_settings}
 use Rattle.ci_words.specs.declared.command.Command.{Command}
-use Rattle.ci_words.specs.declared.command.Command.TheVariants.{Best, Asm, Dis}
+use Rattle.ci_words.specs.declared.command.Command.TheVariants.{Best, Asm, Dis, Run}
+
+-- the name of a file, if there is one
+abbrev pub name_in : Option (Bor Text) → Option Text
+name_in file = option_map (λ name. name.now) file
 
 abbrev pub reading_of : Command → Reading
-reading_of (Best file limits) = best file.now (record { inputs = limits.inputs; outputs = limits.outputs })
+reading_of (Best file limits table) =
+    best file.now (record usual_settings { inputs = limits.inputs; outputs = limits.outputs; table = name_in table })
 reading_of (Asm text out) = asm text.now out.now
 reading_of (Dis file) = dis file.now
+reading_of (Run file steps input table) =
+    run file.now (record usual_settings { steps = steps; input = name_in input; table = name_in table })

@@ -4,7 +4,7 @@ use Rattle.std.specs.List.{list_any, slice_index_or}
 use Rattle.clap.specs.Words.{App, Row, Rule, new_rule, all_of, matches_of, fault_of}
 use Rattle.clap.specs.Simple.{new_shape}
 use Rattle.clap.specs.declared.builder.action.ArgAction.TheVariants.{Set, Append}
-use Rattle.ci_words.specs.Tables.{CommandName, best, asm, dis, command_row, OptionName, inputs, outputs, option_row, Kind, number, Access, reads, writes}
+use Rattle.ci_words.specs.Tables.{CommandName, best, asm, dis, run, command_row, OptionName, inputs, outputs, steps, table, input, option_row, every_option, Kind, number, file, Access, reads, writes}
 use Rattle.ci_words.specs.Words.{Text, Reading, command_of, names_of, settings_of, Setting, setting_of, Sets, IsName, AreApart}
 use Rattle.ci_words.specs.declared.tables.CommandName.{CommandName as CommandVariant}
 use Rattle.ci_words.specs.declared.tables.CommandName.TheVariants as command
@@ -21,10 +21,14 @@ abbrev pub command_named : CommandVariant → CommandName
 command_named command.Best = best
 command_named command.Asm = asm
 command_named command.Dis = dis
+command_named command.Run = run
 
 abbrev pub option_named : OptionVariant → OptionName
 option_named option.Inputs = inputs
 option_named option.Outputs = outputs
+option_named option.Steps = steps
+option_named option.Table = table
+option_named option.Input = input
 
 abbrev pub access_named : AccessVariant → Access
 access_named access.Reads = reads
@@ -32,19 +36,18 @@ access_named access.Writes = writes
 
 abbrev pub kind_of : KindVariant → Kind
 kind_of (kind.Number least greatest usual) = number least greatest usual
+kind_of (kind.File access) = file (access_named access)
 
--- the commands and the options in the order of their tables
+-- the commands in the order of their table
 abbrev pub every_command : List CommandName
-every_command = best ∷ asm ∷ dis ∷ []
-
-abbrev pub every_option : List OptionName
-every_option = inputs ∷ outputs ∷ []
+every_command = best ∷ asm ∷ dis ∷ run ∷ []
 
 -- a command's place in the table
 abbrev pub place_of : CommandName → ℕ
 place_of best = 0
 place_of asm = 1
 place_of dis = 2
+place_of run = 3
 
 abbrev pub has_option : CommandName → OptionName → Bool
 has_option command option = list_any (λ other. place_of other == place_of command) (option_row option).commands
@@ -94,6 +97,10 @@ pub record IsParsed (app : App) (words : List Text) (rows : List Row) : Type 0 w
 abbrev pub values_in : Text → List Row → List Text
 values_in name rows = unwrap_or (all_of name rows) []
 
+-- the values that they have for an option of the command, and none for another
+abbrev pub option_values : CommandName → OptionName → List Row → List Text
+option_values command option rows = if has_option command option then values_in (option_name option) rows else []
+
 -- what the option is set to by the values that the matches have for it
 abbrev pub IsGiven : OptionName → List Row → Setting → Type 0
 IsGiven option rows setting = Sets (option_row option).kind (values_in (option_name option) rows) setting
@@ -114,7 +121,7 @@ pub record Gives (command : CommandName) (rows : List Row) (reading : Reading) :
   pub named : command_of reading ≡ command
   pub names : values_in (codes "names") rows ≡ names_of reading
   pub good : AreNames command (names_of reading)
+  pub good_values : (option : OptionName) → All IsName (option_values command option rows)
   pub set :
       (option : OptionName) →
-      Sets (option_row option).kind (if has_option command option then values_in (option_name option) rows else [])
-      (setting_of option (settings_of reading))
+      Sets (option_row option).kind (option_values command option rows) (setting_of option (settings_of reading))

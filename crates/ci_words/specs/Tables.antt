@@ -17,17 +17,22 @@ pub data CommandName : Type 0 where
   best : CommandName
   asm : CommandName
   dis : CommandName
+  run : CommandName
 
 abbrev pub command_row : CommandName → CommandRow
 command_row best = record { word = codes "best"; names = reads ∷ [] }
 command_row asm = record { word = codes "asm"; names = reads ∷ writes ∷ [] }
 command_row dis = record { word = codes "dis"; names = reads ∷ [] }
+command_row run = record { word = codes "run"; names = reads ∷ [] }
 
 -- ---- options
 
 -- what an option's value is, and what stands where none is given
 pub data Kind : Type 0 where
+  -- a number from the least to the greatest, or the usual one
   number : (least greatest usual : ℕ) → Kind
+  -- a file's name, with what the command does with the file, or no file
+  file : Access → Kind
 
 -- an option's name, without its hyphens, the kind of its value, whether it may stand more than once, and the commands
 -- that have it
@@ -40,7 +45,17 @@ pub record OptionRow : Type 0 where
 pub data OptionName : Type 0 where
   inputs : OptionName
   outputs : OptionName
+  steps : OptionName
+  table : OptionName
+  input : OptionName
 
 abbrev pub option_row : OptionName → OptionRow
 option_row inputs = record { name = codes "in"; kind = number 1 3 3; repeatable = false; commands = best ∷ [] }
 option_row outputs = record { name = codes "out"; kind = number 1 2 2; repeatable = false; commands = best ∷ [] }
+option_row steps = record { name = codes "steps"; kind = number 1 4294967296 16777216; repeatable = false; commands = run ∷ [] }
+option_row table = record { name = codes "table"; kind = file reads; repeatable = false; commands = best ∷ run ∷ [] }
+option_row input = record { name = codes "input"; kind = file reads; repeatable = false; commands = run ∷ [] }
+
+-- the options in the order of their table, in which a command reads their files
+abbrev pub every_option : List OptionName
+every_option = inputs ∷ outputs ∷ steps ∷ table ∷ input ∷ []

@@ -1,8 +1,8 @@
 -- For every reader: how the words of a command line are read, by the tables of commands and of options.
-use Rattle.std.specs.Prelude.{◌≡◌, ◌≢◌, ◌⊎◌, ℕ, Bool, false, ◌+◌, ◌-◌, ◌*◌, ◌^◌, ◌≤◌, List, [], ◌∷◌, ◌++◌, length, map, filter, zip, All, AllPairs, Contains, codes}
+use Rattle.std.specs.Prelude.{◌≡◌, ◌≢◌, ◌⊎◌, ℕ, Bool, false, ◌+◌, ◌-◌, ◌*◌, ◌^◌, ◌≤◌, List, [], ◌∷◌, ◌++◌, length, map, filter, flat_map, zip, All, AllPairs, Contains, codes, Option, Some, None}
 use Rattle.std.specs.Str.{bytes_eq}
-use Rattle.ci_words.specs.Tables.{Access, writes, CommandName, command_row, Kind, number, OptionName, inputs, outputs, option_row}
-use Rattle.ci_words.specs.Tables as table
+use Rattle.ci_words.specs.Tables.{Access, writes, CommandName, command_row, Kind, number, OptionName, inputs, outputs, steps, table, input, option_row, every_option}
+use Rattle.ci_words.specs.Tables as tables
 
 abbrev pub Text : Type 0
 Text = List ℕ
@@ -14,6 +14,11 @@ pub record Settings : Type 0 where
   -- the greatest numbers of inputs and of outputs of a cut
   pub inputs : ℕ
   pub outputs : ℕ
+  -- the greatest number of steps of a run
+  pub steps : ℕ
+  -- the file with the input of a run, and the one with the latency table
+  pub input : Option Text
+  pub table : Option Text
 
 pub data Reading : Type 0 where
   -- the best cut of the block in the file, by these settings
@@ -22,33 +27,42 @@ pub data Reading : Type 0 where
   asm : Text → Text → Reading
   -- the text of the words in the file
   dis : Text → Reading
+  -- the run of the executable in the file, by these settings
+  run : Text → Settings → Reading
 
 abbrev pub command_of : Reading → CommandName
-command_of (best file settings) = table.best
-command_of (asm text out) = table.asm
-command_of (dis file) = table.dis
+command_of (best file settings) = tables.best
+command_of (asm text out) = tables.asm
+command_of (dis file) = tables.dis
+command_of (run file settings) = tables.run
 
 -- the names that follow the command, in order
 abbrev pub names_of : Reading → List Text
 names_of (best file settings) = file ∷ []
 names_of (asm text out) = text ∷ out ∷ []
 names_of (dis file) = file ∷ []
+names_of (run file settings) = file ∷ []
 
--- the number that stands where none is given
+-- the number that stands where none is given, of a kind that is a number
 abbrev pub usual_number : Kind → ℕ
 usual_number (number least greatest usual) = usual
+usual_number (tables.file access) = 0
 
 -- the settings where no option is given
 abbrev pub usual_settings : Settings
 usual_settings = record {
   inputs = usual_number (option_row inputs).kind;
   outputs = usual_number (option_row outputs).kind;
+  steps = usual_number (option_row steps).kind;
+  input = None;
+  table = None;
 }
 
 abbrev pub settings_of : Reading → Settings
 settings_of (best file settings) = settings
 settings_of (asm text out) = usual_settings
 settings_of (dis file) = usual_settings
+settings_of (run file settings) = settings
 
 -- ---- names and values
 
@@ -75,15 +89,24 @@ pub record IsNumber (text : Text) (n : ℕ) : Type 0 where
 -- what an option is set to
 pub data Setting : Type 0 where
   to_number : ℕ → Setting
+  to_file : Option Text → Setting
 
 abbrev pub setting_of : OptionName → Settings → Setting
 setting_of inputs settings = to_number settings.inputs
 setting_of outputs settings = to_number settings.outputs
+setting_of steps settings = to_number settings.steps
+setting_of table settings = to_file settings.table
+setting_of input settings = to_file settings.input
 
--- what these values set an option of the kind to: a number in its range, or the usual one where there is no value
+-- what these values set an option of the kind to: a number in its range, or the usual one where there is no value; the
+-- file of that name, or no file
 abbrev pub Sets : Kind → List Text → Setting → Type 0
 Sets (number least greatest usual) [] (to_number n) = n ≡ usual
 Sets (number least greatest usual) (text ∷ more) (to_number n) = IsNumber text n × (least ≤ n) × (n ≤ greatest)
+Sets (number least greatest usual) values (to_file f) = ⊥
+Sets (tables.file access) [] (to_file f) = f ≡ None
+Sets (tables.file access) (text ∷ more) (to_file f) = f ≡ Some text
+Sets (tables.file access) values (to_number n) = ⊥
 
 -- ---- positional words and options, mixed
 
@@ -146,9 +169,23 @@ pub record IsOptionOf (command : CommandName) (name : Text) : Type 0 where
 
 -- ---- files that are read and written
 
--- the files that a command takes, each with what it does with it
+-- the file that an option of the kind is set to, with what the command does with it
+abbrev pub file_set : Kind → Setting → List (Access × Text)
+file_set (number least greatest usual) setting = []
+file_set (tables.file access) (to_number n) = []
+file_set (tables.file access) (to_file None) = []
+file_set (tables.file access) (to_file (Some name)) = (access, name) ∷ []
+
+-- the files of the options, in the order of their table
+abbrev pub option_files : Settings → List (Access × Text)
+option_files settings =
+    flat_map (λ option. file_set (option_row option).kind (setting_of option settings)) every_option
+
+-- the files that a command takes, each with what it does with it: those of its names, and behind them those of its
+-- options
 abbrev pub files_of : Reading → List (Access × Text)
-files_of reading = zip (command_row (command_of reading)).names (names_of reading)
+files_of reading =
+    zip (command_row (command_of reading)).names (names_of reading) ++ option_files (settings_of reading)
 
 -- a file that is written is no other file
 abbrev pub AreApart : Access × Text → Access × Text → Type 0

@@ -7,7 +7,9 @@ ghost use Rattle.ci_words.specs.Commands.{reading_of};
 ghost use Rattle.ci_words.specs.Tables.{inputs, outputs};
 ghost use Rattle.ci_words.specs.Parses.{command_named, Gives, IsGiven};
 
-use crate::parse::{command_in_front, names_given, number_given, parse};
+use crate::parse::{
+    command_in_front, file_given, names_given, number_given, parse, values_are_names,
+};
 use crate::tables::{CommandName, OptionName};
 use ci_cut::Limits;
 use clap::ArgMatches;
@@ -16,12 +18,29 @@ use std::alloc::Global;
 /// What the program is asked.
 #[derive(Drop)]
 pub enum Command<'a> {
-    /// The best cut of the block in the file `file`, within the limits.
-    Best { file: &'a str, limits: Limits },
+    /// The best cut of the block in the file `file`, within the limits and by the latency table in the file `table`.
+    Best {
+        file: &'a str,
+        limits: Limits,
+        table: Option<&'a str>,
+    },
     /// The words that the text in the file `text` assembles to, written to the file `out`.
-    Asm { text: &'a str, out: &'a str },
+    Asm {
+        text: &'a str,
+        out: &'a str,
+    },
     /// The text of the words in the file `file`.
-    Dis { file: &'a str },
+    Dis {
+        file: &'a str,
+    },
+    /// The run of the executable in the file `file`, of at most `steps` steps, over the input in the file `input` and by
+    /// the latency table in the file `table`.
+    Run {
+        file: &'a str,
+        steps: u64,
+        input: Option<&'a str>,
+        table: Option<&'a str>,
+    },
 }
 
 /// Why the words gave no command.
@@ -69,12 +88,16 @@ fn command_of<'a>(name: CommandName, matches: &ArgMatches<'a>) -> Option<Command
         → Gives (command_named name) (rows_of (found_of matches.now)) reading → ⊥) }
 {
     let names = names_given(name, matches)?;
+    if !values_are_names(name, matches) {
+        return None;
+    }
     match name {
         CommandName::Best => {
             let limits = limits_given(matches)?;
             Some(Command::Best {
                 file: names[0],
                 limits,
+                table: file_given(OptionName::Table, matches),
             })
         }
         CommandName::Asm => Some(Command::Asm {
@@ -82,6 +105,15 @@ fn command_of<'a>(name: CommandName, matches: &ArgMatches<'a>) -> Option<Command
             out: names[1],
         }),
         CommandName::Dis => Some(Command::Dis { file: names[0] }),
+        CommandName::Run => {
+            let steps = number_given(OptionName::Steps, matches)?;
+            Some(Command::Run {
+                file: names[0],
+                steps,
+                input: file_given(OptionName::Input, matches),
+                table: file_given(OptionName::Table, matches),
+            })
+        }
     }
 }
 

@@ -15,7 +15,7 @@ pub fn are_names(command: CommandName, names: &[&str]) -> bool
 }
 
 /// Whether each of these is a name.
-fn are_good(names: &[&str]) -> bool
+pub fn are_good(names: &[&str]) -> bool
     ensures { IsTrue result ↔ All IsName (map (λ name. name.now) names.now) }
 {
     for name in names {

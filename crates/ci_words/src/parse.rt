@@ -1,13 +1,14 @@
 //! The commands as `clap` parses them, and what its matches say.
-ghost use Rattle.std.specs.Prelude.{◌≡◌, ◌≢◌, ℕ, List, [], ◌∷◌, ◌++◌, map, codes, slice_get, true, IfOk, IfErr, IfSome, IfNone};
+ghost use Rattle.std.specs.Prelude.{◌≡◌, ◌≢◌, ◌↔◌, ℕ, List, [], ◌∷◌, ◌++◌, map, codes, slice_get, true, All, IsTrue, IfOk, IfErr, IfSome, IfNone};
 ghost use Rattle.std.specs.String.{string_bytes};
 ghost use Rattle.clap.specs.Words.{app_of, is_simple_and_free, fault_of, found_of, rows_of};
 ghost use Rattle.ci_words.specs.Tables as table;
-ghost use Rattle.ci_words.specs.Words.{Text, to_number};
-ghost use Rattle.ci_words.specs.Parses.{app_for, app_named, command_named, option_named, names_known, values_in, AreNames, IsGiven, IsParsed};
+ghost use Rattle.ci_words.specs.Words.{Text, IsName, to_number, to_file};
+ghost use Rattle.ci_words.specs.Commands.{name_in};
+ghost use Rattle.ci_words.specs.Parses.{app_for, app_named, command_named, option_named, option_values, names_known, values_in, AreNames, IsGiven, IsParsed};
 
 use crate::command::WordsErr;
-use crate::names::are_names;
+use crate::names::{are_good, are_names};
 use crate::tables::{
     CommandName, OptionName, all_commands, all_options, command_row, is_of, option_row,
 };
@@ -148,6 +149,33 @@ pub fn names_given<'b, 'a>(
     Some(names)
 }
 
+/// Whether each value that an option of the command was given is a name.
+pub fn values_are_names(command: CommandName, matches: &ArgMatches) -> bool
+    ensures { IsTrue result ↔ ((option : table.OptionName)
+        → All IsName (option_values (command_named command) option (rows_of (found_of matches.now)))) }
+{
+    for option in all_options() {
+        if !has_good_values(command, *option, matches) {
+            return false;
+        }
+    }
+    true
+}
+
+/// Whether each value that the option was given is a name, if it is the command's.
+fn has_good_values(command: CommandName, option: OptionName, matches: &ArgMatches) -> bool
+    ensures { IsTrue result ↔ All IsName
+        (option_values (command_named command) (option_named option) (rows_of (found_of matches.now))) }
+{
+    if !is_of(command, option) {
+        return true;
+    }
+    match matches.get_raw(option_row(option).name) {
+        Some(values) => are_good(values),
+        None => true,
+    }
+}
+
 /// The number that the option is set to.
 pub fn number_given(option: OptionName, matches: &ArgMatches) -> Option<u64>
     ensures some { IfSome result (λ n.
@@ -157,4 +185,12 @@ pub fn number_given(option: OptionName, matches: &ArgMatches) -> Option<u64>
 {
     let row = option_row(option);
     read_number(row.kind, matches.get_str(row.name))
+}
+
+/// The file that an option with the name of a file is set to, if one is given.
+pub fn file_given<'a>(option: OptionName, matches: &ArgMatches<'a>) -> Option<&'a str>
+    ensures { (access : table.Access) → (table.option_row (option_named option)).kind ≡ table.file access
+        → IsGiven (option_named option) (rows_of (found_of matches.now)) (to_file (name_in result)) }
+{
+    matches.get_str(option_row(option).name)
 }

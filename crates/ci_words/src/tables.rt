@@ -1,7 +1,7 @@
 //! The commands and their options, a row each.
 ghost use Rattle.std.specs.Prelude.{◌≡◌, map};
 ghost use Rattle.ci_words.specs.Tables as table;
-ghost use Rattle.ci_words.specs.Parses.{command_named, option_named, access_named, kind_of, every_command, every_option, has_option};
+ghost use Rattle.ci_words.specs.Parses.{command_named, option_named, access_named, kind_of, every_command, has_option};
 
 /// The commands by name.
 #[derive(Clone, Copy, PartialEq, Eq)]
@@ -12,6 +12,8 @@ pub enum CommandName {
     Asm,
     /// `dis`
     Dis,
+    /// `run`
+    Run,
 }
 
 /// What a command does with a file.
@@ -50,6 +52,10 @@ pub fn command_row(command: CommandName) -> CommandRow
             word: "dis",
             names: &[Access::Reads],
         },
+        CommandName::Run => CommandRow {
+            word: "run",
+            names: &[Access::Reads],
+        },
     }
 }
 
@@ -60,6 +66,12 @@ pub enum OptionName {
     Inputs,
     /// `--out`
     Outputs,
+    /// `--steps`
+    Steps,
+    /// `--table`
+    Table,
+    /// `--input`
+    Input,
 }
 
 /// What the value of an option is.
@@ -71,6 +83,8 @@ pub enum Kind {
         greatest: u64,
         usual: u64,
     },
+    /// The name of a file, with what the command does with it, or no file.
+    File(Access),
 }
 
 /// A row of the table of options.
@@ -110,6 +124,25 @@ pub fn option_row(option: OptionName) -> OptionRow
             },
             commands: &[CommandName::Best],
         },
+        OptionName::Steps => OptionRow {
+            name: "steps",
+            kind: Kind::Number {
+                least: 1,
+                greatest: 4_294_967_296,
+                usual: 16_777_216,
+            },
+            commands: &[CommandName::Run],
+        },
+        OptionName::Table => OptionRow {
+            name: "table",
+            kind: Kind::File(Access::Reads),
+            commands: &[CommandName::Best, CommandName::Run],
+        },
+        OptionName::Input => OptionRow {
+            name: "input",
+            kind: Kind::File(Access::Reads),
+            commands: &[CommandName::Run],
+        },
     }
 }
 
@@ -117,14 +150,25 @@ pub fn option_row(option: OptionName) -> OptionRow
 pub fn all_commands() -> &'static [CommandName]
     ensures { map command_named result.now ≡ every_command }
 {
-    &[CommandName::Best, CommandName::Asm, CommandName::Dis]
+    &[
+        CommandName::Best,
+        CommandName::Asm,
+        CommandName::Dis,
+        CommandName::Run,
+    ]
 }
 
 /// The options in the order of their table.
 pub fn all_options() -> &'static [OptionName]
-    ensures { map option_named result.now ≡ every_option }
+    ensures { map option_named result.now ≡ table.every_option }
 {
-    &[OptionName::Inputs, OptionName::Outputs]
+    &[
+        OptionName::Inputs,
+        OptionName::Outputs,
+        OptionName::Steps,
+        OptionName::Table,
+        OptionName::Input,
+    ]
 }
 
 /// Whether the option is the command's.

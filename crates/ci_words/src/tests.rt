@@ -17,15 +17,33 @@ fn words(alloc: Global, line: &str) -> Result<Vec<String>, AllocError> {
     Ok(words)
 }
 
-/// The command of the words in short: its name, the names in it and the limits.
+/// The command of the words in short: its name, the names in it and what its options are set to.
 fn shown(alloc: Global, line: &str) -> Result<String, AllocError> {
     let words = words(alloc, line)?;
     match read_words(alloc, &words) {
-        Ok(Command::Best { file, limits }) => {
-            format!(in alloc; "best {file} {} {}", limits.inputs, limits.outputs)
+        Ok(
+            Command::Best {
+                file,
+                limits,
+                table,
+            },
+        ) => {
+            let table = table.unwrap_or("-");
+            format!(in alloc; "best {file} {} {} {table}", limits.inputs, limits.outputs)
         }
         Ok(Command::Asm { text, out }) => format!(in alloc; "asm {text} {out}"),
         Ok(Command::Dis { file }) => format!(in alloc; "dis {file}"),
+        Ok(
+            Command::Run {
+                file,
+                steps,
+                input,
+                table,
+            },
+        ) => {
+            let (input, table) = (input.unwrap_or("-"), table.unwrap_or("-"));
+            format!(in alloc; "run {file} {steps} {input} {table}")
+        }
         Err(WordsErr::NoReading) => String::from_str(alloc, "none"),
         Err(WordsErr::NoMemory) => Err(AllocError),
     }
@@ -40,15 +58,15 @@ fn expect(rt: &(impl Abort + AllocGlobal), line: &str, wanted: &str) -> Result<(
 
 #[test]
 fn options_stand_anywhere(rt: HostRuntime) -> Result<(), Fail> {
-    expect(&rt, "best F", "best F 3 2")?;
-    expect(&rt, "best F --in=3", "best F 3 2")?;
-    expect(&rt, "best --in 2 F", "best F 2 2")?;
-    expect(&rt, "best F --out 1 --in 3", "best F 3 1")?;
-    expect(&rt, "best --out=1 F --in 03", "best F 3 1")?;
-    expect(&rt, "best F --in 0000000002", "best F 2 2")?;
-    expect(&rt, "best -- F", "best F 3 2")?;
-    expect(&rt, "best --in 1 -- F", "best F 1 2")?;
-    expect(&rt, "best F --", "best F 3 2")?;
+    expect(&rt, "best F", "best F 3 2 -")?;
+    expect(&rt, "best F --in=3", "best F 3 2 -")?;
+    expect(&rt, "best --in 2 F", "best F 2 2 -")?;
+    expect(&rt, "best F --out 1 --in 3", "best F 3 1 -")?;
+    expect(&rt, "best --out=1 F --in 03", "best F 3 1 -")?;
+    expect(&rt, "best F --in 0000000002", "best F 2 2 -")?;
+    expect(&rt, "best -- F", "best F 3 2 -")?;
+    expect(&rt, "best --in 1 -- F", "best F 1 2 -")?;
+    expect(&rt, "best F --", "best F 3 2 -")?;
     Ok(())
 }
 
@@ -67,7 +85,7 @@ fn words_with_no_reading(rt: HostRuntime) -> Result<(), Fail> {
     expect(&rt, "dis -- F --", "none")?;
     expect(&rt, "best F --help", "none")?;
     expect(&rt, "best F -h", "none")?;
-    expect(&rt, "best help", "best help 3 2")?;
+    expect(&rt, "best help", "best help 3 2 -")?;
     Ok(())
 }
 
@@ -108,5 +126,36 @@ fn names_of_asm_and_dis(rt: HostRuntime) -> Result<(), Fail> {
     expect(&rt, "dis F", "dis F")?;
     expect(&rt, "dis F G", "none")?;
     expect(&rt, "dis", "none")?;
+    Ok(())
+}
+
+#[test]
+fn options_of_run(rt: HostRuntime) -> Result<(), Fail> {
+    expect(&rt, "run F", "run F 16777216 - -")?;
+    expect(&rt, "run F --steps 3", "run F 3 - -")?;
+    expect(&rt, "run F --input=I --table T", "run F 16777216 I T")?;
+    expect(&rt, "run --table T --steps=1 F", "run F 1 - T")?;
+    expect(&rt, "run F --steps 4294967296", "run F 4294967296 - -")?;
+    expect(&rt, "run F --steps 4294967297", "none")?;
+    expect(&rt, "run F --steps 0", "none")?;
+    expect(&rt, "run F --in 2", "none")?;
+    expect(&rt, "run", "none")?;
+    expect(&rt, "run A B", "none")?;
+    Ok(())
+}
+
+#[test]
+fn files_of_options(rt: HostRuntime) -> Result<(), Fail> {
+    expect(&rt, "best F --table T", "best F 3 2 T")?;
+    expect(&rt, "run F --table F", "run F 16777216 - F")?;
+    expect(&rt, "run F --input I=J", "run F 16777216 I=J -")?;
+    expect(&rt, "run F --input ''", "none")?;
+    expect(&rt, "run F --input=", "none")?;
+    expect(&rt, "run F --input -", "none")?;
+    expect(&rt, "run F --input -x", "none")?;
+    expect(&rt, "run F --input=-x", "none")?;
+    expect(&rt, "run F --table T --table T", "none")?;
+    expect(&rt, "best F --input I", "none")?;
+    expect(&rt, "asm T O --table X", "none")?;
     Ok(())
 }

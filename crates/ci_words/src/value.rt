@@ -18,7 +18,7 @@ pub fn is_name(text: &str) -> bool
     }
 }
 
-/// The number that an option of the kind is set to by its value, if it has one.
+/// The number that an option of the kind is set to by its value, if it has one. A kind that is no number gives none.
 pub fn read_number(kind: Kind, value: Option<&str>) -> Option<u64>
     ensures some { IfSome result (λ n.
         Sets (kind_of kind) (option_to_list (option_map (λ t. t.now) value.entry)) (to_number n)) }
@@ -29,7 +29,10 @@ pub fn read_number(kind: Kind, value: Option<&str>) -> Option<u64>
         least,
         greatest,
         usual,
-    } = kind;
+    } = kind
+    else {
+        return None;
+    };
     let Some(text) = value else {
         return Some(usual);
     };
