@@ -52,7 +52,8 @@ pub data OptionName : Type 0 where
 abbrev pub option_row : OptionName → OptionRow
 option_row inputs = record { name = codes "in"; kind = number 1 3 3; repeatable = false; commands = best ∷ [] }
 option_row outputs = record { name = codes "out"; kind = number 1 2 2; repeatable = false; commands = best ∷ [] }
-option_row steps = record { name = codes "steps"; kind = number 1 4294967296 16777216; repeatable = false; commands = run ∷ [] }
+option_row steps =
+    record { name = codes "steps"; kind = number 1 4294967296 16777216; repeatable = false; commands = run ∷ [] }
 option_row table = record { name = codes "table"; kind = file reads; repeatable = false; commands = best ∷ run ∷ [] }
 option_row input = record { name = codes "input"; kind = file reads; repeatable = false; commands = run ∷ [] }
 

@@ -33,8 +33,8 @@ pub enum Command<'a> {
     Dis {
         file: &'a str,
     },
-    /// The run of the executable in the file `file`, of at most `steps` steps, over the input in the file `input` and by
-    /// the latency table in the file `table`.
+    /// The run of the executable in the file `file`, of at most `steps` steps, over the input in the file `input` and
+    /// by the latency table in the file `table`.
     Run {
         file: &'a str,
         steps: u64,
