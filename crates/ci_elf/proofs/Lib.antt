@@ -15,3 +15,8 @@ pub mod RangeLaws
 pub mod ImageLaws
 pub mod ReadingLaws
 pub mod FrameLaws
+pub mod WordLaws
+pub mod FrameHeaderLaws
+pub mod FrameMeaningLaws
+pub mod FrameRuleLaws
+pub mod FrameImageLaws

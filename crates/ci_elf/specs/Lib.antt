@@ -9,3 +9,4 @@ pub mod SectionChecks
 pub mod RangeChecks
 pub mod SymbolChecks
 pub mod Frames
+pub mod FrameImages

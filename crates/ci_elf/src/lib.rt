@@ -2,8 +2,10 @@
 //! chapter 5, "Program Header").
 //!
 //! The rules that a file keeps, in the order in which they are tested, stand in `specs/Rules.antt`,
-//! over the fields of `specs/Fields.antt`; what a file means stands in `specs/Executables.antt`, and
-//! the smallest file with some text in `specs/Frames.antt`.
+//! over the fields of `specs/Fields.antt`; what a file means stands in `specs/Executables.antt`, the
+//! smallest file with some text in `specs/Frames.antt`, and what reading it gives in
+//! `specs/FrameImages.antt`. The function of `laws` has no effect: its contract says what holds of
+//! all such files.
 #![tactic(auto)]
 
 pub use faults::ElfFault;
@@ -19,6 +21,7 @@ mod fields;
 mod file_header;
 mod frames;
 mod image;
+pub mod laws;
 mod memory;
 mod parts;
 mod ranges;
