@@ -4,8 +4,9 @@ use Rattle.std.specs.Option.{option_to_list}
 use Rattle.std.proofs.lemmas.List.{append-nil, get_or_append_left}
 use Rattle.std.proofs.Math.Seq.{get_or-append_seam}
 use Rattle.std.proofs.lemmas.Bool.{cases_lt}
-use Rattle.std.specs.List.{AllByRecursion, Contains}
-use Rattle.std.proofs.lemmas.List.Elements.{Contains-append_left, Contains-append_right, Contains-append_cases}
+use Rattle.std.specs.List.{AllByRecursion, AllPairs, Contains}
+use Rattle.std.proofs.lemmas.List.Elements.{Contains-append_left, Contains-append_right, Contains-append_cases, Contains-get_or}
+use Rattle.std.proofs.lemmas.List.Quantifiers.{all_pairs_push}
 use Rattle.ci_elf.specs.Broken.{IsFirstBroken, each_below, those_below}
 
 module _ {A : Type 0} (P : A → Type 0) where
@@ -148,6 +149,25 @@ module _ {A : Type 0} (test : ℕ → Bool) (f : ℕ → A) where
     | inl l ↦ let r = contained_those n x l in (r.0, omega (arith, r.1), r.2, r.3)
     | inr l ↦ let r = contained_step (test n) n x l in (n, omega arith, r.0, r.1)
   ]
+
+-- what holds of each two of those that pass a test
+module _ {A : Type 0} (R : A → A → Type 0) (test : ℕ → Bool) (f : ℕ → A) where
+  pairs_step :
+      (xs : List A) (b : Bool) (x : A) → AllPairs R xs → ((k : ℕ) (d : A) → b ≡ true → k < length xs → R (get_or xs k d) x)
+      → AllPairs R (xs ++ cond b (x ∷ []) [])
+  pairs_step xs true x pairs last = all_pairs_push R xs x pairs (λ k d h. last k d refl h)
+  pairs_step xs false x pairs last = rw append-nil pairs
+
+  pub those_pairs :
+      (n : ℕ) → ((j k : ℕ) → j < k → k < n → test j ≡ true → test k ≡ true → R (f j) (f k))
+      → AllPairs R (those_below n test f)
+  unfolding each_below
+  those_pairs zero each = λ i j d h l. absurd (omega arith)
+  those_pairs (suc n) each =
+      pairs_step (those_below n test f) (test n) (f n) (those_pairs n (λ j k h l. each j k h (omega arith)))
+      (λ i d is h.
+      let among = contained_those test f n _ (Contains-get_or (those_below n test f) i d h) in
+      subst (λ x. R x (f n)) (sym among.3) (each among.0 n among.1 (omega arith) among.2 is))
 
 -- at most all numbers pass a test
 module _ {A : Type 0} (test : ℕ → Bool) (f : ℕ → A) where

@@ -1,11 +1,11 @@
 -- Where the text of an image stands in its file.
-use Rattle.std.proofs.Common.{◌≡◌, ◌≢◌, ℕ, suc, zero, ◌+◌, ◌-◌, ◌*◌, ◌%◌, ◌<◌, ◌≤◌, inl, inr, true, List, [], ◌∷◌, ◌++◌, length, take, drop, get_or, refl, sym, ◌∙◌, ap, subst, arith, length-append, length-take, length-drop, le-leb, lt-ltb, true≢false, append_assoc}
+use Rattle.std.proofs.Common.{◌≡◌, ◌≢◌, ℕ, suc, zero, ◌+◌, ◌-◌, ◌*◌, ◌%◌, ◌<◌, ◌≤◌, ◌⊎◌, inl, inr, true, List, [], ◌∷◌, ◌++◌, length, take, drop, get_or, refl, sym, ◌∙◌, ap, subst, arith, length-append, length-take, length-drop, le-leb, lt-ltb, true≢false, append_assoc}
 use Rattle.std.proofs.lemmas.List.{append-nil, take_rest, drop_all, drop-drop}
 use borrow.Rule.Slice.PartMut.{put_mid}
 use Rattle.byteorder.specs.Endian.{little_bytes}
 use Rattle.byteorder.specs.Numbers.{length-bytes_low_first}
 use Rattle.std.specs.Prelude.{nat_le, nat_lt}
-use Rattle.std.specs.List.{Contains}
+use Rattle.std.specs.List.{AllPairs, Contains}
 use Rattle.std.specs.List.Sorted.{IsPermutation}
 use Rattle.std.proofs.lemmas.Bool.{cases_lt, cases_Bool, leb-true, ltb-true}
 use Rattle.std.proofs.lemmas.List.{get_or_default, get_or_append_left}
@@ -16,7 +16,7 @@ use Rattle.ci_elf.specs.declared.segments.Segment.{Segment}
 use Rattle.ci_elf.specs.declared.ranges.Range.{Range}
 use Rattle.ci_elf.specs.Checks.{IsLastBefore}
 use Rattle.ci_elf.specs.SectionChecks.{AreLaidOut}
-use Rattle.ci_elf.specs.Executables.{Executable, IsWellFormed, with_word, has_in_file, place_of}
+use Rattle.ci_elf.specs.Executables.{Executable, IsWellFormed, ShareNoMemory, with_word, has_in_file, place_of}
 use Rattle.ci_elf.specs.Places.{ArePlaces, IsSound, LoadsByte, IsLoadedIn, AreOffsets}
 use Rattle.ci_elf.proofs.SegmentLaws.{both}
 use Rattle.ci_elf.proofs.RangeLaws.{left_of}
@@ -89,9 +89,29 @@ offsets_more segments ranges n offsets range offset there is so_far here = recor
   ];
 }
 
+-- of two elements of a list one stands before the other, or they are one
+ordered : {A : Type 0} (R : A → A → Type 0) (xs : List A) (x y : A) → AllPairs R xs → Contains xs x → Contains xs y → R x y ⊎ (R y x ⊎ (x ≡ y))
+ordered R xs x y pairs c d = elim (cases_lt c.0 d.0) [
+  | inl h ↦ inl (subst (λ z. R z y) c.2 (subst (R (get_or xs c.0 x)) (get_or_default xs d.0 x y d.1 ∙ d.2) (pairs c.0 d.0 x h d.1)))
+  | inr h ↦ elim (cases_lt d.0 c.0) [
+    | inl l ↦ inr (inl (subst (λ z. R z x) d.2 (subst (R (get_or xs d.0 y)) (get_or_default xs c.0 y x c.1 ∙ c.2) (pairs d.0 c.0 y l c.1))))
+    | inr l ↦
+        let same : c.0 ≡ d.0 = omega arith in
+        inr (inr (sym c.2 ∙ ap (λ k. get_or xs k x) same ∙ get_or_default xs d.0 x y d.1 ∙ d.2))
+  ]
+]
+
 module _ (image : Executable) (formed : IsWellFormed image) where
+  -- a segment that begins in the memory of one is that one
+  one : (s t : Segment) → Contains image.segments s → Contains image.segments t → s.address ≤ t.address → t.address < s.address + s.memory_size → s ≡ t
+  one s t c d from to = elim (ordered ShareNoMemory image.segments s t formed.apart c d) [
+    | inl h ↦ absurd (omega (arith, formed.has_memory t d))
+    | inr (inl h) ↦ absurd (omega (arith, formed.has_memory t d))
+    | inr (inr same) ↦ same
+  ]
+
   pub layout_of : AreLaidOut image.segments
-  layout_of = record { filled = formed.filled; one = formed.apart }
+  layout_of = record { filled = formed.filled; one = one }
 
   pub ranges_loaded : (range : Range) → Contains image.ranges range → IsLoadedIn image.segments range.start
   ranges_loaded range c =
@@ -102,8 +122,8 @@ module _ (image : Executable) (formed : IsWellFormed image) where
   -- what loads a byte is one segment
   only_loader : (address : ℕ) (s : Segment) → Contains image.segments s → LoadsByte s address → (t : Segment) → Contains image.segments t → LoadsByte t address → t ≡ s
   only_loader address s c loads t d others = elim (cases_lt s.address t.address) [
-    | inl l ↦ sym (formed.apart s t c d (omega arith) (omega (arith, loads.to, others.from, formed.filled s c)))
-    | inr l ↦ formed.apart t s d c l (omega (arith, others.to, loads.from, formed.filled t d))
+    | inl l ↦ sym (one s t c d (omega arith) (omega (arith, loads.to, others.from, formed.filled s c)))
+    | inr l ↦ one t s d c l (omega (arith, others.to, loads.from, formed.filled t d))
   ]
 
   pub places_from : (offsets : List ℕ) → AreOffsets image.segments image.ranges (length image.ranges) offsets → ArePlaces image offsets
@@ -137,8 +157,13 @@ sound_with image offsets bytes same sound = record {
         let l = sound.well_formed.loaded range c in
         let loads = l.2 in
         (l.0, l.1, record { from = loads.from; to = loads.to; in_file = omega (arith, loads.in_file) });
+    in_file = λ s c some. omega (arith, sound.well_formed.in_file s c some);
     filled = sound.well_formed.filled;
+    has_memory = sound.well_formed.has_memory;
+    below_top = sound.well_formed.below_top;
+    off_stack = sound.well_formed.off_stack;
     apart = sound.well_formed.apart;
+    bounded = sound.well_formed.bounded;
     entry = sound.well_formed.entry;
   };
   places = record {

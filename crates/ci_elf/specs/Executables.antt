@@ -1,6 +1,6 @@
 -- What an executable file means: its segments, its text and its symbols.
-use Rattle.std.specs.Prelude.{◌≡◌, ℕ, ◌+◌, ◌-◌, ◌*◌, ◌/◌, ◌%◌, ◌<◌, ◌≤◌, ◌&&◌, Bool, if◌then◌else◌, List, [], ◌∷◌, ◌++◌, length, take, drop, nat_lt, nat_le}
-use Rattle.std.specs.List.{AllPairs, Any, Contains}
+use Rattle.std.specs.Prelude.{◌≡◌, ℕ, ◌+◌, ◌-◌, ◌*◌, ◌/◌, ◌%◌, ◌<◌, ◌≤◌, ◌⊎◌, ◌&&◌, Bool, if◌then◌else◌, List, [], ◌∷◌, ◌++◌, length, take, drop, nat_lt, nat_le}
+use Rattle.std.specs.List.{AllPairs, Any, Contains, sum_by}
 use Rattle.std.specs.List.Sorted.{IsPermutation}
 use Rattle.ci_elf.specs.declared.segments.Segment.{Segment}
 use Rattle.ci_elf.specs.declared.ranges.Range.{Range}
@@ -113,8 +113,12 @@ pub record LoadsRange (bytes : List ℕ) (segment : Segment) (range : Range) : T
   pub to : end_of range ≤ segment.address + segment.file_size
   pub in_file : segment.offset + segment.file_size ≤ length bytes
 
--- What holds of every image: its text is whole words in file parts of its segments, by address, and its segments don't
--- overlap in memory.
+-- The two segments share no byte of memory: one ends before the other begins.
+abbrev pub ShareNoMemory : Segment → Segment → Type 0
+ShareNoMemory s t = (s.address + s.memory_size ≤ t.address) ⊎ (t.address + t.memory_size ≤ s.address)
+
+-- What holds of every image: its text is whole words in file parts of its segments, by address. Its segments have their
+-- bytes in the file and their memory below FFFF0000, apart from the stack and from each other, and small enough.
 pub record IsWellFormed (image : Executable) : Type 0 where
   pub ascending : IsAscending image.ranges
   pub aligned : (range : Range) → Contains image.ranges range → range.start % 4 ≡ 0
@@ -122,8 +126,15 @@ pub record IsWellFormed (image : Executable) : Type 0 where
   pub loaded :
       (range : Range) → Contains image.ranges range
       → (segment : Segment) × Contains image.segments segment × LoadsRange image.bytes segment range
+  pub in_file :
+      (segment : Segment) → Contains image.segments segment → 0 < segment.file_size
+      → segment.offset + segment.file_size ≤ length image.bytes
   pub filled : (segment : Segment) → Contains image.segments segment → segment.file_size ≤ segment.memory_size
-  pub apart :
-      (s t : Segment) → Contains image.segments s → Contains image.segments t
-      → s.address ≤ t.address → t.address < s.address + s.memory_size → s ≡ t
+  pub has_memory : (segment : Segment) → Contains image.segments segment → 0 < segment.memory_size
+  pub below_top : (segment : Segment) → Contains image.segments segment → segment.address + segment.memory_size ≤ 0xffff0000
+  pub off_stack :
+      (segment : Segment) → Contains image.segments segment
+      → (segment.address + segment.memory_size ≤ 0x7ff00000) ⊎ (0x80000000 ≤ segment.address)
+  pub apart : AllPairs ShareNoMemory image.segments
+  pub bounded : sum_by (λ segment. segment.memory_size) image.segments + 0x100000 ≤ 67108864
   pub entry : IsTextWord image.ranges image.entry

@@ -62,7 +62,9 @@ new-requires c =
     (kept_front (Holds c.args.bytes.now) (segment_rules c.args.bytes.now) (memory_rules c.args.bytes.now ++ MemoryIsBounded ∷ []) c.in_ok-segments.ensures.test)
     (kept_front (Holds c.args.bytes.now) (memory_rules c.args.bytes.now) (MemoryIsBounded ∷ []) (kept_back (Holds c.args.bytes.now) (segment_rules c.args.bytes.now) (memory_rules c.args.bytes.now ++ MemoryIsBounded ∷ []) c.in_ok-segments.ensures.test))
     (kept_front (Holds c.args.bytes.now) (section_rules c.args.bytes.now) (sharing_rules c.args.bytes.now) c.in_ok-check_texts.ensures)
-    c.in_ok-ranges.ranges.items c.in_ok-ranges.ensures.same c.in_ok-symbols.symbols.items c.in_ok-ranges.ensures.ascending
+    c.in_ok-ranges.ranges.items c.in_ok-ranges.ensures.same c.in_ok-symbols.symbols.items
+    (kept_back (Holds c.args.bytes.now) (memory_rules c.args.bytes.now) (MemoryIsBounded ∷ []) (kept_back (Holds c.args.bytes.now) (segment_rules c.args.bytes.now) (memory_rules c.args.bytes.now ++ MemoryIsBounded ∷ []) c.in_ok-segments.ensures.test)).0
+    c.in_ok-ranges.ensures.ascending
     c.in_ok-ranges.ensures.test.1.0)
 
 pub returns : goal.returns
