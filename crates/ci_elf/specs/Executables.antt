@@ -131,7 +131,8 @@ pub record IsWellFormed (image : Executable) : Type 0 where
       → segment.offset + segment.file_size ≤ length image.bytes
   pub filled : (segment : Segment) → Contains image.segments segment → segment.file_size ≤ segment.memory_size
   pub has_memory : (segment : Segment) → Contains image.segments segment → 0 < segment.memory_size
-  pub below_top : (segment : Segment) → Contains image.segments segment → segment.address + segment.memory_size ≤ 0xffff0000
+  pub below_top :
+      (segment : Segment) → Contains image.segments segment → segment.address + segment.memory_size ≤ 0xffff0000
   pub off_stack :
       (segment : Segment) → Contains image.segments segment
       → (segment.address + segment.memory_size ≤ 0x7ff00000) ⊎ (0x80000000 ≤ segment.address)

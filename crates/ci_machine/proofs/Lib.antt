@@ -16,3 +16,4 @@ pub mod PartWrites
 pub mod HeapLaws
 pub mod HeapFacts
 pub mod CallLaws
+pub mod StartLaws

@@ -11,3 +11,4 @@ pub mod Blocks
 pub mod Laws
 pub mod Parts
 pub mod States
+pub mod Loading

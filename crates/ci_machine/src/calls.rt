@@ -74,7 +74,7 @@ impl State {
     }
 
     /// Sets the end of the heap. Nothing changes where there is no memory.
-    fn heap_call(&mut self, alloc: Global) -> Result<(), AllocError>
+    fn heap_call(&mut self) -> Result<(), AllocError>
         ensures state { OnOk result (state_of self.new
             ≡ record (state_of self.old) { core = heap_call (program_of self.old) (state_of self.old).core }) }
         ensures refused { OnErr result (state_of self.new ≡ state_of self.old) }
@@ -82,7 +82,7 @@ impl State {
     {
         let end = self.registers[10];
         if self.memory.may_end_at(end) {
-            self.memory.set_heap_end(alloc, end)?;
+            self.memory.set_heap_end(end)?;
         }
         let end = self.memory.heap_end();
         self.answer(end);
@@ -103,7 +103,7 @@ impl State {
             63 => self.read_call(),
             64 => self.write_call(alloc)?,
             93 => return Ok(Call::Exit(self.registers[10])),
-            214 => self.heap_call(alloc)?,
+            214 => self.heap_call()?,
             _ => self.answer(NO_SUCH_CALL),
         }
         Ok(Call::Goes)

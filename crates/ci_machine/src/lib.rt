@@ -13,6 +13,7 @@ mod ends;
 pub mod laws;
 mod memory;
 mod parts;
+mod start;
 mod state;
 mod text;
 mod touches;

@@ -19,10 +19,10 @@ const HEAP: usize = 1;
 const HEAP_LIMIT: u32 = 0xffff0000;
 
 /// Where the stack begins.
-const STACK_START: u32 = 0x7ff00000;
+pub(crate) const STACK_START: u32 = 0x7ff00000;
 
 /// Where the stack ends.
-const STACK_END: u32 = 0x80000000;
+pub(crate) const STACK_END: u32 = 0x80000000;
 
 /// How many bytes the segments, the stack and the heap may take.
 const MEMORY_LIMIT: u32 = 67108864;
@@ -232,7 +232,7 @@ impl Memory {
     }
 
     /// Moves the heap's end, to where it may end. The heap stays as it is where there is no memory.
-    pub(crate) fn set_heap_end(&mut self, alloc: Global, end: u32) -> Result<(), AllocError>
+    pub(crate) fn set_heap_end(&mut self, end: u32) -> Result<(), AllocError>
         requires { may_end_at (program_in (places self.old.parts.items) []) end ≡ true }
         ensures moved { byte_in self.new.parts.items ≡ with_heap_moved (heap_end_in (places self.old.parts.items))
             (if is_ok result then end else heap_end_in (places self.old.parts.items))
@@ -244,7 +244,7 @@ impl Memory {
     {
         let heap = &mut self.parts[HEAP];
         let size = (end - heap.start) as usize;
-        resize(&mut heap.bytes, alloc, size)
+        resize(&mut heap.bytes, size)
     }
 }
 
@@ -266,28 +266,12 @@ fn is_clear(start: u32, end: u32) -> bool
     end <= STACK_START || STACK_END <= start
 }
 
-/// So many zeros.
-pub(crate) fn zeros(alloc: Global, count: usize) -> Result<Vec<u8>, AllocError>
-    ensures { IfOk result (λ bytes. bytes.items ≡ replicate count 0) }
-{
-    let mut bytes = Vec::new(alloc);
-    for _ in 0..count {
-        bytes.push(0)?;
-    }
-    Ok(bytes)
-}
-
 /// Shortens the bytes, or lengthens them by zeros. They stay as they are where there is no memory.
-fn resize(bytes: &mut Vec<u8>, alloc: Global, size: usize) -> Result<(), AllocError>
+pub(crate) fn resize(bytes: &mut Vec<u8>, size: usize) -> Result<(), AllocError>
     ensures size { length bytes.new.items ≡ (if is_ok result then size else length bytes.old.items) }
     ensures kept { (k : ℕ) → k < length bytes.new.items → slice_index bytes.new.items k ≡ slice_index bytes.old.items k }
 {
-    if size <= bytes.len() {
-        bytes.truncate(size);
-        return Ok(());
-    }
-    let more = zeros(alloc, size - bytes.len())?;
-    bytes.extend_from_slice(&more)
+    bytes.resize(size, 0)
 }
 
 /// Writes the low bytes of a number at an address that the part holds, where they end in it. Says whether they do.
