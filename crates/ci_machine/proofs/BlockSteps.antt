@@ -17,7 +17,7 @@ use Rattle.ci_machine.specs.Programs.{Program, State, in_text}
 use Rattle.ci_machine.specs.Steps.{Meaning, insn_in, fetched, following, control, then_onward, stepped, step}
 use Rattle.ci_machine.specs.Runs.{after}
 use Rattle.ci_machine.specs.Blocks.{StandAt, HaveSameText, IsRunOf}
-use Rattle.ci_machine.proofs.Tests.{neither_first, neither_second, both_first, both_second}
+use Rattle.ci_machine.proofs.TestLaws.{neither_first, neither_second, both_first, both_second}
 use Rattle.ci_machine.proofs.Effects.{keeps, AgreeAt, same_bytes}
 
 -- ---- the first step of a run

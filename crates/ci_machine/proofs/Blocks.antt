@@ -9,7 +9,7 @@ use Rattle.ci_machine.specs.Cores.{Core}
 use Rattle.ci_machine.specs.Outcomes.{Reached, from_end, continued}
 use Rattle.ci_machine.specs.Actions.{Units, act, acted, accessed}
 use Rattle.ci_machine.specs.Agreement.{reads, writes, act_all, AreRelated, AreIndependent, LeavesText, AreActions, AllLeaveText, needed}
-use Rattle.ci_machine.proofs.Tests.{by_end, neither_first, neither_second}
+use Rattle.ci_machine.proofs.TestLaws.{by_end, neither_first, neither_second}
 use Rattle.ci_machine.proofs.Exchange.{exchange, frame}
 
 -- ---- relations

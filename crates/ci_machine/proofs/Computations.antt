@@ -9,7 +9,7 @@ use Rattle.ci_machine.specs.Outcomes.{Reached, continued, at_start}
 use Rattle.ci_machine.specs.Actions.{Units, act, acted, accessed}
 use Rattle.ci_machine.specs.Agreement.{reads, writes, is_access, act_all, AgreeOn, AreRelated, AreActions, AreApart, AllLeaveText, needed, written}
 use Rattle.ci_machine.proofs.Effects.{keeps}
-use Rattle.ci_machine.proofs.Tests.{by_test, by_end, excluded, neither_first, neither_second}
+use Rattle.ci_machine.proofs.TestLaws.{by_test, by_end, excluded, neither_first, neither_second}
 use Rattle.ci_machine.proofs.Exchange.{store_accesses}
 use Rattle.ci_machine.proofs.Blocks.{goes_on, has_ended, list_frame, act_all-append, AreRelated-same, no_text}
 

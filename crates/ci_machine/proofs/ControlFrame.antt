@@ -18,7 +18,7 @@ use Rattle.ci_machine.specs.Programs.{Program, State, at_pc, lies_in, stack_star
 use Rattle.ci_machine.specs.Calls.{bad_file, bad_address, no_such_call, answering, range_at, read_length, read_into, read_call, written_from, is_output, write_call, may_end_at, with_heap_end, heap_call, numbered_call, moved_range}
 use Rattle.ci_machine.specs.Steps.{control, onward, directed, then_onward, following, is_taken, even, moved}
 use Rattle.ci_machine.specs.Blocks.{AreRelatedAt, HaveSameLayout, IsMapped}
-use Rattle.ci_machine.proofs.Tests.{by_test, either_first}
+use Rattle.ci_machine.proofs.TestLaws.{by_test, either_first}
 use Rattle.ci_machine.proofs.RegisterLaws.{register_kept, register_written, operands_agree}
 use Rattle.ci_machine.proofs.Effects.{same_bytes, same_stores, first_there, second_there}
 use Rattle.ci_machine.proofs.Exchange.{outside_text}

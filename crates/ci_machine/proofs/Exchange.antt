@@ -11,7 +11,7 @@ use Rattle.ci_machine.specs.Cores.{Core}
 use Rattle.ci_machine.specs.Outcomes.{Reached}
 use Rattle.ci_machine.specs.Actions.{Units, acted, accessed}
 use Rattle.ci_machine.specs.Agreement.{reads, writes, is_access, act_all, AgreeOutside, AgreeOn, AreRelated, AreIndependent, LeavesText}
-use Rattle.ci_machine.proofs.Tests.{by_test, by_end, excluded, not_both, swapped, neither_first, neither_second, either_first}
+use Rattle.ci_machine.proofs.TestLaws.{by_test, by_end, excluded, not_both, swapped, neither_first, neither_second, either_first}
 use Rattle.ci_machine.proofs.Effects.{keeps, AgreeAt, AreAlike, alike, is_store}
 
 -- ---- which memory an instruction needs

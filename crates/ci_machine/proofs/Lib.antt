@@ -1,4 +1,4 @@
-pub mod Tests
+pub mod TestLaws
 pub mod RegisterLaws
 pub mod Effects
 pub mod Exchange

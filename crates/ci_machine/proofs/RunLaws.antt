@@ -4,7 +4,7 @@ use Rattle.ci_machine.specs.Outcomes.{Reached, from_end, continued}
 use Rattle.ci_machine.specs.Programs.{Program, State}
 use Rattle.ci_machine.specs.Steps.{Meaning, step}
 use Rattle.ci_machine.specs.Runs.{after}
-use Rattle.ci_machine.proofs.Tests.{by_end}
+use Rattle.ci_machine.proofs.TestLaws.{by_end}
 
 module _ (meaning : Meaning) (program : Program) where
   pub runs_join : (m n : ℕ) (state : State) → (after meaning program m state).end ≡ None

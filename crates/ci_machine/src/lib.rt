@@ -15,5 +15,7 @@ mod memory;
 mod parts;
 mod start;
 mod state;
+#[cfg(test)]
+mod tests;
 mod text;
 mod touches;
