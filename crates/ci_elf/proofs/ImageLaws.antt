@@ -31,7 +31,7 @@ has_means s address h = record {
   to = ltb-true address (s.address + s.file_size) (both (nat_le s.address address) (nat_lt address (s.address + s.file_size)) h);
 }
 
-contains_tail : (t : Segment) (ts : List Segment) (s : Segment) → Contains ts s → Contains (t ∷ ts) s
+pub contains_tail : (t : Segment) (ts : List Segment) (s : Segment) → Contains ts s → Contains (t ∷ ts) s
 contains_tail t ts s c = (suc c.0, omega (arith, c.1), c.2)
 
 contained_later : (t : Segment) (ts : List Segment) (s : Segment) (k : ℕ) → k < length (t ∷ ts) → get_or (t ∷ ts) k s ≡ s → t ≢ s → Contains ts s

@@ -63,7 +63,7 @@ byte_in_part (p ∷ ps) zero part apart lt is x h =
 byte_in_part (p ∷ ps) (suc i) part apart lt is x h =
     skip (holds p x) _ _ _ (apart.0 x) (byte_in_part ps i part apart.1 (omega arith) is x h)
 
-held_same : (s t m n x : ℕ) → s ≡ t → m ≡ n → lies_in s (s + m) x ≡ lies_in t (t + n) x
+pub held_same : (s t m n x : ℕ) → s ≡ t → m ≡ n → lies_in s (s + m) x ≡ lies_in t (t + n) x
 held_same s t m n x e d = cc
 
 -- a new part in the place of one that lies where it does

@@ -9,24 +9,24 @@ use Rattle.std.proofs.lemmas.Slice.Zip.{all_zipped_more}
 use Rattle.std.specs.List.{AllPairs, AllZip, Contains, sum_by}
 use Rattle.ci_elf.specs.declared.segments.Segment.{Segment}
 use Rattle.ci_elf.specs.Executables.{Executable, IsWellFormed, ShareNoMemory}
+use Rattle.ci_elf.proofs.ImageLaws.{contains_tail}
 use Rattle.ci_machine.specs.declared.parts.Part.{Part}
 use Rattle.ci_machine.specs.Programs.{extent_of, greatest_end, heap_start, lies_in, loaded_byte, loaded_memory, loaded_program, loaded_size, stack_start, stack_end}
 use Rattle.ci_machine.specs.Parts.{byte_in, holds, IsApart, IsLaidOut, places}
 use Rattle.ci_machine.specs.Loading.{AreOpening, IsLoaded}
-use Rattle.ci_machine.proofs.PartLaws.{lies_in-bounds}
-
-contains_tail : (t : Segment) (ts : List Segment) (s : Segment) → Contains ts s → Contains (t ∷ ts) s
-contains_tail t ts s c = (suc c.0, omega (arith, c.1), c.2)
+use Rattle.ci_machine.proofs.PartLaws.{held_same, lies_in-bounds}
 
 -- ---- sizes and ends
 
-pub ends_below : (segments : List Segment) (top : ℕ) → ((s : Segment) → Contains segments s → s.address + s.memory_size ≤ top)
+ends_below : (segments : List Segment) (top : ℕ)
+    → ((s : Segment) → Contains segments s → s.address + s.memory_size ≤ top)
     → greatest_end (map extent_of segments) ≤ top
 ends_below [] top each = omega arith
 ends_below (s ∷ ss) top each =
     omega (arith, each s (0, omega arith, refl), ends_below ss top (λ t c. each t (contains_tail s ss t c)))
 
-pub size_counted : (segments : List Segment) → loaded_size (map extent_of segments) ≡ sum_by (λ s. s.memory_size) segments + 0x100000
+size_counted : (segments : List Segment)
+    → loaded_size (map extent_of segments) ≡ sum_by (λ s. s.memory_size) segments + 0x100000
 size_counted [] = refl
 size_counted (s ∷ ss) = omega (arith, size_counted ss, sum_by-cons (λ (t : Segment). t.memory_size) s ss)
 
@@ -38,7 +38,7 @@ covers segment address = lies_in segment.address (segment.address + segment.memo
 
 module _ (bytes : List ℕ) where
   holds_covers : (s : Segment) (p : Part) (x : ℕ) → IsLoaded bytes s p → holds p x ≡ covers s x
-  holds_covers s p x is = λ k. lies_in (is.start k) (is.start k + is.size k) x
+  holds_covers s p x is = held_same _ _ _ _ x is.start is.size
 
   -- what the part of a segment has at an address
   part_byte : (s : Segment) (p : Part) (x : ℕ) (rest : Option ℕ) → IsLoaded bytes s p
@@ -68,7 +68,8 @@ module _ (bytes : List ℕ) where
   unheld [] (p ∷ ps) x all none = absurd all
   unheld (s ∷ ss) [] x all none = absurd all
   unheld (s ∷ ss) (p ∷ ps) x all none =
-      rw (holds_covers s p x all.0, none 0 s (omega arith)) (unheld ss ps x all.1 (λ k d h. none (suc k) d (omega arith)))
+      rw (holds_covers s p x all.0, none 0 s (omega arith))
+      (unheld ss ps x all.1 (λ k d h. none (suc k) d (omega arith)))
 
   missed : (s t : Segment) (x : ℕ) → ShareNoMemory s t → covers s x ≡ true → covers t x ≡ false
   missed s t x (inl h) is = grind (arith, nat_tests)
@@ -82,7 +83,8 @@ module _ (bytes : List ℕ) where
   segments_apart (s ∷ ss) [] all pairs = absurd all
   segments_apart (s ∷ ss) (p ∷ ps) all pairs = (
     λ x h. unheld ss ps x all.1
-        (λ k d l. missed s (get_or ss k d) x (pairs 0 (suc k) d (omega arith) (omega arith)) (sym (holds_covers s p x all.0) ∙ h)),
+        (λ k d l.
+        missed s (get_or ss k d) x (pairs 0 (suc k) d (omega arith) (omega arith)) (sym (holds_covers s p x all.0) ∙ h)),
     segments_apart ss ps all.1 (λ i j d h l. pairs (suc i) (suc j) d (omega arith) (omega arith)),
   )
 
@@ -92,17 +94,13 @@ abbrev in_stack : ℕ → Bool
 in_stack address = lies_in stack_start stack_end address
 
 -- what the parts before the last have does not matter where only one of them has the address
-exchanged : (a b : Bool) (x y z : Option ℕ) → (b ≡ true → a ≡ false) → cond a x (cond b y z) ≡ cond b y (cond a x z)
+exchanged : (a b : Bool) (x y z : Option ℕ) → (a ≡ true → b ≡ false) → cond a x (cond b y z) ≡ cond b y (cond a x z)
 exchanged true true x y z apart = absurd (let e : true ≡ false = apart refl in cc)
 exchanged true false x y z apart = refl
 exchanged false b x y z apart = refl
 
 abbrev IsOffStack : Segment → Type 0
 IsOffStack s = (s.address + s.memory_size ≤ 0x7ff00000) ⊎ (0x80000000 ≤ s.address)
-
-off_stack : (s : Segment) (x : ℕ) → IsOffStack s → covers s x ≡ true → in_stack x ≡ false
-off_stack s x (inl h) is = grind (arith, nat_tests)
-off_stack s x (inr h) is = grind (arith, nat_tests)
 
 uncovered : (s : Segment) (x : ℕ) → IsOffStack s → in_stack x ≡ true → covers s x ≡ false
 uncovered s x (inl h) is = grind (arith, nat_tests)
@@ -120,7 +118,7 @@ module _ (bytes : List ℕ) (x : ℕ) where
   stack_first (s ∷ ss) (p ∷ ps) all off =
       ap (λ (o : Option ℕ). cond (in_stack x) (Some 0) o) (part_byte bytes s p x (byte_in ps x) all.0)
       ∙ exchanged (in_stack x) (covers s x) (Some 0) (Some (loaded_byte bytes s (x - s.address))) (byte_in ps x)
-      (off_stack s x (off s (0, omega arith, refl)))
+      (uncovered s x (off s (0, omega arith, refl)))
       ∙ ap (λ (o : Option ℕ). cond (covers s x) (Some (loaded_byte bytes s (x - s.address))) o)
       (stack_first ss ps all.1 (λ t c. off t (contains_tail s ss t c)))
 
@@ -131,7 +129,7 @@ pub record IsZeros (part : Part) (start size : ℕ) : Type 0 where
   pub zeros : (k : ℕ) → k < size → get_or part.bytes.items k 0 ≡ 0
 
 stack_held : (stack : Part) (x : ℕ) → IsZeros stack 0x7ff00000 0x100000 → holds stack x ≡ in_stack x
-stack_held stack x is = λ k. lies_in (is.begins k) (is.begins k + is.many k) x
+stack_held stack x is = held_same _ _ _ _ x is.begins is.many
 
 stack_byte : (stack : Part) (x : ℕ) (rest : Option ℕ) → IsZeros stack 0x7ff00000 0x100000
     → cond (holds stack x) (Some (get_or stack.bytes.items (x - stack.start) 0)) rest ≡ cond (in_stack x) (Some 0) rest
@@ -152,13 +150,14 @@ module _ (file : Executable) (formed : IsWellFormed file) where
   pub segments_fit : loaded_size (map extent_of file.segments) ≤ 67108864
   segments_fit = omega (arith, size_counted file.segments, formed.bounded)
 
-  opening_byte : (stack heap : Part) (parts : List Part) (start : ℕ) → IsZeros stack 0x7ff00000 0x100000 → IsZeros heap start 0
-      → AllZip (IsLoaded file.bytes) file.segments parts
+  opening_byte : (stack heap : Part) (parts : List Part) (start : ℕ)
+      → IsZeros stack 0x7ff00000 0x100000 → IsZeros heap start 0 → AllZip (IsLoaded file.bytes) file.segments parts
       → (x : ℕ) → byte_in (stack ∷ heap ∷ parts) x ≡ loaded_memory file.bytes file.segments x
   unfolding byte_in
   opening_byte stack heap parts start stack_is heap_is all x =
       stack_byte stack x (byte_in (heap ∷ parts) x) stack_is
-      ∙ ap (λ (b : Bool). cond (in_stack x) (Some 0) (cond b (Some (get_or heap.bytes.items (x - heap.start) 0)) (byte_in parts x)))
+      ∙ ap (λ (b : Bool).
+      cond (in_stack x) (Some 0) (cond b (Some (get_or heap.bytes.items (x - heap.start) 0)) (byte_in parts x)))
       (empty_holds heap start x heap_is)
       ∙ stack_first file.bytes x file.segments parts all formed.off_stack
 
@@ -196,22 +195,26 @@ module _ (file : Executable) (formed : IsWellFormed file) where
         heap = omega (arith, heap_is.begins, heap_is.many);
       }
 
-  pub opening_pushed : (none first second all parts : List Part) (stack heap : Part) → none ≡ [] → first ≡ none ++ stack ∷ []
-      → second ≡ first ++ heap ∷ [] → all ≡ second ++ parts → IsZeros stack 0x7ff00000 0x100000
-      → IsZeros heap (heap_start (loaded_program file)) 0 → AllZip (IsLoaded file.bytes) file.segments parts → AreOpening file all
+  pub opening_pushed : (none first second all parts : List Part) (stack heap : Part)
+      → none ≡ [] → first ≡ none ++ stack ∷ [] → second ≡ first ++ heap ∷ [] → all ≡ second ++ parts
+      → IsZeros stack 0x7ff00000 0x100000 → IsZeros heap (heap_start (loaded_program file)) 0
+      → AllZip (IsLoaded file.bytes) file.segments parts → AreOpening file all
   opening_pushed none first second all parts stack heap is_none is_first is_second is_all stack_is heap_is loaded =
       rw (is_all, is_second, is_first, is_none) (opening_from stack heap parts stack_is heap_is loaded)
 
   pub filled_at : (items : List Segment) (i : ℕ) (d : Segment) → items ≡ file.segments → i < length items
       → (get_or items i d).file_size ≤ (get_or items i d).memory_size
   filled_at items i d same lt =
-      formed.filled (get_or items i d) (subst (λ ss. Contains ss (get_or items i d)) same (Contains-get_or items i d lt))
+      let among = subst (λ ss. Contains ss (get_or items i d)) same (Contains-get_or items i d lt) in
+      formed.filled (get_or items i d) among
 
 -- one segment more was loaded
-pub loaded_more : (file : Executable) (items : List Segment) (bytes : List ℕ) (parts new : List Part) (part : Part) (i : ℕ) (d : Segment)
-    → items ≡ file.segments → bytes ≡ file.bytes → i < length items → AllZip (IsLoaded file.bytes) (take i file.segments) parts
-    → IsLoaded bytes (get_or items i d) part → new ≡ parts ++ part ∷ [] → AllZip (IsLoaded file.bytes) (take (i + 1) file.segments) new
+pub loaded_more : (file : Executable) (items : List Segment) (bytes : List ℕ) (parts new : List Part) (part : Part)
+    (i : ℕ) (d : Segment) → items ≡ file.segments → bytes ≡ file.bytes → i < length items
+    → AllZip (IsLoaded file.bytes) (take i file.segments) parts → IsLoaded bytes (get_or items i d) part
+    → new ≡ parts ++ part ∷ [] → AllZip (IsLoaded file.bytes) (take (i + 1) file.segments) new
 loaded_more file items bytes parts new part i d same same_bytes lt all is pushed =
+    let loaded = subst (λ bs. IsLoaded bs (get_or items i d) part) same_bytes is in
     rw (pushed, take_more file.segments i d (subst (λ ss. i < length ss) same lt))
     (all_zipped_more (IsLoaded file.bytes) (take i file.segments) parts (get_or file.segments i d) part all
-    (subst (λ ss. IsLoaded file.bytes (get_or ss i d) part) same (subst (λ bs. IsLoaded bs (get_or items i d) part) same_bytes is)))
+    (subst (λ ss. IsLoaded file.bytes (get_or ss i d) part) same loaded))

@@ -4,4 +4,5 @@ use Rattle.ci_machine.proofs.start.loaded_size.Given as goal
 
 abbrev pub invariant-loop-segment : goal.invariant-loop-segment
 invariant-loop-segment l =
-    l.size + loaded_size (map extent_of (drop l.segment-index l.segments)) ≡ loaded_size (map extent_of l.segments) + 0x100000
+    l.size + loaded_size (map extent_of (drop l.segment-index l.segments))
+    ≡ loaded_size (map extent_of l.segments) + 0x100000

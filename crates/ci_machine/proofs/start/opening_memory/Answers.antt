@@ -2,7 +2,8 @@ use Rattle.ci_machine.proofs.StartLaws.{segments_fit}
 use Rattle.ci_machine.proofs.start.opening_memory.Goals as goal
 
 pub loaded_size-loaded-requires : goal.loaded_size-loaded-requires
-loaded_size-loaded-requires c = rw c.segments.ensures.value (segments_fit c.args.image.now c.segments.ensures.well_formed)
+loaded_size-loaded-requires c =
+    rw c.segments.ensures.value (segments_fit c.args.image.now c.segments.ensures.well_formed)
 
 pub invariant_of-result : goal.invariant_of-result
 invariant_of-result c = record {
