@@ -43,7 +43,7 @@ stands word = elim (cases_lt word (2 ^ 32)) [
 pub plain_exists : (meaning : Meaning) × IsPlain meaning
 plain_exists = (record { insn = plain_insn; units = λ number a b c. (0, 0) }, stands)
 
-one_insn : (word : ℕ) (left right : Insn) → IsInsnAt word left → IsInsnAt word right → left ≡ right
+pub one_insn : (word : ℕ) (left right : Insn) → IsInsnAt word left → IsInsnAt word right → left ≡ right
 one_insn word (Illegal a) (Illegal b) one other = λ i. Illegal ((one.0 ∙ sym other.0) i)
 one_insn word (Illegal a) right one other = absurd (one.1 right other)
 one_insn word left (Illegal b) one other = absurd (other.1 left one)

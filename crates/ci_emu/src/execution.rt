@@ -1,0 +1,248 @@
+//! What each instruction does.
+ghost use Rattle.std.specs.Prelude.{◌≡◌, ◌*◌, ◌<◌, ◌^◌, IfOk, OnErr, nat_lt, if◌then◌else◌, pos, ◌-ℤ◌};
+ghost use Rattle.ci_word.specs.Arithmetic.{word_of};
+ghost use Rattle.ci_isa.specs.declared.instruction.Insn.TheVariants.{Branch, Load, Store};
+ghost use Rattle.ci_machine.specs.Accesses.{extended, load_width, width_bytes, addresses, bytes_at};
+ghost use Rattle.ci_machine.specs.Actions.{Units, act, address_from, loaded, stored};
+ghost use Rattle.ci_machine.specs.Calls.{call};
+ghost use Rattle.ci_machine.specs.Cores.{register, with_register};
+ghost use Rattle.ci_machine.specs.States.{bytes_of, program_of, state_of};
+ghost use Rattle.ci_machine.specs.Steps.{control, directed, even, execute, following, is_taken, onward, then_onward};
+ghost use Rattle.ci_emu.specs.Steps.{IsPlainInsn, LeadsTo};
+
+use crate::steps::Outcome;
+use ci_isa::{Cond, Insn, LoadKind, Reg, Width};
+use ci_machine::{Call, End, State};
+use ci_word::alu;
+use std::alloc::{AllocError, Global};
+
+/// Does what the instruction does. The state stays as it is where that ends the run, and where memory runs out.
+pub(crate) fn execute(alloc: Global, state: &mut State, insn: &Insn) -> Result<Outcome, AllocError>
+    requires { IsPlainInsn insn.now }
+    ensures executed { IfOk result (λ outcome. (units : Units)
+        → LeadsTo (state_of state.old) (execute units (program_of state.old) insn.now (state_of state.old))
+        (state_of state.new) outcome) }
+    ensures refused { OnErr result (state_of state.new ≡ state_of state.old) }
+    ensures program { program_of state.new ≡ program_of state.old }
+{
+    match *insn {
+        Insn::Alu { op, rd, rs1, rs2 } => {
+            let value = alu(op, state.register(rs1), state.register(rs2));
+            Ok(give(state, rd, value))
+        }
+        Insn::AluImm { op, rd, rs1, imm } => {
+            let value = alu(op, state.register(rs1), word(imm));
+            Ok(give(state, rd, value))
+        }
+        Insn::Lui { rd, upper } => Ok(give(state, rd, upper)),
+        Insn::Auipc { rd, upper } => {
+            let value = state.pc().wrapping_add(upper);
+            Ok(give(state, rd, value))
+        }
+        Insn::Jal { rd, offset } => {
+            let target = state.pc().wrapping_add(word(offset));
+            Ok(jump(state, rd, target))
+        }
+        Insn::Jalr { rd, rs1, offset } => {
+            let target = address(state, rs1, offset);
+            Ok(jump(state, rd, target - target % 2))
+        }
+        Insn::Branch {
+            cond,
+            rs1,
+            rs2,
+            offset,
+        } => Ok(branch(state, cond, rs1, rs2, offset)),
+        Insn::Load {
+            kind,
+            rd,
+            rs1,
+            offset,
+        } => {
+            let from = address(state, rs1, offset);
+            Ok(load(state, kind, rd, from))
+        }
+        Insn::Store {
+            width,
+            rs1,
+            rs2,
+            offset,
+        } => {
+            let to = address(state, rs1, offset);
+            Ok(store(state, width, rs2, to))
+        }
+        Insn::Fence { .. } => Ok(go_on(state)),
+        Insn::Ecall => call(alloc, state),
+        Insn::Ebreak => Ok(Outcome::Ended(End::Break)),
+        Insn::Illegal { word } => Ok(Outcome::Ended(End::Illegal(word))),
+        Insn::Unit { .. } | Insn::Cread { .. } => unreachable!(),
+    }
+}
+
+/// The word of a constant or an offset.
+pub(crate) fn word(constant: i32) -> u32
+    ensures { result ≡ word_of constant }
+{
+    constant.cast_unsigned()
+}
+
+/// The address that is this offset from the one in the register.
+pub(crate) fn address(state: &State, rs1: Reg, offset: i32) -> u32
+    ensures { result ≡ address_from (state_of state.now).core rs1 offset }
+{
+    state.register(rs1).wrapping_add(word(offset))
+}
+
+/// On at the next instruction.
+fn go_on(state: &mut State) -> Outcome
+    ensures outcome { LeadsTo (state_of state.old) (onward (state_of state.old).pc (state_of state.old).core)
+        (state_of state.new) result }
+    ensures program { program_of state.new ≡ program_of state.old }
+{
+    let next = state.pc().wrapping_add(4);
+    state.set_pc(next);
+    Outcome::Next
+}
+
+/// The register takes the value, and on at the next instruction.
+fn give(state: &mut State, rd: Reg, value: u32) -> Outcome
+    ensures outcome { LeadsTo (state_of state.old)
+        (onward (state_of state.old).pc (with_register (state_of state.old).core rd value)) (state_of state.new) result }
+    ensures program { program_of state.new ≡ program_of state.old }
+{
+    state.set_register(rd, value);
+    go_on(state)
+}
+
+/// On at the target, where that is a multiple of four.
+fn go_to(state: &mut State, target: u32) -> Outcome
+    ensures outcome { LeadsTo (state_of state.old) (directed target (state_of state.old).core)
+        (state_of state.new) result }
+    ensures program { program_of state.new ≡ program_of state.old }
+{
+    if target % 4 != 0 {
+        return Outcome::Ended(End::Misaligned(target));
+    }
+    state.set_pc(target);
+    Outcome::Next
+}
+
+/// The register takes the address of the next instruction, and on at the target, where that is a multiple of four.
+fn jump(state: &mut State, rd: Reg, target: u32) -> Outcome
+    ensures outcome { LeadsTo (state_of state.old)
+        (directed target (with_register (state_of state.old).core rd (following (state_of state.old).pc)))
+        (state_of state.new) result }
+    ensures program { program_of state.new ≡ program_of state.old }
+{
+    if target % 4 != 0 {
+        return Outcome::Ended(End::Misaligned(target));
+    }
+    let link = state.pc().wrapping_add(4);
+    state.set_register(rd, link);
+    state.set_pc(target);
+    Outcome::Next
+}
+
+/// Whether a branch on these values is taken.
+fn taken(cond: Cond, a: u32, b: u32) -> bool
+    ensures { result ≡ is_taken cond a b }
+{
+    match cond {
+        Cond::Eq => a == b,
+        Cond::Ne => a != b,
+        Cond::Lt => a.cast_signed() < b.cast_signed(),
+        Cond::Ge => a.cast_signed() >= b.cast_signed(),
+        Cond::Ltu => a < b,
+        Cond::Geu => a >= b,
+    }
+}
+
+/// A branch.
+fn branch(state: &mut State, cond: Cond, rs1: Reg, rs2: Reg, offset: i32) -> Outcome
+    ensures outcome { LeadsTo (state_of state.old)
+        (control (program_of state.old) (Branch cond rs1 rs2 offset) (state_of state.old).pc (state_of state.old).core)
+        (state_of state.new) result }
+    ensures program { program_of state.new ≡ program_of state.old }
+{
+    if taken(cond, state.register(rs1), state.register(rs2)) {
+        let target = state.pc().wrapping_add(word(offset));
+        go_to(state, target)
+    } else {
+        go_on(state)
+    }
+}
+
+/// The word with the sign of a number whose highest bit is this one.
+fn with_sign(n: u32, bit: u32) -> u32
+    requires { bit < 2 ^ 31 }
+    ensures { result ≡ word_of (if nat_lt n bit then pos n else (pos n -ℤ pos (2 * bit))) }
+{
+    if n < bit { n } else { n.wrapping_sub(2 * bit) }
+}
+
+/// The word that a load gives of the number that it reads.
+fn extend(kind: LoadKind, n: u32) -> u32
+    ensures { result ≡ extended kind n }
+{
+    match kind {
+        LoadKind::B => with_sign(n, 0x80),
+        LoadKind::H => with_sign(n, 0x8000),
+        LoadKind::W | LoadKind::Bu | LoadKind::Hu => n,
+    }
+}
+
+/// How many bytes a load reads.
+pub(crate) fn width_of(kind: LoadKind) -> Width
+    ensures { result ≡ load_width kind }
+{
+    match kind {
+        LoadKind::B | LoadKind::Bu => Width::Byte,
+        LoadKind::H | LoadKind::Hu => Width::Half,
+        LoadKind::W => Width::Word,
+    }
+}
+
+/// A load from an address.
+fn load(state: &mut State, kind: LoadKind, rd: Reg, address: u32) -> Outcome
+    ensures outcome { LeadsTo (state_of state.old)
+        (then_onward (state_of state.old).pc
+        (loaded (state_of state.old).core kind rd address (bytes_of (state_of state.old).core address (load_width kind))))
+        (state_of state.new) result }
+    ensures program { program_of state.new ≡ program_of state.old }
+{
+    let width = width_of(kind);
+    match state.load(address, width) {
+        Ok(n) => give(state, rd, extend(kind, n)),
+        Err(_) => Outcome::Ended(End::Access(address, width)),
+    }
+}
+
+/// A store to an address.
+fn store(state: &mut State, width: Width, rs2: Reg, address: u32) -> Outcome
+    ensures outcome { LeadsTo (state_of state.old)
+        (then_onward (state_of state.old).pc
+        (stored (state_of state.old).core width address (register (state_of state.old).core rs2)
+        (bytes_of (state_of state.old).core address width)))
+        (state_of state.new) result }
+    ensures program { program_of state.new ≡ program_of state.old }
+{
+    let value = state.register(rs2);
+    match state.store(address, width, value) {
+        Ok(()) => go_on(state),
+        Err(_) => Outcome::Ended(End::Access(address, width)),
+    }
+}
+
+/// An environment call.
+fn call(alloc: Global, state: &mut State) -> Result<Outcome, AllocError>
+    ensures outcome { IfOk result (LeadsTo (state_of state.old)
+        (then_onward (state_of state.old).pc (call (program_of state.old) (state_of state.old).core))
+        (state_of state.new)) }
+    ensures refused { OnErr result (state_of state.new ≡ state_of state.old) }
+    ensures program { program_of state.new ≡ program_of state.old }
+{
+    match state.environment_call(alloc)? {
+        Call::Goes => Ok(go_on(state)),
+        Call::Exit(code) => Ok(Outcome::Ended(End::Exit(code))),
+    }
+}

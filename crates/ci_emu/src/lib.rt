@@ -1,0 +1,9 @@
+//! The plain machine: steps and runs of RV32IM programs, and what is counted over them
+//! (RISC-V Unprivileged ISA 20191213, chapters 2 and 7).
+#![tactic(auto)]
+
+pub use ci_machine::End;
+pub use steps::{Outcome, step};
+
+mod execution;
+mod steps;
