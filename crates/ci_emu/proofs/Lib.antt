@@ -1,1 +1,4 @@
 pub mod Fetching
+pub mod PlaceLaws
+pub mod CountLaws
+pub mod RunCounts

@@ -3,7 +3,11 @@
 #![tactic(auto)]
 
 pub use ci_machine::End;
+pub use profile::Profile;
 pub use steps::{Outcome, step};
 
+mod counts;
 mod execution;
+mod profile;
 mod steps;
+mod tally;

@@ -1,5 +1,6 @@
 //! One step.
-ghost use Rattle.std.specs.Prelude.{◌≡◌, IfOk, OnErr, IfSome};
+ghost use Rattle.std.specs.Prelude.{◌≡◌, ◌%◌, true, IfOk, OnErr, IfSome};
+ghost use Rattle.ci_machine.specs.Programs.{in_text};
 ghost use Rattle.ci_machine.specs.States.{program_of, state_of};
 ghost use Rattle.ci_emu.specs.Steps.{IsFetched, IsPlainInsn, IsPlainStep};
 
@@ -30,7 +31,7 @@ pub fn step(alloc: Global, state: &mut State) -> Result<Outcome, AllocError>
 }
 
 /// The instruction at the pc, where that is a multiple of four in the text.
-pub(crate) fn fetch(state: &State) -> Option<Insn>
+fn fetch(state: &State) -> Option<Insn>
     ensures fetched { IsFetched (program_of state.now) (state_of state.now) result }
     ensures plain { IfSome result IsPlainInsn }
 {
@@ -38,6 +39,16 @@ pub(crate) fn fetch(state: &State) -> Option<Insn>
     if pc % 4 != 0 || !state.in_text(pc) {
         return None;
     }
-    let word = state.load(pc, Width::Word).ok()?;
+    read(state)
+}
+
+/// The instruction at the pc, which is a multiple of four in the text.
+pub(crate) fn read(state: &State) -> Option<Insn>
+    requires aligned { (state_of state.now).pc % 4 ≡ 0 }
+    requires text { in_text (program_of state.now) (state_of state.now).pc ≡ true }
+    ensures fetched { IsFetched (program_of state.now) (state_of state.now) result }
+    ensures plain { IfSome result IsPlainInsn }
+{
+    let word = state.load(state.pc(), Width::Word).ok()?;
     Some(insn_at(word))
 }

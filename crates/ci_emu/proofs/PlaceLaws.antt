@@ -1,0 +1,112 @@
+-- Places of words: how a search passes range after range, and that two words have two places.
+use Rattle.std.proofs.Common.{◌≡◌, ℕ, ◌+◌, ◌-◌, ◌*◌, ◌/◌, ◌%◌, ◌<◌, ◌≤◌, ap, sym, ◌∙◌, refl, arith, List, [], ◌∷◌, length, drop, get_or, Option, Some, None, add_assoc}
+use Rattle.std.specs.Prelude.{Bool, true, false, ◌||◌, is_some, IfSome, if◌then◌else◌}
+use Rattle.std.specs.List.{list_any}
+use Rattle.std.proofs.lemmas.Bool.{leb-true, ltb-true}
+use Rattle.std.proofs.lemmas.List.{drop_more}
+use Rattle.std.proofs.lemmas.List.Sums.{sum_by-cons}
+use Rattle.ci_machine.proofs.Tests.{by_test, both_first, both_second}
+use Rattle.std.specs.Option.{option_map}
+use Rattle.ci_elf.specs.declared.ranges.Range.{Range}
+use Rattle.ci_machine.specs.Programs.{lies_in}
+use Rattle.ci_emu.specs.Places.{place_in, place_count}
+
+-- ---- one range after the other
+
+-- the address has this place in the range
+abbrev pub place_here : Range → ℕ → Option ℕ
+place_here range address =
+    if lies_in range.start (range.start + 4 * range.words) address then Some ((address - range.start) / 4) else None
+
+-- the ranges before this one do not hold the address, and have so many words
+pub record IsPassed (ranges : List Range) (address i passed : ℕ) : Type 0 where
+  pub left : place_in ranges address ≡ option_map (λ place. passed + place) (place_in (drop i ranges) address)
+  pub words : passed + place_count (drop i ranges) ≡ place_count ranges
+
+taken : (b : Bool) (q p : ℕ) (o : Option ℕ) → (if b then Some q else None) ≡ Some p → (if b then Some q else o) ≡ Some p
+taken true q p o is = is
+taken false q p o is = cc
+
+left : (b : Bool) (q : ℕ) (o : Option ℕ) → (if b then Some q else None) ≡ None → (if b then Some q else o) ≡ o
+left true q o is = cc
+left false q o is = refl
+
+twice : (m n : ℕ) (o : Option ℕ) → option_map (λ place. m + place) (option_map (λ place. n + place) o) ≡ option_map (λ place. m + n + place) o
+twice m n None = refl
+twice m n (Some place) = ap Some (sym (add_assoc m n place))
+
+module _ (ranges : List Range) (address i passed : ℕ) (range : Range) (below : i < length ranges) (is : range ≡ get_or ranges i range) where
+  opened : drop i ranges ≡ range ∷ drop (i + 1) ranges
+  opened = drop_more ranges i range below ∙ ap (λ first. first ∷ drop (i + 1) ranges) (sym is)
+
+  rest_of : (o : Option ℕ) → IsPassed ranges address i passed
+      → place_in (range ∷ drop (i + 1) ranges) address ≡ o → place_in ranges address ≡ option_map (λ place. passed + place) o
+  rest_of o so_far found =
+      so_far.left ∙ ap (λ rest. option_map (λ place. passed + place) (place_in rest address)) opened ∙ ap (option_map (λ place. passed + place)) found
+
+  pub place_found : (place : ℕ) → IsPassed ranges address i passed → place_here range address ≡ Some place → place_in ranges address ≡ Some (passed + place)
+  place_found place so_far here = rest_of (Some place) so_far (taken _ _ _ _ here)
+
+  pub place_passed : IsPassed ranges address i passed → place_here range address ≡ None → IsPassed ranges address (i + 1) (passed + range.words)
+  place_passed so_far none = record {
+    left = rest_of _ so_far (left _ _ _ none) ∙ twice passed range.words (place_in (drop (i + 1) ranges) address);
+    words = omega (arith, so_far.words, ap place_count opened, sum_by-cons (λ (r : Range). r.words) range (drop (i + 1) ranges));
+  }
+
+-- ---- the place of an address
+
+in_one : (b : Bool) (n : ℕ) (o : Option ℕ) (q : ℕ) → is_some (if b then Some q else option_map (λ place. n + place) o) ≡ (b || is_some o)
+in_one true n o q = refl
+in_one false n None q = refl
+in_one false n (Some place) q = refl
+
+-- the bytes of the text are those with a place
+pub text_has_place : (ranges : List Range) (address : ℕ)
+    → list_any (λ range. lies_in range.start (range.start + 4 * range.words) address) ranges ≡ is_some (place_in ranges address)
+text_has_place [] address = refl
+text_has_place (range ∷ ranges) address =
+    ap (λ b. lies_in range.start (range.start + 4 * range.words) address || b) (text_has_place ranges address) ∙ sym (in_one _ _ _ _)
+
+-- where an address has its place: in the first range, or behind it
+data IsPlace (range : Range) (ranges : List Range) (address place : ℕ) : Type 0 where
+  first : range.start ≤ address → address < range.start + 4 * range.words → place ≡ (address - range.start) / 4 → IsPlace range ranges address place
+  later : (p : ℕ) → place_in ranges address ≡ Some p → place ≡ range.words + p → IsPlace range ranges address place
+
+placed : (range : Range) (ranges : List Range) (address place : ℕ) → place_in (range ∷ ranges) address ≡ Some place → IsPlace range ranges address place
+placed range ranges address place is = by_test (lies_in range.start (range.start + 4 * range.words) address)
+    (λ here. first (leb-true _ _ (both_first _ _ here)) (ltb-true _ _ (both_second _ _ here)) (let e = rw here at is in cc))
+    (λ none. behind (place_in ranges address) refl (rw none at is))
+  where
+    behind : (o : Option ℕ) → place_in ranges address ≡ o → option_map (λ p. range.words + p) o ≡ Some place → IsPlace range ranges address place
+    behind None rest is = cc
+    behind (Some p) rest is = later p rest (let e = is in cc)
+
+pub place_below : (ranges : List Range) (address place : ℕ) → place_in ranges address ≡ Some place → place < place_count ranges
+place_below [] address place is = cc
+place_below (range ∷ ranges) address place is = elim (placed range ranges address place is) [
+  | first from below here ↦ omega (arith, sum_by-cons (λ (r : Range). r.words) range ranges)
+  | later p rest behind ↦ omega (arith, place_below ranges address p rest, sum_by-cons (λ (r : Range). r.words) range ranges)
+]
+
+-- two words have two places
+pub place_is_one : (ranges : List Range) (a b place : ℕ) → a % 4 ≡ 0 → b % 4 ≡ 0
+    → place_in ranges a ≡ Some place → place_in ranges b ≡ Some place → a ≡ b
+place_is_one [] a b place aligned_a aligned_b of_a of_b = cc
+place_is_one (range ∷ ranges) a b place aligned_a aligned_b of_a of_b =
+    elim (placed range ranges a place of_a) [
+      | first from_a below_a here_a ↦ elim (placed range ranges b place of_b) [
+        | first from_b below_b here_b ↦ omega arith
+        | later p rest behind ↦ absurd (omega arith)
+      ]
+      | later p rest behind ↦ elim (placed range ranges b place of_b) [
+        | first from_b below_b here_b ↦ absurd (omega arith)
+        | later q rest_b behind_b ↦
+            let same : q ≡ p = omega arith in
+            place_is_one ranges a b p aligned_a aligned_b rest (rest_b ∙ ap Some same)
+      ]
+    ]
+
+pub within_places : (ranges : List Range) (address n : ℕ) (place : Option ℕ) → n ≡ place_count ranges → place ≡ place_in ranges address
+    → IfSome place (λ p. p < n)
+within_places ranges address n None count is = tt
+within_places ranges address n (Some p) count is = omega (arith, place_below ranges address p (sym is))

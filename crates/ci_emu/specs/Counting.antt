@@ -1,0 +1,56 @@
+-- What is counted while a run is made. For private contracts.
+use Rattle.std.specs.Prelude.{◌≡◌, ℕ, ◌+◌, ◌==◌, if◌then◌else◌, Option, Some, None, IsTrue, ◌↔◌, ◌⊎◌}
+use Rattle.std.specs.Option.{option_map}
+use Rattle.std.specs.Ordering.{nat_cmp}
+use Rattle.std.specs.BTreeSet.{BTreeSet, contains, IsEmpty}
+use Rattle.ci_isa.specs.declared.instruction.Insn.{Insn}
+use Rattle.ci_isa.specs.declared.instruction.Insn.TheVariants.{Jalr}
+use Rattle.ci_machine.specs.Programs.{Program, State}
+use Rattle.ci_machine.specs.Steps.{Meaning, touched}
+use Rattle.ci_machine.specs.Runs.{Latencies, cost, entries, jalr_target, step_cost}
+use Rattle.ci_emu.specs.declared.steps.Outcome.{Outcome}
+use Rattle.ci_emu.specs.declared.steps.Outcome.TheVariants.{Next}
+use Rattle.ci_emu.specs.declared.tally.Tally.{Tally}
+use Rattle.ci_emu.specs.Profiles.{count_at, IsTextWord, IsTarget, IsTouch}
+
+-- the address is one of the targets
+abbrev pub Led : BTreeSet ℕ → ℕ → Type 0
+Led targets address = IsTrue (contains nat_cmp targets address)
+
+-- the touch that is told after one step more: an earlier one, or that of the step at this pc
+abbrev pub first_touch : Option (ℕ × ℕ) → ℕ → Option ℕ → Option (ℕ × ℕ)
+first_touch (Some touch) pc address = Some touch
+first_touch None pc address = option_map (λ a. (pc, a)) address
+
+-- where the instruction led, if it is a JALR and did not end, and the pc is this one behind it
+abbrev pub target_of : Insn → Outcome → ℕ → Option ℕ
+target_of (Jalr rd rs1 offset) Next pc = Some pc
+target_of insn outcome pc = None
+
+-- nothing was counted yet
+pub record IsFresh (tally : Tally) : Type 0 where
+  pub cost : tally.cost ≡ 0
+  pub touched : tally.touched ≡ None
+  pub entries : (address : ℕ) → count_at tally.counts address ≡ 0
+  pub targets : IsEmpty tally.targets
+
+module _ (meaning : Meaning) (program : Program) (latencies : Latencies) where
+  -- The tally is that of n steps from the state, or of fewer where one of them ends the run.
+  pub record IsCounted (state : State) (n : ℕ) (tally : Tally) : Type 0 where
+    pub cost : tally.cost ≡ cost meaning program latencies n state
+    pub touched : IsTouch meaning program n state tally.touched
+    pub entries :
+        (address : ℕ) → IsTextWord program address
+        → count_at tally.counts address ≡ entries meaning program n state address
+    pub targets : (address : ℕ) → Led tally.targets address ↔ IsTarget meaning program n state address
+
+  -- The step from this state was counted, and nothing else.
+  pub record IsStepCounted (state : State) (old new : Tally) : Type 0 where
+    pub cost : new.cost ≡ old.cost + step_cost meaning program latencies state
+    pub touched : new.touched ≡ first_touch old.touched state.pc (touched meaning program state)
+    pub entries :
+        (address : ℕ) → IsTextWord program address
+        → count_at new.counts address ≡ count_at old.counts address + (if state.pc == address then 1 else 0)
+    pub targets :
+        (address : ℕ)
+        → Led new.targets address ↔ (Led old.targets address ⊎ (jalr_target meaning program state ≡ Some address))

@@ -1,0 +1,56 @@
+-- What a run is counted by.
+use Rattle.std.specs.Prelude.{◌≡◌, ℕ, ◌%◌, ◌<◌, ◌↔◌, true, List, Option, Some, None}
+use Rattle.std.specs.List.{AllPairs, Contains}
+use Rattle.ci_lat.specs.Latencies.{Latencies as Table, latency_of}
+use Rattle.ci_machine.specs.Programs.{Program, State, in_text}
+use Rattle.ci_machine.specs.Steps.{Meaning}
+use Rattle.ci_machine.specs.Runs.{Latencies, after, before_step, is_made, steps_made, cost, entries, jalr_target, LeavesTextFor, IsFirstTouch}
+use Rattle.ci_emu.specs.declared.counts.Counts.{Counts}
+use Rattle.ci_emu.specs.declared.profile.Profile.{Profile}
+use Rattle.ci_emu.specs.Places.{word_place, at_place}
+
+-- the latencies of a table; a plain machine has no units
+abbrev pub latencies_of : Table → Latencies
+latencies_of table = record { of_class = latency_of table; pad = table.pad; read = table.read; of_unit = λ _. 0 }
+
+-- how many steps were counted for the word at an address
+unfoldable pub count_at : Counts → ℕ → ℕ
+count_at counts address = at_place counts.by_place.items (word_place counts.ranges.items address)
+
+-- how many steps the profile has for the word at an address
+unfoldable pub entries_in : Profile → ℕ → ℕ
+entries_in profile address = count_at profile.counts address
+
+-- where JALR led, by the profile
+unfoldable pub targets_in : Profile → List ℕ
+targets_in profile = profile.targets.items
+
+-- a multiple of four in the text
+pub record IsTextWord (program : Program) (address : ℕ) : Type 0 where
+  pub aligned : address % 4 ≡ 0
+  pub text : in_text program address ≡ true
+
+module _ (meaning : Meaning) (program : Program) (n : ℕ) (state : State) where
+  -- a JALR of the n steps leads to the address
+  pub record IsTarget (address : ℕ) : Type 0 where
+    pub place : ℕ
+    pub within : place < n
+    pub made : is_made meaning program state place ≡ true
+    pub leads : jalr_target meaning program (before_step meaning program state place) ≡ Some address
+
+  -- none of the n steps touches the text, or this is the pc of the first that does, and the first byte that it moves
+  abbrev pub IsTouch : Option (ℕ × ℕ) → Type 0
+  IsTouch None = LeavesTextFor meaning program n state
+  IsTouch (Some (pc, address)) = IsFirstTouch meaning program n state pc address
+
+  -- The profile is that of n steps from the state, or of fewer where one of them ends the run.
+  pub record IsProfileOf (latencies : Latencies) (profile : Profile) : Type 0 where
+    pub steps : profile.steps ≡ steps_made meaning program n state
+    pub cost : profile.cost ≡ cost meaning program latencies n state
+    pub end : profile.end ≡ (after meaning program n state).end
+    pub touched : IsTouch profile.touched
+    pub entries :
+        (address : ℕ) → IsTextWord program address
+        → entries_in profile address ≡ entries meaning program n state address
+    pub ascending : AllPairs (λ a b. a < b) (targets_in profile)
+    pub targets : (address : ℕ) → Contains (targets_in profile) address ↔ IsTarget address
