@@ -1,7 +1,6 @@
 -- Counts of steps by their address.
-use Rattle.std.proofs.Common.{◌≡◌, ℕ, ◌+◌, ◌%◌, ◌<◌, ap, sym, ◌∙◌, refl, arith, List, length, take, get_or, Option, Some, None, replicate, ◌++◌, inl, inr, eq-eqb, add-zero}
-use Rattle.std.specs.Prelude.{Bool, true, false, ◌==◌, is_some, if◌then◌else◌, slice_index, slice_set}
-use Rattle.std.specs.List.{list_any}
+use Rattle.std.proofs.Common.{◌≡◌, ℕ, ◌+◌, ◌%◌, ◌<◌, ap, sym, ◌∙◌, refl, List, length, take, get_or, Option, Some, None, replicate, ◌++◌, inl, inr, eq-eqb, add-zero}
+use Rattle.std.specs.Prelude.{true, false, ◌==◌, ◌&&◌, is_some, if◌then◌else◌, slice_index, slice_set}
 use Rattle.std.proofs.lemmas.Bool.{cases_eq, cases_lt, eqb-true, ne_eqb}
 use Rattle.std.proofs.lemmas.List.{replicate-append-replicate, get_or-replicate, get_or_past, length-replicate, get_or-set_same, get_or-set_other}
 use Rattle.std.proofs.lemmas.List.Sums.{sum_by_more}
@@ -69,7 +68,7 @@ same_number : (a b : ℕ) → Some a ≡ Some b → a ≡ b
 same_number a b is = cc
 
 module _ (old new : Counts) (pc : ℕ) where
-  pub counted : (place : ℕ) → word_place old.ranges.items pc ≡ Some place → place < length old.by_place.items
+  counted : (place : ℕ) → word_place old.ranges.items pc ≡ Some place → place < length old.by_place.items
       → new.ranges.items ≡ old.ranges.items
       → new.by_place.items ≡ slice_set old.by_place.items place (slice_index old.by_place.items place + 1)
       → (address p : ℕ) → word_place old.ranges.items address ≡ Some p
@@ -95,11 +94,45 @@ module _ (old new : Counts) (pc : ℕ) where
             ∙ sym before ∙ sym (add-zero (count_at old address)))
       ]
 
-  pub not_counted : word_place old.ranges.items pc ≡ None → (address p : ℕ) → word_place old.ranges.items address ≡ Some p
-      → count_at old address ≡ count_at old address + (if pc == address then 1 else 0)
-  not_counted none address p there =
-      let other : ¬ (pc ≡ address) = λ same. no_place (sym none ∙ ap (word_place old.ranges.items) same ∙ there) in
-      rw (ne_eqb pc address other) (sym (add-zero (count_at old address)))
-    where
-      no_place : ¬ (None ≡ Some p)
-      no_place is = cc
+not_counted : (old : Counts) (pc : ℕ) → word_place old.ranges.items pc ≡ None → (address p : ℕ) → word_place old.ranges.items address ≡ Some p
+    → count_at old address ≡ count_at old address + (if pc == address then 1 else 0)
+not_counted old pc none address p there =
+    let other : ¬ (pc ≡ address) = λ same. no_place (sym none ∙ ap (word_place old.ranges.items) same ∙ there) in
+    rw (ne_eqb pc address other) (sym (add-zero (count_at old address)))
+  where
+    no_place : ¬ (None ≡ Some p)
+    no_place is = cc
+
+-- ---- a step that begins at an address
+
+module _ (program : Program) (old : Counts) (text : old.ranges.items ≡ program.text) where
+  pub place_at : (pc found : ℕ) (place : Option ℕ) → found ≡ pc → place ≡ word_place old.ranges.items found → word_place program.text pc ≡ place
+  place_at pc found place same is =
+      sym (is ∙ ap (word_place old.ranges.items) same ∙ ap (λ ranges. word_place ranges pc) text)
+
+  in_counts : (address : ℕ) (place : Option ℕ) → word_place program.text address ≡ place → word_place old.ranges.items address ≡ place
+  in_counts address place is = ap (λ ranges. word_place ranges address) text ∙ is
+
+  pub entered : (new : Counts) (pc place : ℕ) → word_place program.text pc ≡ Some place → place < length old.by_place.items
+      → new.ranges.items ≡ old.ranges.items
+      → new.by_place.items ≡ slice_set old.by_place.items place (slice_index old.by_place.items place + 1)
+      → (address : ℕ) → IsTextWord program address → count_at new address ≡ count_at old address + (if pc == address then 1 else 0)
+  entered new pc place is below ranges set address word =
+      let there = word_has_place program address word in
+      counted old new pc place (in_counts pc (Some place) is) below ranges set address there.0 (in_counts address (Some there.0) there.1)
+
+  pub not_entered : (pc : ℕ) → word_place program.text pc ≡ None
+      → (address : ℕ) → IsTextWord program address → count_at old address ≡ count_at old address + (if pc == address then 1 else 0)
+  not_entered pc none address word =
+      let there = word_has_place program address word in
+      not_counted old pc (in_counts pc None none) address there.0 (in_counts address (Some there.0) there.1)
+
+  pub count_here : (pc place : ℕ) → word_place program.text pc ≡ Some place → count_at old pc ≡ slice_index old.by_place.items place
+  count_here pc place is = count_read old pc place (in_counts pc (Some place) is)
+
+-- nothing is fetched where there is no place
+pub no_word : (program : Program) (pc : ℕ) → word_place program.text pc ≡ None → ((pc % 4 == 0) && in_text program pc) ≡ false
+unfolding word_place
+no_word program pc none = by_test (pc % 4 == 0)
+    (λ aligned. rw aligned (text_has_place program.text pc ∙ ap is_some (rw aligned at none)))
+    (λ other. rw other refl)

@@ -14,7 +14,7 @@ use Rattle.ci_machine.specs.Runs.{Latencies, after, before_step, is_made, steps_
 use Rattle.ci_machine.proofs.Tests.{by_end}
 use Rattle.ci_machine.proofs.RunLaws.{ends_stay}
 use Rattle.ci_emu.specs.declared.tally.Tally.{Tally}
-use Rattle.ci_emu.specs.Profiles.{count_at, IsTarget, IsTouch, IsTextWord}
+use Rattle.ci_emu.specs.Profiles.{IsTarget, IsTouch}
 use Rattle.ci_emu.specs.Counting.{first_touch, Led, IsFresh, IsCounted, IsStepCounted}
 
 module _ (meaning : Meaning) (program : Program) (latencies : Latencies) (start : State) where

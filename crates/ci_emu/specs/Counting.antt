@@ -1,13 +1,13 @@
 -- What is counted while a run is made. For private contracts.
-use Rattle.std.specs.Prelude.{◌≡◌, ℕ, ◌+◌, ◌==◌, if◌then◌else◌, Option, Some, None, IsTrue, ◌↔◌, ◌⊎◌}
+use Rattle.std.specs.Prelude.{◌≡◌, ℕ, ◌+◌, ◌≤◌, ◌==◌, if◌then◌else◌, Option, Some, None, IsTrue, ◌↔◌, ◌⊎◌}
 use Rattle.std.specs.Option.{option_map}
 use Rattle.std.specs.Ordering.{nat_cmp}
 use Rattle.std.specs.BTreeSet.{BTreeSet, contains, IsEmpty}
 use Rattle.ci_isa.specs.declared.instruction.Insn.{Insn}
 use Rattle.ci_isa.specs.declared.instruction.Insn.TheVariants.{Jalr}
 use Rattle.ci_machine.specs.Programs.{Program, State}
-use Rattle.ci_machine.specs.Steps.{Meaning, touched}
-use Rattle.ci_machine.specs.Runs.{Latencies, cost, entries, jalr_target, step_cost}
+use Rattle.ci_machine.specs.Steps.{Meaning, IsPlain, touched}
+use Rattle.ci_machine.specs.Runs.{Latencies, after, cost, entries, jalr_target, step_cost}
 use Rattle.ci_emu.specs.declared.steps.Outcome.{Outcome}
 use Rattle.ci_emu.specs.declared.steps.Outcome.TheVariants.{Next}
 use Rattle.ci_emu.specs.declared.tally.Tally.{Tally}
@@ -26,6 +26,12 @@ first_touch None pc address = option_map (λ a. (pc, a)) address
 abbrev pub target_of : Insn → Outcome → ℕ → Option ℕ
 target_of (Jalr rd rs1 offset) Next pc = Some pc
 target_of insn outcome pc = None
+
+-- at most n steps of a plain machine lead from one state to the other
+pub record IsReached (program : Program) (before : State) (n : ℕ) (reached : State) : Type 0 where
+  pub steps : ℕ
+  pub within : steps ≤ n
+  pub there : (meaning : Meaning) → IsPlain meaning → reached ≡ (after meaning program steps before).state
 
 -- nothing was counted yet
 pub record IsFresh (tally : Tally) : Type 0 where

@@ -1,10 +1,11 @@
 //! What is counted while a run is made.
 ghost use Rattle.std.specs.Prelude.{◌≡◌, ◌+◌, ◌<◌, ◌≤◌, ◌^◌, ◌==◌, ◌⊎◌, ◌↔◌, ℕ, Some, find, if◌then◌else◌, IfOk, OnOk, OnErr, IfSome};
-ghost use Rattle.ci_machine.specs.Actions.{accessed};
 ghost use Rattle.ci_machine.specs.Programs.{in_text};
 ghost use Rattle.ci_machine.specs.Runs.{after, latency};
 ghost use Rattle.ci_machine.specs.States.{program_of, state_of};
 ghost use Rattle.ci_machine.specs.Steps.{Meaning, IsPlain, moved};
+ghost use Rattle.ci_emu.specs.Counting.{first_touch, target_of, IsReached, IsStepCounted, Led};
+ghost use Rattle.ci_emu.specs.Profiles.{count_at, latencies_of, IsTextWord};
 ghost use Rattle.ci_emu.specs.Steps.{IsFetched, IsPlainInsn, IsPlainStep};
 
 use crate::counts::Counts;
@@ -42,4 +43,120 @@ impl Tally {
             targets: BTreeSet::new(alloc),
         })
     }
+}
+
+/// How long the instruction takes by the table, in cycles. A word that is none takes no time.
+fn latency(table: &Table, insn: &Insn) -> u32
+    requires { IsPlainInsn insn.now }
+    ensures value { result ≡ latency (latencies_of table.now) insn.now }
+    ensures greatest { result ≤ 1000 }
+{
+    match *insn {
+        Insn::Illegal { .. } => 0,
+        Insn::AluImm { .. } if class(insn) == Class::Free => table.pad(),
+        _ => table.latency(class(insn)),
+    }
+}
+
+/// The first byte of the text that the instruction moves.
+fn touched(state: &State, insn: &Insn) -> Option<u32>
+    ensures { result ≡ find (in_text (program_of state.now)) (moved insn.now (state_of state.now).core) }
+{
+    match *insn {
+        Insn::Load {
+            kind, rs1, offset, ..
+        } => state.touched_by_access(address(state, rs1, offset), width_of(kind)),
+        Insn::Store {
+            width, rs1, offset, ..
+        } => state.touched_by_access(address(state, rs1, offset), width),
+        Insn::Ecall => state.touched_by_call(),
+        _ => None,
+    }
+}
+
+/// The touch that is told after a step more: an earlier one, or that of this instruction.
+fn first_touch(
+    earlier: Option<(u32, u32)>,
+    state: &State,
+    insn: &Insn,
+) -> Option<(u32, u32)>
+    ensures { result ≡ first_touch earlier (state_of state.now).pc
+        (find (in_text (program_of state.now)) (moved insn.now (state_of state.now).core)) }
+{
+    if earlier.is_some() {
+        return earlier;
+    }
+    let address = touched(state, insn)?;
+    Some((state.pc(), address))
+}
+
+/// Where the instruction led, if it is a JALR and did not end.
+fn target(state: &State, insn: &Insn, outcome: Outcome) -> Option<u32>
+    ensures { result ≡ target_of insn.now outcome (state_of state.now).pc }
+{
+    match (*insn, outcome) {
+        (Insn::Jalr { .. }, Outcome::Next) => Some(state.pc()),
+        _ => None,
+    }
+}
+
+/// Notes an address to which a JALR led. They stay as they are where there is no memory.
+fn note(targets: &mut BTreeSet<u32>, target: u32) -> Result<(), AllocError>
+    ensures { OnOk result ((address : ℕ) → Led targets.new address ↔ (Led targets.old address ⊎ (target ≡ address))) }
+{
+    targets.insert(target)?;
+    Ok(())
+}
+
+/// Counts the step that begins at the pc, and gives its instruction, if it fetches one.
+fn enter(counts: &mut Counts, state: &State) -> Option<Insn>
+    requires text { counts.old.ranges.items ≡ (program_of state.now).text }
+    requires room { IsTextWord (program_of state.now) (state_of state.now).pc
+        → count_at counts.old (state_of state.now).pc < 2 ^ 32 }
+    ensures fetched { IsFetched (program_of state.now) (state_of state.now) result }
+    ensures plain { IfSome result IsPlainInsn }
+    ensures text { counts.new.ranges.items ≡ counts.old.ranges.items }
+    ensures counted { (address : ℕ) → IsTextWord (program_of state.now) address → count_at counts.new address
+        ≡ count_at counts.old address + (if (state_of state.now).pc == address then 1 else 0) }
+{
+    match counts.place(state.pc()) {
+        Some(place) => {
+            counts.add(place);
+            read(state)
+        }
+        None => None,
+    }
+}
+
+/// One step, counted.
+///
+/// Where memory runs out, the state is as before the step or behind it.
+pub(crate) fn counted_step(
+    alloc: Global,
+    state: &mut State,
+    table: &Table,
+    tally: &mut Tally,
+) -> Result<Outcome, AllocError>
+    requires text { tally.old.counts.ranges.items ≡ (program_of state.old).text }
+    requires room { IsTextWord (program_of state.old) (state_of state.old).pc
+        → count_at tally.old.counts (state_of state.old).pc < 2 ^ 32 }
+    requires cheap { tally.old.cost < 2 ^ 63 }
+    ensures stepped { IfOk result (IsPlainStep (program_of state.old) (state_of state.old) (state_of state.new)) }
+    ensures counted { OnOk result ((meaning : Meaning) → IsPlain meaning
+        → IsStepCounted meaning (program_of state.old) (latencies_of table.now) (state_of state.old) tally.old tally.new) }
+    ensures cost { tally.new.cost ≤ tally.old.cost + 1000 }
+    ensures refused { OnErr result (IsReached (program_of state.old) (state_of state.old) 1 (state_of state.new)) }
+    ensures program { program_of state.new ≡ program_of state.old }
+    ensures text { tally.new.counts.ranges.items ≡ tally.old.counts.ranges.items }
+{
+    let Some(insn) = enter(&mut tally.counts, state) else {
+        return Ok(Outcome::Ended(End::Fetch(state.pc())));
+    };
+    tally.cost += u64::from(latency(table, &insn));
+    tally.touched = first_touch(tally.touched, state, &insn);
+    let outcome = execute(alloc, state, &insn)?;
+    if let Some(target) = target(state, &insn, outcome) {
+        note(&mut tally.targets, target)?;
+    }
+    Ok(outcome)
 }
