@@ -88,7 +88,7 @@ module _ (old new : Counts) (pc : ℕ) where
             let here = word_placed old.ranges.items pc place is in
             let at = word_placed old.ranges.items address p there in
             let apart : ¬ (p ≡ place) = λ e.
-                other (place_is_one old.ranges.items pc address place here.0 at.0 here.1 (at.1 ∙ ap Some e)) in
+            other (place_is_one old.ranges.items pc address place here.0 at.0 here.1 (at.1 ∙ ap Some e)) in
             rw (ne_eqb pc address other) (after
             ∙ get_or-set_other old.by_place.items place p (slice_index old.by_place.items place + 1) 0 apart
             ∙ sym before ∙ sym (add-zero (count_at old address)))

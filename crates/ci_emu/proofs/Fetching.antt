@@ -10,10 +10,9 @@ use Rattle.ci_machine.specs.Programs.{Program, State, in_text}
 use Rattle.ci_machine.specs.Steps.{Meaning, IsPlain, word_at, execute, step}
 use Rattle.ci_machine.proofs.Meanings.{one_insn}
 use Rattle.ci_emu.specs.declared.steps.Outcome.{Outcome}
-use Rattle.ci_emu.specs.Counting.{IsReached}
 use Rattle.ci_emu.specs.Places.{word_place}
 use Rattle.ci_emu.proofs.CountLaws.{no_word}
-use Rattle.ci_emu.specs.Steps.{LeadsTo, IsFetched, IsPlainStep}
+use Rattle.ci_emu.specs.Steps.{LeadsTo, IsFetched, IsPlainStep, IsReached}
 
 module _ (program : Program) (state : State) where
   -- the instruction that a word of the text stands for

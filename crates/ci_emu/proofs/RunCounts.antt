@@ -7,15 +7,17 @@ use Rattle.std.specs.BTreeMap.{is_at}
 use Rattle.std.specs.BTreeSet.{BTreeSet, IsEmpty}
 use Rattle.std.proofs.lemmas.Bool.{cases_eq, true≢false}
 use Rattle.ci_word.proofs.NumberLaws.{count_below-zero, count_below-suc, sum_below-zero, sum_below-suc}
+use Rattle.ci_machine.specs.declared.ends.End.{End}
 use Rattle.ci_machine.specs.Programs.{Program, State}
 use Rattle.ci_machine.specs.Outcomes.{from_end}
 use Rattle.ci_machine.specs.Steps.{Meaning, step, touched}
 use Rattle.ci_machine.specs.Runs.{Latencies, after, before_step, is_made, steps_made, cost, entries, step_cost, jalr_target, LeavesTextFor}
 use Rattle.ci_machine.proofs.Tests.{by_end}
 use Rattle.ci_machine.proofs.RunLaws.{ends_stay}
+use Rattle.ci_emu.specs.declared.profile.Profile.{Profile}
 use Rattle.ci_emu.specs.declared.tally.Tally.{Tally}
-use Rattle.ci_emu.specs.Profiles.{IsTarget, IsTouch}
-use Rattle.ci_emu.specs.Counting.{first_touch, Led, IsFresh, IsCounted, IsStepCounted}
+use Rattle.ci_emu.specs.Profiles.{IsTarget, IsTouch, IsProfileOf}
+use Rattle.ci_emu.specs.Counting.{first_touch, Led, IsFresh, IsToldBy, IsCounted, IsStepCounted}
 
 module _ (meaning : Meaning) (program : Program) (latencies : Latencies) (start : State) where
   abbrev made : ℕ → Bool
@@ -91,13 +93,16 @@ module _ (meaning : Meaning) (program : Program) (latencies : Latencies) (start 
 
   target_more : (n address : ℕ) → made n ≡ true
       → (IsTarget meaning program n start address ⊎ (jalr_target meaning program (at n) ≡ Some address)) ↔ IsTarget meaning program (suc n) start address
-  target_more n address is = (λ either. elim either [
-    | inl earlier ↦ target_later n address earlier
-    | inr here ↦ record { place = n; within = lt-suc_self n; made = is; leads = here }
-  ], λ target. elim (cases_eq target.place n) [
-    | inl same ↦ inr (ap (λ k. jalr_target meaning program (at k)) (sym same) ∙ target.leads)
-    | inr other ↦ inl (record { place = target.place; within = omega arith; made = target.made; leads = target.leads })
-  ])
+  target_more n address is = (
+    λ either. elim either [
+      | inl earlier ↦ target_later n address earlier
+      | inr here ↦ record { place = n; within = lt-suc_self n; made = is; leads = here }
+    ],
+    λ target. elim (cases_eq target.place n) [
+      | inl same ↦ inr (ap (λ k. jalr_target meaning program (at k)) (sym same) ∙ target.leads)
+      | inr other ↦ inl (record { place = target.place; within = omega arith; made = target.made; leads = target.leads })
+    ],
+  )
 
   pub one_more : (n : ℕ) (old new : Tally) → (after meaning program n start).end ≡ None
       → IsCounted meaning program latencies start n old → IsStepCounted meaning program latencies (at n) old new
@@ -111,9 +116,10 @@ module _ (meaning : Meaning) (program : Program) (latencies : Latencies) (start 
     targets = λ address.
         let led = step.targets address in
         let before = so_far.targets address in
-        let more = target_more n address is in
-        (λ l. more.0 (elim (led.0 l) [ inl e ↦ inl (before.0 e) | inr h ↦ inr h ]),
-         λ t. led.1 (elim (more.1 t) [ inl e ↦ inl (before.1 e) | inr h ↦ inr h ]));
+        let more = target_more n address is in (
+          λ l. more.0 (elim (led.0 l) [ inl e ↦ inl (before.0 e) | inr h ↦ inr h ]),
+          λ t. led.1 (elim (more.1 t) [ inl e ↦ inl (before.1 e) | inr h ↦ inr h ]),
+        );
   }
 
   -- ---- nothing more after an end
@@ -123,9 +129,10 @@ module _ (meaning : Meaning) (program : Program) (latencies : Latencies) (start 
     cost = so_far.cost ∙ sym (cost_more n false is ∙ add-zero _);
     touched = touch_still tally.touched so_far.touched;
     entries = λ address word. so_far.entries address word ∙ sym (entries_more n address false is ∙ add-zero _);
-    targets = λ address.
-        (λ l. target_later n address ((so_far.targets address).0 l),
-         λ t. (so_far.targets address).1 (target_before n address (λ yes. absurd (true≢false (sym yes ∙ is))) t));
+    targets = λ address. (
+      λ l. target_later n address ((so_far.targets address).0 l),
+      λ t. (so_far.targets address).1 (target_before n address (λ yes. absurd (true≢false (sym yes ∙ is))) t),
+    );
   }
     where
       touch_still : (touch : Option (ℕ × ℕ)) → IsTouch meaning program n start touch → IsTouch meaning program (suc n) start touch
@@ -159,3 +166,23 @@ module _ (meaning : Meaning) (program : Program) (latencies : Latencies) (start 
   all_made (suc n) on =
       let before = on_before n on in
       steps_more n true (ap is_none before) ∙ ap (λ k. k + 1) (all_made n before) ∙ add-one n
+
+  pub made_with_last : (n : ℕ) → (after meaning program n start).end ≡ None → steps_made meaning program (suc n) start ≡ n + 1
+  made_with_last n on = steps_more n true (ap is_none on) ∙ ap (λ k. k + 1) (all_made n on)
+
+  -- ---- the profile
+
+  pub profile_of : (n steps : ℕ) (end : Option End) (tally : Tally) (profile : Profile)
+      → IsCounted meaning program latencies start n tally → steps ≡ steps_made meaning program n start
+      → end ≡ (after meaning program n start).end → IsToldBy tally steps end profile
+      → IsProfileOf meaning program n start latencies profile
+  profile_of n steps end tally profile counted made_of end_of told = record {
+    steps = told.steps ∙ made_of;
+    cost = told.cost ∙ counted.cost;
+    end = told.end ∙ end_of;
+    touched = subst (IsTouch meaning program n start) (sym told.touched) counted.touched;
+    entries = λ address word. told.entries address ∙ counted.entries address word;
+    ascending = told.ascending;
+    targets = λ address.
+        (λ c. (counted.targets address).0 ((told.targets address).0 c), λ t. (told.targets address).1 ((counted.targets address).1 t));
+  }

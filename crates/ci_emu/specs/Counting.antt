@@ -1,17 +1,20 @@
 -- What is counted while a run is made. For private contracts.
-use Rattle.std.specs.Prelude.{◌≡◌, ℕ, ◌+◌, ◌≤◌, ◌==◌, if◌then◌else◌, Option, Some, None, IsTrue, ◌↔◌, ◌⊎◌}
+use Rattle.std.specs.Prelude.{◌≡◌, ℕ, ◌+◌, ◌<◌, ◌==◌, if◌then◌else◌, Option, Some, None, IsTrue, ◌↔◌, ◌⊎◌}
+use Rattle.std.specs.List.{AllPairs, Contains}
 use Rattle.std.specs.Option.{option_map}
 use Rattle.std.specs.Ordering.{nat_cmp}
 use Rattle.std.specs.BTreeSet.{BTreeSet, contains, IsEmpty}
 use Rattle.ci_isa.specs.declared.instruction.Insn.{Insn}
 use Rattle.ci_isa.specs.declared.instruction.Insn.TheVariants.{Jalr}
+use Rattle.ci_machine.specs.declared.ends.End.{End}
 use Rattle.ci_machine.specs.Programs.{Program, State}
-use Rattle.ci_machine.specs.Steps.{Meaning, IsPlain, touched}
-use Rattle.ci_machine.specs.Runs.{Latencies, after, cost, entries, jalr_target, step_cost}
+use Rattle.ci_machine.specs.Steps.{Meaning, touched}
+use Rattle.ci_machine.specs.Runs.{Latencies, cost, entries, jalr_target, step_cost}
 use Rattle.ci_emu.specs.declared.steps.Outcome.{Outcome}
 use Rattle.ci_emu.specs.declared.steps.Outcome.TheVariants.{Next}
+use Rattle.ci_emu.specs.declared.profile.Profile.{Profile}
 use Rattle.ci_emu.specs.declared.tally.Tally.{Tally}
-use Rattle.ci_emu.specs.Profiles.{count_at, IsTextWord, IsTarget, IsTouch}
+use Rattle.ci_emu.specs.Profiles.{count_at, entries_in, targets_in, IsTextWord, IsTarget, IsTouch}
 
 -- the address is one of the targets
 abbrev pub Led : BTreeSet ℕ → ℕ → Type 0
@@ -27,18 +30,22 @@ abbrev pub target_of : Insn → Outcome → ℕ → Option ℕ
 target_of (Jalr rd rs1 offset) Next pc = Some pc
 target_of insn outcome pc = None
 
--- at most n steps of a plain machine lead from one state to the other
-pub record IsReached (program : Program) (before : State) (n : ℕ) (reached : State) : Type 0 where
-  pub steps : ℕ
-  pub within : steps ≤ n
-  pub there : (meaning : Meaning) → IsPlain meaning → reached ≡ (after meaning program steps before).state
-
 -- nothing was counted yet
 pub record IsFresh (tally : Tally) : Type 0 where
   pub cost : tally.cost ≡ 0
   pub touched : tally.touched ≡ None
   pub entries : (address : ℕ) → count_at tally.counts address ≡ 0
   pub targets : IsEmpty tally.targets
+
+-- The profile tells what the tally has, of so many steps that came to this end.
+pub record IsToldBy (tally : Tally) (made : ℕ) (met : Option End) (profile : Profile) : Type 0 where
+  pub steps : profile.steps ≡ made
+  pub cost : profile.cost ≡ tally.cost
+  pub end : profile.end ≡ met
+  pub touched : profile.touched ≡ tally.touched
+  pub entries : (address : ℕ) → entries_in profile address ≡ count_at tally.counts address
+  pub ascending : AllPairs (λ a b. a < b) (targets_in profile)
+  pub targets : (address : ℕ) → Contains (targets_in profile) address ↔ Led tally.targets address
 
 module _ (meaning : Meaning) (program : Program) (latencies : Latencies) where
   -- The tally is that of n steps from the state, or of fewer where one of them ends the run.

@@ -1,11 +1,12 @@
 -- What one step comes to.
-use Rattle.std.specs.Prelude.{◌≡◌, Option, Some, None, ⊤}
+use Rattle.std.specs.Prelude.{◌≡◌, ℕ, ◌≤◌, Option, Some, None, ⊤}
 use Rattle.ci_isa.specs.declared.instruction.Insn.{Insn}
 use Rattle.ci_isa.specs.declared.instruction.Insn.TheVariants.{Unit, Cread}
 use Rattle.ci_machine.specs.declared.ends.End.{End}
 use Rattle.ci_machine.specs.Outcomes as machine
 use Rattle.ci_machine.specs.Programs.{Program, State}
 use Rattle.ci_machine.specs.Steps.{Meaning, IsPlain, fetched, step}
+use Rattle.ci_machine.specs.Runs.{after}
 use Rattle.ci_emu.specs.declared.steps.Outcome.{Outcome}
 use Rattle.ci_emu.specs.declared.steps.Outcome.TheVariants.{Next, Ended}
 
@@ -32,3 +33,9 @@ IsPlainInsn insn = ⊤
 -- A plain machine fetches this instruction, or none.
 abbrev pub IsFetched : Program → State → Option Insn → Type 0
 IsFetched program state insn = (meaning : Meaning) → IsPlain meaning → fetched meaning program state ≡ insn
+
+-- some of n steps of a plain machine lead from one state to the other
+pub record IsReached (program : Program) (before : State) (n : ℕ) (reached : State) : Type 0 where
+  pub steps : ℕ
+  pub within : steps ≤ n
+  pub there : (meaning : Meaning) → IsPlain meaning → reached ≡ (after meaning program steps before).state

@@ -21,7 +21,11 @@ fn place_in_range(range: &Range, address: u32) -> Option<u32>
         then Some ((address - range.now.start) / 4) else None) }
 {
     let place = address.checked_sub(range.start)? / 4;
-    if place < range.words { Some(place) } else { None }
+    if place < range.words {
+        Some(place)
+    } else {
+        None
+    }
 }
 
 /// The place of the word that the byte at an address is part of, one range behind the other.

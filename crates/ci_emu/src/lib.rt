@@ -4,10 +4,12 @@
 
 pub use ci_machine::End;
 pub use profile::Profile;
+pub use runs::run;
 pub use steps::{Outcome, step};
 
 mod counts;
 mod execution;
 mod profile;
+mod runs;
 mod steps;
 mod tally;

@@ -1,15 +1,18 @@
 //! What is counted while a run is made.
 ghost use Rattle.std.specs.Prelude.{◌≡◌, ◌+◌, ◌<◌, ◌≤◌, ◌^◌, ◌==◌, ◌⊎◌, ◌↔◌, ℕ, Some, find, if◌then◌else◌, IfOk, OnOk, OnErr, IfSome};
+ghost use Rattle.std.specs.BTreeSet.{IsOrdered};
+ghost use Rattle.std.specs.Ordering.{nat_cmp};
 ghost use Rattle.ci_machine.specs.Programs.{in_text};
 ghost use Rattle.ci_machine.specs.Runs.{after, latency};
 ghost use Rattle.ci_machine.specs.States.{program_of, state_of};
 ghost use Rattle.ci_machine.specs.Steps.{Meaning, IsPlain, moved};
-ghost use Rattle.ci_emu.specs.Counting.{first_touch, target_of, IsReached, IsStepCounted, Led};
+ghost use Rattle.ci_emu.specs.Counting.{first_touch, target_of, IsStepCounted, Led};
 ghost use Rattle.ci_emu.specs.Profiles.{count_at, latencies_of, IsTextWord};
-ghost use Rattle.ci_emu.specs.Steps.{IsFetched, IsPlainInsn, IsPlainStep};
+ghost use Rattle.ci_emu.specs.Steps.{IsFetched, IsPlainInsn, IsPlainStep, IsReached};
 
 use crate::counts::Counts;
 use crate::execution::{address, execute, width_of};
+use crate::profile::Profile;
 use crate::steps::{Outcome, read};
 use ci_elf::Range;
 use ci_isa::{Insn, class};
@@ -29,7 +32,7 @@ pub(crate) struct Tally {
 }
 
 impl Tally {
-    ghost use Rattle.ci_emu.specs.Counting.{IsFresh};
+    ghost use Rattle.ci_emu.specs.Counting.{IsFresh, IsToldBy};
 
     /// Nothing yet.
     pub(crate) fn new(alloc: Global, text: &[Range]) -> Result<Tally, AllocError>
@@ -41,6 +44,26 @@ impl Tally {
             cost: 0,
             touched: None,
             targets: BTreeSet::new(alloc),
+        })
+    }
+
+    /// The profile of a run of so many steps.
+    pub(crate) fn profile(
+        self,
+        alloc: Global,
+        steps: u64,
+        end: Option<End>,
+    ) -> Result<Profile, AllocError>
+        ensures { IfOk result (IsToldBy self steps end) }
+    {
+        let targets = sorted(alloc, &self.targets)?;
+        Ok(Profile {
+            steps,
+            cost: self.cost,
+            end,
+            touched: self.touched,
+            counts: self.counts,
+            targets,
         })
     }
 }
@@ -64,10 +87,16 @@ fn touched(state: &State, insn: &Insn) -> Option<u32>
 {
     match *insn {
         Insn::Load {
-            kind, rs1, offset, ..
+            kind,
+            rs1,
+            offset,
+            ..
         } => state.touched_by_access(address(state, rs1, offset), width_of(kind)),
         Insn::Store {
-            width, rs1, offset, ..
+            width,
+            rs1,
+            offset,
+            ..
         } => state.touched_by_access(address(state, rs1, offset), width),
         Insn::Ecall => state.touched_by_call(),
         _ => None,
@@ -75,11 +104,7 @@ fn touched(state: &State, insn: &Insn) -> Option<u32>
 }
 
 /// The touch that is told after a step more: an earlier one, or that of this instruction.
-fn first_touch(
-    earlier: Option<(u32, u32)>,
-    state: &State,
-    insn: &Insn,
-) -> Option<(u32, u32)>
+fn first_touch(earlier: Option<(u32, u32)>, state: &State, insn: &Insn) -> Option<(u32, u32)>
     ensures { result ≡ first_touch earlier (state_of state.now).pc
         (find (in_text (program_of state.now)) (moved insn.now (state_of state.now).core)) }
 {
@@ -159,4 +184,12 @@ pub(crate) fn counted_step(
         note(&mut tally.targets, target)?;
     }
     Ok(outcome)
+}
+
+/// The targets in ascending order.
+fn sorted(alloc: Global, targets: &BTreeSet<u32>) -> Result<Vec<u32>, AllocError>
+    ensures keys { IfOk result (λ list. list.items ≡ targets.now.keys) }
+    ensures ordered { IsOrdered nat_cmp targets.now }
+{
+    targets.iter().copied().collect(alloc)
 }

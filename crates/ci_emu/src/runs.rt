@@ -1,0 +1,35 @@
+//! Runs of several steps.
+ghost use Rattle.std.specs.Prelude.{◌≡◌, ◌≤◌, ◌^◌, IfOk, OnOk, OnErr};
+ghost use Rattle.ci_machine.specs.Runs.{after};
+ghost use Rattle.ci_machine.specs.States.{program_of, state_of};
+ghost use Rattle.ci_machine.specs.Steps.{Meaning, IsPlain};
+ghost use Rattle.ci_emu.specs.Profiles.{latencies_of, IsProfileOf};
+ghost use Rattle.ci_emu.specs.Steps.{IsReached};
+
+use crate::profile::Profile;
+use crate::steps::Outcome;
+use crate::tally::{Tally, counted_step};
+use ci_lat::Table;
+use ci_machine::State;
+use std::alloc::{AllocError, Global};
+
+/// Makes `n` steps, or fewer where one of them ends the run, and counts them by a latency table.
+///
+/// Where memory runs out, the state is one that some of the steps gave.
+pub fn run(alloc: Global, state: &mut State, table: &Table, n: u64) -> Result<Profile, AllocError>
+    requires { n ≤ 2 ^ 32 }
+    ensures state { OnOk result ((meaning : Meaning) → IsPlain meaning
+        → state_of state.new ≡ (after meaning (program_of state.old) n (state_of state.old)).state) }
+    ensures profile { IfOk result (λ profile. (meaning : Meaning) → IsPlain meaning
+        → IsProfileOf meaning (program_of state.old) n (state_of state.old) (latencies_of table.now) profile) }
+    ensures refused { OnErr result (IsReached (program_of state.old) (state_of state.old) n (state_of state.new)) }
+    ensures program { program_of state.new ≡ program_of state.old }
+{
+    let mut tally = Tally::new(alloc, state.text())?;
+    for i in 0..n {
+        if let Outcome::Ended(end) = counted_step(alloc, state, table, &mut tally)? {
+            return tally.profile(alloc, i + 1, Some(end));
+        }
+    }
+    tally.profile(alloc, n, None)
+}
