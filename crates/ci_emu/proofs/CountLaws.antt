@@ -6,7 +6,7 @@ use Rattle.std.proofs.lemmas.List.{replicate-append-replicate, get_or-replicate,
 use Rattle.std.proofs.lemmas.List.Sums.{sum_by_more}
 use Rattle.ci_elf.specs.declared.ranges.Range.{Range}
 use Rattle.ci_machine.specs.Programs.{Program, in_text}
-use Rattle.ci_machine.proofs.Tests.{by_test}
+use Rattle.ci_machine.proofs.TestLaws.{by_test}
 use Rattle.ci_emu.specs.declared.counts.Counts.{Counts}
 use Rattle.ci_emu.specs.Places.{place_in, place_count, word_place, at_place}
 use Rattle.ci_emu.specs.Profiles.{count_at, IsTextWord}

@@ -5,7 +5,7 @@ use Rattle.std.specs.List.{list_any}
 use Rattle.std.proofs.lemmas.Bool.{leb-true, ltb-true}
 use Rattle.std.proofs.lemmas.List.{drop_more}
 use Rattle.std.proofs.lemmas.List.Sums.{sum_by-cons}
-use Rattle.ci_machine.proofs.Tests.{by_test, both_first, both_second}
+use Rattle.ci_machine.proofs.TestLaws.{by_test, both_first, both_second}
 use Rattle.std.specs.Option.{option_map}
 use Rattle.ci_elf.specs.declared.ranges.Range.{Range}
 use Rattle.ci_machine.specs.Programs.{lies_in}

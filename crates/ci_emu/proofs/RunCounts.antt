@@ -12,7 +12,7 @@ use Rattle.ci_machine.specs.Programs.{Program, State}
 use Rattle.ci_machine.specs.Outcomes.{from_end}
 use Rattle.ci_machine.specs.Steps.{Meaning, step, touched}
 use Rattle.ci_machine.specs.Runs.{Latencies, after, before_step, is_made, steps_made, cost, entries, step_cost, jalr_target, LeavesTextFor}
-use Rattle.ci_machine.proofs.Tests.{by_end}
+use Rattle.ci_machine.proofs.TestLaws.{by_end}
 use Rattle.ci_machine.proofs.RunLaws.{ends_stay}
 use Rattle.ci_emu.specs.declared.profile.Profile.{Profile}
 use Rattle.ci_emu.specs.declared.tally.Tally.{Tally}
