@@ -14,12 +14,17 @@ const FILE: [u32; 61] = [
     // The file header, with the entry at 10004.
     0x464c457f, 0x00010101, 0, 0, 0x00f30002, 1, 0x10004, 52, 164, 0, 0x00200034, 0x00280003, 2,
     // Program headers: kind, offset, address, address, size in the file, size in memory, flags, alignment.
-    1, 148, 0x10000, 0x10000, 8, 8, 5, 4, 1, 156, 0x10008, 0x10008, 4, 8, 6, 4, 1, 160, 0x20001,
-    0x20001, 2, 2, 6, 1,
+    1, 148, 0x10000, 0x10000, 8, 8, 5, 4,
+    // The second segment begins where the first ends.
+    1, 156, 0x10008, 0x10008, 4, 8, 6, 4,
+    // The last one ends at 20003, so the heap begins at 20010.
+    1, 160, 0x20001, 0x20001, 2, 2, 6, 1,
     // The bytes of the segments, from offset 148 on.
     0x04030201, 0x88070605, 0x0c0b0a99, 0x0000bbaa,
-    // Section headers: name, kind, flags, address, offset, size, and four fields more.
-    0, 0, 0, 0, 0, 0, 0, 0, 0, 0, 0, 1, 6, 0x10000, 148, 8, 0, 0, 4, 0,
+    // Section headers: an empty one, and that of the text.
+    0, 0, 0, 0, 0, 0, 0, 0, 0, 0,
+    // Name, kind, flags, address, offset, size, and four fields more.
+    0, 1, 6, 0x10000, 148, 8, 0, 0, 4, 0,
 ];
 
 /// The bytes of these words.
