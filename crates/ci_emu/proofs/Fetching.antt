@@ -1,26 +1,45 @@
 -- What a plain machine fetches, and the step that it makes of it.
-use Rattle.std.proofs.Common.{◌≡◌, ℕ, ◌%◌, ap, sym, refl, le_refl, None, Some, Ok, Err}
+use Rattle.std.proofs.Common.{◌≡◌, ℕ, ◌%◌, ap, sym, subst, refl, le_refl, None, Some, Ok, Err}
 use Rattle.std.specs.Prelude.{true, ◌==◌, IfOk, OnErr}
 use Rattle.std.specs.declared.result.Result.{Result}
 use Rattle.ci_isa.specs.declared.instruction.Insn.{Insn}
+use Rattle.ci_isa.specs.declared.instruction.Insn.TheVariants.{Unit, Cread}
 use Rattle.ci_isa.specs.Table.{IsInsnAt}
 use Rattle.ci_machine.specs.Actions.{Units}
 use Rattle.ci_machine.specs.Outcomes.{Reached}
 use Rattle.ci_machine.specs.Programs.{Program, State, in_text}
 use Rattle.ci_machine.specs.Steps.{Meaning, IsPlain, word_at, execute, step}
-use Rattle.ci_machine.proofs.Meanings.{one_insn}
+use Rattle.ci_machine.proofs.Meanings.{plain_exists}
 use Rattle.ci_emu.specs.declared.steps.Outcome.{Outcome}
+use Rattle.ci_emu.specs.Lines.{IsOnlyAt}
 use Rattle.ci_emu.specs.Places.{word_place}
 use Rattle.ci_emu.proofs.CountLaws.{no_word}
-use Rattle.ci_emu.specs.Steps.{LeadsTo, IsFetched, IsPlainStep, IsReached}
+use Rattle.ci_emu.specs.Steps.{LeadsTo, IsFetched, IsPlainInsn, IsPlainStep, IsReached}
+
+-- the instruction that stands at a word alone is one of the plain table, or none
+pub plain_at : (word : ℕ) (insn : Insn) → IsOnlyAt word insn → IsPlainInsn insn
+plain_at word insn only = subst IsPlainInsn (only stands.0 stands.1) (plain_row stands.0 stands.1)
+  where
+    stands : (other : Insn) × IsInsnAt word other
+    stands = (plain_exists.0.insn word, plain_exists.1 word)
+
+    plain_row : (other : Insn) → IsInsnAt word other → IsPlainInsn other
+    plain_row (Unit number rd rs1 rs2 rs3) is = is.1
+    plain_row (Cread rd) is = is.1
+    plain_row other is = tt
 
 module _ (program : Program) (state : State) where
   -- the instruction that a word of the text stands for
   pub fetched_is : (word : ℕ) (insn : Insn)
       → (state.pc % 4 == 0) ≡ true → in_text program state.pc ≡ true → word_at state.core.memory state.pc ≡ Some word
-      → IsInsnAt word insn → IsFetched program state (Some insn)
-  fetched_is word insn aligned text at is meaning plain =
-      rw (aligned, text, at) (ap Some (one_insn word (meaning.insn word) insn (plain word) is))
+      → IsOnlyAt word insn → IsFetched program state (Some insn)
+  fetched_is word insn aligned text at only meaning plain =
+      rw (aligned, text, at) (ap Some (only (meaning.insn word) (plain word)))
+
+  -- where the word is not mapped
+  pub not_mapped : (state.pc % 4 == 0) ≡ true → in_text program state.pc ≡ true → word_at state.core.memory state.pc ≡ None
+      → IsFetched program state None
+  not_mapped aligned text at meaning plain = rw (aligned, text, at) refl
 
   -- where there is no word of the text
   pub nothing_fetched : word_place program.text state.pc ≡ None → IsFetched program state None

@@ -78,6 +78,13 @@ impl Counts {
         })
     }
 
+    /// How many places there are.
+    pub(crate) fn len(&self) -> usize
+        ensures { result ≡ length self.now.by_place.items }
+    {
+        self.by_place.len()
+    }
+
     /// The place of the word at the address, which is a multiple of four.
     #[tactic(auto, unfolding(crate::specs::Places::word_place))]
     pub(crate) fn place(&self, address: u32) -> Option<usize>

@@ -9,6 +9,7 @@ pub use steps::{Outcome, step};
 
 mod counts;
 mod execution;
+mod lines;
 mod profile;
 mod runs;
 mod steps;

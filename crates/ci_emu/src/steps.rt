@@ -1,7 +1,7 @@
 //! One step.
-ghost use Rattle.std.specs.Prelude.{◌≡◌, ◌%◌, true, IfOk, OnErr, IfSome};
-ghost use Rattle.ci_machine.specs.Programs.{in_text};
+ghost use Rattle.std.specs.Prelude.{◌≡◌, IfOk, OnErr, IfSome};
 ghost use Rattle.ci_machine.specs.States.{program_of, state_of};
+ghost use Rattle.ci_machine.specs.Steps.{word_at};
 ghost use Rattle.ci_emu.specs.Steps.{IsFetched, IsPlainInsn, IsPlainStep};
 
 use crate::execution::execute;
@@ -39,16 +39,13 @@ fn fetch(state: &State) -> Option<Insn>
     if pc % 4 != 0 || !state.in_text(pc) {
         return None;
     }
-    read(state)
+    let word = fetch_word(state)?;
+    Some(insn_at(word))
 }
 
-/// The instruction at the pc, which is a multiple of four in the text.
-pub(crate) fn read(state: &State) -> Option<Insn>
-    requires aligned { (state_of state.now).pc % 4 ≡ 0 }
-    requires text { in_text (program_of state.now) (state_of state.now).pc ≡ true }
-    ensures fetched { IsFetched (program_of state.now) (state_of state.now) result }
-    ensures plain { IfSome result IsPlainInsn }
+/// The word in memory at the pc.
+pub(crate) fn fetch_word(state: &State) -> Option<u32>
+    ensures { result ≡ word_at (state_of state.now).core.memory (state_of state.now).pc }
 {
-    let word = state.load(state.pc(), Width::Word).ok()?;
-    Some(insn_at(word))
+    state.load(state.pc(), Width::Word).ok()
 }

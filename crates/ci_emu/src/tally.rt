@@ -1,6 +1,7 @@
 //! What is counted while a run is made.
 ghost use Rattle.std.specs.Prelude.{◌≡◌, ◌+◌, ◌<◌, ◌≤◌, ◌^◌, ◌==◌, ◌⊎◌, ◌↔◌, ℕ, Some, find, if◌then◌else◌, IfOk, OnOk, OnErr, IfSome};
 ghost use Rattle.std.specs.BTreeSet.{IsOrdered};
+ghost use Rattle.std.specs.Option.{option_map};
 ghost use Rattle.std.specs.Ordering.{nat_cmp};
 ghost use Rattle.ci_machine.specs.Programs.{in_text};
 ghost use Rattle.ci_machine.specs.Runs.{after, latency};
@@ -12,10 +13,11 @@ ghost use Rattle.ci_emu.specs.Steps.{IsFetched, IsPlainInsn, IsPlainStep, IsReac
 
 use crate::counts::Counts;
 use crate::execution::{address, execute, width_of};
+use crate::lines::{Line, Lines};
 use crate::profile::Profile;
-use crate::steps::{Outcome, read};
+use crate::steps::{Outcome, fetch_word};
 use ci_elf::Range;
-use ci_isa::{Insn, class};
+use ci_isa::Insn;
 use ci_lat::Table;
 use ci_machine::{End, State};
 use ci_word::Class;
@@ -29,6 +31,7 @@ pub(crate) struct Tally {
     pub(crate) cost: u64,
     pub(crate) touched: Option<(u32, u32)>,
     pub(crate) targets: BTreeSet<u32>,
+    lines: Lines,
 }
 
 impl Tally {
@@ -39,11 +42,14 @@ impl Tally {
         ensures text { IfOk result (λ tally. tally.counts.ranges.items ≡ text.now) }
         ensures fresh { IfOk result IsFresh }
     {
+        let counts = Counts::new(alloc, text)?;
+        let lines = Lines::new(alloc, counts.len())?;
         Ok(Tally {
-            counts: Counts::new(alloc, text)?,
+            counts,
             cost: 0,
             touched: None,
             targets: BTreeSet::new(alloc),
+            lines,
         })
     }
 
@@ -69,15 +75,15 @@ impl Tally {
 }
 
 /// How long the instruction takes by the table, in cycles. A word that is none takes no time.
-fn latency(table: &Table, insn: &Insn) -> u32
-    requires { IsPlainInsn insn.now }
-    ensures value { result ≡ latency (latencies_of table.now) insn.now }
+fn latency(table: &Table, line: &Line) -> u32
+    requires { IsPlainInsn line.now.insn }
+    ensures value { result ≡ latency (latencies_of table.now) line.now.insn }
     ensures greatest { result ≤ 1000 }
 {
-    match *insn {
+    match line.insn {
         Insn::Illegal { .. } => 0,
-        Insn::AluImm { .. } if class(insn) == Class::Free => table.pad(),
-        _ => table.latency(class(insn)),
+        Insn::AluImm { .. } if line.class == Class::Free => table.pad(),
+        _ => table.latency(line.class),
     }
 }
 
@@ -133,13 +139,13 @@ fn note(targets: &mut BTreeSet<u32>, target: u32) -> Result<(), AllocError>
     Ok(())
 }
 
-/// Counts the step that begins at the pc, and gives its instruction, if it fetches one.
-fn enter(counts: &mut Counts, state: &State) -> Option<Insn>
+/// Counts the step that begins at the pc, and gives the line of its instruction, if it fetches one.
+fn enter(counts: &mut Counts, lines: &mut Lines, state: &State) -> Option<Line>
     requires text { counts.old.ranges.items ≡ (program_of state.now).text }
     requires room { IsTextWord (program_of state.now) (state_of state.now).pc
         → count_at counts.old (state_of state.now).pc < 2 ^ 32 }
-    ensures fetched { IsFetched (program_of state.now) (state_of state.now) result }
-    ensures plain { IfSome result IsPlainInsn }
+    ensures fetched { IsFetched (program_of state.now) (state_of state.now) (option_map (λ line. line.insn) result) }
+    ensures plain { IfSome result (λ line. IsPlainInsn line.insn) }
     ensures text { counts.new.ranges.items ≡ counts.old.ranges.items }
     ensures counted { (address : ℕ) → IsTextWord (program_of state.now) address → count_at counts.new address
         ≡ count_at counts.old address + (if (state_of state.now).pc == address then 1 else 0) }
@@ -147,7 +153,8 @@ fn enter(counts: &mut Counts, state: &State) -> Option<Insn>
     match counts.place(state.pc()) {
         Some(place) => {
             counts.add(place);
-            read(state)
+            let word = fetch_word(state)?;
+            Some(lines.line(place, word))
         }
         None => None,
     }
@@ -174,13 +181,13 @@ pub(crate) fn counted_step(
     ensures program { program_of state.new ≡ program_of state.old }
     ensures text { tally.new.counts.ranges.items ≡ tally.old.counts.ranges.items }
 {
-    let Some(insn) = enter(&mut tally.counts, state) else {
+    let Some(line) = enter(&mut tally.counts, &mut tally.lines, state) else {
         return Ok(Outcome::Ended(End::Fetch(state.pc())));
     };
-    tally.cost += u64::from(latency(table, &insn));
-    tally.touched = first_touch(tally.touched, state, &insn);
-    let outcome = execute(alloc, state, &insn)?;
-    if let Some(target) = target(state, &insn, outcome) {
+    tally.cost += u64::from(latency(table, &line));
+    tally.touched = first_touch(tally.touched, state, &line.insn);
+    let outcome = execute(alloc, state, &line.insn)?;
+    if let Some(target) = target(state, &line.insn, outcome) {
         note(&mut tally.targets, target)?;
     }
     Ok(outcome)

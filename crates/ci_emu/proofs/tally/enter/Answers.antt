@@ -1,10 +1,10 @@
 -- The pc has a place where it is a word of the text.
-use Rattle.std.proofs.Common.{◌≡◌, ◌<◌, ◌^◌, None, Some, subst, ℕ}
+use Rattle.std.proofs.Common.{◌≡◌, ◌<◌, ◌^◌, ◌%◌, ℕ, None, Some, eq-eqb, ap, sym, subst, ◌∙◌}
 use Rattle.ci_machine.specs.States.{program_of, state_of}
 use Rattle.ci_emu.specs.Places.{word_place}
 use Rattle.ci_emu.specs.Profiles.{IsTextWord}
 use Rattle.ci_emu.proofs.CountLaws.{place_at, text_word, entered, not_entered, count_here}
-use Rattle.ci_emu.proofs.Fetching.{nothing_fetched}
+use Rattle.ci_emu.proofs.Fetching.{fetched_is, nothing_fetched, plain_at}
 use Rattle.ci_emu.proofs.tally.enter.Goals as goal
 use Rattle.ci_emu.proofs.tally.enter.Goals.{In-Some, In-None}
 
@@ -22,16 +22,25 @@ add-requires-clause-room c =
     let same = count_here (program_of c.args.state.now) c.args.counts.now c.requires.text _ _ (here (goal.at.add-requires-clause-room c).In-Some) in
     subst (λ (n : ℕ). n < 2 ^ 32) same (c.requires.room (word (goal.at.add-requires-clause-room c).In-Some))
 
-pub read-requires-clause-aligned : goal.read-requires-clause-aligned
-read-requires-clause-aligned c = (word (goal.at.read-requires-clause-aligned c).In-Some).aligned
+pub returns-in_ok-word-in-Some-clause-fetched : goal.returns-in_ok-word-in-Some-clause-fetched
+returns-in_ok-word-in-Some-clause-fetched c =
+    let state = state_of c.args.state.now in
+    let at = word (goal.at.returns-in_ok-word-in-Some-clause-fetched c).In-Some in
+    fetched_is (program_of c.args.state.now) state c.line.result.word c.line.result.insn (eq-eqb (state.pc % 4) 0 at.aligned) at.text
+    (sym c.fetch_word.ensures ∙ c.in_ok-word-in-Some.was ∙ ap Some (sym c.line.ensures)) c.line.result.decoded
 
-pub read-requires-clause-text : goal.read-requires-clause-text
-read-requires-clause-text c = (word (goal.at.read-requires-clause-text c).In-Some).text
+pub returns-in_ok-word-in-Some-clause-plain : goal.returns-in_ok-word-in-Some-clause-plain
+returns-in_ok-word-in-Some-clause-plain c = plain_at c.line.result.word c.line.result.insn c.line.result.decoded
 
-pub returns-in-Some-clause-counted : goal.returns-in-Some-clause-counted
-returns-in-Some-clause-counted c =
+pub returns-in_ok-word-in-Some-clause-counted : goal.returns-in_ok-word-in-Some-clause-counted
+returns-in_ok-word-in-Some-clause-counted c =
     entered (program_of c.args.state.now) c.args.counts.now c.requires.text _ _ _
-    (here (goal.at.returns-in-Some-clause-counted c).In-Some) c.in-Some.ensures.within c.add.ensures.ranges c.add.ensures.counted
+    (here (goal.at.returns-in_ok-word-in-Some-clause-counted c).In-Some) c.in-Some.ensures.within c.add.ensures.ranges c.add.ensures.counted
+
+pub returns-in_err-word-in-Some-clause-counted : goal.returns-in_err-word-in-Some-clause-counted
+returns-in_err-word-in-Some-clause-counted c =
+    entered (program_of c.args.state.now) c.args.counts.now c.requires.text _ _ _
+    (here (goal.at.returns-in_err-word-in-Some-clause-counted c).In-Some) c.in-Some.ensures.within c.add.ensures.ranges c.add.ensures.counted
 
 pub returns-in-None-clause-fetched : goal.returns-in-None-clause-fetched
 returns-in-None-clause-fetched c = nothing_fetched (program_of c.args.state.now) (state_of c.args.state.now) (nowhere c)
