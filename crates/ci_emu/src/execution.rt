@@ -120,11 +120,12 @@ fn go_to(state: &mut State, target: u32) -> Outcome
         (state_of state.new) result }
     ensures program { program_of state.new ≡ program_of state.old }
 {
-    if target % 4 != 0 {
-        return Outcome::Ended(End::Misaligned(target));
+    if target % 4 == 0 {
+        state.set_pc(target);
+        Outcome::Next
+    } else {
+        Outcome::Ended(End::Misaligned(target))
     }
-    state.set_pc(target);
-    Outcome::Next
 }
 
 /// The register takes the address of the next instruction, and on at the target, where that is a multiple of four.

@@ -14,3 +14,5 @@ mod profile;
 mod runs;
 mod steps;
 mod tally;
+#[cfg(test)]
+mod tests;
