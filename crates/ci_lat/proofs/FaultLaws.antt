@@ -8,7 +8,8 @@ use Rattle.ci_lat.specs.declared.keys.Key.{Key}
 use Rattle.ci_lat.specs.declared.faults.LatFault.{LatFault}
 use Rattle.ci_lat.specs.declared.faults.LatFault.TheVariants.{NotToml, UnknownKey, OutOfRange, PadTooLarge, NoMemory}
 use Rattle.ci_lat.specs.Keys.{keys_by_value, keys_above_pad}
-use Rattle.ci_lat.specs.Faults.{causes, first_fault, has_unknown_key, is_out_of_range, is_below_pad, HaveFirst, HaveFault}
+use Rattle.ci_lat.specs.Latencies.{Latencies}
+use Rattle.ci_lat.specs.Faults.{causes, first_fault, has_unknown_key, is_out_of_range, is_below_pad, AreDocument, AreTable, HaveFirst, HaveFault}
 
 one_more : (b : Bool) (F : Key → LatFault) (k : Key) (rest : List (Bool × LatFault)) (found : Option Key) (after : Option LatFault)
     → first_fault rest ≡ option_or (option_map F found) after
@@ -95,3 +96,22 @@ pub pad_fits : (document : Members) → first_fault (causes document) ≡ None �
 pad_fits document e = no_pad (has_unknown_key document) _ _ (sym (first_fault-causes document) ∙ e)
 
 pub ruleset first_laws = (first_fault-causes)
+
+-- ---- a table's text has no fault
+
+-- bytes are one document
+same_document : (bytes : List ℕ) (first second : Members) → AreDocument bytes first → AreDocument bytes second → first ≡ second
+same_document bytes first second a b = let both : Some first ≡ Some second = sym a.1 ∙ b.1 in cc
+
+none_first : (bytes : List ℕ) (latencies : Latencies) (fault : LatFault) → AreTable bytes latencies → HaveFirst bytes fault → ⊥
+none_first bytes latencies fault table first =
+    let same = ap (λ (d : Members). first_fault (causes d)) (same_document bytes table.0 first.0 table.1 first.1) in
+    let both : None ≡ Some fault = sym table.2 ∙ same ∙ first.2 in
+    absurd cc
+
+pub table_or_fault : (bytes : List ℕ) (latencies : Latencies) (fault : LatFault) → AreTable bytes latencies → HaveFault bytes fault → ⊥
+table_or_fault bytes latencies NotToml table fault = fault (table.0, table.1)
+table_or_fault bytes latencies UnknownKey table fault = none_first bytes latencies UnknownKey table fault
+table_or_fault bytes latencies (OutOfRange key) table fault = none_first bytes latencies (OutOfRange key) table fault
+table_or_fault bytes latencies (PadTooLarge key) table fault = none_first bytes latencies (PadTooLarge key) table fault
+table_or_fault bytes latencies NoMemory table fault = fault
