@@ -17,10 +17,11 @@ use Rattle.ci_isa.proofs.Found.{plain_reads}
 use Rattle.ci_isa.proofs.Only.{only_plain}
 use Rattle.ci_machine.specs.Outcomes.{continued}
 use Rattle.ci_machine.specs.Programs.{Program, State, in_text}
-use Rattle.ci_machine.specs.Steps.{Meaning, IsPlain, word_at, execute, stepped, step}
-use Rattle.ci_machine.specs.Runs.{after}
+use Rattle.ci_word.specs.Numbers.{sum_below}
+use Rattle.ci_machine.specs.Steps.{Meaning, IsPlain, word_at, execute, fetched, stepped, step}
+use Rattle.ci_machine.specs.Runs.{Latencies, latency, after, cost, step_cost}
 use Rattle.std.specs.Option.{option_map}
-use Rattle.std.specs.Prelude.{ℕ, zero, suc, ◌%◌, Bool, true, false}
+use Rattle.std.specs.Prelude.{ℕ, zero, suc, ◌%◌, Bool, true, false, is_none}
 use Rattle.ci_machine.specs.Agreement.{is_among, reads, writes}
 
 -- ---- meanings
@@ -69,6 +70,25 @@ module _ (left right : Meaning) (one : IsPlain left) (other : IsPlain right) (pr
   pub plain_is_one : (n : ℕ) (state : State) → after left program n state ≡ after right program n state
   plain_is_one zero state = refl
   plain_is_one (suc n) state = λ i. continued (λ s. same_step s i) (plain_is_one n state i)
+
+  same_fetch : (state : State) → fetched left program state ≡ fetched right program state
+  same_fetch state = tested ((state.pc % 4 == 0) && in_text program state.pc) (word_at state.core.memory state.pc)
+    where
+      tested : (test : Bool) (word : Option ℕ) → (if test then option_map left.insn word else None) ≡ (if test then option_map right.insn word else None)
+      tested false word = refl
+      tested true None = refl
+      tested true (Some word) = ap Some (one_insn word (left.insn word) (right.insn word) (one word) (other word))
+
+  same_cost : (latencies : Latencies) (state : State) → step_cost left program latencies state ≡ step_cost right program latencies state
+  same_cost latencies state = ap (λ (f : Option Insn). elim f as (λ _. ℕ) [ None ↦ 0 | Some insn ↦ latency latencies insn ]) (same_fetch state)
+
+  -- the states before each step are the same, and so is what each step costs
+  pub plain_costs_one : (latencies : Latencies) (n : ℕ) (state : State) → cost left program latencies n state ≡ cost right program latencies n state
+  plain_costs_one latencies n state =
+      λ k. sum_below n (λ i. is_none (plain_is_one i state k).end) (λ i. at_step i k)
+    where
+      at_step : (i : ℕ) → step_cost left program latencies (after left program i state).state ≡ step_cost right program latencies (after right program i state).state
+      at_step i = same_cost latencies (after left program i state).state ∙ ap (step_cost right program latencies) (λ j. (plain_is_one i state j).state)
 
 -- ---- sets of registers
 

@@ -10,7 +10,7 @@ use Rattle.ci_machine.specs.Actions.{Units, acted}
 use Rattle.ci_machine.specs.Agreement.{reads, writes, is_access, act_all, AgreeOutside, AgreeOn, AreRelated, AreIndependent, LeavesText, AreActions, AreApart, AllLeaveText, needed}
 use Rattle.ci_machine.specs.Programs.{Program, State, at_pc, in_text}
 use Rattle.ci_machine.specs.Steps.{Meaning, IsPlain, control, moved}
-use Rattle.ci_machine.specs.Runs.{after}
+use Rattle.ci_machine.specs.Runs.{Latencies, after, cost}
 use Rattle.ci_machine.specs.Blocks.{StandAt, HaveSameText, IsRunOf, AreRelatedAt, HaveSameLayout, IsMapped}
 
 -- everything is compared: all registers, and memory at each address
@@ -112,6 +112,13 @@ abbrev pub PlainIsOne : Type 0
 PlainIsOne =
     (left right : Meaning) → IsPlain left → IsPlain right → (program : Program) (n : ℕ) (state : State)
     → after left program n state ≡ after right program n state
+
+-- and at the same cost
+abbrev pub PlainCostsOne : Type 0
+PlainCostsOne =
+    (left right : Meaning) → IsPlain left → IsPlain right
+    → (program : Program) (latencies : Latencies) (n : ℕ) (state : State)
+    → cost left program latencies n state ≡ cost right program latencies n state
 
 -- the registers that are read and written, but for the hidden one, are the sets of the instruction
 abbrev pub RegistersRead : Type 0

@@ -1,6 +1,6 @@
 //! What holds of all instructions, lists of instructions and runs.
 ghost use Rattle.ci_machine.specs.Laws.{Frame, ControlFrame, DeadWrite, Exchange, ListExchange, ListFrame, RunsJoin, EndsStay, BlockSteps};
-ghost use Rattle.ci_machine.specs.Laws.{PlainExists, PlainIsOne, RegistersRead, RegistersWritten};
+ghost use Rattle.ci_machine.specs.Laws.{PlainExists, PlainIsOne, PlainCostsOne, RegistersRead, RegistersWritten};
 
 /// What an instruction does depends on the registers that it reads and the bytes that it moves, and on nothing else.
 pub fn frame()
@@ -43,10 +43,11 @@ pub fn block_steps()
     ensures { BlockSteps }
 {}
 
-/// The plain machine is one, whatever its meaning says of units.
+/// The plain machine is one, and so is the cost of its runs, whatever its meaning says of units.
 pub fn plain_meaning()
     ensures exists { PlainExists }
     ensures one { PlainIsOne }
+    ensures cost { PlainCostsOne }
 {}
 
 /// The registers that an instruction reads and writes are those of its sets.
