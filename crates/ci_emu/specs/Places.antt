@@ -1,4 +1,4 @@
--- The places of the words of a text, one range behind the other.
+-- Where counts by address stand: the places of the words of a text, one range behind the other.
 use Rattle.std.specs.Prelude.{ℕ, ◌+◌, ◌-◌, ◌*◌, ◌/◌, ◌%◌, ◌==◌, if◌then◌else◌, List, [], ◌∷◌, Option, Some, None, slice_index}
 use Rattle.std.specs.List.{sum_by}
 use Rattle.std.specs.Option.{option_map}

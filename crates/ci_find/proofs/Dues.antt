@@ -1,33 +1,33 @@
 -- What is due to the words over the files that a shelf tells: one status.
 use Rattle.std.proofs.Common.{◌≡◌, ℕ, ◌⊎◌, inl, inr, List, [], ◌∷◌, Option, Some, None, length, refl, sym, ap, subst, ◌∙◌, arith}
 use Rattle.ci_io.specs.Outcomes.{Files}
-use Rattle.ci_words.specs.Words.{Reading, ReadsAs, HasNoReading, best, asm, dis}
+use Rattle.ci_lat.proofs.FaultLaws.{table_or_fault}
+use Rattle.ci_words.specs.Words.{Reading, ReadsAs, HasNoReading, best, asm, dis, run}
 use Rattle.ci_find.specs.Commands.{inputs_of, IsMade, IsUnmade}
 use Rattle.ci_find.specs.Endings.{IsRefusal, usage, file, unmade, IsDue}
-use Rattle.ci_find.specs.Forms.{Form, any_bytes, assembler_text, IsWellFormed, IsMalformed}
+use Rattle.ci_find.specs.Files.{optional_bytes}
+use Rattle.ci_find.specs.Forms.{Form, any_bytes, assembler_text, executable_file, latency_table, IsWellFormed, IsMalformed}
 use Rattle.ci_find.specs.Inputs.{Input, IsGood, AreRead, IsRefusedFile, absent, too_large, malformed, IsFileRefusal}
 use Rattle.ci_find.specs.Success.{Success}
-use Rattle.ci_find.specs.Texts.{IsText, IsBadText}
-use Rattle.ci_asm.proofs.Promises.{no_fault}
 use Rattle.ci_words.proofs.Readings.{one_reading}
+use Rattle.ci_find.proofs.FormLaws.{text_or_fault, kept_or_broken}
 use Rattle.ci_find.proofs.Spelling.{block_or_unsupported}
 
 -- ---- one file
-
--- a text that assembles has no fault
-text_or_fault : (bytes words : List ℕ) (kind line column : ℕ) → IsText bytes words → IsBadText bytes kind line column → ⊥
-text_or_fault bytes words kind line column text (inl bad) = bad.0 text.encoded
-text_or_fault bytes words kind line column text (inr bad) = no_fault bytes words kind line column text.assembles bad.1
 
 -- what is well formed is not malformed
 formed_or_not : (form : Form) (bytes : List ℕ) (status : ℕ) (text : List ℕ) → IsWellFormed form bytes → IsMalformed form bytes status text → ⊥
 formed_or_not any_bytes bytes status text good bad = bad
 formed_or_not assembler_text bytes status text good bad = text_or_fault bytes good.0 bad.0 bad.1 bad.2 good.1 bad.3
+formed_or_not executable_file bytes status text good bad = kept_or_broken bytes bad.0 good bad.1
+formed_or_not latency_table bytes status text good bad = table_or_fault bytes good.0 bad.0 good.1 bad.1
 
 -- bytes are malformed with one status
 malformed_once : (form : Form) (bytes : List ℕ) (first second : ℕ) (text other : List ℕ) → IsMalformed form bytes first text → IsMalformed form bytes second other → first ≡ second
 malformed_once any_bytes bytes first second text other a b = absurd a
 malformed_once assembler_text bytes first second text other a b = a.4 ∙ sym b.4
+malformed_once executable_file bytes first second text other a b = a.2 ∙ sym b.2
+malformed_once latency_table bytes first second text other a b = a.2 ∙ sym b.2
 
 -- ---- the files of a shelf that tells them
 
@@ -97,16 +97,18 @@ module _ (held : Files) where
 -- of what something is made is not refused
 made_or_unmade : (reading : Reading) (read : List (List ℕ)) (success : Success) (status : ℕ) (text : List ℕ) → IsMade reading read success → IsUnmade reading read status text → ⊥
 made_or_unmade (best name settings) read success status text made is =
-    let same : made.bytes ≡ is.bytes = let lists : made.bytes ∷ [] ≡ is.bytes ∷ [] = sym made.read_is ∙ is.read_is in cc in
+    let same : made.bytes ≡ is.bytes = let lists : made.bytes ∷ optional_bytes made.table ≡ is.bytes ∷ is.others = sym made.read_is ∙ is.read_is in cc in
     block_or_unsupported is.bytes made.operations is.position is.word is.unsupported (rw (← same) made.block)
 made_or_unmade (asm name out) read success status text made is = is
 made_or_unmade (dis name) read success status text made is = is
+made_or_unmade (run name settings) read success status text made is = is
 
 -- it is refused with one status
 unmade_once : (reading : Reading) (read : List (List ℕ)) (first second : ℕ) (text other : List ℕ) → IsUnmade reading read first text → IsUnmade reading read second other → first ≡ second
 unmade_once (best name settings) read first second text other a b = a.status_is ∙ sym b.status_is
 unmade_once (asm name out) read first second text other a b = absurd a
 unmade_once (dis name) read first second text other a b = absurd a
+unmade_once (run name settings) read first second text other a b = absurd a
 
 -- ---- one status is due
 

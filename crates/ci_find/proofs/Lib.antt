@@ -8,5 +8,7 @@ mod Spelling
 mod Told
 mod Writes
 mod Makes
+mod FormLaws
 mod Dues
 mod Runs
+mod RunTexts

@@ -1,12 +1,12 @@
 -- How a call of the program ends.
 use Rattle.std.proofs.Common.{◌≡◌, ℕ, inl, inr, List, ◌∷◌, [], Contains, lit<, Option, Some, None, IfSome, refl, sym, ap, subst}
 use Rattle.ci_io.specs.Outcomes.{Files}
-use Rattle.ci_words.specs.Words.{Reading, best, asm, dis}
+use Rattle.ci_words.specs.Words.{Reading, best, asm, dis, run}
 use Rattle.ci_find.specs.declared.faults.Refusal.{Refusal}
 use Rattle.ci_find.specs.declared.faults.Refusal.TheVariants.{NoMemory}
 use Rattle.ci_find.specs.Commands.{inputs_of, IsUnmade}
 use Rattle.ci_find.specs.Endings.{IsRefusal, usage, file, unmade, IsDue, Change, IsPut, IsUnwritten, Finishes, done, write_fault, put_fault, no_memory_in_write, no_memory_in_put, Ends, finished, refused, read_fault, no_memory, IsAnswered}
-use Rattle.ci_find.specs.Forms.{Form, any_bytes, assembler_text, IsMalformed}
+use Rattle.ci_find.specs.Forms.{Form, any_bytes, assembler_text, executable_file, latency_table, IsMalformed}
 use Rattle.ci_find.specs.Inputs.{Input, IsRefusedFile, absent, too_large, malformed, IsFileRefusal}
 use Rattle.ci_find.specs.Lines.{usage_line, read_fault_line, no_memory_line}
 use Rattle.ci_find.specs.Faults.{status_of, line_of, reads_between, Explains, IsRefused}
@@ -77,11 +77,13 @@ Answers-due words change status ends (Some held) tells = λ due is. Answers-end 
 -- ---- the statuses
 
 abbrev statuses : List ℕ
-statuses = 0 ∷ 1 ∷ 2 ∷ 3 ∷ 4 ∷ 7 ∷ 12 ∷ 13 ∷ []
+statuses = 0 ∷ 1 ∷ 2 ∷ 3 ∷ 4 ∷ 5 ∷ 6 ∷ 7 ∷ 12 ∷ 13 ∷ []
 
 form-status : (form : Form) (bytes : List ℕ) (status : ℕ) (text : List ℕ) → IsMalformed form bytes status text → Contains statuses status
 form-status any_bytes bytes status text is = absurd is
-form-status assembler_text bytes status text is = subst (Contains statuses) (sym is.4) (7, lit< tt, refl)
+form-status assembler_text bytes status text is = subst (Contains statuses) (sym is.4) (9, lit< tt, refl)
+form-status executable_file bytes status text is = subst (Contains statuses) (sym is.2) (5, lit< tt, refl)
+form-status latency_table bytes status text is = subst (Contains statuses) (sym is.2) (6, lit< tt, refl)
 
 file-status : (told : Option Files) (input : Input) (status : ℕ) (text : List ℕ) → IsRefusedFile told input status text → Contains statuses status
 file-status told input status text (absent none) = (2, lit< tt, refl)
@@ -94,9 +96,10 @@ files-status told (input ∷ inputs) status text (inl is) = file-status told inp
 files-status told (input ∷ inputs) status text (inr is) = files-status told inputs status text is.2
 
 unmade-status : (reading : Reading) (read : List (List ℕ)) (status : ℕ) (text : List ℕ) → IsUnmade reading read status text → Contains statuses status
-unmade-status (best name settings) read status text is = subst (Contains statuses) (sym is.status_is) (5, lit< tt, refl)
+unmade-status (best name settings) read status text is = subst (Contains statuses) (sym is.status_is) (7, lit< tt, refl)
 unmade-status (asm name out) read status text is = absurd is
 unmade-status (dis name) read status text is = absurd is
+unmade-status (run name settings) read status text is = absurd is
 
 -- a status that is due is one of them
 IsRefusal-status : (told : Option Files) (words : List (List ℕ)) (status : ℕ) (text : List ℕ) → IsRefusal told words status text → Contains statuses status
@@ -108,12 +111,12 @@ Finishes-status : (change : Change) (success : Success) (status : ℕ) → Finis
 Finishes-status change success status (done written took) = (0, lit< tt, refl)
 Finishes-status change success status (write_fault fault) = (3, lit< tt, refl)
 Finishes-status change success status (put_fault fault) = (3, lit< tt, refl)
-Finishes-status change success status (no_memory_in_write fault) = (6, lit< tt, refl)
-Finishes-status change success status (no_memory_in_put fault) = (6, lit< tt, refl)
+Finishes-status change success status (no_memory_in_write fault) = (8, lit< tt, refl)
+Finishes-status change success status (no_memory_in_put fault) = (8, lit< tt, refl)
 
 -- a call ends with one of them
 pub Ends-status : (words : List (List ℕ)) (change : Change) (status : ℕ) → Ends words change status → Contains statuses status
 Ends-status words change status (finished {success = success} {status = s} made finishes) = Finishes-status change success s finishes
 Ends-status words change status (refused {status = s} {text = t} is unwritten put) = IsRefusal-status change.shelf_before.files words s t is
 Ends-status words change status (read_fault reading name reads named may rose unwritten put) = (2, lit< tt, refl)
-Ends-status words change status (no_memory unwritten put) = (6, lit< tt, refl)
+Ends-status words change status (no_memory unwritten put) = (8, lit< tt, refl)

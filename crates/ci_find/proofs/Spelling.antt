@@ -5,6 +5,7 @@ use Rattle.std.proofs.Common.{refl, sym, ap, ◌∙◌, inl, inr, arith, get_or,
 use Rattle.std.proofs.lemmas.List.{get_or-take, length-map, map-append, take_more, take_all}
 use Rattle.std.proofs.lemmas.List.Elements.{All-push}
 use Rattle.std.proofs.lemmas.Option.{slice_get-map, slice_get_within, get_or_from_slice_get, slice_get-get_or}
+use Rattle.ci_lat.specs.Latencies.{HasDelay}
 use Rattle.ci_find.specs.declared.commands.best.block.Operation.{Operation}
 use Rattle.ci_text.specs.Bytes.{words_of_bytes}
 use Rattle.ci_text.proofs.ByteLaws.{length-words_of_bytes}
@@ -51,22 +52,22 @@ pub record IsReadTo (bytes : List ℕ) (operations : List Operation) (place : �
   pub each : map operation_of (take place (words_of_bytes bytes)) ≡ map Some operations
   pub count : length operations ≡ place
   pub early : place ≤ 12
-  pub delays : All (λ operation. operation.delay ≤ 400) operations
+  pub classes : All (λ operation. HasDelay operation.class) operations
 
 -- at the first place none is read
 pub read_none : (bytes : List ℕ) → IsReadTo bytes [] 0
-read_none bytes = record { each = refl; count = refl; early = omega arith; delays = λ k d below. absurd (omega arith) }
+read_none bytes = record { each = refl; count = refl; early = omega arith; classes = λ k d below. absurd (omega arith) }
 
 -- one operation more
-pub read_more : (bytes : List ℕ) (operations : List Operation) (place : ℕ) (operation : Operation) → IsReadTo bytes operations place → IsOperationAt bytes place operation → operation.delay ≤ 400 → IsReadTo bytes (operations ++ operation ∷ []) (place + 1)
-read_more bytes operations place operation before here fast = record {
+pub read_more : (bytes : List ℕ) (operations : List Operation) (place : ℕ) (operation : Operation) → IsReadTo bytes operations place → IsOperationAt bytes place operation → HasDelay operation.class → IsReadTo bytes (operations ++ operation ∷ []) (place + 1)
+read_more bytes operations place operation before here classed = record {
   each = ap (map operation_of) (take_more (words_of_bytes bytes) place 0 within)
       ∙ map-append operation_of (take place (words_of_bytes bytes)) (get_or (words_of_bytes bytes) place 0 ∷ [])
       ∙ (λ i. before.each i ++ (last i ∷ []))
       ∙ sym (map-append Some operations (operation ∷ []));
   count = length-append operations (operation ∷ []) ∙ ap (λ n. n + 1) before.count;
   early = omega (arith, here.early);
-  delays = All-push (λ o. o.delay ≤ 400) operations operation before.delays fast;
+  classes = All-push (λ o. HasDelay o.class) operations operation before.classes classed;
 }
   where
     within : place < length (words_of_bytes bytes)

@@ -5,6 +5,9 @@ use Rattle.std.specs.Option.{option_map}
 use Rattle.std.specs.List.{list_any}
 use Rattle.ci_text.specs.Bytes.{words_of_bytes}
 use Rattle.ci_word.specs.Numbers.{numbers_below, set_below, some_below}
+use Rattle.ci_word.specs.declared.arithmetic.Class.{Class}
+use Rattle.ci_word.specs.declared.arithmetic.Class.TheVariants as class
+use Rattle.ci_lat.specs.Latencies.{Latencies, latency_of, delay_of}
 use Rattle.ci_cut.specs.declared.graph.Source.{Source}
 use Rattle.ci_cut.specs.declared.graph.Source.TheVariants.{Entry, Made}
 use Rattle.ci_cut.specs.declared.graph.Node.{Node}
@@ -15,23 +18,23 @@ use Rattle.ci_find.specs.declared.commands.best.block.Operation.{Operation}
 abbrev pub field : ℕ → ℕ → ℕ → ℕ
 field word high low = word / 2 ^ low % 2 ^ (high + 1 - low)
 
--- An instruction of the table: its opcode, funct3 and, where it reads rs2, funct7, and its delay in thousandths of a
--- cycle (RISC-V Unprivileged ISA 20191213, section 2.4 and chapter 24).
+-- An instruction of the table: its opcode, funct3 and, where it reads rs2, funct7, and its class
+-- (RISC-V Unprivileged ISA 20191213, section 2.4 and chapter 24).
 pub record Form : Type 0 where
   pub opcode : ℕ
   pub funct3 : ℕ
   pub funct7 : Option ℕ
-  pub delay : ℕ
+  pub class : Class
 
 -- ADD, SUB, XOR, OR, AND and ADDI
 abbrev pub forms : List Form
 forms =
-    record { opcode = 0x33; funct3 = 0; funct7 = Some 0x00; delay = 400 }
-    ∷ record { opcode = 0x33; funct3 = 0; funct7 = Some 0x20; delay = 400 }
-    ∷ record { opcode = 0x33; funct3 = 4; funct7 = Some 0x00; delay = 100 }
-    ∷ record { opcode = 0x33; funct3 = 6; funct7 = Some 0x00; delay = 100 }
-    ∷ record { opcode = 0x33; funct3 = 7; funct7 = Some 0x00; delay = 100 }
-    ∷ record { opcode = 0x13; funct3 = 0; funct7 = None; delay = 400 }
+    record { opcode = 0x33; funct3 = 0; funct7 = Some 0x00; class = class.Add }
+    ∷ record { opcode = 0x33; funct3 = 0; funct7 = Some 0x20; class = class.Add }
+    ∷ record { opcode = 0x33; funct3 = 4; funct7 = Some 0x00; class = class.Logic }
+    ∷ record { opcode = 0x33; funct3 = 6; funct7 = Some 0x00; class = class.Logic }
+    ∷ record { opcode = 0x33; funct3 = 7; funct7 = Some 0x00; class = class.Logic }
+    ∷ record { opcode = 0x13; funct3 = 0; funct7 = None; class = class.Add }
     ∷ []
 
 abbrev pub has_funct7 : ℕ → Option ℕ → Bool
@@ -47,7 +50,7 @@ operation_in_form word form = record {
   destination = field word 11 7;
   first = field word 19 15;
   second = if is_some form.funct7 then field word 24 20 else 0;
-  delay = form.delay;
+  class = form.class;
 }
 
 -- what the word does, where it has a form and writes another register than x0
@@ -78,7 +81,7 @@ IsUnsupported bytes position word =
     ((length bytes % 4 ≢ 0) × (position ≡ length bytes) × (word ≡ 0)) ⊎ IsFirstUnsupported bytes position word
 
 abbrev pub no_operation : Operation
-no_operation = record { destination = 0; first = 0; second = 0; delay = 0 }
+no_operation = record { destination = 0; first = 0; second = 0; class = class.Add }
 
 module _ (operations : List Operation) where
   abbrev pub operation_at : ℕ → Operation
@@ -118,16 +121,21 @@ module _ (operations : List Operation) where
       not (some_below (length operations) (λ j.
       nat_lt k j && nat_eq (operation_at j).destination (operation_at k).destination))
 
-  abbrev pub node_of : ℕ → Node
-  node_of k = record {
+  -- operation k as a node, by the latency and the delay of its class
+  abbrev pub node_of : Latencies → ℕ → Node
+  node_of latencies k = record {
     eligible = true;
-    latency = 1;
-    delay = (operation_at k).delay;
+    latency = latency_of latencies (operation_at k).class;
+    delay = delay_of latencies (operation_at k).class;
     sources = sources k;
     before = set_below k (has_arc_into k);
     live = is_live k;
   }
 
   -- the graph of the block
-  abbrev pub graph_of : FlowGraph
-  graph_of = record { nodes = map node_of (numbers_below (length operations) (λ _. true)); read = 1; pad = 0 }
+  abbrev pub graph_of : Latencies → FlowGraph
+  graph_of latencies = record {
+    nodes = map (node_of latencies) (numbers_below (length operations) (λ _. true));
+    read = latencies.read;
+    pad = latencies.pad;
+  }

@@ -4,13 +4,17 @@ use Rattle.ci_io.specs.Outcomes.{Files, Rises, ShelfState, SinkState}
 use Rattle.ci_asm.specs.declared.faults.AsmFault.{AsmFault}
 use Rattle.ci_asm.specs.declared.faults.AsmFault.TheVariants as asm_fault
 use Rattle.ci_cut.specs.declared.graph.Limits.{Limits}
-use Rattle.ci_words.specs.Words.{Reading, best, ReadsAs, HasNoReading}
+use Rattle.ci_elf.specs.declared.faults.ElfFault.{ElfFault}
+use Rattle.ci_elf.specs.declared.faults.ElfFault.TheVariants as elf
+use Rattle.ci_lat.specs.declared.faults.LatFault.{LatFault}
+use Rattle.ci_lat.specs.declared.faults.LatFault.TheVariants as lat
+use Rattle.ci_words.specs.Words.{Text, Reading, best, run, usual_settings, ReadsAs, HasNoReading}
 use Rattle.ci_find.specs.declared.faults.Refusal.{Refusal}
-use Rattle.ci_find.specs.declared.faults.Refusal.TheVariants.{Usage, Read, TooLarge, Unsupported, BadAsm, NoMemory}
+use Rattle.ci_find.specs.declared.faults.Refusal.TheVariants.{Usage, Read, TooLarge, BadElf, BadTable, Unsupported, BadAsm, NoMemory}
 use Rattle.ci_find.specs.Commands.{inputs_of, IsMade, IsUnmade}
 use Rattle.ci_find.specs.Endings.{IsPut}
 use Rattle.ci_find.specs.Inputs.{Input, AreRead, IsFileRefusal, IsDueName}
-use Rattle.ci_find.specs.Lines.{usage_line, read_fault_line, too_large_line, unsupported_line, bad_asm_line, no_memory_line}
+use Rattle.ci_find.specs.Lines.{usage_line, read_fault_line, too_large_line, bad_elf_line, bad_table_line, unsupported_line, bad_asm_line, no_memory_line}
 use Rattle.ci_find.specs.Success.{Success}
 use Rattle.ci_find.specs.Texts.{IsBadText}
 
@@ -18,6 +22,8 @@ abbrev pub status_of : Refusal → ℕ
 status_of Usage = 1
 status_of (Read name) = 2
 status_of (TooLarge name) = 4
+status_of (BadElf fault) = 5
+status_of (BadTable fault) = 6
 status_of (Unsupported position word) = 7
 status_of (BadAsm kind line column) = 13
 status_of NoMemory = 12
@@ -26,9 +32,21 @@ abbrev pub line_of : Refusal → List ℕ
 line_of Usage = usage_line
 line_of (Read name) = read_fault_line name.now
 line_of (TooLarge name) = too_large_line name.now
+line_of (BadElf fault) = bad_elf_line fault
+line_of (BadTable fault) = bad_table_line fault
 line_of (Unsupported position word) = unsupported_line position word
 line_of (BadAsm kind line column) = bad_asm_line kind line column
 line_of NoMemory = no_memory_line
+
+-- the refusal of a file that is no executable, or for which memory ran out
+abbrev pub elf_refusal : ElfFault → Refusal
+elf_refusal elf.NoMemory = NoMemory
+elf_refusal fault = BadElf fault
+
+-- the refusal of a file that is no latency table, or for which memory ran out
+abbrev pub table_refusal : LatFault → Refusal
+table_refusal lat.NoMemory = NoMemory
+table_refusal fault = BadTable fault
 
 -- what is known while files are read: those that the shelf tells, of which names a read may fail, and the count of
 -- reads that failed, before and after
@@ -75,9 +93,14 @@ pub record IsUnmadeFor (told : Option Files) (reading : Reading) (refusal : Refu
   pub files : AreRead told (inputs_of reading) read
   pub unmade : IsUnmade reading read (status_of refusal) (line_of refusal)
 
--- the reading of `best` with these limits
-abbrev pub best_within : List ℕ → Limits → Reading
-best_within file limits = best file (record { inputs = limits.inputs; outputs = limits.outputs })
+-- the reading of `best` with these limits and this table
+abbrev pub best_by : Text → Limits → Option Text → Reading
+best_by file limits table =
+    best file (record usual_settings { inputs = limits.inputs; outputs = limits.outputs; table = table })
+
+-- the reading of `run` with these options
+abbrev pub run_by : Text → ℕ → Option Text → Option Text → Reading
+run_by file steps input table = run file (record usual_settings { steps = steps; input = input; table = table })
 
 -- why a command makes nothing
 abbrev pub MakesNothing : Reads → Reading → Refusal → Type 0

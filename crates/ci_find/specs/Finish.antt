@@ -15,7 +15,7 @@ abbrev pub written_of : MadeFile → Written
 written_of file = record { name = file.name.now; bytes = file.bytes.items }
 
 abbrev pub success_of : Made → Success
-success_of success = record { writes = map written_of success.writes.items; text = string_bytes success.text }
+success_of success = record { writes = map written_of success.writes.items; text = success.text.items }
 
 -- Why a file was not written: its write failed, and this is the fault line that names it; or memory ran out.
 abbrev pub IsUnwrittenFile : (List ℕ → Bool) → Written → ShelfState → ShelfState → WriteErr → Type 0

@@ -4,9 +4,11 @@ pub mod Texts
 pub mod Forms
 pub mod Inputs
 pub mod Success
+pub mod Files
 pub mod BestCommand
 pub mod AsmCommand
 pub mod DisCommand
+pub mod RunCommand
 pub mod Commands
 pub mod Endings
 pub mod BlockErrs

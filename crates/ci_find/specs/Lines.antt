@@ -1,10 +1,18 @@
 -- The lines that the program prints.
-use Rattle.std.specs.Prelude.{◌≡◌, ℕ, ◌⊎◌, Bool, List, ◌++◌, length, codes}
+use Rattle.std.specs.Prelude.{◌≡◌, ℕ, ◌⊎◌, Bool, List, ◌++◌, length, codes, Option, Some, None}
 use Rattle.std.specs.List.{flat_map}
 use Rattle.std.specs.Fmt.{decimal, signed_decimal}
 use Rattle.ci_text.specs.Lines.{line}
 use Rattle.ci_text.specs.Hex.{eight_hex_digits}
 use Rattle.ci_word.specs.Numbers.{numbers_below}
+use Rattle.ci_elf.specs.declared.faults.ElfFault.{ElfFault}
+use Rattle.ci_elf.specs.declared.faults.ElfFault.TheVariants as elf
+use Rattle.ci_lat.specs.declared.faults.LatFault.{LatFault}
+use Rattle.ci_lat.specs.declared.faults.LatFault.TheVariants as lat
+use Rattle.ci_lat.specs.Keys.{key_name}
+use Rattle.ci_machine.specs.declared.ends.End.{End}
+use Rattle.ci_machine.specs.declared.ends.End.TheVariants as ends
+use Rattle.ci_machine.specs.Accesses.{width_bytes}
 use Rattle.ci_cut.specs.declared.graph.Limits.{Limits}
 use Rattle.ci_cut.specs.FlowGraph.{FlowGraph}
 use Rattle.ci_cut.specs.Gain.{gain}
@@ -25,6 +33,35 @@ sink_name = codes "-"
 
 abbrev pub too_large_line : List ℕ → List ℕ
 too_large_line name = line (codes "fault 4 too large " ++ name)
+
+-- the number of the rule that a file breaks, and the fault's numbers, 0 where it has none
+abbrev pub elf_fault_numbers : ElfFault → ℕ × ℕ × ℕ
+elf_fault_numbers (elf.Short offset) = (1, offset, 0)
+elf_fault_numbers elf.NotElf = (2, 0, 0)
+elf_fault_numbers (elf.WrongKind offset value) = (3, offset, value)
+elf_fault_numbers (elf.BadSegment n) = (4, n, 0)
+elf_fault_numbers (elf.Overlap m n) = (5, m, n)
+elf_fault_numbers (elf.SharedText m n) = (6, m, n)
+elf_fault_numbers (elf.BadSection n) = (7, n, 0)
+elf_fault_numbers elf.EntryNotText = (8, 0, 0)
+elf_fault_numbers elf.TooLarge = (9, 0, 0)
+elf_fault_numbers elf.NoMemory = (10, 0, 0)
+
+abbrev pub bad_elf_line : ElfFault → List ℕ
+bad_elf_line fault =
+    let numbers = elf_fault_numbers fault in
+    line (codes "fault 5 elf " ++ decimal numbers.0 ++ codes " " ++ decimal numbers.1 ++ codes " " ++ decimal numbers.2)
+
+-- the number of what is wrong with a table, and the key, where there is one
+abbrev pub table_fault_text : LatFault → List ℕ
+table_fault_text lat.NotToml = codes "1"
+table_fault_text lat.UnknownKey = codes "2"
+table_fault_text (lat.OutOfRange key) = codes "3 " ++ key_name key
+table_fault_text (lat.PadTooLarge key) = codes "4 " ++ key_name key
+table_fault_text lat.NoMemory = codes "5"
+
+abbrev pub bad_table_line : LatFault → List ℕ
+bad_table_line fault = line (codes "fault 6 table " ++ table_fault_text fault)
 
 abbrev pub unsupported_line : ℕ → ℕ → List ℕ
 unsupported_line position word =
@@ -48,3 +85,19 @@ abbrev pub IsBestLine : FlowGraph → Limits → List ℕ → Type 0
 IsBestLine graph limits text =
     (HasNoCut graph limits × (text ≡ line (codes "no cut")))
     ⊎ ((cut : ℕ → Bool) × IsBest graph limits cut × (text ≡ cut_line graph cut))
+
+-- how a run ended, or that it made as many steps as it may
+abbrev pub end_text : Option End → List ℕ
+end_text (Some (ends.Exit code)) = codes "exit " ++ eight_hex_digits code
+end_text (Some ends.Break) = codes "break"
+end_text (Some (ends.Access address width)) =
+    codes "access " ++ eight_hex_digits address ++ codes " " ++ decimal (width_bytes width)
+end_text (Some (ends.Misaligned target)) = codes "misaligned " ++ eight_hex_digits target
+end_text (Some (ends.Fetch pc)) = codes "fetch " ++ eight_hex_digits pc
+end_text (Some (ends.Illegal word)) = codes "illegal " ++ eight_hex_digits word
+end_text None = codes "limit"
+
+-- the end of a run, its steps, and their cost in cycles
+abbrev pub end_line : Option End → ℕ → ℕ → List ℕ
+end_line end steps cost =
+    line (codes "end " ++ end_text end ++ codes " steps " ++ decimal steps ++ codes " cost " ++ decimal cost)

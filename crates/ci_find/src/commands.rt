@@ -1,6 +1,7 @@
 //! The commands: what each makes of its files, or why it makes nothing.
-ghost use Rattle.std.specs.Prelude.{◌≡◌, IfOk, IfErr, map};
+ghost use Rattle.std.specs.Prelude.{◌≡◌, ◌≤◌, IfOk, IfErr, map};
 ghost use Rattle.std.specs.String.{string_bytes};
+ghost use Rattle.ci_words.specs.Words.{settings_of};
 ghost use Rattle.ci_words.specs.Commands.{reading_of};
 ghost use Rattle.ci_find.specs.Endings.{IsDone};
 ghost use Rattle.ci_find.specs.Faults.{Explains, Makes, MakesNothing, reads_between};
@@ -14,13 +15,14 @@ use std::alloc::Global;
 mod asm;
 mod best;
 mod dis;
+mod run;
 
 /// What a command does where nothing is refused and nothing fails: it writes these files, in order, and then puts the
-/// text.
+/// text, which may be any bytes.
 #[derive(Drop)]
 pub struct Success<'a> {
     pub writes: Vec<Written<'a>>,
-    pub text: String,
+    pub text: Vec<u8>,
 }
 
 /// A file that a command writes.
@@ -56,6 +58,7 @@ fn make_command<'a, F: Shelf>(
     command: &Command<'a>,
     shelf: &mut F,
 ) -> Result<Success<'a>, Refusal<'a>>
+    requires { (settings_of (reading_of command.now)).steps ≤ 4294967296 }
     ensures made { IfOk result (λ success.
         Makes (F.state shelf.old).files (reading_of command.now) (success_of success)) }
     ensures refused { IfErr result (MakesNothing
@@ -64,8 +67,18 @@ fn make_command<'a, F: Shelf>(
     ensures no_write { (F.state shelf.new).write_faults ≡ (F.state shelf.old).write_faults }
 {
     match command {
-        Command::Best { file, limits } => best::make(alloc, *file, limits, shelf),
+        Command::Best {
+            file,
+            limits,
+            table,
+        } => best::make(alloc, *file, limits, *table, shelf),
         Command::Asm { text, out } => asm::make(alloc, *text, *out, shelf),
         Command::Dis { file } => dis::make(alloc, *file, shelf),
+        Command::Run {
+            file,
+            steps,
+            input,
+            table,
+        } => run::make(alloc, *file, *steps, *input, *table, shelf),
     }
 }

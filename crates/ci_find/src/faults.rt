@@ -2,10 +2,12 @@
 ghost use Rattle.std.specs.Prelude.{◌≡◌, IfOk, OnErr};
 ghost use Rattle.std.specs.String.{string_bytes};
 ghost use Rattle.ci_find.specs.Endings.{IsPut};
-ghost use Rattle.ci_find.specs.Lines.{read_fault_line, write_fault_line, sink_name, too_large_line, unsupported_line, bad_asm_line, no_memory_line};
+ghost use Rattle.ci_find.specs.Lines.{read_fault_line, write_fault_line, sink_name, too_large_line, bad_elf_line, bad_table_line, elf_fault_numbers, unsupported_line, bad_asm_line, no_memory_line};
 ghost use Rattle.ci_find.specs.Faults.{IsRefused};
 
+use ci_elf::ElfFault;
 use ci_io::Sink;
+use ci_lat::LatFault;
 use ci_text::push_hex;
 use std::alloc::{AllocError, Global};
 
@@ -20,6 +22,12 @@ pub const WRITE_FAULT: u8 = 3;
 
 /// The status where the file is longer than its limit.
 pub const TOO_LARGE: u8 = 4;
+
+/// The status where the file is no executable.
+pub const BAD_ELF: u8 = 5;
+
+/// The status where the file is no latency table.
+pub const BAD_TABLE: u8 = 6;
 
 /// The status where the file holds no block.
 pub const UNSUPPORTED: u8 = 7;
@@ -39,6 +47,10 @@ pub enum Refusal<'a> {
     Read(&'a str),
     /// The file of this name is longer than its limit.
     TooLarge(&'a str),
+    /// The file is no executable.
+    BadElf(ElfFault),
+    /// The file is no latency table.
+    BadTable(LatFault),
     /// The file holds no block, for the word at this offset, or for its length and 0.
     Unsupported { position: u32, word: u32 },
     /// The file holds no assembler text, by a fault of this kind at this line and column.
@@ -55,6 +67,8 @@ pub fn refuse<O: Sink>(alloc: Global, refusal: &Refusal<'_>, out: &mut O) -> u8
         Refusal::Usage => put_fault(USAGE, "fault 1 usage\n", out),
         Refusal::Read(name) => put_text(READ_FAULT, read_text(alloc, name), out),
         Refusal::TooLarge(name) => put_text(TOO_LARGE, too_large_text(alloc, name), out),
+        Refusal::BadElf(fault) => put_text(BAD_ELF, bad_elf_text(alloc, fault), out),
+        Refusal::BadTable(fault) => put_text(BAD_TABLE, bad_table_text(alloc, fault), out),
         Refusal::Unsupported { position, word } => put_text(
             UNSUPPORTED,
             unsupported_text(alloc, *position, *word),
@@ -117,6 +131,49 @@ fn too_large_text(alloc: Global, name: &str) -> Result<String, AllocError>
     ensures { IfOk result (λ text. string_bytes text ≡ too_large_line name.now) }
 {
     format!(in alloc; "fault 4 too large {name}\n")
+}
+
+/// The fault line of a file that is no executable.
+fn bad_elf_text(alloc: Global, fault: &ElfFault) -> Result<String, AllocError>
+    ensures { IfOk result (λ text. string_bytes text ≡ bad_elf_line fault.now) }
+{
+    let (rule, first, second) = elf_fault_numbers(fault);
+    let mut text = String::from_str(alloc, "fault 5 elf")?;
+    write!(text, " {rule}")?;
+    write!(text, " {first}")?;
+    writeln!(text, " {second}")?;
+    Ok(text)
+}
+
+/// The number of the rule that a file breaks, and the numbers of the fault, 0 where it has none.
+fn elf_fault_numbers(fault: &ElfFault) -> (u8, u32, u32)
+    ensures { result ≡ elf_fault_numbers fault.now }
+{
+    match fault {
+        ElfFault::Short(offset) => (1, *offset, 0),
+        ElfFault::NotElf => (2, 0, 0),
+        ElfFault::WrongKind(offset, value) => (3, *offset, *value),
+        ElfFault::BadSegment(n) => (4, *n, 0),
+        ElfFault::Overlap(m, n) => (5, *m, *n),
+        ElfFault::SharedText(m, n) => (6, *m, *n),
+        ElfFault::BadSection(n) => (7, *n, 0),
+        ElfFault::EntryNotText => (8, 0, 0),
+        ElfFault::TooLarge => (9, 0, 0),
+        ElfFault::NoMemory => (10, 0, 0),
+    }
+}
+
+/// The fault line of a file that is no latency table.
+fn bad_table_text(alloc: Global, fault: &LatFault) -> Result<String, AllocError>
+    ensures { IfOk result (λ text. string_bytes text ≡ bad_table_line fault.now) }
+{
+    match fault {
+        LatFault::NotToml => String::from_str(alloc, "fault 6 table 1\n"),
+        LatFault::UnknownKey => String::from_str(alloc, "fault 6 table 2\n"),
+        LatFault::OutOfRange(key) => format!(in alloc; "fault 6 table 3 {key}\n"),
+        LatFault::PadTooLarge(key) => format!(in alloc; "fault 6 table 4 {key}\n"),
+        LatFault::NoMemory => String::from_str(alloc, "fault 6 table 5\n"),
+    }
 }
 
 /// The fault line of a file that holds no block.

@@ -43,7 +43,7 @@ pub fn finish<F: Shelf, O: Sink>(
     ensures no_read { (F.state shelf.new).read_faults ≡ (F.state shelf.old).read_faults }
 {
     match write_files(alloc, success.writes.as_slice(), shelf) {
-        Ok(()) => put_success(success.text.as_str(), out),
+        Ok(()) => put_success(success.text.as_slice(), out),
         Err(WriteErr::Fault(line)) => put_fault(WRITE_FAULT, line.as_str(), out),
         Err(WriteErr::NoMemory) => refuse_memory(out),
     }
@@ -90,13 +90,13 @@ fn write_file<F: Shelf>(alloc: Global, file: &Written<'_>, shelf: &mut F) -> Res
 }
 
 /// Puts the text of success, unless it is empty, and answers the status.
-fn put_success<O: Sink>(text: &str, out: &mut O) -> u8
+fn put_success<O: Sink>(text: &[u8], out: &mut O) -> u8
     ensures { IsTextPut text.now (O.state out.old) (O.state out.new) result }
 {
     if text.is_empty() {
         return SUCCESS;
     }
-    match out.put(text.as_bytes()) {
+    match out.put(text) {
         Ok(()) => SUCCESS,
         Err(SinkErr::Fault) => refuse_write(out),
         Err(SinkErr::NoMemory) => refuse_memory(out),

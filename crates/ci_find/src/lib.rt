@@ -22,18 +22,23 @@ mod tests;
 ///
 /// `words` are those after the program's name. The commands are:
 ///
-/// - `best FILE`, with the options `--in N` and `--out N`: puts the line of the best cut of the block whose words FILE
-///   holds.
+/// - `best FILE`, with the options `--in N`, `--out N` and `--table FILE`: puts the line of the best cut of the block
+///   whose words FILE holds, by the latencies of the table.
+/// - `run FILE`, with the options `--steps N`, `--input FILE` and `--table FILE`: runs the executable FILE, and puts its
+///   output and a line with its end, its steps and their cost.
 /// - `asm TEXT OUT`: writes the words that TEXT assembles to, the lowest byte of each first, to OUT. It puts nothing.
 /// - `dis FILE`: puts a line for each whole word of FILE.
 ///
-/// Every refusal puts one fault line:
+/// Files are read in the order FILE, table, input, each with its limit and its form tested before the next; only that
+/// FILE of `best` holds a block is tested once all are read. Every refusal puts one fault line:
 ///
 /// - 1, `fault 1 usage`: the words have no reading.
 /// - 2, `fault 2 read NAME`: the file isn't there, or reading it failed.
 /// - 3, `fault 3 write NAME`: writing the file failed, or the sink, whose name is `-`, failed to take the text.
-/// - 4, `fault 4 too large NAME`: the file has more than 1024 bytes, or more than 1,048,576 where `asm` or `dis` reads
-///   it.
+/// - 4, `fault 4 too large NAME`: the file has more bytes than one of its kind may have: 1024 for a block, 1,048,576
+///   for FILE of `dis` and for a text, 65,536 for a table, and 16,777,216 for an executable and for an input.
+/// - 5, `fault 5 elf RULE A B`: the file is no executable, and RULE is the number of the fault and A and B its numbers.
+/// - 6, `fault 6 table RULE KEY`: the file is no latency table, and RULE is the number of the fault and KEY its key.
 /// - 7, `fault 7 unsupported POSITION WORD`: the file holds no block, for the word at that offset, or for its length
 ///   and 0.
 /// - 12, `fault 12 no memory`: memory ran out.
@@ -50,7 +55,7 @@ pub fn run<F: Shelf, O: Sink>(alloc: Global, words: &Vec<String>, shelf: &mut F,
         (changed F.read_may_fail F.write_may_fail (F.state shelf.old) (F.state shelf.new) (O.state out.old) (O.state out.new))
         status result) }
     // No other status comes.
-    ensures statuses { Contains (0 ∷ 1 ∷ 2 ∷ 3 ∷ 4 ∷ 7 ∷ 12 ∷ 13 ∷ []) result }
+    ensures statuses { Contains (0 ∷ 1 ∷ 2 ∷ 3 ∷ 4 ∷ 5 ∷ 6 ∷ 7 ∷ 12 ∷ 13 ∷ []) result }
 {
     match make(alloc, words, shelf) {
         Ok(success) => finish(alloc, &success, shelf, out),

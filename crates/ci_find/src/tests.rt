@@ -278,3 +278,5 @@ fn a_write_that_fails(rt: HostRuntime) -> Result<(), Fail> {
     assert_eq!(rt; out.taken(), b"fault 3 write OUT\n".as_slice());
     Ok(())
 }
+
+mod runs;

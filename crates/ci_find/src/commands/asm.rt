@@ -39,7 +39,7 @@ pub fn make<'a, F: Shelf>(
             };
             Ok(Success {
                 writes,
-                text: String::new(alloc),
+                text: Vec::new(alloc),
             })
         }
         Err(AsmFault::Bad { kind, line, column }) => Err(Refusal::BadAsm { kind, line, column }),

@@ -38,7 +38,7 @@ pub fn make<'a, F: Shelf>(
     };
     Ok(Success {
         writes: Vec::new(alloc),
-        text,
+        text: text.into_bytes(),
     })
 }
 

@@ -1,6 +1,6 @@
 -- Each refusal's line was put, or that of memory that ran out.
 use Rattle.std.proofs.Common.{inl}
-use Rattle.ci_find.specs.declared.faults.Refusal.TheVariants.{Read, TooLarge, Unsupported, BadAsm}
+use Rattle.ci_find.specs.declared.faults.Refusal.TheVariants.{Read, TooLarge, BadElf, BadTable, Unsupported, BadAsm}
 use Rattle.ci_find.proofs.Sinks.{refused_text}
 use Rattle.ci_find.proofs.faults.refuse.Goals as goal
 
@@ -14,6 +14,14 @@ returns-in-Read g c =
 pub returns-in-TooLarge : goal.returns-in-TooLarge
 returns-in-TooLarge g c =
     rw c.in-TooLarge.is (refused_text (TooLarge c.in-TooLarge.name) _ _ _ _ c.too_large_text.ensures c.put_text-in-TooLarge.ensures.ok c.put_text-in-TooLarge.ensures.err)
+
+pub returns-in-BadElf : goal.returns-in-BadElf
+returns-in-BadElf g c =
+    rw c.in-BadElf.is (refused_text (BadElf c.in-BadElf.fault) _ _ _ _ c.bad_elf_text.ensures c.put_text-in-BadElf.ensures.ok c.put_text-in-BadElf.ensures.err)
+
+pub returns-in-BadTable : goal.returns-in-BadTable
+returns-in-BadTable g c =
+    rw c.in-BadTable.is (refused_text (BadTable c.in-BadTable.fault) _ _ _ _ c.bad_table_text.ensures c.put_text-in-BadTable.ensures.ok c.put_text-in-BadTable.ensures.err)
 
 pub returns-in-Unsupported : goal.returns-in-Unsupported
 returns-in-Unsupported g c =

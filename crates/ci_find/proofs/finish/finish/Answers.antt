@@ -10,14 +10,14 @@ returns-in-Ok-clause-finished g c =
     let success = success_of c.args.success.now in
     let writes = rw c.as_slice.ensures.value at c.write_files.ensures in
     let written = rw c.as_slice.ensures.value at c.in-Ok.ensures.written in
-    let put = rw c.as_str.ensures.value at c.put_success.ensures in
+    let put = rw c.as_slice-in-Ok.ensures.value at c.put_success.ensures in
     Finishes-put change success c.put_success.result (record { written = written; same_count = writes.none }) put
 
 pub returns-in-Err-Fault-clause-finished : goal.returns-in-Err-Fault-clause-finished
 returns-in-Err-Fault-clause-finished g c =
     let change = changed g.F.Shelf.read_may_fail g.F.Shelf.write_may_fail (g.F.Shelf.state c.args.shelf.now) (g.F.Shelf.state c.write_files.new.shelf) (g.O.Sink.state c.args.out.now) (g.O.Sink.state c.put_fault.new.out) in
     let unwritten = rw (c.as_slice.ensures.value, c.in-Err-Fault.field-0-is) at c.in-Err-Fault.ensures.unwritten in
-    Finishes-unwritten change (success_of c.args.success.now) c.in-Err-Fault.line _ c.put_fault.result unwritten c.as_str-in-Err-Fault.ensures.value c.put_fault.ensures.status c.put_fault.ensures.put
+    Finishes-unwritten change (success_of c.args.success.now) c.in-Err-Fault.line _ c.put_fault.result unwritten c.as_str.ensures.value c.put_fault.ensures.status c.put_fault.ensures.put
 
 pub returns-in-Err-NoMemory-clause-finished : goal.returns-in-Err-NoMemory-clause-finished
 returns-in-Err-NoMemory-clause-finished g c =

@@ -16,14 +16,14 @@ returns-then-is_empty g c =
     rw empty (taken (takes_nothing _))
 
 pub returns-in-Ok : goal.returns-in-Ok
-returns-in-Ok g c = taken (rw (← c.as_bytes.ensures.value) c.in-Ok.ensures.ok)
+returns-in-Ok g c = taken c.in-Ok.ensures.ok
 
 pub returns-in-Err-Fault : goal.returns-in-Err-Fault
 returns-in-Err-Fault g c =
     let failed = ap Err c.in-Err-Fault.field-0-is in
     let front = c.in-Err-Fault.ensures.fault failed in
     let some : c.args.text.now ≢ [] = search rules in
-    rw c.refuse_write.ensures.status (fault some (g.O.Sink.state c.put.new.self) (record { faults = c.in-Err-Fault.ensures.never_falls; memory_faults = c.in-Err-Fault.ensures.memory_never_falls }) (c.in-Err-Fault.ensures.fault_counted failed) (front.0, rw (← c.as_bytes.ensures.value) front.1) c.refuse_write.ensures.put)
+    rw c.refuse_write.ensures.status (fault some (g.O.Sink.state c.put.new.self) (record { faults = c.in-Err-Fault.ensures.never_falls; memory_faults = c.in-Err-Fault.ensures.memory_never_falls }) (c.in-Err-Fault.ensures.fault_counted failed) front c.refuse_write.ensures.put)
 
 pub returns-in-Err-NoMemory : goal.returns-in-Err-NoMemory
 returns-in-Err-NoMemory g c =

@@ -3,27 +3,28 @@ ghost use Rattle.std.specs.Prelude.{◌≡◌, ℕ, ◌+◌, ◌*◌, ◌<◌, �
 ghost use Rattle.std.specs.List.{list_any};
 ghost use Rattle.ci_word.specs.Numbers.{set_below};
 ghost use Rattle.ci_cut.specs.FlowGraph.{is_source};
+ghost use Rattle.ci_lat.specs.Latencies.{HasDelay};
 ghost use Rattle.ci_find.specs.Block as terms;
 ghost use Rattle.ci_find.specs.Block.{IsBlock, IsUnsupported, graph_of};
 ghost use Rattle.ci_find.specs.BlockErrs.{IsCauseOf};
 ghost use Rattle.ci_find.specs.Places.{IsOperationAt, IsNoOperationAt};
 
 use ci_cut::{Graph, Node, Source, Sources};
+use ci_lat::Table;
 use ci_text::word_at;
-use ci_word::Row;
+use ci_word::{Class, Row};
 use std::alloc::{AllocError, AllocFailed, Global};
 
 /// The maximum number of operations in a block.
 const MOST_OPERATIONS: usize = 12;
 
-/// What a word does: the register that it writes, those of its operands, and its delay in thousandths of a cycle. An
-/// operand x0 reads nothing.
+/// What a word does: the register that it writes, those of its operands, and its class. An operand x0 reads nothing.
 #[derive(Clone, Copy, Debug, PartialEq, Eq)]
 pub struct Operation {
     pub destination: u8,
     pub first: u8,
     pub second: u8,
-    pub delay: u32,
+    pub class: Class,
 }
 
 /// Why the bytes of a file are no block.
@@ -50,7 +51,7 @@ impl<T: Drop> From<AllocFailed<T>> for BlockErr {
 pub fn read_block(alloc: Global, bytes: &[u8]) -> Result<Vec<Operation>, BlockErr>
     requires { length bytes.now ≤ 1024 }
     ensures block { IfOk result (λ operations. IsBlock bytes.now operations.items) }
-    ensures delays { IfOk result (λ operations. All (λ operation. operation.delay ≤ 400) operations.items) }
+    ensures classes { IfOk result (λ operations. All (λ operation. HasDelay operation.class) operations.items) }
     ensures supported { IfOk result (λ _. (position word : ℕ) → IsUnsupported bytes.now position word → ⊥) }
     ensures cause { IfErr result (IsCauseOf bytes.now) }
 {
@@ -74,7 +75,7 @@ fn operation_at(bytes: &[u8], place: usize) -> Result<Operation, BlockErr>
     requires there { 4 * place + 4 ≤ length bytes.now }
     ensures answer { MatchResult result (λ operation. IsOperationAt bytes.now place operation)
         (λ error. IsNoOperationAt bytes.now place error) }
-    ensures delay { IfOk result (λ operation. operation.delay ≤ 400) }
+    ensures class { IfOk result (λ operation. HasDelay operation.class) }
 {
     let word = word_at(bytes, place);
     match operation_of(word) {
@@ -90,14 +91,14 @@ fn operation_at(bytes: &[u8], place: usize) -> Result<Operation, BlockErr>
 /// (RISC-V Unprivileged ISA 20191213, section 2.4 and chapter 24).
 fn operation_of(word: u32) -> Option<Operation>
     ensures value { result ≡ terms.operation_of word }
-    ensures delay { IfSome result (λ operation. operation.delay ≤ 400) }
+    ensures class { IfSome result (λ operation. HasDelay operation.class) }
 {
     let destination = field(word, 11, 7);
     let operand = field(word, 24, 20);
-    let (second, delay) = match (field(word, 6, 0), field(word, 14, 12), field(word, 31, 25)) {
-        (0x33, 0, 0x00 | 0x20) => (operand, 400),
-        (0x33, 4 | 6 | 7, 0x00) => (operand, 100),
-        (0x13, 0, _) => (0, 400),
+    let (second, class) = match (field(word, 6, 0), field(word, 14, 12), field(word, 31, 25)) {
+        (0x33, 0, 0x00 | 0x20) => (operand, Class::Add),
+        (0x33, 4 | 6 | 7, 0x00) => (operand, Class::Logic),
+        (0x13, 0, _) => (0, Class::Add),
         _ => return None,
     };
     if destination == 0 {
@@ -107,7 +108,7 @@ fn operation_of(word: u32) -> Option<Operation>
         destination,
         first: field(word, 19, 15),
         second,
-        delay,
+        class,
     })
 }
 
@@ -123,30 +124,37 @@ fn field(word: u32, high: u32, low: u32) -> u8
 
 /// The graph of a block of operations, after which every register is live.
 #[tactic(auto, using(crate::proofs::Graphs::so_far))]
-pub fn graph(alloc: Global, operations: &[Operation]) -> Result<Graph, AllocError>
+pub fn graph(alloc: Global, operations: &[Operation], table: &Table) -> Result<Graph, AllocError>
     requires few { length operations.now ≤ 12 }
-    requires delays { All (λ operation. operation.delay ≤ 400) operations.now }
-    ensures { IfOk result (λ graph. graph ≡ graph_of operations.now) }
+    requires classes { All (λ operation. HasDelay operation.class) operations.now }
+    ensures { IfOk result (λ graph. graph ≡ graph_of operations.now table.now) }
 {
     let mut nodes = Vec::new(alloc);
     for k in 0..operations.len() {
-        nodes.push(node(alloc, operations, k)?)?;
+        nodes.push(node(alloc, operations, table, k)?)?;
     }
-    Ok(Graph::new(nodes, 1, 0))
+    let (read, pad) = (table.read(), table.pad());
+    Ok(Graph::new(nodes, read, pad))
 }
 
 /// Operation `k` as a node.
-fn node(alloc: Global, operations: &[Operation], k: usize) -> Result<Node, AllocError>
+fn node(
+    alloc: Global,
+    operations: &[Operation],
+    table: &Table,
+    k: usize,
+) -> Result<Node, AllocError>
     requires few { length operations.now ≤ 12 }
     requires there { k < length operations.now }
-    ensures { IfOk result (λ node. node ≡ terms.node_of operations.now k) }
+    ensures { IfOk result (λ node. node ≡ terms.node_of operations.now table.now k) }
 {
+    let class = operations[k].class;
     let sources = sources(alloc, operations, k)?;
     let before = earlier_with_arc(operations, k, sources.as_slice());
     Ok(Node {
         eligible: true,
-        latency: 1,
-        delay: operations[k].delay,
+        latency: table.latency(class),
+        delay: table.delay(class),
         sources,
         before,
         live: is_live(operations, k),

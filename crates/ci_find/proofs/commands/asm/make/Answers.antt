@@ -18,7 +18,7 @@ returns-in-Ok-clause-made g c =
         read_is = refl;
         text = assembled.1;
         writes_words = ap (map written_of) c.in-Ok-vec.ensures.items ∙ ap (λ words. record { name = c.args.out.now; bytes = words } ∷ []) assembled.2;
-        puts_nothing = c.new.ensures.bytes;
+        puts_nothing = c.new.ensures.items;
       };
     }
 

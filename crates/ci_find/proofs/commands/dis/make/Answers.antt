@@ -13,7 +13,7 @@ returns-clause-made g c =
       made = record {
         bytes = bytes;
         read_is = refl;
-        listing = rw c.as_slice.ensures.value at c.in-Ok.ensures;
+        listing = rw c.into_bytes.ensures.value (rw c.as_slice.ensures.value at c.in-Ok.ensures);
         writes_none = ap (map written_of) c.new.ensures.items;
       };
     }

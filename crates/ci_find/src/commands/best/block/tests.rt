@@ -1,6 +1,8 @@
 //! Words and blocks of a few words.
 use super::{BlockErr, Operation, graph, read_block};
 use ci_cut::Source::{Entry, Made};
+use ci_lat::Table;
+use ci_word::Class;
 use std::alloc::Global;
 use std::test::Fail;
 
@@ -16,18 +18,18 @@ fn operation_of(alloc: Global, word: u32) -> Result<Option<Operation>, Fail> {
 
 #[test]
 fn six_forms(rt: HostRuntime) -> Result<(), Fail> {
-    for (name, word, delay) in [
-        ("add x5, x10, x11", 0x00B5_02B3, 400),
-        ("sub x5, x10, x11", 0x40B5_02B3, 400),
-        ("xor x5, x10, x11", 0x00B5_42B3, 100),
-        ("or x5, x10, x11", 0x00B5_62B3, 100),
-        ("and x5, x10, x11", 0x00B5_72B3, 100),
+    for (name, word, class) in [
+        ("add x5, x10, x11", 0x00B5_02B3, Class::Add),
+        ("sub x5, x10, x11", 0x40B5_02B3, Class::Add),
+        ("xor x5, x10, x11", 0x00B5_42B3, Class::Logic),
+        ("or x5, x10, x11", 0x00B5_62B3, Class::Logic),
+        ("and x5, x10, x11", 0x00B5_72B3, Class::Logic),
     ] {
         let sum = Operation {
             destination: 5,
             first: 10,
             second: 11,
-            delay,
+            class,
         };
         assert_eq!(rt; operation_of(rt.alloc(), word)?, Some(sum), "{name}");
     }
@@ -35,7 +37,7 @@ fn six_forms(rt: HostRuntime) -> Result<(), Fail> {
         destination: 5,
         first: 5,
         second: 0,
-        delay: 400,
+        class: Class::Add,
     };
     let found = operation_of(rt.alloc(), 0xFFF2_8293)?;
     assert_eq!(rt; found, Some(decrement), "addi x5, x5, -1");
@@ -62,7 +64,7 @@ const TWO_SUMS: [u8; 8] = [0xB3, 0x02, 0xB5, 0x00, 0xB3, 0x82, 0xC2, 0x00];
 fn two_sums(rt: HostRuntime) -> Result<(), Fail> {
     let operations = read_block(rt.alloc(), &TWO_SUMS)?;
     assert!(rt; operations.len() == 2);
-    let graph = graph(rt.alloc(), &operations)?;
+    let graph = graph(rt.alloc(), &operations, &Table::usual())?;
     let nodes = graph.nodes();
     assert_eq!(rt; nodes.len(), 2);
     assert_eq!(rt;

@@ -4,4 +4,4 @@ use Rattle.ci_find.specs.Block as terms
 use Rattle.ci_find.proofs.commands.best.block.graph.Given as goal
 
 abbrev pub invariant-loop-k : goal.invariant-loop-k
-invariant-loop-k l = l.nodes.items ≡ map (terms.node_of l.operations) (numbers_below l.k (λ _. true))
+invariant-loop-k l = l.nodes.items ≡ map (terms.node_of l.operations l.table) (numbers_below l.k (λ _. true))

@@ -10,7 +10,7 @@ returns-in_err-operation-clause-cause c =
 
 pub loop-place-preserved : goal.loop-place-preserved
 loop-place-preserved c =
-    rw c.in_ok-push.ensures.items (read_more c.args.bytes.now c.loop-place.operations.items c.loop-place.place c.in_ok-operation.operation c.loop-place.invariant c.in_ok-operation.ensures.answer c.in_ok-operation.ensures.delay)
+    rw c.in_ok-push.ensures.items (read_more c.args.bytes.now c.loop-place.operations.items c.loop-place.place c.in_ok-operation.operation c.loop-place.invariant c.in_ok-operation.ensures.answer c.in_ok-operation.ensures.class)
 
 pub returns-clause-block : goal.returns-clause-block
 returns-clause-block c =

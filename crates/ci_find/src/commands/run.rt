@@ -1,0 +1,132 @@
+//! The command `run`: the run of an executable file.
+ghost use Rattle.std.specs.Prelude.{◌≡◌, ◌≤◌, ◌++◌, IfOk, IfErr, codes};
+ghost use Rattle.std.specs.String.{string_bytes};
+ghost use Rattle.std.specs.Fmt.{decimal};
+ghost use Rattle.ci_text.specs.Hex.{eight_hex_digits};
+ghost use Rattle.ci_machine.specs.Accesses.{width_bytes};
+ghost use Rattle.ci_words.specs.Commands.{name_in};
+ghost use Rattle.ci_find.specs.Faults.{Makes, MakesNothing, run_by, reads_between};
+ghost use Rattle.ci_find.specs.Finish.{success_of};
+ghost use Rattle.ci_find.specs.Lines.{end_line, end_text};
+ghost use Rattle.ci_find.specs.RunCommand.{IsRunText};
+
+use super::Success;
+use crate::faults::Refusal;
+use crate::inputs::{read_image, read_input, read_table};
+use ci_elf::Image;
+use ci_emu::{End, Profile};
+use ci_io::Shelf;
+use ci_isa::Width;
+use ci_lat::Table;
+use ci_machine::State;
+use ci_text::hex_text;
+use std::alloc::{AllocError, Global};
+
+/// Makes the output and the end line of the run of the executable in the file, over the input in another and by the
+/// latencies of the table, of at most so many steps.
+pub fn make<'a, F: Shelf>(
+    alloc: Global,
+    file: &'a str,
+    steps: u64,
+    input: Option<&'a str>,
+    table: Option<&'a str>,
+    shelf: &mut F,
+) -> Result<Success<'a>, Refusal<'a>>
+    requires { steps ≤ 4294967296 }
+    ensures made { IfOk result (λ success. Makes (F.state shelf.old).files
+        (run_by file.now steps (name_in input.entry) (name_in table.entry)) (success_of success)) }
+    ensures refused { IfErr result (MakesNothing
+        (reads_between F.read_may_fail (F.state shelf.old) (F.state shelf.new))
+        (run_by file.now steps (name_in input.entry) (name_in table.entry))) }
+    ensures files_stay { (F.state shelf.new).files ≡ (F.state shelf.old).files }
+    ensures no_write { (F.state shelf.new).write_faults ≡ (F.state shelf.old).write_faults }
+{
+    let image = read_image(alloc, file, shelf)?;
+    let table = read_table(alloc, table, shelf)?;
+    let input = read_input(alloc, input, shelf)?;
+    match run_text(alloc, &image, &table, input.as_slice(), steps) {
+        Ok(text) => Ok(Success {
+            writes: Vec::new(alloc),
+            text,
+        }),
+        Err(AllocError) => Err(Refusal::NoMemory),
+    }
+}
+
+/// The output and the end line of the run.
+fn run_text(
+    alloc: Global,
+    image: &Image,
+    table: &Table,
+    input: &[u8],
+    steps: u64,
+) -> Result<Vec<u8>, AllocError>
+    requires { steps ≤ 4294967296 }
+    ensures { IfOk result (λ text. IsRunText image.now table.now input.now steps text.items) }
+{
+    let mut state = State::start(alloc, image, input)?;
+    let profile = ci_emu::run(alloc, &mut state, table, steps)?;
+    let line = end_line(alloc, &profile)?;
+    let mut text = Vec::from_slice(alloc, state.output())?;
+    text.extend_from_slice(line.as_bytes())?;
+    Ok(text)
+}
+
+/// The end line: how the run ended, its steps, and their cost.
+fn end_line(alloc: Global, profile: &Profile) -> Result<String, AllocError>
+    ensures { IfOk result (λ text. string_bytes text ≡ end_line profile.now.end profile.now.steps profile.now.cost) }
+{
+    let mut text = String::from_str(alloc, "end ")?;
+    let end = end_text(alloc, profile.end)?;
+    text.push_str(end.as_str())?;
+    let steps = profile.steps;
+    let cost = profile.cost;
+    write!(text, " steps {steps}")?;
+    writeln!(text, " cost {cost}")?;
+    Ok(text)
+}
+
+/// How a run ended, or `limit` where it made as many steps as it may.
+fn end_text(alloc: Global, end: Option<End>) -> Result<String, AllocError>
+    ensures { IfOk result (λ text. string_bytes text ≡ end_text end) }
+{
+    match end {
+        Some(End::Exit(code)) => word_text(alloc, "exit ", code),
+        Some(End::Break) => String::from_str(alloc, "break"),
+        Some(End::Access(address, width)) => access_text(alloc, address, width),
+        Some(End::Misaligned(target)) => word_text(alloc, "misaligned ", target),
+        Some(End::Fetch(pc)) => word_text(alloc, "fetch ", pc),
+        Some(End::Illegal(word)) => word_text(alloc, "illegal ", word),
+        None => String::from_str(alloc, "limit"),
+    }
+}
+
+/// A name and the eight digits of a word.
+fn word_text(alloc: Global, name: &str, word: u32) -> Result<String, AllocError>
+    ensures { IfOk result (λ text. string_bytes text ≡ name.now ++ eight_hex_digits word) }
+{
+    let digits = hex_text(alloc, word)?;
+    format!(in alloc; "{name}{digits}")
+}
+
+/// The address of an access, and how many bytes it moves.
+fn access_text(alloc: Global, address: u32, width: Width) -> Result<String, AllocError>
+    ensures { IfOk result (λ text. string_bytes text
+        ≡ codes "access " ++ eight_hex_digits address ++ codes " " ++ decimal (width_bytes width)) }
+{
+    let mut text = word_text(alloc, "access ", address)?;
+    let bytes = width_bytes(width);
+    write!(text, " {bytes}")?;
+    Ok(text)
+}
+
+/// How many bytes an access of this width moves.
+fn width_bytes(width: Width) -> u8
+    ensures { result ≡ width_bytes width }
+{
+    match width {
+        Width::Byte => 1,
+        Width::Half => 2,
+        Width::Word => 4,
+    }
+}
