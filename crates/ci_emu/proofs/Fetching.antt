@@ -11,10 +11,10 @@ use Rattle.ci_machine.specs.Programs.{Program, State, in_text}
 use Rattle.ci_machine.specs.Steps.{Meaning, IsPlain, word_at, execute, step}
 use Rattle.ci_machine.proofs.Meanings.{plain_exists}
 use Rattle.ci_emu.specs.declared.steps.Outcome.{Outcome}
-use Rattle.ci_emu.specs.Lines.{IsOnlyAt}
+use Rattle.ci_emu.specs.Fetched.{IsOnlyAt, IsFetched, IsPlainInsn}
 use Rattle.ci_emu.specs.Places.{word_place}
 use Rattle.ci_emu.proofs.CountLaws.{no_word}
-use Rattle.ci_emu.specs.Steps.{LeadsTo, IsFetched, IsPlainInsn, IsPlainStep, IsReached}
+use Rattle.ci_emu.specs.Steps.{LeadsTo, IsPlainStep, IsReached}
 
 -- the instruction that stands at a word alone is one of the plain table, or none
 pub plain_at : (word : ℕ) (insn : Insn) → IsOnlyAt word insn → IsPlainInsn insn
@@ -35,11 +35,6 @@ module _ (program : Program) (state : State) where
       → IsOnlyAt word insn → IsFetched program state (Some insn)
   fetched_is word insn aligned text at only meaning plain =
       rw (aligned, text, at) (ap Some (only (meaning.insn word) (plain word)))
-
-  -- where the word is not mapped
-  pub not_mapped : (state.pc % 4 == 0) ≡ true → in_text program state.pc ≡ true → word_at state.core.memory state.pc ≡ None
-      → IsFetched program state None
-  not_mapped aligned text at meaning plain = rw (aligned, text, at) refl
 
   -- where there is no word of the text
   pub nothing_fetched : word_place program.text state.pc ≡ None → IsFetched program state None

@@ -1,9 +1,8 @@
--- Places of words: how a search passes range after range, and that two words have two places.
-use Rattle.std.proofs.Common.{◌≡◌, ℕ, ◌+◌, ◌-◌, ◌*◌, ◌/◌, ◌%◌, ◌<◌, ◌≤◌, ap, sym, ◌∙◌, refl, arith, List, [], ◌∷◌, length, drop, get_or, Option, Some, None, add_assoc}
+-- Places of words: what a search has passed, and that two words have two places.
+use Rattle.std.proofs.Common.{◌≡◌, ℕ, ◌+◌, ◌-◌, ◌*◌, ◌/◌, ◌%◌, ◌<◌, ◌≤◌, ap, sym, ◌∙◌, refl, arith, List, [], ◌∷◌, drop, Option, Some, None}
 use Rattle.std.specs.Prelude.{Bool, true, false, ◌||◌, is_some, IfSome, if◌then◌else◌}
 use Rattle.std.specs.List.{list_any}
 use Rattle.std.proofs.lemmas.Bool.{leb-true, ltb-true}
-use Rattle.std.proofs.lemmas.List.{drop_more}
 use Rattle.std.proofs.lemmas.List.Sums.{sum_by-cons}
 use Rattle.ci_machine.proofs.TestLaws.{by_test, both_first, both_second}
 use Rattle.std.specs.Option.{option_map}
@@ -11,47 +10,10 @@ use Rattle.ci_elf.specs.declared.ranges.Range.{Range}
 use Rattle.ci_machine.specs.Programs.{lies_in}
 use Rattle.ci_emu.specs.Places.{place_in, place_count}
 
--- ---- one range after the other
-
--- the address has this place in the range
-abbrev pub place_here : Range → ℕ → Option ℕ
-place_here range address =
-    if lies_in range.start (range.start + 4 * range.words) address then Some ((address - range.start) / 4) else None
-
 -- the ranges before this one do not hold the address, and have so many words
 pub record IsPassed (ranges : List Range) (address i passed : ℕ) : Type 0 where
   pub left : place_in ranges address ≡ option_map (λ place. passed + place) (place_in (drop i ranges) address)
   pub words : passed + place_count (drop i ranges) ≡ place_count ranges
-
-taken : (b : Bool) (q p : ℕ) (o : Option ℕ) → (if b then Some q else None) ≡ Some p → (if b then Some q else o) ≡ Some p
-taken true q p o is = is
-taken false q p o is = cc
-
-left : (b : Bool) (q : ℕ) (o : Option ℕ) → (if b then Some q else None) ≡ None → (if b then Some q else o) ≡ o
-left true q o is = cc
-left false q o is = refl
-
-twice : (m n : ℕ) (o : Option ℕ) → option_map (λ place. m + place) (option_map (λ place. n + place) o) ≡ option_map (λ place. m + n + place) o
-twice m n None = refl
-twice m n (Some place) = ap Some (sym (add_assoc m n place))
-
-module _ (ranges : List Range) (address i passed : ℕ) (range : Range) (below : i < length ranges) (is : range ≡ get_or ranges i range) where
-  opened : drop i ranges ≡ range ∷ drop (i + 1) ranges
-  opened = drop_more ranges i range below ∙ ap (λ first. first ∷ drop (i + 1) ranges) (sym is)
-
-  rest_of : (o : Option ℕ) → IsPassed ranges address i passed
-      → place_in (range ∷ drop (i + 1) ranges) address ≡ o → place_in ranges address ≡ option_map (λ place. passed + place) o
-  rest_of o so_far found =
-      so_far.left ∙ ap (λ rest. option_map (λ place. passed + place) (place_in rest address)) opened ∙ ap (option_map (λ place. passed + place)) found
-
-  pub place_found : (place : ℕ) → IsPassed ranges address i passed → place_here range address ≡ Some place → place_in ranges address ≡ Some (passed + place)
-  place_found place so_far here = rest_of (Some place) so_far (taken _ _ _ _ here)
-
-  pub place_passed : IsPassed ranges address i passed → place_here range address ≡ None → IsPassed ranges address (i + 1) (passed + range.words)
-  place_passed so_far none = record {
-    left = rest_of _ so_far (left _ _ _ none) ∙ twice passed range.words (place_in (drop (i + 1) ranges) address);
-    words = omega (arith, so_far.words, ap place_count opened, sum_by-cons (λ (r : Range). r.words) range (drop (i + 1) ranges));
-  }
 
 -- ---- the place of an address
 

@@ -16,7 +16,7 @@ place_in (range ∷ ranges) address =
 unfoldable pub word_place : List Range → ℕ → Option ℕ
 word_place ranges address = if address % 4 == 0 then place_in ranges address else None
 
--- how many places there are
+-- how many places there are, for private contracts
 abbrev pub place_count : List Range → ℕ
 place_count ranges = sum_by (λ range. range.words) ranges
 

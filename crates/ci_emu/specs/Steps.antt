@@ -1,11 +1,9 @@
 -- What one step comes to.
-use Rattle.std.specs.Prelude.{◌≡◌, ℕ, ◌≤◌, Option, Some, None, ⊤}
-use Rattle.ci_isa.specs.declared.instruction.Insn.{Insn}
-use Rattle.ci_isa.specs.declared.instruction.Insn.TheVariants.{Unit, Cread}
+use Rattle.std.specs.Prelude.{◌≡◌, ℕ, ◌≤◌, Option, Some, None}
 use Rattle.ci_machine.specs.declared.ends.End.{End}
 use Rattle.ci_machine.specs.Outcomes as machine
 use Rattle.ci_machine.specs.Programs.{Program, State}
-use Rattle.ci_machine.specs.Steps.{Meaning, IsPlain, fetched, step}
+use Rattle.ci_machine.specs.Steps.{Meaning, IsPlain, step}
 use Rattle.ci_machine.specs.Runs.{after}
 use Rattle.ci_emu.specs.declared.steps.Outcome.{Outcome}
 use Rattle.ci_emu.specs.declared.steps.Outcome.TheVariants.{Next, Ended}
@@ -23,16 +21,6 @@ LeadsTo before due after outcome = machine.reached before due ≡ record { state
 abbrev pub IsPlainStep : Program → State → State → Outcome → Type 0
 IsPlainStep program before after outcome =
     (meaning : Meaning) → IsPlain meaning → LeadsTo before (step meaning program before) after outcome
-
--- an instruction of the plain table, or a word that is none
-abbrev pub IsPlainInsn : Insn → Type 0
-IsPlainInsn (Unit number rd rs1 rs2 rs3) = ⊥
-IsPlainInsn (Cread rd) = ⊥
-IsPlainInsn insn = ⊤
-
--- A plain machine fetches this instruction, or none.
-abbrev pub IsFetched : Program → State → Option Insn → Type 0
-IsFetched program state insn = (meaning : Meaning) → IsPlain meaning → fetched meaning program state ≡ insn
 
 -- some of n steps of a plain machine lead from one state to the other
 pub record IsReached (program : Program) (before : State) (n : ℕ) (reached : State) : Type 0 where

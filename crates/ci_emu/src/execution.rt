@@ -8,7 +8,8 @@ ghost use Rattle.ci_machine.specs.Calls.{call};
 ghost use Rattle.ci_machine.specs.Cores.{register, with_register};
 ghost use Rattle.ci_machine.specs.States.{bytes_of, program_of, state_of};
 ghost use Rattle.ci_machine.specs.Steps.{control, directed, even, execute, following, is_taken, onward, then_onward};
-ghost use Rattle.ci_emu.specs.Steps.{IsPlainInsn, LeadsTo};
+ghost use Rattle.ci_emu.specs.Fetched.{IsPlainInsn};
+ghost use Rattle.ci_emu.specs.Steps.{LeadsTo};
 
 use crate::steps::Outcome;
 use ci_isa::{Cond, Insn, LoadKind, Reg, Width};

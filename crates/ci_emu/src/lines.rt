@@ -1,7 +1,7 @@
 //! Decoded words.
 ghost use Rattle.std.specs.Prelude.{◌≡◌, IfOk};
 ghost use Rattle.ci_isa.specs.Effects.{class_of};
-ghost use Rattle.ci_emu.specs.Lines.{IsOnlyAt};
+ghost use Rattle.ci_emu.specs.Fetched.{IsOnlyAt};
 
 use ci_isa::{Insn, class, insn_at};
 use ci_word::Class;

@@ -2,7 +2,8 @@
 ghost use Rattle.std.specs.Prelude.{◌≡◌, IfOk, OnErr, IfSome};
 ghost use Rattle.ci_machine.specs.States.{program_of, state_of};
 ghost use Rattle.ci_machine.specs.Steps.{word_at};
-ghost use Rattle.ci_emu.specs.Steps.{IsFetched, IsPlainInsn, IsPlainStep};
+ghost use Rattle.ci_emu.specs.Fetched.{IsFetched, IsPlainInsn};
+ghost use Rattle.ci_emu.specs.Steps.{IsPlainStep};
 
 use crate::execution::execute;
 use ci_isa::{Insn, Width, insn_at};

@@ -9,7 +9,8 @@ ghost use Rattle.ci_machine.specs.States.{program_of, state_of};
 ghost use Rattle.ci_machine.specs.Steps.{Meaning, IsPlain, moved};
 ghost use Rattle.ci_emu.specs.Counting.{first_touch, target_of, IsStepCounted, Led};
 ghost use Rattle.ci_emu.specs.Profiles.{count_at, latencies_of, IsTextWord};
-ghost use Rattle.ci_emu.specs.Steps.{IsFetched, IsPlainInsn, IsPlainStep, IsReached};
+ghost use Rattle.ci_emu.specs.Fetched.{IsFetched, IsPlainInsn};
+ghost use Rattle.ci_emu.specs.Steps.{IsPlainStep, IsReached};
 
 use crate::counts::Counts;
 use crate::execution::{address, execute, width_of};
@@ -31,6 +32,7 @@ pub(crate) struct Tally {
     pub(crate) cost: u64,
     pub(crate) touched: Option<(u32, u32)>,
     pub(crate) targets: BTreeSet<u32>,
+    /// The words that were decoded before.
     lines: Lines,
 }
 

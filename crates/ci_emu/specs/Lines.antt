@@ -1,8 +1,0 @@
--- What a decoded word keeps. For private contracts.
-use Rattle.std.specs.Prelude.{◌≡◌, ℕ}
-use Rattle.ci_isa.specs.declared.instruction.Insn.{Insn}
-use Rattle.ci_isa.specs.Table.{IsInsnAt}
-
--- no other instruction stands at the word
-abbrev pub IsOnlyAt : ℕ → Insn → Type 0
-IsOnlyAt word insn = (other : Insn) → IsInsnAt word other → other ≡ insn
