@@ -71,10 +71,11 @@ def shared(offset):
 
 def edges():
     """Executables at the edge of a rule: as much memory or text as may be, and one more; text that two segments have,
-    by one byte, and none."""
+    by one byte, and none; and one that is cut at each of its first 200 bytes."""
     most = executable.MEMORY_LIMIT - (executable.STACK[1] - executable.STACK[0]) - 16 - 0x800
     return [several(most), several(most + 1), long_text(executable.TEXT_LIMIT), long_text(executable.TEXT_LIMIT + 1),
-            shared(404), shared(405), shared(430), shared(443), shared(444)]
+            shared(404), shared(405), shared(430), shared(443), shared(444),
+            *(several()[:size] for size in range(200))]
 
 
 def rows(data):
@@ -136,6 +137,9 @@ def main():
             rules[found[0] if found else 0] += 1
             if wrong:
                 faults.append(f"case {number}: {wrong}")
+        done = subprocess.run([RUMTSAFI, "run", folder], stdout=subprocess.PIPE, timeout=LIMIT, check=False)
+        if (done.returncode, done.stdout.decode()) != (2, f"fault 2 read {folder}\n"):
+            faults.append(f"a folder: status {done.returncode}, {done.stdout!r}")
     for fault in faults[:20]:
         print(fault)
     told = ", ".join(f"{rules[rule]} of fault {rule}" if rule else f"{rules[rule]} faultless" for rule in sorted(rules))
