@@ -1,0 +1,10 @@
+pub mod RangeLaws
+pub mod PlaceLaws
+pub mod MarkLaws
+pub mod ListingLaws
+pub mod InsnLaws
+pub mod SourceLaws
+pub mod LoadingLaws
+pub mod LeaderLaws
+pub mod OneListing
+pub mod BlockLaws

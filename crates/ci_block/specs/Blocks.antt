@@ -1,0 +1,79 @@
+-- The basic blocks of an executable file, and their successors.
+use Rattle.std.specs.Prelude.{◌≡◌, ◌≢◌, ℕ, ◌+◌, ◌*◌, ◌<◌, ◌≤◌, List, [], ◌∷◌, length, map, slice_index_or}
+use Rattle.std.specs.List.{Contains}
+use Rattle.ci_word.specs.declared.arithmetic.Op.TheVariants.{Add}
+use Rattle.ci_word.specs.Arithmetic.{operation, word_of}
+use Rattle.ci_isa.specs.declared.instruction.Insn.{Insn}
+use Rattle.ci_isa.specs.declared.instruction.Insn.TheVariants.{Jal, Jalr, Branch, Ebreak, Illegal}
+use Rattle.ci_elf.specs.declared.ranges.Range.{Range}
+use Rattle.ci_elf.specs.Executables.{Executable, IsTextWord, end_of}
+use Rattle.ci_block.specs.declared.blocks.Block.{Block}
+use Rattle.ci_block.specs.declared.blocks.Next.{Next}
+use Rattle.ci_block.specs.declared.blocks.Next.TheVariants.{Stop, One, Two, Any}
+use Rattle.ci_block.specs.Text.{EndsAt, StandsAt}
+
+-- ---- successors
+
+-- where the last instruction of a block leads from its address, a branch's target first; JALR leads to any leader
+abbrev pub ways_on : ℕ → Insn → List ℕ
+ways_on last (Branch cond rs1 rs2 offset) = operation Add last (word_of offset) ∷ (last + 4) ∷ []
+ways_on last (Jal rd offset) = operation Add last (word_of offset) ∷ []
+ways_on last (Jalr rd rs1 offset) = []
+ways_on last Ebreak = []
+ways_on last (Illegal word) = []
+ways_on last insn = (last + 4) ∷ []
+
+-- the address is one of these and counts: it is a multiple of four in the text
+abbrev pub Counts : Executable → List ℕ → ℕ → Type 0
+Counts image ways address = Contains ways address × IsTextWord image.ranges address
+
+-- Those of the ways that count, in their order. Two that are equal are one.
+abbrev pub AreCounted : Executable → List ℕ → Next → Type 0
+AreCounted image ways Stop = (a : ℕ) → ¬ Counts image ways a
+AreCounted image ways (One a) = Counts image ways a × ((b : ℕ) → Counts image ways b → b ≡ a)
+AreCounted image ways (Two a b) =
+    (ways ≡ a ∷ b ∷ []) × IsTextWord image.ranges a × IsTextWord image.ranges b × (a ≢ b)
+AreCounted image ways Any = ⊥
+
+-- the successors of a block whose last instruction stands at this address
+abbrev pub IsNext : Executable → ℕ → Insn → Next → Type 0
+IsNext image last (Jalr rd rs1 offset) next = next ≡ Any
+IsNext image last insn next = AreCounted image (ways_on last insn) next
+
+-- ---- blocks
+
+-- the address behind the block
+abbrev pub end_of_block : Block → ℕ
+end_of_block block = block.leader + 4 * length block.insns.items
+
+-- Why a block goes no further: the next leader is there, its last instruction is a terminator, it has 256
+-- instructions, or the range ends.
+pub data IsEnd (image : Executable) (leaders : List ℕ) (range : Range) (block : Block) : Type 0 where
+  at_leader : Contains leaders (end_of_block block) → IsEnd image leaders range block
+  at_terminator : (last : ℕ) → last + 4 ≡ end_of_block block → EndsAt image last → IsEnd image leaders range block
+  full : length block.insns.items ≡ 256 → IsEnd image leaders range block
+  at_end_of_range : end_of_block block ≡ end_of range → IsEnd image leaders range block
+
+-- The block from its leader to the word before the next leader, to and with its first terminator, or to its 256th
+-- instruction, whichever comes first, and never past the range.
+pub record IsBlockAt (image : Executable) (leaders : List ℕ) (block : Block) : Type 0 where
+  pub range : Range
+  pub there : Contains image.ranges range
+  pub from : range.start ≤ block.leader
+  pub within : end_of_block block ≤ end_of range
+  pub some : 0 < length block.insns.items
+  pub at_most : length block.insns.items ≤ 256
+  pub insns :
+      (k : ℕ) (d : Insn) → k < length block.insns.items
+      → StandsAt image (block.leader + 4 * k) (slice_index_or block.insns.items k d)
+  pub one_leader : (a : ℕ) → block.leader < a → a < end_of_block block → ¬ Contains leaders a
+  pub one_terminator : (a : ℕ) → block.leader ≤ a → a + 4 < end_of_block block → ¬ EndsAt image a
+  pub ends : IsEnd image leaders range block
+  pub next :
+      (last : ℕ) (insn : Insn) → last + 4 ≡ end_of_block block → StandsAt image last insn
+      → IsNext image last insn block.next
+
+-- the blocks of the leaders, in their order
+pub record AreBlocks (image : Executable) (leaders : List ℕ) (blocks : List Block) : Type 0 where
+  pub by_leader : map (λ block. block.leader) blocks ≡ leaders
+  pub each : (block : Block) → Contains blocks block → IsBlockAt image leaders block

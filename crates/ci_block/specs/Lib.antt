@@ -1,0 +1,10 @@
+pub mod Text
+pub mod Leaders
+pub mod Blocks
+pub mod Marking
+pub mod Places
+pub mod Marks
+pub mod Sources
+pub mod Loading
+pub mod Listing
+pub mod Stretches

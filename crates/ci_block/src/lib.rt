@@ -1,0 +1,21 @@
+//! The basic blocks of an executable file: where they begin, their instructions, and where they lead.
+//!
+//! What stands in the text is defined in `specs/Text.antt`, the listed leaders in `specs/Leaders.antt`, and blocks and
+//! their successors in `specs/Blocks.antt`. The function of `laws` has no effect: its contract says what holds of all
+//! files.
+#![tactic(auto)]
+
+pub use addresses::Leaders;
+pub use blocks::{Block, Blocks, Next, split};
+pub use listing::leaders;
+
+mod addresses;
+mod blocks;
+mod data;
+pub mod laws;
+mod listing;
+mod marks;
+mod places;
+#[cfg(test)]
+mod tests;
+mod text;

@@ -1,0 +1,69 @@
+//! Marks on words of the text.
+ghost use Rattle.std.specs.Prelude.{◌≡◌, length};
+
+use crate::places::Places;
+use ci_elf::Range;
+use std::alloc::{AllocError, Global};
+
+/// Which words of the text are marked.
+#[derive(Drop)]
+pub(crate) struct Marks {
+    pub(crate) places: Places,
+    /// One flag for each place.
+    pub(crate) flags: Vec<bool>,
+    ghost whole: { length flags.items ≡ places.count },
+}
+
+impl Marks {
+    ghost use Rattle.std.specs.Prelude.{◌≡◌, ℕ, ◌+◌, ◌*◌, ◌<◌, ◌⊎◌, ◌↔◌, Some, IfOk, IsTrue};
+    ghost use Rattle.std.specs.List.{Contains};
+    ghost use Rattle.ci_elf.specs.Executables.{IsTextWord};
+    ghost use Rattle.ci_block.specs.Marking.{AreTextRanges, range_at};
+    ghost use Rattle.ci_block.specs.Marks.{IsMarked, Adds};
+
+    /// No marks yet on the words of these ranges.
+    pub(crate) fn new(alloc: Global, text: &[Range]) -> Result<Marks, AllocError>
+        requires { AreTextRanges text.now }
+        ensures text { IfOk result (λ marks. marks.places.ranges.items ≡ text.now) }
+        ensures none { IfOk result (λ marks. (address : ℕ) → ¬ IsMarked marks address) }
+    {
+        let places = Places::new(alloc, text)?;
+        let flags = vec![in alloc; false; places.count]?;
+        Ok(Marks { places, flags })
+    }
+
+    /// Marks the word at an address, where that is a multiple of four in the text.
+    pub(crate) fn mark(&mut self, address: u32)
+        ensures { Adds self.old self.new (λ a. address ≡ a) }
+    {
+        if let Some(place) = self.places.of(address) {
+            self.flags[place] = true;
+        }
+    }
+
+    /// Marks the word at an address, if there is one.
+    pub(crate) fn mark_if_some(&mut self, address: Option<u32>)
+        ensures { Adds self.old self.new (λ a. address ≡ Some a) }
+    {
+        if let Some(address) = address {
+            self.mark(address);
+        }
+    }
+
+    /// Marks the words at these addresses.
+    pub(crate) fn mark_all(&mut self, addresses: &[u32])
+        ensures { Adds self.old self.new (λ a. Contains addresses.now a) }
+    {
+        for address in addresses {
+            self.mark(*address);
+        }
+    }
+
+    /// Whether word `word` of range `index` is marked.
+    pub(crate) fn is_marked(&self, index: usize, word: u32) -> bool
+        requires { word < (range_at self.now.places.ranges.items index).words }
+        ensures { IsTrue result ↔ IsMarked self.now ((range_at self.now.places.ranges.items index).start + 4 * word) }
+    {
+        self.flags[self.places.at(index, word)]
+    }
+}
