@@ -1,0 +1,8 @@
+use Rattle.std.proofs.Common.{◌∙◌, refl}
+use Rattle.ci_dfg.specs.BlockGraph.{reads_register}
+use Rattle.ci_dfg.proofs.Instructions.{of_result}
+use Rattle.ci_dfg.proofs.arcs.has_anti_arc.Goals as goal
+
+pub returns : goal.returns
+returns c =
+    c.reads_register.ensures ∙ of_result c.args.insns.now reads_register (λ insn. refl) c.args.j c.args.k c.index-insns-j.result c.index-insns-k.result c.result.result c.requires.order c.requires.there c.index-insns-j.is c.index-insns-k.is c.result.ensures

@@ -1,0 +1,9 @@
+use Rattle.std.proofs.Common.{◌≡◌, sym, ap, ◌∙◌, arith}
+use Rattle.ci_dfg.specs.BlockGraph.{latest_writer}
+use Rattle.ci_dfg.proofs.Writers.{latest_writer-zero}
+use Rattle.ci_dfg.proofs.sources.latest_writer.Goals as goal
+
+pub returns : goal.returns
+returns c =
+    let none : c.loop-j.j ≡ 0 = omega arith in
+    sym (c.loop-j.invariant.same ∙ ap (latest_writer c.args.insns.now c.args.register) none ∙ latest_writer-zero c.args.insns.now c.args.register)

@@ -1,0 +1,7 @@
+use Rattle.std.proofs.Common.{◌≡◌, map, take}
+use Rattle.ci_dfg.specs.BlockGraph.{source_of, without_x0}
+use Rattle.ci_dfg.proofs.sources.sources.Given as goal
+
+abbrev pub invariant-loop-register : goal.invariant-loop-register
+invariant-loop-register l =
+    l.sources ≡ map (source_of l.insns l.k) (without_x0 (take l.register-index l.register-items))

@@ -1,0 +1,147 @@
+-- The data-flow graph of a basic block: its nodes are the instructions in order, numbered from 0.
+use Rattle.std.specs.Prelude.{ℕ, zero, suc, ◌+◌, ◌-◌, Bool, true, false, not, ◌&&◌, ◌||◌, ◌==◌, nat_lt, if◌then◌else◌, List, map, filter, length, slice_index_or, Option, Some, None}
+use Rattle.std.specs.Ordering.{nat_cmp}
+use Rattle.std.specs.List.{list_any}
+use Rattle.std.specs.FinSet as set
+use Rattle.ci_word.specs.Numbers.{numbers_below, set_below, some_below}
+use Rattle.ci_isa.specs.declared.instruction.Insn.{Insn}
+use Rattle.ci_isa.specs.declared.instruction.Insn.TheVariants.{Load, Store, Ebreak, Unit, Cread}
+use Rattle.ci_isa.specs.Effects.{operands, results, ends_block, class_of, may_join}
+use Rattle.ci_lat.specs.Latencies.{Latencies, latency_of, delay_of}
+use Rattle.ci_cut.specs.declared.graph.Source.{Source}
+use Rattle.ci_cut.specs.declared.graph.Source.TheVariants.{Entry, Made}
+use Rattle.ci_cut.specs.declared.graph.Node.{Node}
+use Rattle.ci_cut.specs.FlowGraph.{FlowGraph, is_source}
+
+-- ---- what an instruction reads and writes
+
+-- the registers of a list without x0, which is never read or written
+abbrev pub is_kept : ℕ → Bool
+is_kept r = not (r == 0)
+
+abbrev pub without_x0 : List ℕ → List ℕ
+without_x0 registers = filter is_kept registers
+
+abbrev pub is_among : List ℕ → ℕ → Bool
+is_among registers r = is_kept r && list_any (λ n. n == r) registers
+
+abbrev pub reads_register : Insn → ℕ → Bool
+reads_register insn = is_among (operands insn)
+
+abbrev pub writes_register : Insn → ℕ → Bool
+writes_register insn = is_among (results insn)
+
+-- a load or a store
+abbrev pub is_access : Insn → Bool
+is_access (Load kind rd rs1 offset) = true
+is_access (Store width rs1 rs2 offset) = true
+is_access insn = false
+
+abbrev pub is_unit : Insn → Bool
+is_unit (Unit number rd rs1 rs2 rs3) = true
+is_unit insn = false
+
+abbrev pub is_cread : Insn → Bool
+is_cread (Cread rd) = true
+is_cread insn = false
+
+-- ---- sources
+
+module _ (insns : List Insn) where
+  abbrev pub insn_at : ℕ → Insn
+  insn_at k = slice_index_or insns k Ebreak
+
+  -- the latest node below k that writes the register
+  unfoldable pub latest_writer : ℕ → ℕ → Option ℕ
+  latest_writer register zero = None
+  latest_writer register (suc k) = if writes_register (insn_at k) register then Some k else latest_writer register k
+
+  abbrev pub source_from : ℕ → Option ℕ → Source
+  source_from register None = Entry register
+  source_from register (Some writer) = Made writer
+
+  -- where node k's operand in the register comes from: the latest earlier node that writes it, else the block's entry
+  abbrev pub source_of : ℕ → ℕ → Source
+  source_of k register = source_from register (latest_writer register k)
+
+  -- the sources of node k's operands, in their order; x0 has none
+  abbrev pub sources : ℕ → List Source
+  sources k = map (source_of k) (without_x0 (operands (insn_at k)))
+
+  -- ---- arcs into node k from an earlier node j
+
+  -- true: k reads a register from j
+  abbrev pub has_true_arc : ℕ → ℕ → Bool
+  has_true_arc k j = list_any (is_source (Made j)) (sources k)
+
+  -- anti: j reads a register that k writes
+  abbrev pub has_anti_arc : ℕ → ℕ → Bool
+  has_anti_arc k j = list_any (reads_register (insn_at j)) (results (insn_at k))
+
+  -- output: both write the same register
+  abbrev pub has_output_arc : ℕ → ℕ → Bool
+  has_output_arc k j = list_any (writes_register (insn_at j)) (results (insn_at k))
+
+  -- memory: both are loads or stores
+  abbrev pub has_memory_arc : ℕ → ℕ → Bool
+  has_memory_arc k j = is_access (insn_at j) && is_access (insn_at k)
+
+  -- control: k ends the block
+  abbrev pub has_control_arc : ℕ → ℕ → Bool
+  has_control_arc k j = ends_block (insn_at k)
+
+  abbrev pub has_own_arc : ℕ → ℕ → Bool
+  has_own_arc k j =
+      (((has_true_arc k j || has_anti_arc k j) || has_output_arc k j) || has_memory_arc k j) || has_control_arc k j
+
+  -- node k is the `cread` of the unit word directly before it, with which it forms a bundle
+  abbrev pub ends_bundle : ℕ → Bool
+  ends_bundle k = is_cread (insn_at k) && is_unit (insn_at (k - 1))
+
+  -- bundle: what has to stay behind the unit word has to stay behind its `cread`
+  abbrev pub has_arc_from_bundle : ℕ → ℕ → Bool
+  has_arc_from_bundle k j = has_own_arc k j || (ends_bundle j && has_own_arc k (j - 1))
+
+  -- bundle: what has to stay before the `cread` has to stay before its unit word
+  abbrev pub has_arc_by_cread : ℕ → ℕ → Bool
+  has_arc_by_cread k j = ends_bundle (k + 1) && has_arc_from_bundle (k + 1) j
+
+  -- bundle: the `cread` has to stay behind its unit word
+  abbrev pub has_arc_inside_bundle : ℕ → ℕ → Bool
+  has_arc_inside_bundle k j = (k == j + 1) && ends_bundle k
+
+  abbrev pub has_arc_into : ℕ → ℕ → Bool
+  has_arc_into k j = (has_arc_from_bundle k j || has_arc_by_cread k j) || has_arc_inside_bundle k j
+
+  -- ---- live values
+
+  -- a node behind k writes the register
+  abbrev pub is_written_after : ℕ → ℕ → Bool
+  is_written_after k register =
+      some_below (length insns) (λ j. nat_lt k j && writes_register (insn_at j) register)
+
+  -- Node k's value is live after the block: its register is, and no later node writes it.
+  abbrev pub is_live : set.FinSet nat_cmp → ℕ → Bool
+  is_live live_out k =
+      list_any (λ r. set.contains live_out r && not (is_written_after k r)) (without_x0 (results (insn_at k)))
+
+  -- ---- the graph
+
+  module _ (live_out : set.FinSet nat_cmp) (table : Latencies) where
+    abbrev pub node_of : ℕ → Node
+    node_of k = record {
+      eligible = may_join (insn_at k);
+      latency = latency_of table (class_of (insn_at k));
+      delay = delay_of table (class_of (insn_at k));
+      sources = sources k;
+      before = set_below k (has_arc_into k);
+      live = is_live live_out k;
+    }
+
+    -- the graph of a block of these instructions, after which these registers are live
+    abbrev pub graph_of : FlowGraph
+    graph_of = record {
+      nodes = map node_of (numbers_below (length insns) (λ _. true));
+      read = table.read;
+      pad = table.pad;
+    }

@@ -1,0 +1,2 @@
+pub mod BlockGraph
+pub mod Neighbours

@@ -1,0 +1,31 @@
+-- Which instructions of a block may change places, and which keep together.
+use Rattle.std.specs.Prelude.{◌≡◌, ℕ, ◌+◌, ◌<◌, true, false, ◌&&◌, List, IsTrue}
+use Rattle.ci_isa.specs.declared.instruction.Insn.{Insn}
+use Rattle.ci_isa.specs.Effects.{ends_block}
+use Rattle.ci_dfg.specs.BlockGraph.{reads_register, writes_register, is_access, insn_at, ends_bundle, has_arc_into}
+
+-- Neither reads what the other writes, no register is written by both, and not both of them go to memory. This speaks of
+-- x1 to x31 alone: the hidden register is what a unit word and its `cread` share.
+pub record AreIndependent (first second : Insn) : Type 0 where
+  pub first_into_second : (r : ℕ) → writes_register first r ≡ true → reads_register second r ≡ false
+  pub second_into_first : (r : ℕ) → writes_register second r ≡ true → reads_register first r ≡ false
+  pub results : (r : ℕ) → writes_register first r ≡ true → writes_register second r ≡ false
+  pub accesses : (is_access first && is_access second) ≡ false
+
+-- Two neighbours without an arc between them are independent, and the second does not end the block.
+abbrev pub NeighboursExchange : Type 0
+NeighboursExchange =
+    (insns : List Insn) (k : ℕ) → has_arc_into insns (k + 1) k ≡ false
+    → AreIndependent (insn_at insns k) (insn_at insns (k + 1)) × (ends_block (insn_at insns (k + 1)) ≡ false)
+
+-- A unit word and the `cread` that stands at k move together. There is an arc between them; each arc that enters the
+-- `cread` from an earlier node also enters the unit word; and each arc that leaves the unit word for a later node also
+-- leaves the `cread`.
+pub record MoveTogether (insns : List Insn) (unit cread : ℕ) : Type 0 where
+  pub between : IsTrue (has_arc_into insns cread unit)
+  pub entering : (j : ℕ) → j < unit → IsTrue (has_arc_into insns cread j) → IsTrue (has_arc_into insns unit j)
+  pub leaving : (k : ℕ) → cread < k → IsTrue (has_arc_into insns k unit) → IsTrue (has_arc_into insns k cread)
+
+abbrev pub BundlesMoveTogether : Type 0
+BundlesMoveTogether =
+    (insns : List Insn) (unit : ℕ) → IsTrue (ends_bundle insns (unit + 1)) → MoveTogether insns unit (unit + 1)

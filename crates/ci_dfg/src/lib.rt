@@ -1,0 +1,21 @@
+//! The data-flow graph of a basic block.
+//!
+//! The nodes are the instructions in order. An operand's source is the latest earlier node that writes its
+//! register, or the register as it is when the block is entered. An arc says which node has to stay before which:
+//! one that reads what the other wrote (true), that writes what the other reads (anti) or writes (output), two loads
+//! or stores (memory), any node and the instruction that ends the block (control), and a unit word and its `cread`,
+//! which move together (bundle).
+//!
+//! The definition of all this is `specs/BlockGraph.antt`.
+#![tactic(auto)]
+
+pub use laws::{bundles_move_together, neighbours_exchange};
+pub use nodes::graph;
+
+mod arcs;
+mod effects;
+mod laws;
+mod nodes;
+mod sources;
+#[cfg(test)]
+mod tests;

@@ -1,0 +1,60 @@
+//! Where the operands of an instruction come from.
+ghost use Rattle.std.specs.Prelude.{◌≡◌, ◌≤◌, ◌<◌, ◌++◌, ◌∷◌, [], map, length, OnOk, IfOk};
+ghost use Rattle.ci_dfg.specs.BlockGraph as terms;
+ghost use Rattle.ci_dfg.specs.BlockGraph.{without_x0};
+
+use crate::effects::{operands, writes_register};
+use ci_cut::{Source, Sources};
+use ci_isa::Insn;
+use std::alloc::{AllocError, Global};
+
+/// The sources of the operands of node `k`, in their order. An operand x0 has none.
+pub(crate) fn sources(alloc: Global, insns: &[Insn], k: usize) -> Result<Sources, AllocError>
+    requires few { length insns.now ≤ 256 }
+    requires there { k < length insns.now }
+    ensures { IfOk result (λ sources. sources ≡ terms.sources insns.now k) }
+{
+    let mut sources = Sources::new(alloc);
+    for register in operands(&insns[k]) {
+        push_source(insns, k, register, &mut sources)?;
+    }
+    Ok(sources)
+}
+
+/// Puts the source of node `k`'s operand in the register at the end. An operand x0 has none.
+fn push_source(
+    insns: &[Insn],
+    k: usize,
+    register: u8,
+    sources: &mut Sources,
+) -> Result<(), AllocError>
+    requires few { length insns.now ≤ 256 }
+    requires there { k ≤ length insns.now }
+    ensures { OnOk result (sources.new ≡ sources.old ++ map (terms.source_of insns.now k) (without_x0 (register ∷ []))) }
+{
+    if register == 0 {
+        return Ok(());
+    }
+    let source = match latest_writer(insns, register, k) {
+        None => Source::Entry(register),
+        Some(writer) => Source::Made(writer),
+    };
+    sources.push(source)
+}
+
+/// The latest node before `k` that writes the register.
+#[tactic(auto, using(crate::proofs::Writers::writers))]
+fn latest_writer(insns: &[Insn], register: u8, k: usize) -> Option<u8>
+    requires few { length insns.now ≤ 256 }
+    requires there { k ≤ length insns.now }
+    ensures { result ≡ terms.latest_writer insns.now register k }
+{
+    let mut j = k;
+    while j > 0 {
+        j -= 1;
+        if writes_register(&insns[j], register) {
+            return Some(j as u8);
+        }
+    }
+    None
+}

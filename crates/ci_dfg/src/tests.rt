@@ -1,0 +1,163 @@
+//! Blocks as graphs.
+use crate::graph;
+use ci_cut::Source::{Entry, Made};
+use ci_cut::{Graph, Source};
+use ci_isa::{Insn, decode_x};
+use ci_lat::Table;
+use ci_word::Row;
+use std::alloc::{AllocError, Global};
+use std::process::Abort;
+use std::test::Fail;
+
+/// The sources of a node, the nodes with an arc into it, and whether its value is live.
+type Told<'a> = (&'a [Source], &'a [u8], bool);
+
+/// The graph of the block of these words by the usual table, after which all registers are live.
+fn graph_of(alloc: Global, words: &[u32]) -> Result<Graph, AllocError> {
+    let mut insns = Vec::new(alloc);
+    for word in words {
+        insns.push(decode_x(*word).unwrap_or(Insn::Illegal { word: *word }))?;
+    }
+    let mut live = Row::empty();
+    for register in 1..32 {
+        live.insert(register);
+    }
+    graph(alloc, &insns, live, &Table::usual())
+}
+
+/// Compares the nodes of a graph.
+fn check(rt: &impl Abort, graph: &Graph, told: &[Told]) {
+    assert_eq!(rt; graph.nodes().len(), told.len());
+    for (k, (node, (sources, before, live))) in graph.nodes().iter().zip(told).enumerate() {
+        assert_eq!(rt; node.sources.as_slice(), *sources, "sources of {k}");
+        assert_eq!(rt; node.before, row(before), "arcs into {k}");
+        assert_eq!(rt; node.live, *live, "life of {k}");
+    }
+}
+
+fn row(numbers: &[u8]) -> Row {
+    let mut row = Row::empty();
+    for number in numbers {
+        row.insert(*number);
+    }
+    row
+}
+
+#[test]
+fn no_instruction(rt: HostRuntime) -> Result<(), Fail> {
+    let graph = graph_of(rt.alloc(), &[])?;
+    check(&rt, &graph, &[]);
+    assert_eq!(rt; (graph.read(), graph.pad()), (1, 0));
+    Ok(())
+}
+
+/// addi x5, x10, 1; add x6, x5, x11
+#[test]
+fn two_values(rt: HostRuntime) -> Result<(), Fail> {
+    let graph = graph_of(rt.alloc(), &[0x0015_0293, 0x00B2_8333])?;
+    let first: Told = (&[Entry(10)], &[], true);
+    let second: Told = (&[Made(0), Entry(11)], &[0], true);
+    check(&rt, &graph, &[first, second]);
+    Ok(())
+}
+
+/// add x5, x10, x11; add x5, x5, x12
+#[test]
+fn two_sums(rt: HostRuntime) -> Result<(), Fail> {
+    let graph = graph_of(rt.alloc(), &[0x00B5_02B3, 0x00C2_82B3])?;
+    let first: Told = (&[Entry(10), Entry(11)], &[], false);
+    let second: Told = (&[Made(0), Entry(12)], &[0], true);
+    check(&rt, &graph, &[first, second]);
+    Ok(())
+}
+
+/// xor x5, x10, x11; lw x6, 0(x5); xor x5, x6, x5; xor x5, x5, x10
+#[test]
+fn a_load_of_a_value(rt: HostRuntime) -> Result<(), Fail> {
+    let words = [0x00B5_42B3, 0x0002_A303, 0x0053_42B3, 0x00A2_C2B3];
+    let graph = graph_of(rt.alloc(), &words)?;
+    let first: Told = (&[Entry(10), Entry(11)], &[], false);
+    let second: Told = (&[Made(0)], &[0], true);
+    let third: Told = (&[Made(1), Made(0)], &[0, 1], false);
+    let fourth: Told = (&[Made(2), Entry(10)], &[0, 1, 2], true);
+    check(&rt, &graph, &[first, second, third, fourth]);
+    Ok(())
+}
+
+/// add x5, x10, x11; lw x10, 0(x12); add x5, x5, x10
+#[test]
+fn a_load_between(rt: HostRuntime) -> Result<(), Fail> {
+    let graph = graph_of(rt.alloc(), &[0x00B5_02B3, 0x0006_2503, 0x00A2_82B3])?;
+    let first: Told = (&[Entry(10), Entry(11)], &[], false);
+    let second: Told = (&[Entry(12)], &[0], true);
+    let third: Told = (&[Made(0), Made(1)], &[0, 1], true);
+    check(&rt, &graph, &[first, second, third]);
+    let load = &graph.nodes()[1];
+    assert_eq!(rt; (load.eligible, load.latency, load.delay), (false, 2, 0));
+    Ok(())
+}
+
+/// lui x5, 0x12345; addi x5, x5, 1656
+#[test]
+fn a_constant(rt: HostRuntime) -> Result<(), Fail> {
+    let graph = graph_of(rt.alloc(), &[0x1234_52B7, 0x6782_8293])?;
+    let first: Told = (&[], &[], false);
+    let second: Told = (&[Made(0)], &[0], true);
+    check(&rt, &graph, &[first, second]);
+    Ok(())
+}
+
+/// xor x5, x10, x11; xor x6, x5, x12; xor x6, x6, x10; xor x6, x6, x11
+#[test]
+fn four_logic_operations(rt: HostRuntime) -> Result<(), Fail> {
+    let words = [0x00B5_42B3, 0x00C2_C333, 0x00A3_4333, 0x00B3_4333];
+    let graph = graph_of(rt.alloc(), &words)?;
+    let first: Told = (&[Entry(10), Entry(11)], &[], true);
+    let second: Told = (&[Made(0), Entry(12)], &[0], false);
+    let third: Told = (&[Made(1), Entry(10)], &[1], false);
+    let fourth: Told = (&[Made(2), Entry(11)], &[1, 2], true);
+    check(&rt, &graph, &[first, second, third, fourth]);
+    Ok(())
+}
+
+/// add x5, x10, x11; add x5, x5, x12; add x6, x13, x14; add x6, x6, x15
+#[test]
+fn two_pairs(rt: HostRuntime) -> Result<(), Fail> {
+    let words = [0x00B5_02B3, 0x00C2_82B3, 0x00E6_8333, 0x00F3_0333];
+    let graph = graph_of(rt.alloc(), &words)?;
+    let first: Told = (&[Entry(10), Entry(11)], &[], false);
+    let second: Told = (&[Made(0), Entry(12)], &[0], true);
+    let third: Told = (&[Entry(13), Entry(14)], &[], false);
+    let fourth: Told = (&[Made(2), Entry(15)], &[2], true);
+    check(&rt, &graph, &[first, second, third, fourth]);
+    Ok(())
+}
+
+/// xor x6, x7, x7; unit 0 x5, x10, x11, x12; cread x6; add x8, x5, x5; sw x8, 0(x5); ecall
+#[test]
+fn a_unit_and_its_cread(rt: HostRuntime) -> Result<(), Fail> {
+    let words = [
+        0x0073_C333,
+        0x60B5_028B,
+        0x0000_032B,
+        0x0052_8433,
+        0x0082_A023,
+        0x73,
+    ];
+    let graph = graph_of(rt.alloc(), &words)?;
+    let first: Told = (&[Entry(7), Entry(7)], &[], false);
+    let unit: Told = (&[Entry(10), Entry(11), Entry(12)], &[0], true);
+    let cread: Told = (&[], &[0, 1], true);
+    let sum: Told = (&[Made(1), Made(1)], &[1, 2], true);
+    let store: Told = (&[Made(1), Made(3)], &[1, 2, 3], false);
+    let last: Told = (
+        &[Entry(10), Entry(11), Entry(12), Entry(17)],
+        &[0, 1, 2, 3, 4],
+        true,
+    );
+    check(&rt, &graph, &[first, unit, cread, sum, store, last]);
+    let nodes = graph.nodes();
+    assert!(rt; nodes[0].eligible && !nodes[1].eligible && !nodes[2].eligible);
+    assert_eq!(rt; (nodes[1].latency, nodes[5].latency), (0, 1));
+    Ok(())
+}
