@@ -108,7 +108,8 @@ fn go_on(state: &mut State) -> Outcome
 /// The register takes the value, and on at the next instruction.
 fn give(state: &mut State, rd: Reg, value: u32) -> Outcome
     ensures outcome { LeadsTo (state_of state.old)
-        (onward (state_of state.old).pc (with_register (state_of state.old).core rd value)) (state_of state.new) result }
+        (onward (state_of state.old).pc (with_register (state_of state.old).core rd value))
+        (state_of state.new) result }
     ensures program { program_of state.new ≡ program_of state.old }
 {
     state.set_register(rd, value);
@@ -208,7 +209,8 @@ pub(crate) fn width_of(kind: LoadKind) -> Width
 fn load(state: &mut State, kind: LoadKind, rd: Reg, address: u32) -> Outcome
     ensures outcome { LeadsTo (state_of state.old)
         (then_onward (state_of state.old).pc
-        (loaded (state_of state.old).core kind rd address (bytes_of (state_of state.old).core address (load_width kind))))
+        (loaded (state_of state.old).core kind rd address
+        (bytes_of (state_of state.old).core address (load_width kind))))
         (state_of state.new) result }
     ensures program { program_of state.new ≡ program_of state.old }
 {

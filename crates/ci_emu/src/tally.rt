@@ -177,7 +177,8 @@ pub(crate) fn counted_step(
     requires cheap { tally.old.cost < 2 ^ 63 }
     ensures stepped { IfOk result (IsPlainStep (program_of state.old) (state_of state.old) (state_of state.new)) }
     ensures counted { OnOk result ((meaning : Meaning) → IsPlain meaning
-        → IsStepCounted meaning (program_of state.old) (latencies_of table.now) (state_of state.old) tally.old tally.new) }
+        → IsStepCounted meaning (program_of state.old) (latencies_of table.now)
+        (state_of state.old) tally.old tally.new) }
     ensures cost { tally.new.cost ≤ tally.old.cost + 1000 }
     ensures refused { OnErr result (IsReached (program_of state.old) (state_of state.old) 1 (state_of state.new)) }
     ensures program { program_of state.new ≡ program_of state.old }
