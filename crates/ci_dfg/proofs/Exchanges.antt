@@ -1,8 +1,8 @@
 -- Neighbours without an arc between them are independent, and a unit word and its `cread` move together.
 use Rattle.std.specs.Prelude.{◌≡◌, ℕ, ◌+◌, ◌-◌, ◌<◌, Bool, true, false, ◌&&◌, ◌||◌, ◌==◌, if◌then◌else◌, List, [], ◌∷◌, map, Some, IsTrue}
 use Rattle.std.specs.List.{list_any}
-use Rattle.std.proofs.Common.{refl, sym, ap, ◌∙◌, arith, inl, inr, add-one, true≢false}
-use Rattle.std.proofs.lemmas.Bool.{and_parts, and_from, or_cases, or_left, or_right, eqb-true, eq-eqb, false_from_ne_true}
+use Rattle.std.proofs.Common.{refl, sym, ap, ◌∙◌, arith, inl, inr, true≢false}
+use Rattle.std.proofs.lemmas.Bool.{cases_eq, and_parts, and_from, or_cases, or_left, or_right, eqb-true, eq-eqb, false_from_ne_true}
 use Rattle.ci_isa.specs.declared.instruction.Insn.{Insn}
 use Rattle.ci_isa.specs.declared.instruction.Insn.TheVariants.{Unit, Cread}
 use Rattle.ci_isa.specs.Effects.{operands, results, ends_block}
@@ -10,8 +10,8 @@ use Rattle.ci_cut.specs.declared.graph.Source.{Source}
 use Rattle.ci_cut.specs.declared.graph.Source.TheVariants.{Made}
 use Rattle.ci_cut.specs.FlowGraph.{is_source}
 use Rattle.ci_dfg.specs.BlockGraph.{is_kept, without_x0, is_unit, is_cread, reads_register, writes_register, insn_at, latest_writer, source_from, source_of, has_true_arc, has_anti_arc, has_output_arc, has_memory_arc, has_control_arc, has_own_arc, ends_bundle, has_arc_from_bundle, has_arc_by_cread, has_arc_inside_bundle, has_arc_into}
-use Rattle.ci_dfg.specs.Neighbours.{AreIndependent, NeighboursExchange, BundlesMoveTogether}
-use Rattle.ci_dfg.proofs.Writers.{latest_writer_is}
+use Rattle.ci_dfg.specs.Neighbours.{AreIndependent, AreJoined, ApartAreIndependent, NeighboursExchange, BundlesMoveTogether}
+use Rattle.ci_dfg.proofs.Writers.{latest_writer_from}
 
 -- ---- tests
 
@@ -32,6 +32,14 @@ fails_at p r (n ∷ rest) none among =
       | inr later ↦ fails_at p r rest (no_right (p n) (list_any p rest) none) later
     ]
 
+-- and finds one where it passes at one of them
+passes_at : (p : ℕ → Bool) (r : ℕ) (registers : List ℕ) → p r ≡ true → list_any (λ n. n == r) registers ≡ true → list_any p registers ≡ true
+passes_at p r registers passes among = by_test (list_any p registers) refl
+  where
+    by_test : (b : Bool) → list_any p registers ≡ b → list_any p registers ≡ true
+    by_test true is = is
+    by_test false is = absurd (true≢false (sym passes ∙ fails_at p r registers is among))
+
 -- a test that a register's source passes finds it among the sources
 found_among : (p : Source → Bool) (f : ℕ → Source) (r : ℕ) → p (f r) ≡ true → is_kept r ≡ true → (registers : List ℕ) → list_any (λ n. n == r) registers ≡ true → list_any p (map f (without_x0 registers)) ≡ true
 found_among p f r passes kept [] among = absurd (true≢false (sym among))
@@ -48,48 +56,118 @@ found_among p f r passes kept (n ∷ rest) among =
     with_first true found = or_right (p (f n)) (list_any p (map f (without_x0 rest))) found
     with_first false found = found
 
--- ---- neighbours
+-- ---- nodes that are not joined
 
-module _ (insns : List Insn) (k : ℕ) where
+-- there is no own arc where there is no arc
+no_own_arc : (insns : List Insn) (k j : ℕ) → has_arc_into insns k j ≡ false → has_own_arc insns k j ≡ false
+no_own_arc insns k j none =
+    let own = has_own_arc insns k j in
+    let of_unit = ends_bundle insns j && has_own_arc insns k (j - 1) in
+    let by_cread = has_arc_by_cread insns k j in
+    no_left own of_unit (no_left (own || of_unit) by_cread (no_left ((own || of_unit) || by_cread) (has_arc_inside_bundle insns k j) none))
+
+-- an own arc is an arc
+own_arc : (insns : List Insn) (k j : ℕ) → IsTrue (has_own_arc insns k j) → IsTrue (has_arc_into insns k j)
+own_arc insns k j own =
+    let of_unit = ends_bundle insns j && has_own_arc insns k (j - 1) in
+    or_left (has_arc_from_bundle insns k j || has_arc_by_cread insns k j) (has_arc_inside_bundle insns k j)
+    (or_left (has_arc_from_bundle insns k j) (has_arc_by_cread insns k j) (or_left (has_own_arc insns k j) of_unit own))
+
+arc_by_source : (insns : List Insn) (k j : ℕ) → has_true_arc insns k j ≡ true → IsTrue (has_arc_into insns k j)
+arc_by_source insns k j is =
+    own_arc insns k j (ap (λ b. (((b || has_anti_arc insns k j) || has_output_arc insns k j) || has_memory_arc insns k j) || has_control_arc insns k j) is)
+
+arc_by_output : (insns : List Insn) (k j : ℕ) → has_output_arc insns k j ≡ true → IsTrue (has_arc_into insns k j)
+arc_by_output insns k j is =
+    own_arc insns k j
+    (or_left (((t || a) || o) || m) e (or_left ((t || a) || o) m (or_right (t || a) o is)))
+  where
+    t : Bool
+    t = has_true_arc insns k j
+
+    a : Bool
+    a = has_anti_arc insns k j
+
+    o : Bool
+    o = has_output_arc insns k j
+
+    m : Bool
+    m = has_memory_arc insns k j
+
+    e : Bool
+    e = has_control_arc insns k j
+
+module _ (insns : List Insn) (j k : ℕ) (order : j < k) (apart : AreJoined insns j k → ⊥) where
   abbrev first : Insn
-  first = insn_at insns k
+  first = insn_at insns j
 
   abbrev second : Insn
-  second = insn_at insns (k + 1)
+  second = insn_at insns k
 
-  -- a register that the first writes and the second reads makes a true arc
-  true_arc : (r : ℕ) → writes_register first r ≡ true → reads_register second r ≡ true → has_true_arc insns (k + 1) k ≡ true
-  true_arc r writes reads =
+  -- the five tests of an own arc
+  no_arcs : has_own_arc insns k j ≡ false
+  no_arcs = no_own_arc insns k j (false_from_ne_true _ (λ arc. apart (inl arc)))
+
+  abbrev t : Bool
+  t = has_true_arc insns k j
+
+  abbrev a : Bool
+  a = has_anti_arc insns k j
+
+  abbrev o : Bool
+  o = has_output_arc insns k j
+
+  abbrev m : Bool
+  m = has_memory_arc insns k j
+
+  no_four : (((t || a) || o) || m) ≡ false
+  no_four = no_left (((t || a) || o) || m) (has_control_arc insns k j) no_arcs
+
+  no_three : ((t || a) || o) ≡ false
+  no_three = no_left ((t || a) || o) m no_four
+
+  -- a writer of a register that k reads from is a source of k
+  true_arc : (r w : ℕ) → latest_writer insns r k ≡ Some w → reads_register second r ≡ true → has_true_arc insns k w ≡ true
+  true_arc r w latest reads =
       let parts = and_parts (is_kept r) (list_any (λ n. n == r) (operands second)) reads in
-      let writer : latest_writer insns r (k + 1) ≡ Some k = ap (latest_writer insns r) (add-one k) ∙ latest_writer_is insns r k writes in
-      found_among (is_source (Made k)) (source_of insns (k + 1)) r
-      (ap (λ w. is_source (Made k) (source_from insns r w)) writer ∙ eq-eqb k k refl) parts.0 (operands second) parts.1
+      found_among (is_source (Made w)) (source_of insns k) r
+      (ap (λ writer. is_source (Made w) (source_from insns r writer)) latest ∙ eq-eqb w w refl) parts.0 (operands second) parts.1
 
-  independent : has_own_arc insns (k + 1) k ≡ false → AreIndependent first second × (ends_block second ≡ false)
-  independent none =
-      let t = has_true_arc insns (k + 1) k in
-      let a = has_anti_arc insns (k + 1) k in
-      let o = has_output_arc insns (k + 1) k in
-      let m = has_memory_arc insns (k + 1) k in
-      let e = has_control_arc insns (k + 1) k in
-      let no_four = no_left (((t || a) || o) || m) e none in
-      let no_three = no_left ((t || a) || o) m no_four in
-      let no_two = no_left (t || a) o no_three in (
-        record {
-          first_into_second = λ r writes. false_from_ne_true _ (λ reads. true≢false (sym (true_arc r writes reads) ∙ no_left t a no_two));
-          second_into_first = λ r writes. fails_at (reads_register first) r (results second) (no_right t a no_two) (and_parts (is_kept r) (list_any (λ n. n == r) (results second)) writes).1;
-          results = λ r writes. false_from_ne_true _ (λ both. true≢false (sym writes ∙ fails_at (writes_register first) r (results second) (no_right (t || a) o no_three) (and_parts (is_kept r) (list_any (λ n. n == r) (results second)) both).1));
-          accesses = no_right ((t || a) || o) m no_four;
-        },
-        no_right (((t || a) || o) || m) e none,
-      )
+  -- j does not write what k reads: else there were a true arc, or an output arc and a true arc behind it
+  not_read : (r : ℕ) → writes_register first r ≡ true → reads_register second r ≡ true → ⊥
+  not_read r writes reads =
+      let found = latest_writer_from insns r j k order writes in
+      let w = found.writer in
+      let into = true_arc r w found.latest reads in
+      elim (cases_eq w j) [
+        | inl same ↦ true≢false (sym (ap (has_true_arc insns k) (sym same) ∙ into) ∙ no_left t a (no_left (t || a) o no_three))
+        | inr other ↦
+            let later : j < w = omega (arith, found.from) in
+            let among = (and_parts (is_kept r) (list_any (λ n. n == r) (results (insn_at insns w))) found.writes).1 in
+            let output = passes_at (writes_register first) r (results (insn_at insns w)) writes among in
+            apart (inr (w, later, found.below, arc_by_output insns w j output, arc_by_source insns k w into))
+      ]
+
+  independent : AreIndependent first second × (ends_block second ≡ false)
+  independent = (
+    record {
+      first_into_second = λ r writes. false_from_ne_true _ (not_read r writes);
+      second_into_first = λ r writes. fails_at (reads_register first) r (results second) (no_right t a (no_left (t || a) o no_three)) (and_parts (is_kept r) (list_any (λ n. n == r) (results second)) writes).1;
+      results = λ r writes. false_from_ne_true _ (λ both. true≢false (sym writes ∙ fails_at (writes_register first) r (results second) (no_right (t || a) o no_three) (and_parts (is_kept r) (list_any (λ n. n == r) (results second)) both).1));
+      accesses = no_right ((t || a) || o) m no_four;
+    },
+    no_right (((t || a) || o) || m) (has_control_arc insns k j) no_arcs,
+  )
+
+pub apart_are_independent : ApartAreIndependent
+apart_are_independent = independent
 
 pub neighbours_exchange : NeighboursExchange
 neighbours_exchange insns k none =
-    let own = has_own_arc insns (k + 1) k in
-    let of_unit = ends_bundle insns k && has_own_arc insns (k + 1) (k - 1) in
-    let by_cread = has_arc_by_cread insns (k + 1) k in
-    independent insns k (no_left own of_unit (no_left (own || of_unit) by_cread (no_left ((own || of_unit) || by_cread) (has_arc_inside_bundle insns (k + 1) k) none)))
+    independent insns k (k + 1) (omega arith) (λ joined. elim joined [
+      | inl arc ↦ true≢false (sym arc ∙ none)
+      | inr (i, behind, before, into, out) ↦ absurd (omega arith)
+    ])
 
 -- ---- bundles
 

@@ -1,5 +1,5 @@
 -- The nodes of a block make a graph.
-use Rattle.std.specs.Prelude.{◌≡◌, ℕ, ◌+◌, ◌<◌, ◌≤◌, true, List, [], ◌∷◌, ◌++◌, length, map, IsTrue, nat_lt}
+use Rattle.std.specs.Prelude.{◌≡◌, ℕ, ◌+◌, ◌<◌, ◌≤◌, true, List, [], ◌∷◌, ◌++◌, length, map, IsTrue, nat_lt, ◌&&◌}
 use Rattle.std.specs.List.{list_any}
 use Rattle.std.specs.Ordering.{nat_cmp}
 use Rattle.std.specs.FinSet as set
@@ -37,6 +37,10 @@ module _ (insns : List Insn) (live_out : set.FinSet nat_cmp) (table : Latencies)
   node_at_within k there =
       get_or-map (node_of insns live_out table) (numbers_below (length insns) (λ _. true)) k k no_node (rw length-all_below there)
       ∙ ap (node_of insns live_out table) (get_or-all_below (length insns) k k there)
+
+  -- and its arcs are those of the definition
+  pub contains-before : (k j : ℕ) → k < length insns → set.contains (node_at (graph_of insns live_out table) k).before j ≡ (nat_lt j k && has_arc_into insns k j)
+  contains-before k j there = ap (λ node. set.contains node.before j) (node_at_within k there) ∙ contains-set_below k (has_arc_into insns k) j
 
   -- past the last instruction stands none
   node_at_past : (k : ℕ) → length insns ≤ k → node_at (graph_of insns live_out table) k ≡ no_node

@@ -1,5 +1,5 @@
 -- Which instructions of a block may change places, and which keep together.
-use Rattle.std.specs.Prelude.{◌≡◌, ℕ, ◌+◌, ◌<◌, true, false, ◌&&◌, List, IsTrue}
+use Rattle.std.specs.Prelude.{◌≡◌, ℕ, ◌+◌, ◌<◌, true, false, ◌&&◌, ◌⊎◌, List, IsTrue}
 use Rattle.ci_isa.specs.declared.instruction.Insn.{Insn}
 use Rattle.ci_isa.specs.Effects.{ends_block}
 use Rattle.ci_dfg.specs.BlockGraph.{reads_register, writes_register, is_access, insn_at, ends_bundle, has_arc_into}
@@ -12,7 +12,19 @@ pub record AreIndependent (first second : Insn) : Type 0 where
   pub results : (r : ℕ) → writes_register first r ≡ true → writes_register second r ≡ false
   pub accesses : (is_access first && is_access second) ≡ false
 
--- Two neighbours without an arc between them are independent, and the second does not end the block.
+-- There is an arc from node j into node k, or one from j into a node between them and one from there into k.
+abbrev pub AreJoined : List Insn → ℕ → ℕ → Type 0
+AreJoined insns j k =
+    IsTrue (has_arc_into insns k j)
+    ⊎ ((i : ℕ) × (j < i) × (i < k) × IsTrue (has_arc_into insns i j) × IsTrue (has_arc_into insns k i))
+
+-- Two nodes that are not joined are independent, and the later one does not end the block.
+abbrev pub ApartAreIndependent : Type 0
+ApartAreIndependent =
+    (insns : List Insn) (j k : ℕ) → j < k → (AreJoined insns j k → ⊥)
+    → AreIndependent (insn_at insns j) (insn_at insns k) × (ends_block (insn_at insns k) ≡ false)
+
+-- So are two neighbours without an arc between them.
 abbrev pub NeighboursExchange : Type 0
 NeighboursExchange =
     (insns : List Insn) (k : ℕ) → has_arc_into insns (k + 1) k ≡ false

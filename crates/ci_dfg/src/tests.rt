@@ -13,11 +13,12 @@ use std::test::Fail;
 type Told<'a> = (&'a [Source], &'a [u8], bool);
 
 /// The graph of the block of these words by the usual table, after which all registers are live.
-fn graph_of(alloc: Global, words: &[u32]) -> Result<Graph, AllocError> {
+fn graph_of(rt: &impl Abort, alloc: Global, words: &[u32]) -> Result<Graph, AllocError> {
     let mut insns = Vec::new(alloc);
     for word in words {
         insns.push(decode_x(*word).unwrap_or(Insn::Illegal { word: *word }))?;
     }
+    assert!(rt; insns.len() <= 256);
     let mut live = Row::empty();
     for register in 1..32 {
         live.insert(register);
@@ -35,6 +36,17 @@ fn check(rt: &impl Abort, graph: &Graph, told: &[Told]) {
     }
 }
 
+/// Compares which nodes may be members, and their latencies and delays.
+fn check_costs(rt: &impl Abort, graph: &Graph, told: &[(bool, u32, u32)]) {
+    for (k, (node, costs)) in graph.nodes().iter().zip(told).enumerate() {
+        assert_eq!(rt;
+            (node.eligible, node.latency, node.delay),
+            *costs,
+            "costs of {k}"
+        );
+    }
+}
+
 fn row(numbers: &[u8]) -> Row {
     let mut row = Row::empty();
     for number in numbers {
@@ -45,7 +57,7 @@ fn row(numbers: &[u8]) -> Row {
 
 #[test]
 fn no_instruction(rt: HostRuntime) -> Result<(), Fail> {
-    let graph = graph_of(rt.alloc(), &[])?;
+    let graph = graph_of(&rt, rt.alloc(), &[])?;
     check(&rt, &graph, &[]);
     assert_eq!(rt; (graph.read(), graph.pad()), (1, 0));
     Ok(())
@@ -54,7 +66,7 @@ fn no_instruction(rt: HostRuntime) -> Result<(), Fail> {
 /// addi x5, x10, 1; add x6, x5, x11
 #[test]
 fn two_values(rt: HostRuntime) -> Result<(), Fail> {
-    let graph = graph_of(rt.alloc(), &[0x0015_0293, 0x00B2_8333])?;
+    let graph = graph_of(&rt, rt.alloc(), &[0x0015_0293, 0x00B2_8333])?;
     let first: Told = (&[Entry(10)], &[], true);
     let second: Told = (&[Made(0), Entry(11)], &[0], true);
     check(&rt, &graph, &[first, second]);
@@ -64,7 +76,7 @@ fn two_values(rt: HostRuntime) -> Result<(), Fail> {
 /// add x5, x10, x11; add x5, x5, x12
 #[test]
 fn two_sums(rt: HostRuntime) -> Result<(), Fail> {
-    let graph = graph_of(rt.alloc(), &[0x00B5_02B3, 0x00C2_82B3])?;
+    let graph = graph_of(&rt, rt.alloc(), &[0x00B5_02B3, 0x00C2_82B3])?;
     let first: Told = (&[Entry(10), Entry(11)], &[], false);
     let second: Told = (&[Made(0), Entry(12)], &[0], true);
     check(&rt, &graph, &[first, second]);
@@ -75,7 +87,7 @@ fn two_sums(rt: HostRuntime) -> Result<(), Fail> {
 #[test]
 fn a_load_of_a_value(rt: HostRuntime) -> Result<(), Fail> {
     let words = [0x00B5_42B3, 0x0002_A303, 0x0053_42B3, 0x00A2_C2B3];
-    let graph = graph_of(rt.alloc(), &words)?;
+    let graph = graph_of(&rt, rt.alloc(), &words)?;
     let first: Told = (&[Entry(10), Entry(11)], &[], false);
     let second: Told = (&[Made(0)], &[0], true);
     let third: Told = (&[Made(1), Made(0)], &[0, 1], false);
@@ -87,20 +99,23 @@ fn a_load_of_a_value(rt: HostRuntime) -> Result<(), Fail> {
 /// add x5, x10, x11; lw x10, 0(x12); add x5, x5, x10
 #[test]
 fn a_load_between(rt: HostRuntime) -> Result<(), Fail> {
-    let graph = graph_of(rt.alloc(), &[0x00B5_02B3, 0x0006_2503, 0x00A2_82B3])?;
+    let graph = graph_of(&rt, rt.alloc(), &[0x00B5_02B3, 0x0006_2503, 0x00A2_82B3])?;
     let first: Told = (&[Entry(10), Entry(11)], &[], false);
     let second: Told = (&[Entry(12)], &[0], true);
     let third: Told = (&[Made(0), Made(1)], &[0, 1], true);
     check(&rt, &graph, &[first, second, third]);
-    let load = &graph.nodes()[1];
-    assert_eq!(rt; (load.eligible, load.latency, load.delay), (false, 2, 0));
+    check_costs(
+        &rt,
+        &graph,
+        &[(true, 1, 400), (false, 2, 0), (true, 1, 400)],
+    );
     Ok(())
 }
 
 /// lui x5, 0x12345; addi x5, x5, 1656
 #[test]
 fn a_constant(rt: HostRuntime) -> Result<(), Fail> {
-    let graph = graph_of(rt.alloc(), &[0x1234_52B7, 0x6782_8293])?;
+    let graph = graph_of(&rt, rt.alloc(), &[0x1234_52B7, 0x6782_8293])?;
     let first: Told = (&[], &[], false);
     let second: Told = (&[Made(0)], &[0], true);
     check(&rt, &graph, &[first, second]);
@@ -111,7 +126,7 @@ fn a_constant(rt: HostRuntime) -> Result<(), Fail> {
 #[test]
 fn four_logic_operations(rt: HostRuntime) -> Result<(), Fail> {
     let words = [0x00B5_42B3, 0x00C2_C333, 0x00A3_4333, 0x00B3_4333];
-    let graph = graph_of(rt.alloc(), &words)?;
+    let graph = graph_of(&rt, rt.alloc(), &words)?;
     let first: Told = (&[Entry(10), Entry(11)], &[], true);
     let second: Told = (&[Made(0), Entry(12)], &[0], false);
     let third: Told = (&[Made(1), Entry(10)], &[1], false);
@@ -124,7 +139,7 @@ fn four_logic_operations(rt: HostRuntime) -> Result<(), Fail> {
 #[test]
 fn two_pairs(rt: HostRuntime) -> Result<(), Fail> {
     let words = [0x00B5_02B3, 0x00C2_82B3, 0x00E6_8333, 0x00F3_0333];
-    let graph = graph_of(rt.alloc(), &words)?;
+    let graph = graph_of(&rt, rt.alloc(), &words)?;
     let first: Told = (&[Entry(10), Entry(11)], &[], false);
     let second: Told = (&[Made(0), Entry(12)], &[0], true);
     let third: Told = (&[Entry(13), Entry(14)], &[], false);
@@ -144,7 +159,7 @@ fn a_unit_and_its_cread(rt: HostRuntime) -> Result<(), Fail> {
         0x0082_A023,
         0x73,
     ];
-    let graph = graph_of(rt.alloc(), &words)?;
+    let graph = graph_of(&rt, rt.alloc(), &words)?;
     let first: Told = (&[Entry(7), Entry(7)], &[], false);
     let unit: Told = (&[Entry(10), Entry(11), Entry(12)], &[0], true);
     let cread: Told = (&[], &[0, 1], true);
@@ -156,8 +171,15 @@ fn a_unit_and_its_cread(rt: HostRuntime) -> Result<(), Fail> {
         true,
     );
     check(&rt, &graph, &[first, unit, cread, sum, store, last]);
-    let nodes = graph.nodes();
-    assert!(rt; nodes[0].eligible && !nodes[1].eligible && !nodes[2].eligible);
-    assert_eq!(rt; (nodes[1].latency, nodes[5].latency), (0, 1));
+    let unit_word = (false, 0, 0);
+    let costs = [
+        (true, 1, 100),
+        unit_word,
+        unit_word,
+        (true, 1, 400),
+        (false, 1, 0),
+        (false, 1, 0),
+    ];
+    check_costs(&rt, &graph, &costs);
     Ok(())
 }
