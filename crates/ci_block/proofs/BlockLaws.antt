@@ -1,5 +1,5 @@
 -- Blocks as stretches from a leader to the next one.
-use Rattle.std.proofs.Common.{◌≡◌, ℕ, ◌+◌, ◌-◌, ◌*◌, ◌/◌, ◌<◌, ◌≤◌, inl, inr, min, List, [], ◌∷◌, ◌++◌, length, get_or, refl, sym, ◌∙◌, ap, subst, arith, length-append}
+use Rattle.std.proofs.Common.{◌≡◌, ℕ, ◌+◌, ◌-◌, ◌*◌, ◌/◌, ◌<◌, ◌≤◌, inl, inr, min, Bool, true, false, List, [], ◌∷◌, ◌++◌, length, get_or, refl, sym, ◌∙◌, ap, subst, arith, length-append}
 use Rattle.std.specs.List.{AllPairs, Contains}
 use Rattle.std.proofs.lemmas.Bool.{cases_lt}
 use Rattle.std.proofs.lemmas.List.{get_or_append_left, get_or_default, map-append, take_all, take_more}
@@ -8,7 +8,7 @@ use Rattle.std.proofs.lemmas.List.Elements.{Contains-get_or, Contains-push_cases
 use Rattle.ci_isa.specs.declared.instruction.Insn.{Insn}
 use Rattle.ci_elf.specs.Executables.{Executable, IsTextWord}
 use Rattle.ci_block.specs.declared.blocks.Block.{Block}
-use Rattle.ci_block.specs.Blocks.{IsBlockAt, at_end_of_range, at_leader, end_of_block, AreBlocks}
+use Rattle.ci_block.specs.Blocks.{IsBlockAt, at_end_of_range, at_leader, end_of_block, size_of, AreBlocks}
 use Rattle.ci_block.specs.Leaders.{AreLeaders, behind_terminator}
 use Rattle.ci_block.specs.Marking.{range_at}
 use Rattle.ci_block.specs.Stretches.{AreBlocksOf, AreInsns, EndsStretch, IsBlockOf, IsRangeEnd, IsStretch}
@@ -127,6 +127,10 @@ one_more_insn image start count insns insn so_far stands = record {
 
 -- ---- the block of a stretch
 
+not_true : {b : Bool} → ¬ (b ≡ true) → b ≡ false
+not_true {b = true} h = absurd (h refl)
+not_true {b = false} h = refl
+
 module _ (image : Executable) (leaders : List ℕ) (are : AreLeaders image leaders) (leader end : ℕ) (listed : Contains leaders leader)
     (ends : EndsStretch image leaders leader end) where
   abbrev here : IsStretch image leader end
@@ -170,7 +174,9 @@ module _ (image : Executable) (leaders : List ℕ) (are : AreLeaders image leade
 
   pub block_of_stretch : (block : Block) → IsBlockOf image leader end block → IsBlockAt image leaders block
   block_of_stretch block of =
-      let behind : end_of_block block ≡ end = ap (λ s. s + 4 * length block.insns.items) of.leads ∙ of.size in
+      let behind : end_of_block block ≡ end = ap (λ s. s + 4 * size_of block) of.leads ∙ of.size in
+      let insns = λ (k : ℕ) (d : Insn) (h : k < size_of block).
+      subst (λ s. StandsAt image (s + 4 * k) (get_or block.insns.items k d)) (sym of.leads) (of.insns.each k d h) in
       record {
         range = range_at image.ranges here.index;
         there = range_there image.ranges here.index (held_below image.ranges leader here.index (omega (arith, here.some, here.to)));
@@ -178,14 +184,20 @@ module _ (image : Executable) (leaders : List ℕ) (are : AreLeaders image leade
         within = omega (arith, behind, here.to);
         some = omega (arith, behind, here.some, of.leads);
         at_most = omega (arith, not_longer, of.size);
-        insns = λ k d h. subst (λ s. StandsAt image (s + 4 * k) (get_or block.insns.items k d)) (sym of.leads) (of.insns.each k d h);
+        insns = insns;
         one_leader = λ a h l. ends.alone a (omega (arith, of.leads)) (omega (arith, behind));
-        one_terminator = λ a h l. no_terminator a (omega (arith, of.leads)) (omega (arith, behind));
+        one_terminator = λ k h d. not_true (λ is.
+            no_terminator (block.leader + 4 * k) (omega (arith, of.leads)) (omega (arith, behind))
+            (record { insn = get_or block.insns.items k d; stands = insns k d (omega arith); ends = is }));
         ends = elim ends.stop [
           | inl c ↦ at_leader (subst (Contains leaders) (sym behind) c)
           | inr e ↦ at_end_of_range (behind ∙ e)
         ];
-        next = λ last insn is stands. of.next last insn (is ∙ behind) stands;
+        next = λ d.
+            let last : block.leader + 4 * (size_of block - 1) ≡ end_of_block block - 4 = omega (arith, behind, here.some, of.leads) in
+            of.next (end_of_block block - 4) (get_or block.insns.items (size_of block - 1) d) (omega (arith, behind, here.some, of.leads))
+            (subst (λ a. StandsAt image a (get_or block.insns.items (size_of block - 1) d)) last
+            (insns (size_of block - 1) d (omega (arith, behind, here.some, of.leads))));
       }
 
 -- ---- block after block

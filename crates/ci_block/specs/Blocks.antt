@@ -1,16 +1,17 @@
 -- The basic blocks of an executable file, and their successors.
-use Rattle.std.specs.Prelude.{◌≡◌, ◌≢◌, ℕ, ◌+◌, ◌*◌, ◌<◌, ◌≤◌, List, [], ◌∷◌, length, map, slice_index_or}
+use Rattle.std.specs.Prelude.{◌≡◌, ◌≢◌, ℕ, ◌+◌, ◌-◌, ◌*◌, ◌<◌, ◌≤◌, Bool, true, false, List, [], ◌∷◌, length, map, slice_index_or}
 use Rattle.std.specs.List.{Contains}
 use Rattle.ci_word.specs.declared.arithmetic.Op.TheVariants.{Add}
 use Rattle.ci_word.specs.Arithmetic.{operation, word_of}
 use Rattle.ci_isa.specs.declared.instruction.Insn.{Insn}
 use Rattle.ci_isa.specs.declared.instruction.Insn.TheVariants.{Jal, Jalr, Branch, Ebreak, Illegal}
+use Rattle.ci_isa.specs.Effects.{ends_block}
 use Rattle.ci_elf.specs.declared.ranges.Range.{Range}
 use Rattle.ci_elf.specs.Executables.{Executable, IsTextWord, end_of}
 use Rattle.ci_block.specs.declared.blocks.Block.{Block}
 use Rattle.ci_block.specs.declared.blocks.Next.{Next}
 use Rattle.ci_block.specs.declared.blocks.Next.TheVariants.{Stop, One, Two, Any}
-use Rattle.ci_block.specs.Text.{EndsAt, StandsAt}
+use Rattle.ci_block.specs.Text.{StandsAt}
 
 -- ---- successors
 
@@ -42,16 +43,23 @@ IsNext image last insn next = AreCounted image (ways_on last insn) next
 
 -- ---- blocks
 
+abbrev pub size_of : Block → ℕ
+size_of block = length block.insns.items
+
 -- the address behind the block
 abbrev pub end_of_block : Block → ℕ
-end_of_block block = block.leader + 4 * length block.insns.items
+end_of_block block = block.leader + 4 * size_of block
+
+-- instruction k of the block is a terminator, or not
+abbrev pub Terminates : Block → ℕ → Bool → Type 0
+Terminates block k b = (d : Insn) → ends_block (slice_index_or block.insns.items k d) ≡ b
 
 -- Why a block goes no further: the next leader is there, its last instruction is a terminator, it has 256
 -- instructions, or the range ends.
 pub data IsEnd (image : Executable) (leaders : List ℕ) (range : Range) (block : Block) : Type 0 where
   at_leader : Contains leaders (end_of_block block) → IsEnd image leaders range block
-  at_terminator : (last : ℕ) → last + 4 ≡ end_of_block block → EndsAt image last → IsEnd image leaders range block
-  full : length block.insns.items ≡ 256 → IsEnd image leaders range block
+  at_terminator : Terminates block (size_of block - 1) true → IsEnd image leaders range block
+  full : size_of block ≡ 256 → IsEnd image leaders range block
   at_end_of_range : end_of_block block ≡ end_of range → IsEnd image leaders range block
 
 -- The block from its leader to the word before the next leader, to and with its first terminator, or to its 256th
@@ -61,17 +69,17 @@ pub record IsBlockAt (image : Executable) (leaders : List ℕ) (block : Block) :
   pub there : Contains image.ranges range
   pub from : range.start ≤ block.leader
   pub within : end_of_block block ≤ end_of range
-  pub some : 0 < length block.insns.items
-  pub at_most : length block.insns.items ≤ 256
+  pub some : 0 < size_of block
+  pub at_most : size_of block ≤ 256
   pub insns :
-      (k : ℕ) (d : Insn) → k < length block.insns.items
+      (k : ℕ) (d : Insn) → k < size_of block
       → StandsAt image (block.leader + 4 * k) (slice_index_or block.insns.items k d)
   pub one_leader : (a : ℕ) → block.leader < a → a < end_of_block block → ¬ Contains leaders a
-  pub one_terminator : (a : ℕ) → block.leader ≤ a → a + 4 < end_of_block block → ¬ EndsAt image a
+  pub one_terminator : (k : ℕ) → k + 1 < size_of block → Terminates block k false
   pub ends : IsEnd image leaders range block
   pub next :
-      (last : ℕ) (insn : Insn) → last + 4 ≡ end_of_block block → StandsAt image last insn
-      → IsNext image last insn block.next
+      (d : Insn)
+      → IsNext image (end_of_block block - 4) (slice_index_or block.insns.items (size_of block - 1) d) block.next
 
 -- the blocks of the leaders, in their order
 pub record AreBlocks (image : Executable) (leaders : List ℕ) (blocks : List Block) : Type 0 where

@@ -41,7 +41,8 @@ pub record IsListing (image : Executable) (targets named leaders : List ℕ) : T
   pub listed :
       (address : ℕ)
       → Contains leaders address
-      ↔ (IsTextWord image.ranges address × (IsMark image targets named address ⊎ IsBehindFullBlock image leaders address))
+      ↔ (IsTextWord image.ranges address
+      × (IsMark image targets named address ⊎ IsBehindFullBlock image leaders address))
 
 -- the listed leaders of the file with some targets and some addresses that the user gives
 pub record AreLeaders (image : Executable) (leaders : List ℕ) : Type 0 where

@@ -27,7 +27,8 @@ fn is_full(last: Option<u32>, word: u32) -> bool
     }
 }
 
-/// Whether word `word` of range `index` is a leader, where the last leader before it in the range is word `last`, if any.
+/// Whether word `word` of range `index` is a leader, where the last leader before it in the range is word
+/// `last`, if there is one.
 fn is_leader(marks: &Marks, index: usize, last: Option<u32>, word: u32) -> bool
     requires within { word < (range_at marks.now.places.ranges.items index).words }
     requires last { IfSome last (λ last. last < word) }
