@@ -1,0 +1,60 @@
+use Rattle.std.proofs.Common.{arith, sym, ◌∙◌, ◌≤◌, ◌++◌, ◌∷◌, [], length, ap, subst, append_assoc}
+use Rattle.std.proofs.lemmas.Result.{err_from_is_err_and}
+use Rattle.ci_log.specs.Reading.{round}
+use Rattle.ci_log.proofs.BookTexts.{search_shorter, take_shorter, round_take_fails, round_search_fails, round_read}
+use Rattle.ci_log.proofs.Repetition.{AreRead, read_first, read_next, read_fails, read_done}
+use Rattle.ci_log.proofs.entries.rounds.Goals as goal
+
+pub returns-in_err-take : goal.returns-in_err-take
+returns-in_err-take c =
+    let p = err_from_is_err_and c.from_residual.result c.from_residual.ensures.1 in
+    let e = c.in_err-take.field-0.0 in
+    rw (p.1, p.2) (record {
+      entries = read_fails 116 round c.args.entries.items c.args.bytes.now e c.loop-alloc.entries.items c.loop-alloc.rest.now c.loop-alloc.invariant.0 (sym c.loop-alloc-test.ensures) (round_take_fails e c.loop-alloc.rest.now c.in_err-take.ensures);
+      left = tt;
+    })
+
+pub search-requires : goal.search-requires
+search-requires c =
+    let few : length c.loop-alloc.rest.now ≤ 268435456 = omega (arith, c.loop-alloc.invariant.1, c.requires) in
+    omega (arith, few, take_shorter c.loop-alloc.rest.now c.in_ok-take.after.now c.in_ok-take.take few c.in_ok-take.ensures)
+
+pub returns-in_err-search : goal.returns-in_err-search
+returns-in_err-search c =
+    let p = err_from_is_err_and c.from_residual-in_err-search.result c.from_residual-in_err-search.ensures.1 in
+    let e = c.in_err-search.field-0.0 in
+    rw (p.1, p.2) (record {
+      entries = read_fails 116 round c.args.entries.items c.args.bytes.now e c.loop-alloc.entries.items c.loop-alloc.rest.now c.loop-alloc.invariant.0 (sym c.loop-alloc-test.ensures)
+          (round_search_fails e c.loop-alloc.rest.now c.in_ok-take.after.now c.in_ok-take.take c.in_ok-take.ensures c.in_err-search.ensures);
+      left = tt;
+    })
+
+pub loop-alloc-init : goal.loop-alloc-init
+loop-alloc-init c = (read_first 116 round c.args.entries.items c.args.bytes.now, omega arith)
+
+pub loop-alloc-smaller : goal.loop-alloc-smaller
+loop-alloc-smaller c =
+    let few : length c.loop-alloc.rest.now ≤ 268435456 = omega (arith, c.loop-alloc.invariant.1, c.requires) in
+    let first = take_shorter c.loop-alloc.rest.now c.in_ok-take.after.now c.in_ok-take.take few c.in_ok-take.ensures in
+    omega (arith, first, search_shorter c.in_ok-take.after.now c.in_ok-search.after.now c.in_ok-search.search (omega (arith, few, first)) c.in_ok-search.ensures)
+
+pub loop-alloc-preserved : goal.loop-alloc-preserved
+loop-alloc-preserved c =
+    let few : length c.loop-alloc.rest.now ≤ 268435456 = omega (arith, c.loop-alloc.invariant.1, c.requires) in
+    let first = take_shorter c.loop-alloc.rest.now c.in_ok-take.after.now c.in_ok-take.take few c.in_ok-take.ensures in
+    let second = search_shorter c.in_ok-take.after.now c.in_ok-search.after.now c.in_ok-search.search (omega (arith, few, first)) c.in_ok-search.ensures in
+    let before = c.loop-alloc.entries.items in
+    let t = c.in_ok-take.take in
+    let s = c.in_ok-search.search in
+    let items = c.in_ok-push-2.ensures.items ∙ (ap (λ v. v ++ s ∷ []) c.in_ok-push.ensures.items ∙ append_assoc before (t ∷ []) (s ∷ [])) in (
+      subst (λ entries. AreRead 116 round c.args.entries.items c.args.bytes.now entries c.in_ok-search.after.now) (sym items)
+          (read_next 116 round c.args.entries.items c.args.bytes.now before (t ∷ s ∷ []) c.loop-alloc.rest.now c.in_ok-search.after.now c.loop-alloc.invariant.0 (sym c.loop-alloc-test.ensures)
+          (round_read c.loop-alloc.rest.now c.in_ok-take.after.now c.in_ok-search.after.now t s c.in_ok-take.ensures c.in_ok-search.ensures) (omega (arith, first, second))),
+      omega (arith, first, second, c.loop-alloc.invariant.1),
+    )
+
+pub returns : goal.returns
+returns c = record {
+  entries = read_done 116 round c.args.entries.items c.args.bytes.now c.loop-alloc.entries.items c.loop-alloc.rest.now c.loop-alloc.invariant.0 (sym c.loop-alloc-test.ensures);
+  left = c.loop-alloc.invariant.1;
+}

@@ -1,0 +1,85 @@
+-- Log books, and the text of each.
+use Rattle.std.specs.Prelude.{◌≡◌, ℕ, ◌<◌, ◌≤◌, ◌^◌, List, [], ◌∷◌, ◌++◌, codes, IsTrue}
+use Rattle.std.specs.List.{flat_map, AllByRecursion}
+use Rattle.std.specs.Fmt.{decimal}
+use Rattle.std.specs.Ordering.{nat_cmp}
+use Rattle.std.specs.FinSet as set
+use Rattle.ci_word.specs.Numbers.{numbers_below}
+use Rattle.ci_text.specs.Hex.{eight_hex_digits}
+use Rattle.ci_text.specs.Lines.{line}
+use Rattle.ci_log.specs.declared.book.Entry.{Entry}
+use Rattle.ci_log.specs.declared.book.Entry.TheVariants.{Best, Without, Spent, Take}
+use Rattle.ci_log.specs.declared.book.Finish.{Finish}
+use Rattle.ci_log.specs.declared.book.Finish.TheVariants.{Empty, Count}
+use Rattle.ci_log.specs.Trees.{IsLog, letters}
+
+-- ---- books
+
+-- some numbers, each of a node
+pub record IsCut (cut : set.FinSet nat_cmp) : Type 0 where
+  pub node : ℕ
+  pub has_node : IsTrue (set.contains cut node)
+  pub below : (k : ℕ) → IsTrue (set.contains cut k) → k < 256
+
+abbrev pub IsEntry : Entry → Type 0
+IsEntry (Best leader cut log) = (leader < 2 ^ 32) × IsCut cut × IsLog log
+IsEntry (Without leader log) = (leader < 2 ^ 32) × IsLog log
+IsEntry (Spent leader budget) = (leader < 2 ^ 32) × (budget ≤ 9999999)
+IsEntry (Take leader unit) = (leader < 2 ^ 32) × (unit < 32)
+
+-- each entry but a take
+abbrev pub IsSearch : Entry → Type 0
+IsSearch (Best leader cut log) = Unit {0}
+IsSearch (Without leader log) = Unit {0}
+IsSearch (Spent leader budget) = Unit {0}
+IsSearch (Take leader unit) = ⊥
+
+-- takes, each with the search that follows it
+abbrev pub AreRounds : List Entry → Type 0
+AreRounds [] = Unit {0}
+AreRounds (Take leader unit ∷ []) = ⊥
+AreRounds (Take leader unit ∷ search ∷ entries) = IsSearch search × AreRounds entries
+AreRounds (search ∷ entries) = ⊥
+
+pub record AreInOrder (entries : List Entry) : Type 0 where
+  pub searches : List Entry
+  pub rounds : List Entry
+  pub is_split : entries ≡ searches ++ rounds
+  pub are_searches : AllByRecursion IsSearch searches
+  pub are_rounds : AreRounds rounds
+
+pub record Book : Type 0 where
+  pub entries : List Entry
+  pub finish : Finish
+
+pub record IsBook (book : Book) : Type 0 where
+  pub are_entries : AllByRecursion IsEntry book.entries
+  pub in_order : AreInOrder book.entries
+
+-- ---- texts
+
+-- the members' numbers in ascending order, each after a blank
+abbrev pub members : set.FinSet nat_cmp → List ℕ
+members cut = flat_map (λ node. codes " " ++ decimal node) (numbers_below 256 (set.contains cut))
+
+abbrev pub entry_text : Entry → List ℕ
+entry_text (Best leader cut log) =
+    line (codes "block " ++ eight_hex_digits leader ++ codes " best" ++ members cut) ++ line (letters log)
+entry_text (Without leader log) = line (codes "block " ++ eight_hex_digits leader ++ codes " none") ++ line (letters log)
+entry_text (Spent leader budget) = line (codes "block " ++ eight_hex_digits leader ++ codes " spent " ++ decimal budget)
+entry_text (Take leader unit) = line (codes "take " ++ eight_hex_digits leader ++ codes " unit " ++ decimal unit)
+
+abbrev pub finish_text : Finish → List ℕ
+finish_text Empty = line (codes "end none")
+finish_text Count = line (codes "end count")
+
+abbrev pub first_line : List ℕ
+first_line = line (codes "ci-log 1")
+
+abbrev pub book_text : Book → List ℕ
+book_text book = first_line ++ flat_map entry_text book.entries ++ finish_text book.finish
+
+-- the bytes spell the book
+pub record Spells (bytes : List ℕ) (book : Book) : Type 0 where
+  pub is_book : IsBook book
+  pub is_text : bytes ≡ book_text book

@@ -1,0 +1,5 @@
+pub mod Books
+pub mod Faults
+pub mod Reading
+pub mod Stored
+pub mod Trees

@@ -1,0 +1,26 @@
+//! Laws of log books. Nothing happens when they run.
+ghost use Rattle.std.specs.Prelude.{◌≡◌, ℕ, List};
+ghost use Rattle.ci_log.specs.Books.{Book, Spells};
+ghost use Rattle.ci_log.specs.Faults.{HasFault};
+ghost use Rattle.ci_log.specs.declared.faults.LogFault.{LogFault};
+
+/// A text spells one book at most.
+pub fn a_text_has_one_book()
+    ensures { (text : List ℕ) (book other : Book) → Spells text book → Spells text other → book ≡ other }
+{}
+
+/// A book is spelt by one text at most.
+pub fn a_book_has_one_text()
+    ensures { (text other : List ℕ) (book : Book) → Spells text book → Spells other book → text ≡ other }
+{}
+
+/// No text that spells a book has a fault.
+pub fn a_book_s_text_has_no_fault()
+    ensures { (text : List ℕ) (book : Book) (fault : LogFault) → Spells text book → ¬ HasFault text fault }
+{}
+
+/// A text has one fault at most.
+pub fn a_text_has_one_fault()
+    ensures { (text : List ℕ) (fault other : LogFault) → HasFault text fault → HasFault text other
+        → fault ≡ other }
+{}
