@@ -15,7 +15,7 @@ pub fn a_book_has_one_text()
 {}
 
 /// No text that spells a book has a fault.
-pub fn a_book_s_text_has_no_fault()
+pub fn a_text_with_a_book_has_no_fault()
     ensures { (text : List ℕ) (book : Book) (fault : LogFault) → Spells text book → ¬ HasFault text fault }
 {}
 

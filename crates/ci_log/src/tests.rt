@@ -56,7 +56,7 @@ fn a_letter_behind_a_tree(rt: HostRuntime) {
 
 #[test]
 fn nodes_that_do_not_rise(rt: HostRuntime) {
-    // Behind 20 comes 20 at the earliest with a 2 in front: 200 to 255, but no 20 itself.
+    // The second 20 may still become 200 to 209, so the bad byte is the newline behind it.
     let text = b"ci-log 1\nblock 00010074 best 20 20\nG\nend none\n";
     assert!(rt; matches!(read(rt.alloc(), text), Err(LogFault::BadItem(34))));
     let text = b"ci-log 1\nblock 00010074 best 20 19\nG\nend none\n";

@@ -1,5 +1,5 @@
 use Rattle.ci_log.proofs.FirstFaults.{no_fault}
-use Rattle.ci_log.proofs.laws.a_book_s_text_has_no_fault.Goals as goal
+use Rattle.ci_log.proofs.laws.a_text_with_a_book_has_no_fault.Goals as goal
 
 pub returns : goal.returns
 returns c = no_fault
