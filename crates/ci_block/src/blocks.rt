@@ -18,6 +18,7 @@ use std::marker::Model;
 pub enum Next {
     /// There is none.
     Stop,
+    /// There is one, or the two ways on are equal.
     One(u32),
     /// The target of a branch, and the word behind it.
     Two(u32, u32),
@@ -32,6 +33,7 @@ pub struct Block {
     pub leader: u32,
     /// Its instructions, from 1 to 256. Only the last one may be a terminator.
     pub insns: Vec<Insn>,
+    /// Its successors.
     pub next: Next,
 }
 
@@ -171,6 +173,8 @@ fn blocks_of(alloc: Global, image: &Image, leaders: &[u32]) -> Result<Vec<Block>
 }
 
 /// The blocks of a file, by leaders that were listed for it.
+///
+/// An Err is out of memory.
 pub fn split(alloc: Global, image: &Image, leaders: &Leaders) -> Result<Blocks, AllocError>
     requires { AreLeaders image.now leaders.now }
     ensures { IfOk result (λ blocks. AreBlocks image.now leaders.now blocks) }

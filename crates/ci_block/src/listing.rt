@@ -90,8 +90,12 @@ fn marks_of(
     Ok(marks)
 }
 
-/// The listed leaders of a file. `targets` are the addresses to which JALR jumped, as far as they are known, and
-/// `given` those that the user names; of these only words of the text count.
+/// The listed leaders of a file, in ascending order: the words of the text that are the entry, the target of a jump or
+/// branch, behind a terminator, at the start of a range that meets another, the value of a symbol or of a data word, in
+/// `targets` or in `given`, or behind the 256th instruction of a block. `targets` are the addresses to which JALR
+/// jumped, as far as they are known, and `given` those that the user names.
+///
+/// An Err is out of memory.
 pub fn leaders(
     alloc: Global,
     image: &Image,
