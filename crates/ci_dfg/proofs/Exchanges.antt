@@ -10,7 +10,7 @@ use Rattle.ci_cut.specs.declared.graph.Source.{Source}
 use Rattle.ci_cut.specs.declared.graph.Source.TheVariants.{Made}
 use Rattle.ci_cut.specs.FlowGraph.{is_source}
 use Rattle.ci_dfg.specs.BlockGraph.{is_kept, without_x0, is_unit, is_cread, reads_register, writes_register, insn_at, latest_writer, source_from, source_of, has_true_arc, has_anti_arc, has_output_arc, has_memory_arc, has_control_arc, has_own_arc, ends_bundle, has_arc_from_bundle, has_arc_by_cread, has_arc_inside_bundle, has_arc_into}
-use Rattle.ci_dfg.specs.Neighbours.{AreIndependent, AreJoined, ApartAreIndependent, NeighboursExchange, BundlesMoveTogether}
+use Rattle.ci_dfg.specs.Neighbours.{AreIndependent, AreJoined, ApartAreIndependent, NeighboursAreIndependent, BundlesMoveTogether}
 use Rattle.ci_dfg.proofs.Writers.{latest_writer_from}
 
 -- ---- tests
@@ -162,8 +162,8 @@ module _ (insns : List Insn) (j k : ℕ) (order : j < k) (apart : AreJoined insn
 pub apart_are_independent : ApartAreIndependent
 apart_are_independent = independent
 
-pub neighbours_exchange : NeighboursExchange
-neighbours_exchange insns k none =
+pub neighbours_are_independent : NeighboursAreIndependent
+neighbours_are_independent insns k none =
     independent insns k (k + 1) (omega arith) (λ joined. elim joined [
       | inl arc ↦ true≢false (sym arc ∙ none)
       | inr (i, behind, before, into, out) ↦ absurd (omega arith)

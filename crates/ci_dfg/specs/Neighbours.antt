@@ -25,8 +25,8 @@ ApartAreIndependent =
     → AreIndependent (insn_at insns j) (insn_at insns k) × (ends_block (insn_at insns k) ≡ false)
 
 -- So are two neighbours without an arc between them.
-abbrev pub NeighboursExchange : Type 0
-NeighboursExchange =
+abbrev pub NeighboursAreIndependent : Type 0
+NeighboursAreIndependent =
     (insns : List Insn) (k : ℕ) → has_arc_into insns (k + 1) k ≡ false
     → AreIndependent (insn_at insns k) (insn_at insns (k + 1)) × (ends_block (insn_at insns (k + 1)) ≡ false)
 

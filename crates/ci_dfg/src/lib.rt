@@ -9,7 +9,7 @@
 //! The definition of all this is `specs/BlockGraph.antt`.
 #![tactic(auto)]
 
-pub use laws::{apart_are_independent, bundles_move_together, neighbours_exchange};
+pub use laws::{apart_are_independent, bundles_move_together, neighbours_are_independent};
 pub use nodes::graph;
 
 mod arcs;

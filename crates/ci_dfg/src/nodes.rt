@@ -13,7 +13,8 @@ use ci_word::Row;
 use std::alloc::{AllocError, Global};
 
 /// The graph of a block of these instructions, at most 256, after which the registers `live_out` are live. Latencies
-/// and delays are those of the table.
+/// and delays are those of the table. A `cread` that doesn't stand directly behind a unit word is in no bundle, and
+/// each instruction that ends a block has arcs from all earlier ones.
 ///
 /// An Err is out of memory.
 #[tactic(auto, using(crate::proofs::Graphs::so_far))]

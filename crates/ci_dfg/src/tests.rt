@@ -12,18 +12,28 @@ use std::test::Fail;
 /// The sources of a node, the nodes with an arc into it, and whether its value is live.
 type Told<'a> = (&'a [Source], &'a [u8], bool);
 
-/// The graph of the block of these words by the usual table, after which all registers are live.
-fn graph_of(rt: &impl Abort, alloc: Global, words: &[u32]) -> Result<Graph, AllocError> {
+/// The graph of the block of these words by the usual table, after which these registers are live.
+fn graph_before(
+    rt: &impl Abort,
+    alloc: Global,
+    words: &[u32],
+    live: Row,
+) -> Result<Graph, AllocError> {
     let mut insns = Vec::new(alloc);
     for word in words {
         insns.push(decode_x(*word).unwrap_or(Insn::Illegal { word: *word }))?;
     }
     assert!(rt; insns.len() <= 256);
+    graph(alloc, &insns, live, &Table::usual())
+}
+
+/// The same, where all registers are live.
+fn graph_of(rt: &impl Abort, alloc: Global, words: &[u32]) -> Result<Graph, AllocError> {
     let mut live = Row::empty();
     for register in 1..32 {
         live.insert(register);
     }
-    graph(alloc, &insns, live, &Table::usual())
+    graph_before(rt, alloc, words, live)
 }
 
 /// Compares the nodes of a graph.
@@ -38,6 +48,7 @@ fn check(rt: &impl Abort, graph: &Graph, told: &[Told]) {
 
 /// Compares which nodes may be members, and their latencies and delays.
 fn check_costs(rt: &impl Abort, graph: &Graph, told: &[(bool, u32, u32)]) {
+    assert_eq!(rt; graph.nodes().len(), told.len());
     for (k, (node, costs)) in graph.nodes().iter().zip(told).enumerate() {
         assert_eq!(rt;
             (node.eligible, node.latency, node.delay),
@@ -181,5 +192,42 @@ fn a_unit_and_its_cread(rt: HostRuntime) -> Result<(), Fail> {
         (false, 1, 0),
     ];
     check_costs(&rt, &graph, &costs);
+    Ok(())
+}
+
+/// add x5, x10, x11; lw x6, 0(x0); add x10, x5, x12; addi x17, x0, 93; ecall
+#[test]
+fn a_block_behind_which_nothing_is_live(rt: HostRuntime) -> Result<(), Fail> {
+    let words = [
+        0x00B5_02B3,
+        0x0000_2303,
+        0x00C2_8533,
+        0x05D0_0893,
+        0x0000_0073,
+    ];
+    let graph = graph_before(&rt, rt.alloc(), &words, Row::empty())?;
+    let first: Told = (&[Entry(10), Entry(11)], &[], false);
+    let load: Told = (&[], &[], false);
+    let sum: Told = (&[Made(0), Entry(12)], &[0], false);
+    let number: Told = (&[], &[], false);
+    let call: Told = (
+        &[Made(2), Entry(11), Entry(12), Made(3)],
+        &[0, 1, 2, 3],
+        false,
+    );
+    check(&rt, &graph, &[first, load, sum, number, call]);
+    Ok(())
+}
+
+/// addi x0, x0, 0; add x5, x0, x0; add x0, x5, x5; a word that is no instruction
+#[test]
+fn the_register_that_is_zero(rt: HostRuntime) -> Result<(), Fail> {
+    let words = [0x0000_0013, 0x0000_02B3, 0x0052_8033, 0xFFFF_FFFF];
+    let graph = graph_of(&rt, rt.alloc(), &words)?;
+    let no_op: Told = (&[], &[], false);
+    let zero: Told = (&[], &[], true);
+    let lost: Told = (&[Made(1), Made(1)], &[1], false);
+    let last: Told = (&[], &[0, 1, 2], false);
+    check(&rt, &graph, &[no_op, zero, lost, last]);
     Ok(())
 }
