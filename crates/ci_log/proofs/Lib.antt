@@ -9,3 +9,4 @@ pub mod Forests
 pub mod Members
 pub mod Numbers
 pub mod Repetition
+pub mod Total

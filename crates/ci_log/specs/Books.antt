@@ -15,7 +15,7 @@ use Rattle.ci_log.specs.Trees.{IsLog, letters}
 
 -- ---- books
 
--- some numbers, each of a node
+-- a set of node numbers that isn't empty
 pub record IsCut (cut : set.FinSet nat_cmp) : Type 0 where
   pub node : ℕ
   pub has_node : IsTrue (set.contains cut node)

@@ -22,9 +22,9 @@ pub enum Entry {
 /// Why a choice of cuts ends.
 #[derive(Clone, Copy, Debug, PartialEq, Eq)]
 pub enum Finish {
-    /// No block has a cut left.
+    /// No block that isn't skipped has a cut left.
     Empty,
-    /// There are as many units as there may be.
+    /// The next cut needs a new unit, and there are as many as there may be.
     Count,
 }
 

@@ -1,5 +1,5 @@
 //! Laws of log books. Nothing happens when they run.
-ghost use Rattle.std.specs.Prelude.{◌≡◌, ℕ, List};
+ghost use Rattle.std.specs.Prelude.{◌≡◌, ℕ, ◌≤◌, List, length, ◌⊎◌};
 ghost use Rattle.ci_log.specs.Books.{Book, Spells};
 ghost use Rattle.ci_log.specs.Faults.{HasFault};
 ghost use Rattle.ci_log.specs.declared.faults.LogFault.{LogFault};
@@ -23,4 +23,10 @@ pub fn a_text_with_a_book_has_no_fault()
 pub fn a_text_has_one_fault()
     ensures { (text : List ℕ) (fault other : LogFault) → HasFault text fault → HasFault text other
         → fault ≡ other }
+{}
+
+/// A text of at most 268,435,456 bytes spells a book or has a fault.
+pub fn a_text_has_a_book_or_a_fault()
+    ensures { (text : List ℕ) → length text ≤ 268435456
+        → ((book : Book) × Spells text book) ⊎ ((fault : LogFault) × HasFault text fault) }
 {}

@@ -4,7 +4,7 @@ ghost use Rattle.ci_log.specs.Trees.{IsLog};
 
 use std::marker::Model;
 
-/// What a log says of one set of choices: some of the nodes are decided, and the others open.
+/// What a log says of one set of choices: some of the nodes are decided, and the others undecided.
 #[derive(Clone, Copy, Debug, PartialEq, Eq)]
 pub enum Item {
     /// Branch: the next node is taken in, or left out.
@@ -17,7 +17,7 @@ pub enum Item {
     I,
     /// No completion gains enough.
     G,
-    /// A complete choice.
+    /// A complete choice that is no better cut than the best.
     F,
 }
 

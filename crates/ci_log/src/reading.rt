@@ -72,7 +72,7 @@ fn book_or_fault(alloc: Global, bytes: &[u8]) -> Result<LogBook, LogFault>
     }
 }
 
-/// The log book that the bytes spell, all of them.
+/// The log book that the bytes spell, all of them. They have to be at most 268,435,456 bytes.
 ///
 /// # Errors
 ///
