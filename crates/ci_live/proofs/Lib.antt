@@ -1,0 +1,10 @@
+pub mod BitLaws
+pub mod ReachLaws
+pub mod LivenessLaws
+pub mod NumberedBlocks
+pub mod LookLaws
+pub mod SearchLaws
+pub mod LooksLaws
+pub mod EffectLaws
+pub mod PushLaws
+pub mod LiveLaws

@@ -1,0 +1,41 @@
+-- Looks at several blocks, one after the other.
+use Rattle.std.proofs.Common.{◌≡◌, ℕ, ◌+◌, ◌<◌, ◌≤◌, inl, inr, List, [], ◌∷◌, ◌++◌, length, take, get_or, true, false, sym, ap, ◌∙◌, subst, arith, length-append, length-take}
+use Rattle.std.proofs.lemmas.List.{get_or-take}
+use Rattle.std.proofs.lemmas.Bool.{cases_lt}
+use Rattle.ci_live.specs.declared.flow.Flow.{Flow}
+use Rattle.ci_live.specs.declared.iteration.Found.{Found as FoundSets}
+use Rattle.ci_live.specs.Found.{AreLooks, IsClosed, IsLook, IsSound, room}
+
+module _ (flows : List Flow) (before middle after : FoundSets) (order grown : List ℕ) (i : ℕ) (within : i < length order) (so_far : AreLooks flows before middle (take i order) grown) (sound : IsSound flows after) where
+  pub look_found : IsLook flows middle after (get_or order i 0) true → (x : ℕ) → AreLooks flows before after (take (i + 1) order) (grown ++ x ∷ [])
+  look_found less x =
+      let some = length-append grown (x ∷ []) in
+      record {
+        sound = sound;
+        less = omega (arith, less, so_far.less);
+        some = λ h. omega (arith, less, so_far.less);
+        none = λ h. absurd (omega arith);
+        closed = λ h. absurd (omega arith);
+      }
+
+  pub look_found_nothing : IsLook flows middle after (get_or order i 0) false → AreLooks flows before after (take (i + 1) order) grown
+  look_found_nothing (same, closed) = record {
+    sound = sound;
+    less = subst (λ f. room f ≤ room before) same so_far.less;
+    some = λ h. subst (λ f. room f < room before) same (so_far.some h);
+    none = λ h. so_far.none h ∙ same;
+    closed =
+        λ h k k_within.
+        let many = length-take (i + 1) order in
+        let many_before = length-take i order in
+        let at : get_or (take (i + 1) order) k 0 ≡ get_or order k 0 = get_or-take (i + 1) order k 0 (omega arith) in
+        elim (cases_lt k i) [
+          | inl earlier ↦
+              let at_before : get_or (take i order) k 0 ≡ get_or order k 0 = get_or-take i order k 0 earlier in
+              subst (λ f. IsClosed flows f (get_or (take (i + 1) order) k 0)) same
+              (subst (λ n. IsClosed flows middle n) (at_before ∙ sym at) (so_far.closed h k (omega arith)))
+          | inr later ↦
+              let here : k ≡ i = omega arith in
+              subst (λ n. IsClosed flows after n) (ap (λ j. get_or order j 0) (sym here) ∙ sym at) closed
+        ];
+  }

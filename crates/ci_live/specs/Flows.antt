@@ -1,0 +1,53 @@
+-- Blocks by their numbers: what each one reads and writes, as bits, and where it leads. For private contracts.
+use Rattle.std.specs.Prelude.{◌≡◌, ℕ, ◌<◌, ◌⊎◌, ◌↔◌, List, length, Some, None, IfSome, slice_index, slice_index_or}
+use Rattle.ci_block.specs.declared.blocks.Block.{Block}
+use Rattle.ci_block.specs.declared.blocks.Next.{Next}
+use Rattle.ci_live.specs.declared.flow.Flow.{Flow}
+use Rattle.ci_live.specs.declared.flow.Ways.{Ways}
+use Rattle.ci_live.specs.declared.flow.Ways.TheVariants.{Named, Anywhere}
+use Rattle.ci_live.specs.Bits.{Has}
+use Rattle.ci_live.specs.Liveness.{LeadsTo, ReadFirst, Write}
+
+-- the block of this number is one of the ways on
+abbrev pub Leads : Ways → ℕ → Type 0
+Leads (Named first second) k = (first ≡ Some k) ⊎ (second ≡ Some k)
+Leads Anywhere k = Unit {0}
+
+-- the ways on are some of so many blocks
+abbrev pub IsWithin : ℕ → Ways → Type 0
+IsWithin count (Named first second) = IfSome first (λ k. k < count) × IfSome second (λ k. k < count)
+IsWithin count Anywhere = Unit {0}
+
+-- flow k, and past the last one one that does nothing
+abbrev pub flow_at : List Flow → ℕ → Flow
+flow_at flows k = slice_index_or flows k (record { first = 0; written = 0; ways = Named None None })
+
+-- each flow leads to some of them
+abbrev pub AreWithin : List Flow → Type 0
+AreWithin flows = (k : ℕ) → IsWithin (length flows) (flow_at flows k).ways
+
+-- these are the ways to successors, of blocks with these leaders
+pub record AreWays (leaders : List ℕ) (next : Next) (ways : Ways) : Type 0 where
+  pub within : IsWithin (length leaders) ways
+  pub leads : (k : ℕ) → k < length leaders → Leads ways k ↔ LeadsTo next (slice_index leaders k)
+
+-- the flow of a block among those of these leaders
+pub record IsFlowOf (leaders : List ℕ) (block : Block) (flow : Flow) : Type 0 where
+  pub first : (r : ℕ) → r < 32 → Has flow.first r ↔ ReadFirst block.insns.items r
+  pub written : (r : ℕ) → r < 32 → Has flow.written r ↔ Write block.insns.items r
+  pub ways : AreWays leaders block.next flow.ways
+
+-- the flows of the first blocks, in their order
+pub record AreFlows (leaders : List ℕ) (blocks : List Block) (count : ℕ) (flows : List Flow) : Type 0 where
+  pub many : length flows ≡ count
+  pub each :
+      (k : ℕ) (block : Block) → k < count → slice_index_or blocks k block ≡ block
+      → IsFlowOf leaders block (flow_at flows k)
+
+-- Register r is live at the block of this number: the block reads it first, or leads to such a block and doesn't write
+-- it.
+pub data IsReached (flows : List Flow) (r : ℕ) : ℕ → Type 0 where
+  here : (k : ℕ) → k < length flows → Has (flow_at flows k).first r → IsReached flows r k
+  further :
+      (k j : ℕ) → k < length flows → Leads (flow_at flows k).ways j → ¬ Has (flow_at flows k).written r
+      → IsReached flows r j → IsReached flows r k

@@ -1,0 +1,118 @@
+//! The live sets of blocks.
+ghost use Rattle.std.specs.Prelude.{◌≡◌, ℕ, ◌<◌, length, map, slice_index, IfOk};
+ghost use Rattle.std.specs.List.{Contains};
+ghost use Rattle.ci_live.specs.Flows.{AreWithin, flow_at};
+ghost use Rattle.ci_live.specs.Found.{IsSolution, on_ways};
+ghost use Rattle.ci_live.specs.Liveness.{AreInOrder, AreLiveSets};
+ghost use Rattle.ci_live.specs.Sets.{after_block, at_leader};
+
+use crate::flow::{Flow, find, flows};
+use crate::iteration::{Found, solve};
+use crate::registers::Registers;
+use ci_block::{Block, Blocks};
+use ci_word::Row;
+use std::alloc::{AllocError, Global};
+use std::marker::Model;
+
+/// The registers that are live where each block of a file begins, and behind it.
+#[derive(Drop)]
+pub struct LiveSets {
+    leaders: Vec<u32>,
+    at: Vec<Registers>,
+    after: Vec<Registers>,
+}
+
+impl Model for LiveSets {
+    ghost use Rattle.ci_live.specs.Sets.{Sets, coded_sets};
+
+    ghost Value = { Sets };
+
+    ghost coded = { coded_sets };
+
+    ghost use Rattle.std.specs.Prelude.{map};
+    ghost use Rattle.ci_live.specs.Bits.{AreBits, registers_in};
+
+    ghost view = { λ s. record {
+      leaders = s.leaders.items;
+      before_blocks = map registers_in s.at.items;
+      behind_blocks = map registers_in s.after.items;
+    } };
+
+    ghost invariant = { λ s. AreBits s.leaders.items s.at.items s.after.items };
+}
+
+impl LiveSets {
+    /// The registers that are live at a leader.
+    pub fn at(&self, leader: u32) -> Row
+        requires { Contains self.now.leaders leader }
+        ensures { result ≡ at_leader self.now leader }
+    {
+        match find(&self.leaders, leader) {
+            Some(number) => self.at[number].row(),
+            None => unreachable!(),
+        }
+    }
+
+    /// The registers that are live after the block of a leader: those that are live at one of its successors.
+    pub fn after(&self, leader: u32) -> Row
+        requires { Contains self.now.leaders leader }
+        ensures { result ≡ after_block self.now leader }
+    {
+        match find(&self.leaders, leader) {
+            Some(number) => self.after[number].row(),
+            None => unreachable!(),
+        }
+    }
+}
+
+/// The leaders of blocks.
+fn leaders_of(alloc: Global, blocks: &[Block]) -> Result<Vec<u32>, AllocError>
+    ensures { IfOk result (λ leaders. leaders.items ≡ map (λ block. block.leader) blocks.now) }
+{
+    let mut leaders = Vec::new(alloc);
+    for block in blocks {
+        leaders.push(block.leader)?;
+    }
+    Ok(leaders)
+}
+
+/// What is live behind each block.
+fn sets_after(alloc: Global, flows: &[Flow], found: &Found) -> Result<Vec<Registers>, AllocError>
+    requires flows { AreWithin flows.now }
+    requires found { IsSolution flows.now found.now }
+    ensures many { IfOk result (λ after. length after.items ≡ length flows.now) }
+    ensures each { IfOk result (λ after. (k : ℕ) → k < length flows.now
+        → slice_index after.items k ≡ on_ways found.now.live.items found.now.any (flow_at flows.now k).ways) }
+{
+    let mut after = Vec::new(alloc);
+    for flow in flows {
+        after.push(found.after(flow.ways))?;
+    }
+    Ok(after)
+}
+
+/// The live sets of blocks in the order of their leaders.
+fn live_of(alloc: Global, blocks: &[Block]) -> Result<LiveSets, AllocError>
+    requires { AreInOrder blocks.now }
+    ensures { IfOk result (AreLiveSets blocks.now) }
+{
+    let leaders = leaders_of(alloc, blocks)?;
+    let flows = flows(alloc, blocks, &leaders)?;
+    let found = solve(alloc, &flows)?;
+    let after = sets_after(alloc, &flows, &found)?;
+    Ok(LiveSets {
+        leaders,
+        at: found.live,
+        after,
+    })
+}
+
+/// The live sets of the blocks of a file. An Err is out of memory.
+///
+/// The blocks stand in the order of their leaders, as those that `split` makes do.
+pub fn live(alloc: Global, blocks: &Blocks) -> Result<LiveSets, AllocError>
+    requires { AreInOrder blocks.now }
+    ensures { IfOk result (AreLiveSets blocks.now) }
+{
+    live_of(alloc, blocks.all())
+}
