@@ -1,5 +1,5 @@
 -- What a word reads as is what its row answers, and nothing else.
-use Rattle.std.proofs.Common.{◌≡◌, ℕ, ◌+◌, ◌*◌, ◌/◌, ◌%◌, ◌^◌, ◌<◌, Option, Some, None, ℤ, pos, refl, ap, ◌∙◌, arith}
+use Rattle.std.proofs.Common.{◌≡◌, ℕ, ◌+◌, ◌*◌, ◌/◌, ◌%◌, ◌^◌, ◌<◌, Option, Some, None, ℤ, pos, refl, sym, ap, ◌∙◌, arith}
 use Rattle.std.specs.Prelude.{IfSome, IfNone, option_map, unwrap_or}
 use Rattle.ci_word.specs.declared.arithmetic.Op.{Op}
 use Rattle.ci_word.specs.declared.arithmetic.Op.TheVariants.{Add, Sub, Sll, Slt, Sltu, Xor, Srl, Sra, Or, And, Mul, Mulh, Mulhsu, Mulhu, Div, Divu, Rem, Remu}
@@ -12,7 +12,7 @@ use Rattle.ci_isa.specs.declared.instruction.Width.TheVariants.{Byte, Half, Word
 use Rattle.ci_isa.specs.declared.instruction.Insn.{Insn}
 use Rattle.ci_isa.specs.declared.instruction.Insn.TheVariants.{Alu, AluImm, Lui, Auipc, Jal, Jalr, Branch, Load, Store, Fence, Ecall, Ebreak, Unit, Cread, Illegal}
 use Rattle.ci_isa.specs.Fields.{field, rd_field, funct3, rs1_field, rs2_field, funct7, immediate_format, store_format, branch_format, signed_immediate}
-use Rattle.ci_isa.specs.Table.{operation_codes, condition_code, load_code, store_code, constant_form, HoldsConstant, HasFieldsOf, HasFieldsOfX, Reads, ReadsX, IsWordOf, IsWellFormed}
+use Rattle.ci_isa.specs.Table.{operation_codes, condition_code, load_code, store_code, constant_form, HoldsConstant, HasFieldsOf, HasFieldsOfX, Reads, ReadsX, IsWordOf, IsWellFormed, IsInsnAt}
 use Rattle.ci_isa.specs.Decoding.{condition_at, load_at, width_at, immediate_at, operation_at, shift_at, jump_row, branch_row, load_row, store_row, immediate_row, shift_row, constant_row, operation_row, fence_row, environment_row, unit_row, hidden_row, plain_row, extended_row}
 use Rattle.ci_isa.proofs.Found.{in_extended}
 
@@ -185,6 +185,13 @@ only_plain w insn reads = plain_only w insn reads.1
 
 pub only_extended : (w : ℕ) (insn : Insn) → ReadsX w insn → extended_row w ≡ Some insn
 only_extended w insn reads = extended_only w insn reads.1
+
+-- one instruction stands at a word
+pub one_insn : (word : ℕ) (left right : Insn) → IsInsnAt word left → IsInsnAt word right → left ≡ right
+one_insn word (Illegal a) (Illegal b) one other = λ i. Illegal ((one.0 ∙ sym other.0) i)
+one_insn word (Illegal a) right one other = absurd (one.1 right other)
+one_insn word left (Illegal b) one other = absurd (other.1 left one)
+one_insn word left right one other = let a = only_plain word left one in let b = only_plain word right other in cc
 
 -- what a word reads as is well formed
 pub read_well_formed : (w : ℕ) (insn : Insn) → ReadsX w insn → IsWellFormed insn

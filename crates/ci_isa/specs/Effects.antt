@@ -1,15 +1,18 @@
 -- What an instruction reads and writes, and what kind it is (RISC-V Unprivileged ISA 20191213, chapters 2 and 7).
-use Rattle.std.specs.Prelude.{ℕ, Bool, true, false, not, ◌&&◌, ◌==◌, if◌then◌else◌, List, [], ◌∷◌, ℤ, pos, negsuc}
+use Rattle.std.specs.Prelude.{ℕ, Bool, true, false, not, ◌&&◌, ◌==◌, if◌then◌else◌, List, [], ◌∷◌, filter, ℤ, pos, negsuc}
 use Rattle.std.specs.Ordering.{nat_cmp}
+use Rattle.std.specs.List.{list_any}
 use Rattle.std.specs.FinSet as set
 use Rattle.ci_word.specs.declared.arithmetic.Op.{Op}
 use Rattle.ci_word.specs.declared.arithmetic.Op.TheVariants as ops
 use Rattle.ci_word.specs.declared.arithmetic.Class.{Class}
 use Rattle.ci_word.specs.declared.arithmetic.Class.TheVariants as class
+use Rattle.ci_isa.specs.declared.instruction.Width.{Width}
+use Rattle.ci_isa.specs.declared.instruction.Width.TheVariants.{Byte, Half, Word}
 use Rattle.ci_isa.specs.declared.instruction.Insn.{Insn}
 use Rattle.ci_isa.specs.declared.instruction.Insn.TheVariants.{Alu, AluImm, Lui, Auipc, Jal, Jalr, Branch, Load, Store, Fence, Ecall, Ebreak, Unit, Cread, Illegal}
 
--- ---- registers
+-- ---- what an instruction reads and writes
 
 -- The registers that the instruction takes its operands from. An environment call takes its arguments in x10 to x12,
 -- and its number in x17.
@@ -48,15 +51,45 @@ results (Unit number rd rs1 rs2 rs3) = rd ∷ []
 results (Cread rd) = rd ∷ []
 results (Illegal word) = []
 
--- the set of these registers without x0, which is never read or written
-abbrev pub without_zero : List ℕ → set.FinSet nat_cmp
-without_zero registers = set.remove (set.from_list registers) 0
+-- a register other than x0, which is never read or written
+abbrev pub is_kept : ℕ → Bool
+is_kept r = not (r == 0)
+
+-- the registers of a list without x0
+abbrev pub without_x0 : List ℕ → List ℕ
+without_x0 registers = filter is_kept registers
+
+-- the same as a test of one register
+abbrev pub is_among : List ℕ → ℕ → Bool
+is_among registers r = is_kept r && list_any (λ n. n == r) registers
+
+abbrev pub reads_register : Insn → ℕ → Bool
+reads_register insn = is_among (operands insn)
+
+abbrev pub writes_register : Insn → ℕ → Bool
+writes_register insn = is_among (results insn)
+
+-- and as a set
+abbrev pub set_without_x0 : List ℕ → set.FinSet nat_cmp
+set_without_x0 registers = set.remove (set.from_list registers) 0
 
 abbrev pub registers_read : Insn → set.FinSet nat_cmp
-registers_read insn = without_zero (operands insn)
+registers_read insn = set_without_x0 (operands insn)
 
 abbrev pub registers_written : Insn → set.FinSet nat_cmp
-registers_written insn = without_zero (results insn)
+registers_written insn = set_without_x0 (results insn)
+
+-- a load or a store
+abbrev pub is_access : Insn → Bool
+is_access (Load kind rd rs1 offset) = true
+is_access (Store width rs1 rs2 offset) = true
+is_access insn = false
+
+-- how many bytes a load or a store of this width moves
+abbrev pub width_bytes : Width → ℕ
+width_bytes Byte = 1
+width_bytes Half = 2
+width_bytes Word = 4
 
 -- ---- kinds
 
@@ -77,6 +110,16 @@ ends_block Ebreak = true
 ends_block (Unit number rd rs1 rs2 rs3) = false
 ends_block (Cread rd) = false
 ends_block (Illegal word) = true
+
+-- a unit word, which writes the hidden register too
+abbrev pub is_unit : Insn → Bool
+is_unit (Unit number rd rs1 rs2 rs3) = true
+is_unit insn = false
+
+-- a `cread`, which reads the hidden register
+abbrev pub is_cread : Insn → Bool
+is_cread (Cread rd) = true
+is_cread insn = false
 
 -- of an operation on two registers
 abbrev pub register_class : Op → Class

@@ -2,12 +2,30 @@
 use crate::register::Reg;
 use ci_word::Op;
 
-/// How many bytes a store writes: one, two or four.
+/// How many bytes a load or a store moves: one, two or four.
 #[derive(Clone, Copy, Debug, PartialEq, Eq)]
 pub enum Width {
     Byte,
     Half,
     Word,
+}
+
+impl Width {
+    ghost use Rattle.std.specs.Prelude.{◌≡◌, ◌≤◌};
+    ghost use Rattle.ci_isa.specs.Effects.{width_bytes};
+
+    /// The width in bytes: 1, 2 or 4.
+    pub fn bytes(self) -> u32
+        ensures value { result ≡ width_bytes self }
+        ensures least { 1 ≤ result }
+        ensures greatest { result ≤ 4 }
+    {
+        match self {
+            Width::Byte => 1,
+            Width::Half => 2,
+            Width::Word => 4,
+        }
+    }
 }
 
 /// When a branch is taken. `Ltu` and `Geu` compare unsigned numbers, `Lt` and `Ge` signed ones.

@@ -1,6 +1,6 @@
 //! Which registers an instruction reads and writes.
 ghost use Rattle.std.specs.Prelude.{◌≡◌};
-ghost use Rattle.ci_isa.specs.Effects.{registers_read, registers_written, without_zero};
+ghost use Rattle.ci_isa.specs.Effects.{registers_read, registers_written, set_without_x0};
 
 use crate::instruction::Insn;
 use ci_word::Row;
@@ -49,7 +49,7 @@ pub fn writes(insn: &Insn) -> Row
 
 /// The set of these numbers without 0.
 fn registers(numbers: &[u8]) -> Row
-    ensures { result ≡ without_zero numbers.now }
+    ensures { result ≡ set_without_x0 numbers.now }
 {
     let mut row = Row::empty();
     for number in numbers {

@@ -297,3 +297,10 @@ fn knows_the_registers(rt: HostRuntime) {
     assert!(rt; reads(&store).has(11) && reads(&store).has(18));
     assert_eq!(rt; writes(&store).count(), 0);
 }
+
+#[test]
+fn knows_the_widths(rt: HostRuntime) {
+    for (width, bytes) in [(Width::Byte, 1), (Width::Half, 2), (Width::Word, 4)] {
+        assert_eq!(rt; width.bytes(), bytes);
+    }
+}

@@ -12,7 +12,7 @@ use Rattle.ci_isa.specs.declared.instruction.Insn.{Insn}
 use Rattle.ci_isa.specs.declared.instruction.Insn.TheVariants.{Unit, Cread, Illegal}
 use Rattle.ci_isa.specs.Table.{Reads, IsInsnAt}
 use Rattle.ci_isa.specs.Decoding.{plain_row}
-use Rattle.ci_isa.specs.Effects.{operands, results, without_zero, registers_read, registers_written}
+use Rattle.ci_isa.specs.Effects.{operands, results, set_without_x0, registers_read, registers_written}
 use Rattle.ci_isa.proofs.Found.{plain_reads}
 use Rattle.ci_isa.proofs.Only.{only_plain}
 use Rattle.ci_machine.specs.Outcomes.{continued}
@@ -92,7 +92,7 @@ module _ (left right : Meaning) (one : IsPlain left) (other : IsPlain right) (pr
 
 -- ---- sets of registers
 
-among_set : (registers : List ℕ) (r : ℕ) → is_among registers r ≡ set.contains (without_zero registers) r
+among_set : (registers : List ℕ) (r : ℕ) → is_among registers r ≡ set.contains (set_without_x0 registers) r
 among_set registers r =
     ap (λ b. not b && list_any (λ n. n == r) registers) (sym (unsigned_tied r 0))
     ∙ ap (λ b. not (eq_by_cmp nat_cmp r 0) && b) (sym (set.contains-from_list_nat registers r))
