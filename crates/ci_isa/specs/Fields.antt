@@ -1,5 +1,5 @@
 -- The fields of an instruction word, and its immediates (RISC-V Unprivileged ISA 20191213, sections 2.2 and 2.3).
-use Rattle.std.specs.Prelude.{ℕ, ◌+◌, ◌-◌, ◌*◌, ◌/◌, ◌%◌, ◌^◌, List, [], ◌∷◌, ℤ}
+use Rattle.std.specs.Prelude.{◌≡◌, ◌⊎◌, ℕ, ◌+◌, ◌-◌, ◌*◌, ◌/◌, ◌%◌, ◌^◌, List, [], ◌∷◌, ℤ}
 use Rattle.ci_word.specs.Arithmetic.{signed_of_width}
 
 -- the bits of a word from high down to low, as a number
@@ -25,6 +25,10 @@ rs2_field word = field word 24 20
 
 abbrev pub funct7 : ℕ → ℕ
 funct7 word = field word 31 25
+
+-- the opcode is custom-0 or custom-1 (table 24.1), which the standard leaves to custom instructions
+abbrev pub HasCustomOpcode : ℕ → Type 0
+HasCustomOpcode word = (opcode word ≡ 0x0b) ⊎ (opcode word ≡ 0x2b)
 
 -- ---- immediates
 

@@ -10,6 +10,7 @@ pub use decoding::{decode, decode_x, insn_at};
 pub use encoding::{encode, well_formed_where_fields_fit};
 pub use instruction::{Cond, Insn, LoadKind, Width};
 pub use kinds::{class, is_eligible, is_terminator};
+pub use opcodes::has_custom_opcode;
 pub use operands::{reads, writes};
 pub use register::Reg;
 

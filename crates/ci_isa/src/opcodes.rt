@@ -1,4 +1,8 @@
 //! The opcodes, bits 6 to 0 of a word (RISC-V Unprivileged ISA 20191213, table 24.1).
+ghost use Rattle.std.specs.Prelude.{◌↔◌, IsTrue};
+ghost use Rattle.ci_isa.specs.Fields.{HasCustomOpcode};
+
+use crate::fields::bits;
 
 pub const LOAD: u32 = 0x03;
 
@@ -28,3 +32,10 @@ pub const JAL: u32 = 0x6f;
 pub const ECALL: u32 = 0x0000_0073;
 /// The whole word of EBREAK.
 pub const EBREAK: u32 = 0x0010_0073;
+
+/// Whether the word has the opcode custom-0 or custom-1, which the standard leaves to custom instructions.
+pub fn has_custom_opcode(word: u32) -> bool
+    ensures { IsTrue result ↔ HasCustomOpcode word }
+{
+    matches!(bits(word, 6, 0), CUSTOM_0 | CUSTOM_1)
+}
