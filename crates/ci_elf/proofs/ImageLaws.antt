@@ -1,5 +1,5 @@
--- Where the text of an image stands in its file.
-use Rattle.std.proofs.Common.{◌≡◌, ◌≢◌, ℕ, suc, zero, ◌+◌, ◌-◌, ◌*◌, ◌%◌, ◌<◌, ◌≤◌, ◌⊎◌, inl, inr, true, List, [], ◌∷◌, ◌++◌, length, take, drop, get_or, refl, sym, ◌∙◌, ap, subst, arith, length-append, length-take, length-drop, le-leb, lt-ltb, true≢false, append_assoc}
+-- What the segments of an image load from its file.
+use Rattle.std.proofs.Common.{◌≡◌, ◌≢◌, ℕ, suc, zero, ◌+◌, ◌-◌, ◌<◌, ◌≤◌, ◌⊎◌, inl, inr, true, List, [], ◌∷◌, ◌++◌, length, take, drop, get_or, refl, sym, ◌∙◌, ap, subst, arith, length-append, length-take, length-drop, le-leb, lt-ltb, true≢false, append_assoc}
 use Rattle.std.proofs.lemmas.List.{append-nil, take_rest, drop_all, drop-drop}
 use borrow.Rule.Slice.PartMut.{put_mid}
 use Rattle.byteorder.specs.Endian.{little_bytes}
@@ -8,16 +8,14 @@ use Rattle.std.specs.Prelude.{nat_le, nat_lt}
 use Rattle.std.specs.List.{AllPairs, Contains}
 use Rattle.std.specs.List.Sorted.{IsPermutation}
 use Rattle.std.proofs.lemmas.Bool.{cases_lt, cases_Bool, leb-true, ltb-true}
-use Rattle.std.proofs.lemmas.List.{get_or_default, get_or_append_left}
-use Rattle.std.proofs.Math.Seq.{get_or-append_seam, take-length}
-use Rattle.std.proofs.lemmas.List.Elements.{Contains-get_or}
+use Rattle.std.proofs.lemmas.List.{get_or_default, get_or_read}
+use Rattle.std.proofs.Math.Seq.{take-length}
 use Rattle.std.proofs.lemmas.List.Sorted.{Contains-permutation, IsPermutation-sym}
 use Rattle.ci_elf.specs.declared.segments.Segment.{Segment}
-use Rattle.ci_elf.specs.declared.ranges.Range.{Range}
 use Rattle.ci_elf.specs.Checks.{IsLastBefore}
 use Rattle.ci_elf.specs.SectionChecks.{AreLaidOut}
-use Rattle.ci_elf.specs.Executables.{Executable, IsWellFormed, ShareNoMemory, with_word, has_in_file, place_of}
-use Rattle.ci_elf.specs.Places.{ArePlaces, IsSound, LoadsByte, IsLoadedIn, AreOffsets}
+use Rattle.ci_elf.specs.Executables.{Executable, IsLoaded, IsTextWord, IsWellFormed, ShareNoMemory, with_word, has_in_file, place_of}
+use Rattle.ci_elf.specs.Places.{IsSound, LoadsByte, IsLoadedFrom}
 use Rattle.ci_elf.proofs.SegmentLaws.{both}
 use Rattle.ci_elf.proofs.RangeLaws.{left_of}
 
@@ -65,30 +63,6 @@ layout_permuted xs ys moved layout = record {
   one = λ s t c d. layout.one s t (Contains-permutation ys xs s (IsPermutation-sym xs ys moved) c) (Contains-permutation ys xs t (IsPermutation-sym xs ys moved) d);
 }
 
--- ---- places of ranges
-
-pub offsets_none : (segments : List Segment) (ranges : List Range) → AreOffsets segments ranges 0 []
-offsets_none segments ranges = record { many = refl; each = λ k d s h. absurd (omega arith) }
-
-pub offsets_more :
-    (segments : List Segment) (ranges : List Range) (n : ℕ) (offsets : List ℕ) (range : Range) (offset : ℕ) → n < length ranges
-    → range ≡ get_or ranges n (record { start = 0; words = 0 }) → AreOffsets segments ranges n offsets
-    → ((s : Segment) → Contains segments s → LoadsByte s range.start → offset ≡ s.offset + (range.start - s.address))
-    → AreOffsets segments ranges (n + 1) (offsets ++ offset ∷ [])
-offsets_more segments ranges n offsets range offset there is so_far here = record {
-  many = rw (length-append, so_far.many) (omega arith);
-  each = λ k d s h c loads. elim (cases_lt k n) [
-    | inl l ↦ get_or_append_left offsets (offset ∷ []) 0 k (omega (arith, so_far.many)) ∙ so_far.each k d s l c loads
-    | inr l ↦
-        let last : k ≡ n = omega arith in
-        let read : get_or ranges k d ≡ range =
-        ap (λ m. get_or ranges m d) last ∙ get_or_default ranges n d (record { start = 0; words = 0 }) there ∙ sym is in
-        let at : get_or (offsets ++ offset ∷ []) k 0 ≡ offset =
-        ap (λ m. get_or (offsets ++ offset ∷ []) m 0) (last ∙ sym so_far.many) ∙ get_or-append_seam offsets offset [] 0 in
-        at ∙ here s c (subst (λ r. LoadsByte s r.start) read loads) ∙ ap (λ r. s.offset + (r.start - s.address)) (sym read)
-  ];
-}
-
 -- of two elements of a list one stands before the other, or they are one
 ordered : {A : Type 0} (R : A → A → Type 0) (xs : List A) (x y : A) → AllPairs R xs → Contains xs x → Contains xs y → R x y ⊎ (R y x ⊎ (x ≡ y))
 ordered R xs x y pairs c d = elim (cases_lt c.0 d.0) [
@@ -113,12 +87,6 @@ module _ (image : Executable) (formed : IsWellFormed image) where
   pub layout_of : AreLaidOut image.segments
   layout_of = record { filled = formed.filled; one = one }
 
-  pub ranges_loaded : (range : Range) → Contains image.ranges range → IsLoadedIn image.segments range.start
-  ranges_loaded range c =
-      let l = formed.loaded range c in
-      let loads = l.2 in
-      (l.0, l.1, record { from = loads.from; to = omega (arith, loads.to, formed.worded range c) })
-
   -- what loads a byte is one segment
   only_loader : (address : ℕ) (s : Segment) → Contains image.segments s → LoadsByte s address → (t : Segment) → Contains image.segments t → LoadsByte t address → t ≡ s
   only_loader address s c loads t d others = elim (cases_lt s.address t.address) [
@@ -126,57 +94,98 @@ module _ (image : Executable) (formed : IsWellFormed image) where
     | inr l ↦ one t s d c l (omega (arith, others.to, loads.from, formed.filled t d))
   ]
 
-  pub places_from : (offsets : List ℕ) → AreOffsets image.segments image.ranges (length image.ranges) offsets → ArePlaces image offsets
-  places_from offsets are = record {
-    many = are.many;
-    place = λ k address d h from to.
-        let c = Contains-get_or image.ranges k d h in
-        let l = formed.loaded (get_or image.ranges k d) c in
-        let loads = l.2 in
-        let begins : LoadsByte l.0 (get_or image.ranges k d).start = record { from = loads.from; to = omega (arith, loads.to, formed.worded (get_or image.ranges k d) c) } in
-        let here : LoadsByte l.0 address = record { from = omega (arith, loads.from); to = omega (arith, loads.to) } in
-        let offset = are.each k d l.0 h l.1 begins in
-        place_found image.segments address l.0 l.1 here (only_loader address l.0 l.1 here) ∙ omega (arith, offset, loads.from);
-    within = λ k d h.
-        let c = Contains-get_or image.ranges k d h in
-        let l = formed.loaded (get_or image.ranges k d) c in
-        let loads = l.2 in
-        let begins : LoadsByte l.0 (get_or image.ranges k d).start = record { from = loads.from; to = omega (arith, loads.to, formed.worded (get_or image.ranges k d) c) } in
-        omega (arith, are.each k d l.0 h l.1 begins, loads.from, loads.to, loads.in_file);
-  }
+  -- a segment loads each word of the text, which lies in the file
+  pub word_loader : (address : ℕ) → IsTextWord image.ranges address
+      → (s : Segment) × Contains image.segments s × LoadsByte s address × (s.offset + (address - s.address) + 4 ≤ length image.bytes)
+  word_loader address (aligned, held) =
+      let range = held.1 in
+      let c : Contains image.ranges range = (held.0, held.2, held.3) in
+      let l = formed.loaded range c in
+      let loads = l.2 in (
+        l.0,
+        l.1,
+        record { from = omega (arith, loads.from, held.4.0); to = omega (arith, loads.to, held.4.1) },
+        omega (arith, aligned, formed.aligned range c, held.4.0, held.4.1, loads.from, loads.to, loads.in_file),
+      )
 
 -- ---- other bytes of the same length
 
-pub sound_with : (image : Executable) (offsets bytes : List ℕ) → length bytes ≡ length image.bytes → IsSound image offsets → IsSound (record image { bytes = bytes }) offsets
-sound_with image offsets bytes same sound = record {
-  well_formed = record {
-    ascending = sound.well_formed.ascending;
-    aligned = sound.well_formed.aligned;
-    worded = sound.well_formed.worded;
-    loaded = λ range c.
-        let l = sound.well_formed.loaded range c in
-        let loads = l.2 in
-        (l.0, l.1, record { from = loads.from; to = loads.to; in_file = omega (arith, loads.in_file) });
-    in_file = λ s c some. omega (arith, sound.well_formed.in_file s c some);
-    filled = sound.well_formed.filled;
-    has_memory = sound.well_formed.has_memory;
-    below_top = sound.well_formed.below_top;
-    off_stack = sound.well_formed.off_stack;
-    apart = sound.well_formed.apart;
-    bounded = sound.well_formed.bounded;
-    entry = sound.well_formed.entry;
-  };
-  places = record {
-    many = sound.places.many;
-    place = sound.places.place;
-    within = λ k d h. omega (arith, sound.places.within k d h);
-  };
+pub formed_with : (image : Executable) (bytes : List ℕ) → length bytes ≡ length image.bytes → IsWellFormed image → IsWellFormed (record image { bytes = bytes })
+formed_with image bytes same formed = record {
+  ascending = formed.ascending;
+  aligned = formed.aligned;
+  worded = formed.worded;
+  loaded = λ range c.
+      let l = formed.loaded range c in
+      let loads = l.2 in
+      (l.0, l.1, record { from = loads.from; to = loads.to; in_file = omega (arith, loads.in_file) });
+  in_file = λ s c some. omega (arith, formed.in_file s c some);
+  filled = formed.filled;
+  has_memory = formed.has_memory;
+  below_top = formed.below_top;
+  off_stack = formed.off_stack;
+  apart = formed.apart;
+  bounded = formed.bounded;
+  entry = formed.entry;
 }
 
--- a word inside a range
-pub word_within : (address start words offset size : ℕ) → start ≤ address → address < start + 4 * words → address % 4 ≡ 0 → start % 4 ≡ 0
-    → offset + 4 * words ≤ size → offset + (address - start) + 4 ≤ size
-word_within address start words offset size from to a b h = omega arith
+-- ---- what is read through the segments by address
+
+module _ (image : Executable) (by_address : List Segment) (sound : IsSound image by_address) where
+  of_image : (s : Segment) → Contains by_address s → Contains image.segments s
+  of_image s c = Contains-permutation by_address image.segments s (IsPermutation-sym image.segments by_address sound.same) c
+
+  among : (s : Segment) → Contains image.segments s → Contains by_address s
+  among s c = Contains-permutation image.segments by_address s sound.same c
+
+  pub layout_by_address : AreLaidOut by_address
+  layout_by_address = layout_permuted image.segments by_address sound.same (layout_of image sound.well_formed)
+
+  module _ (address : ℕ) where
+    abbrev pub Unloaded : Type 0
+    Unloaded = (s : Segment) → Contains by_address s → ¬ LoadsByte s address
+
+    pub word_is_loaded : IsTextWord image.ranges address → ¬ Unloaded
+    word_is_loaded text none =
+        let l = word_loader image sound.well_formed address text in
+        none l.0 (among l.0 l.1) l.2
+
+    module _ (place : ℕ) (from : IsLoadedFrom by_address address place) where
+      one_loader : (s : Segment) → Contains image.segments s → LoadsByte s address → s ≡ from.segment
+      one_loader = only_loader image sound.well_formed address from.segment (of_image from.segment from.there) from.loads
+
+      pub place_is : place ≡ place_of image.segments address
+      place_is =
+          from.is ∙ sym (place_found image.segments address from.segment (of_image from.segment from.there) from.loads one_loader)
+
+      pub word_in_file : IsTextWord image.ranges address → place + 4 ≤ length image.bytes
+      word_in_file text =
+          let l = word_loader image sound.well_formed address text in
+          let fits : from.segment.offset + (address - from.segment.address) + 4 ≤ length image.bytes =
+          subst (λ (s : Segment). s.offset + (address - s.address) + 4 ≤ length image.bytes) (one_loader l.0 l.1 l.2) l.3 in
+          omega (arith, from.is, fits)
+
+      pub byte_in_file : place < length image.bytes
+      byte_in_file =
+          omega (arith, from.is, from.loads.from, from.loads.to, sound.well_formed.in_file from.segment (of_image from.segment from.there) (omega (arith, from.loads.from, from.loads.to)))
+
+      pub is_loaded : (byte : ℕ) → byte ≡ get_or image.bytes place byte → IsLoaded image address byte
+      is_loaded byte is = record {
+        segment = from.segment;
+        there = of_image from.segment from.there;
+        from = from.loads.from;
+        to = from.loads.to;
+        byte = ap (λ k. get_or image.bytes k 0) (sym from.is) ∙ sym (get_or_read image.bytes place byte byte_in_file is 0);
+      }
+
+      pub only_byte : (found byte : ℕ) → found ≡ get_or image.bytes place found → IsLoaded image address byte → found ≡ byte
+      only_byte found byte is l =
+          get_or_read image.bytes place found byte_in_file is 0 ∙ ap (λ k. get_or image.bytes k 0) from.is
+          ∙ subst (λ (s : Segment). get_or image.bytes (s.offset + (address - s.address)) 0 ≡ byte)
+          (one_loader l.segment l.there (record { from = l.from; to = l.to })) l.byte
+
+    pub not_loaded : Unloaded → (byte : ℕ) → ¬ IsLoaded image address byte
+    not_loaded none byte l = none l.segment (among l.segment l.there) (record { from = l.from; to = l.to })
 
 -- what a write of a word leaves
 pub written :

@@ -1,5 +1,5 @@
 -- What an executable file means: its segments, its text and its symbols.
-use Rattle.std.specs.Prelude.{◌≡◌, ℕ, ◌+◌, ◌-◌, ◌*◌, ◌/◌, ◌%◌, ◌<◌, ◌≤◌, ◌⊎◌, ◌&&◌, Bool, if◌then◌else◌, List, [], ◌∷◌, ◌++◌, length, take, drop, nat_lt, nat_le}
+use Rattle.std.specs.Prelude.{◌≡◌, ℕ, ◌+◌, ◌-◌, ◌*◌, ◌/◌, ◌%◌, ◌<◌, ◌≤◌, ◌⊎◌, ◌&&◌, Bool, if◌then◌else◌, List, [], ◌∷◌, ◌++◌, length, take, drop, nat_lt, nat_le, slice_index, slice_index_or}
 use Rattle.std.specs.List.{AllPairs, Any, Contains, sum_by}
 use Rattle.std.specs.List.Sorted.{IsPermutation}
 use Rattle.ci_elf.specs.declared.segments.Segment.{Segment}
@@ -75,6 +75,12 @@ InText ranges address = Any (λ range. (range.start ≤ address) × (address < e
 abbrev pub IsTextWord : List Range → ℕ → Type 0
 IsTextWord ranges address = (address % 4 ≡ 0) × InText ranges address
 
+-- range i of the list has the byte at the address
+pub record HoldsAddress (ranges : List Range) (address i : ℕ) : Type 0 where
+  pub within : i < length ranges
+  pub from : (d : Range) → (slice_index_or ranges i d).start ≤ address
+  pub to : (d : Range) → address < end_of (slice_index_or ranges i d)
+
 -- by address, and no two of them overlap
 abbrev pub IsAscending : List Range → Type 0
 IsAscending ranges = AllPairs (λ left right. end_of left ≤ right.start) ranges
@@ -102,6 +108,14 @@ unfoldable pub place_of : List Segment → ℕ → ℕ
 place_of [] address = 0
 place_of (segment ∷ segments) address =
     if has_in_file segment address then segment.offset + (address - segment.address) else place_of segments address
+
+-- a segment loads this byte from the file to the address (System V gABI, chapter 5, "Program Header")
+pub record IsLoaded (image : Executable) (address value : ℕ) : Type 0 where
+  pub segment : Segment
+  pub there : Contains image.segments segment
+  pub from : segment.address ≤ address
+  pub to : address < segment.address + segment.file_size
+  pub byte : slice_index image.bytes (segment.offset + (address - segment.address)) ≡ value
 
 -- the bytes with the word at this place
 abbrev pub with_word : List ℕ → ℕ → ℕ → List ℕ

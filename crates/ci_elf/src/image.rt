@@ -1,12 +1,10 @@
 //! An executable file and what it means.
-ghost use Rattle.std.specs.Prelude.{◌≡◌, ◌+◌, ◌-◌, ◌<◌, ◌≤◌, length, IfOk};
+ghost use Rattle.std.specs.Prelude.{◌≡◌, ◌+◌, ◌≤◌, length, MatchOption};
 ghost use Rattle.std.specs.List.{Contains};
 ghost use Rattle.std.specs.List.Sorted.{IsNonDecreasingBy};
-ghost use Rattle.ci_elf.specs.declared.ranges.Range.{Range as TextRange};
-ghost use Rattle.ci_elf.specs.declared.segments.Segment.{Segment as LoadedSegment};
 ghost use Rattle.ci_elf.specs.Executables.{with_word};
 ghost use Rattle.ci_elf.specs.SectionChecks.{AreLaidOut};
-ghost use Rattle.ci_elf.specs.Places.{AreOffsets, IsLoadedIn, LoadsByte};
+ghost use Rattle.ci_elf.specs.Places.{IsLoadedFrom, LoadsByte};
 
 use crate::fields::word_at;
 use crate::memory::{by_address, segment_before};
@@ -24,8 +22,8 @@ pub struct Image {
     segments: Vec<Segment>,
     ranges: Vec<Range>,
     symbols: Vec<u32>,
-    /// Where in the file each range begins.
-    offsets: Vec<usize>,
+    /// The segments in the order of their addresses.
+    by_address: Vec<Segment>,
 }
 
 impl Model for Image {
@@ -37,40 +35,24 @@ impl Model for Image {
     ghost view = { λ i. executable i.bytes.items i.entry i.segments.items i.ranges.items i.symbols.items };
 
     ghost invariant = { λ i. IsSound
-        (executable i.bytes.items i.entry i.segments.items i.ranges.items i.symbols.items) i.offsets.items };
+        (executable i.bytes.items i.entry i.segments.items i.ranges.items i.symbols.items) i.by_address.items };
 }
 
-/// Where in the file the byte at an address stands, which a segment loads, of segments in the order
+/// Where in the file the byte at an address stands, if a segment loads it, of segments in the order
 /// of their addresses.
-fn offset_of(segments: &[Segment], address: u32) -> usize
+fn place_in(segments: &[Segment], address: u32) -> Option<usize>
     requires order { IsNonDecreasingBy (λ segment. segment.address) segments.now }
     requires layout { AreLaidOut segments.now }
-    requires loaded { IsLoadedIn segments.now address }
-    ensures { (s : LoadedSegment) → Contains segments.now s → LoadsByte s address
-        → result ≡ s.offset + (address - s.address) }
+    ensures { MatchOption result ((s : _) → Contains segments.now s → ¬ (LoadsByte s address))
+        (IsLoadedFrom segments.now address) }
 {
-    match segment_before(segments, address) {
-        Some(segment) => segment.offset as usize + (address - segment.address) as usize,
-        None => unreachable!(),
+    let segment = segment_before(segments, address)?;
+    let distance = address - segment.address;
+    if distance < segment.file_size {
+        Some(segment.offset as usize + distance as usize)
+    } else {
+        None
     }
-}
-
-/// Where in the file each range begins.
-fn offsets_of(
-    alloc: Global,
-    segments: &[Segment],
-    ranges: &[Range],
-) -> Result<Vec<usize>, AllocError>
-    requires layout { AreLaidOut segments.now }
-    requires loaded { (range : TextRange) → Contains ranges.now range → IsLoadedIn segments.now range.start }
-    ensures { IfOk result (λ v. AreOffsets segments.now ranges.now (length ranges.now) v.items) }
-{
-    let sorted = by_address(alloc, segments)?;
-    let mut offsets = Vec::new(alloc);
-    for range in ranges {
-        offsets.push(offset_of(&sorted, range.start))?;
-    }
-    Ok(offsets)
 }
 
 /// Writes a word into bytes.
@@ -82,9 +64,9 @@ fn write_word(bytes: &mut [u8], place: usize, word: u32)
 }
 
 impl Image {
-    ghost use Rattle.std.specs.Prelude.{◌≡◌, ◌+◌, ◌≤◌, ◌↔◌, length, IfOk, IsTrue};
+    ghost use Rattle.std.specs.Prelude.{◌≡◌, ℕ, ◌+◌, ◌≤◌, ◌↔◌, length, Some, IfOk, IfSome, IsTrue};
     ghost use Rattle.ci_elf.specs.Fields.{field};
-    ghost use Rattle.ci_elf.specs.Executables.{InText, executable, IsTextWord, IsWellFormed, place_of, with_word};
+    ghost use Rattle.ci_elf.specs.Executables.{InText, IsLoaded, executable, IsTextWord, IsWellFormed, place_of, with_word};
 
     /// The image of these parts.
     pub(crate) fn new(
@@ -99,14 +81,14 @@ impl Image {
         ensures { IfOk result (λ image.
             image ≡ executable bytes.items entry segments.items ranges.items symbols.items) }
     {
-        let offsets = offsets_of(alloc, &segments, &ranges)?;
+        let by_address = by_address(alloc, &segments)?;
         Ok(Image {
             bytes,
             entry,
             segments,
             ranges,
             symbols,
-            offsets,
+            by_address,
         })
     }
 
@@ -154,14 +136,23 @@ impl Image {
         range_with(&self.ranges, address).is_some()
     }
 
+    /// The byte that a segment loads from the file to an address.
+    pub fn loaded_byte(&self, address: u32) -> Option<u8>
+        ensures found { IfSome result (λ byte. IsLoaded self.now address byte) }
+        ensures only { (byte : ℕ) → IsLoaded self.now address byte → result ≡ Some byte }
+    {
+        let place = place_in(&self.by_address, address)?;
+        Some(self.bytes[place])
+    }
+
     /// Where in the file a word of the text stands.
     fn place(&self, address: u32) -> usize
         requires { IsTextWord self.now.ranges address }
         ensures place { result ≡ place_of self.now.segments address }
         ensures within { result + 4 ≤ length self.now.bytes }
     {
-        match range_with(&self.ranges, address) {
-            Some(index) => { self.offsets[index] + (address - self.ranges[index].start) as usize }
+        match place_in(&self.by_address, address) {
+            Some(place) => place,
             None => unreachable!(),
         }
     }
@@ -196,7 +187,7 @@ impl Image {
             segments: Vec::from_slice(alloc, &self.segments)?,
             ranges: Vec::from_slice(alloc, &self.ranges)?,
             symbols: Vec::from_slice(alloc, &self.symbols)?,
-            offsets: Vec::from_slice(alloc, &self.offsets)?,
+            by_address: Vec::from_slice(alloc, &self.by_address)?,
         })
     }
 }

@@ -11,7 +11,7 @@
 pub use faults::ElfFault;
 pub use frames::frame;
 pub use image::Image;
-pub use ranges::Range;
+pub use ranges::{Range, range_with};
 pub use reading::read;
 pub use segments::Segment;
 

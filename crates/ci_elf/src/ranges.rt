@@ -2,10 +2,10 @@
 ghost use Rattle.std.specs.Prelude.{◌≡◌, ◌+◌, ◌-◌, ◌*◌, ◌/◌, ◌%◌, ◌<◌, ◌≤◌, length, IfOk, MatchOption, MatchResult};
 ghost use Rattle.std.specs.List.{sum_by};
 ghost use Rattle.ci_elf.specs.Fields.{e_shnum};
-ghost use Rattle.ci_elf.specs.Executables.{InText, IsAscending, IsTextWord, ranges_of};
+ghost use Rattle.ci_elf.specs.Executables.{HoldsAddress, InText, IsAscending, IsTextWord, ranges_of};
 ghost use Rattle.ci_elf.specs.Rules.{KeepsRules, section_rules, segment_rules};
 ghost use Rattle.ci_elf.specs.Checks.{HasTables};
-ghost use Rattle.ci_elf.specs.RangeChecks.{HoldsAddress, range_at, words_of};
+ghost use Rattle.ci_elf.specs.RangeChecks.{range_at, words_of};
 
 use crate::ElfFault;
 use crate::fields::section_count;
@@ -87,7 +87,7 @@ pub(crate) fn check_text_size(ranges: &[Range]) -> Result<(), ElfFault>
 }
 
 /// The number of the range that an address lies in, of ranges in the order of their addresses.
-pub(crate) fn range_with(ranges: &[Range], address: u32) -> Option<usize>
+pub fn range_with(ranges: &[Range], address: u32) -> Option<usize>
     requires { IsAscending ranges.now }
     ensures { MatchOption result (¬ (InText ranges.now address)) (HoldsAddress ranges.now address) }
 {

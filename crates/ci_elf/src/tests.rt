@@ -1,7 +1,7 @@
 //! Files, and what they read as.
 ghost use Rattle.std.specs.Prelude.{◌≡◌, ◌+◌, ◌<◌, ◌≤◌, length, vec_len};
 
-use crate::{ElfFault, Image, Range, Segment, frame, read};
+use crate::{ElfFault, Image, Range, Segment, frame, range_with, read};
 use byteorder::{ByteOrder, LittleEndian};
 use std::alloc::{AllocError, Global};
 use std::process::Abort;
@@ -310,6 +310,17 @@ fn an_image_has_the_parts_of_its_file(rt: HostRuntime) -> Result<(), Fail> {
     assert_eq!(rt; image.symbols().len(), 0);
     assert!(rt; image.in_text(0x1_0074) && image.in_text(0x1_007b));
     assert!(rt; !image.in_text(0x1_0073) && !image.in_text(0x1_007c));
+    let range = range_with(image.ranges(), 0x1_007b);
+    assert_eq!(rt; range, Some(0));
+    let loaded = [
+        image.loaded_byte(0xffff),
+        image.loaded_byte(0x1_0001),
+        image.loaded_byte(0x1_0080),
+        image.loaded_byte(0x2_0004),
+        image.loaded_byte(0x2_000c),
+    ];
+    let expected = [None, Some(0x45), None, Some(6), None];
+    assert_eq!(rt; loaded.as_slice(), expected.as_slice());
     Ok(())
 }
 

@@ -1,8 +1,7 @@
 use Rattle.std.proofs.Common.{◌≡◌, sym, ◌∙◌, ap, subst, true, Option, Some, None, ℕ, List, is_some, true≢false, refl}
 use Rattle.std.specs.Prelude.{MatchOption}
 use Rattle.ci_elf.specs.declared.ranges.Range.{Range}
-use Rattle.ci_elf.specs.Executables.{InText}
-use Rattle.ci_elf.specs.RangeChecks.{HoldsAddress}
+use Rattle.ci_elf.specs.Executables.{HoldsAddress, InText}
 use Rattle.ci_elf.proofs.RangeLaws.{text_held}
 use Rattle.ci_elf.proofs.image.Image.in_text.Goals as goal
 

@@ -1,6 +1,6 @@
 use Rattle.std.proofs.Common.{◌≡◌, ◌+◌, ◌≤◌, length, sym, ◌∙◌, subst, ap, arith}
 use Rattle.ci_elf.specs.Executables.{with_word}
-use Rattle.ci_elf.proofs.ImageLaws.{sound_with, length_with_word, replaced}
+use Rattle.ci_elf.proofs.ImageLaws.{formed_with, length_with_word, replaced}
 use Rattle.ci_elf.proofs.image.Image.patch.Goals as goal
 
 pub invariant_of-self : goal.invariant_of-self
@@ -13,4 +13,8 @@ invariant_of-self c =
     let same : length c.write_word.new.bytes ≡ length items = ap length is ∙ length_with_word items c.place-place.result c.args.word within in
     let full : c.self.inside.bytes.len ≡ length items = omega (arith, c.self.inside.bytes.ok.0) in
     rw (replaced items c.write_word.new.bytes c.self.inside.bytes.len full same)
-    (sound_with _ c.self.inside.offsets.items c.write_word.new.bytes same c.self.invariant)
+    (record {
+      well_formed = formed_with _ c.write_word.new.bytes same c.self.invariant.well_formed;
+      order = c.self.invariant.order;
+      same = c.self.invariant.same;
+    })
