@@ -1,51 +1,9 @@
 -- There is one list of leaders.
-use Rattle.std.proofs.Common.{◌≡◌, ℕ, zero, suc, ◌<◌, ◌⊎◌, inl, inr, List, [], ◌∷◌, refl, subst, arith}
-use Rattle.std.specs.List.{AllPairs, Contains}
+use Rattle.std.proofs.Common.{◌≡◌, ℕ, zero, suc, ◌<◌, inl, inr, List, arith}
+use Rattle.std.specs.List.{Contains}
 use Rattle.ci_elf.specs.Executables.{Executable}
+use Rattle.ci_elf.proofs.OneOrder.{ascending_is_one}
 use Rattle.ci_block.specs.Leaders.{IsListing, ListingIsOne}
-
--- ---- two ascending lists of the same numbers are one
-
-first_or_later : (x : ℕ) (xs : List ℕ) (a : ℕ) → Contains (x ∷ xs) a → (x ≡ a) ⊎ Contains xs a
-first_or_later x xs a (zero, h, is) = inl is
-first_or_later x xs a (suc k, h, is) = inr (k, omega arith, is)
-
-later : (x : ℕ) (xs : List ℕ) (a : ℕ) → Contains xs a → Contains (x ∷ xs) a
-later x xs a c = (suc c.0, omega (arith, c.1), c.2)
-
-first : (x : ℕ) (xs : List ℕ) → Contains (x ∷ xs) x
-first x xs = (0, omega arith, refl)
-
-module _ (x : ℕ) (xs : List ℕ) (rises : AllPairs (λ a b. a < b) (x ∷ xs)) where
-  above_first : (a : ℕ) → Contains xs a → x < a
-  above_first a c = subst (λ y. x < y) c.2 (rises 0 (suc c.0) a (omega arith) (omega (arith, c.1)))
-
-  rest_rises : AllPairs (λ a b. a < b) xs
-  rest_rises i j d h l = rises (suc i) (suc j) d (omega arith) (omega arith)
-
-one_list : (xs ys : List ℕ) → AllPairs (λ a b. a < b) xs → AllPairs (λ a b. a < b) ys
-    → ((a : ℕ) → Contains xs a → Contains ys a) → ((a : ℕ) → Contains ys a → Contains xs a) → xs ≡ ys
-one_list [] [] xs_rise ys_rise to from = refl
-one_list [] (y ∷ ys) xs_rise ys_rise to from = let c = from y (first y ys) in absurd (omega (arith, c.1))
-one_list (x ∷ xs) [] xs_rise ys_rise to from = let c = to x (first x xs) in absurd (omega (arith, c.1))
-one_list (x ∷ xs) (y ∷ ys) xs_rise ys_rise to from =
-    let heads : x ≡ y = elim (first_or_later y ys x (to x (first x xs))) [
-      | inl e ↦ omega arith
-      | inr c ↦ elim (first_or_later x xs y (from y (first y ys))) [
-        | inl e ↦ e
-        | inr d ↦ absurd (omega (arith, above_first y ys ys_rise x c, above_first x xs xs_rise y d))
-      ]
-    ] in
-    let tails : xs ≡ ys = one_list xs ys (rest_rises x xs xs_rise) (rest_rises y ys ys_rise)
-    (λ a c. elim (first_or_later y ys a (to a (later x xs a c))) [
-      | inl e ↦ absurd (omega (arith, above_first x xs xs_rise a c))
-      | inr d ↦ d
-    ])
-    (λ a c. elim (first_or_later x xs a (from a (later y ys a c))) [
-      | inl e ↦ absurd (omega (arith, above_first y ys ys_rise a c))
-      | inr d ↦ d
-    ]) in
-    λ i. heads i ∷ tails i
 
 -- ---- two listings have the same members
 
@@ -83,7 +41,9 @@ module _ (image : Executable) (targets named : List ℕ) where
     )
 
     one : left ≡ right
-    one = one_list left right l.ascending r.ascending (λ a. (agree (suc a) a (omega arith)).0) (λ a. (agree (suc a) a (omega arith)).1)
+    one =
+        ascending_is_one (λ a. a) left right l.ascending r.ascending (λ a. (agree (suc a) a (omega arith)).0)
+        (λ a. (agree (suc a) a (omega arith)).1)
 
 pub listing_is_one : ListingIsOne
 listing_is_one image targets named left right l r = one image targets named left right l r

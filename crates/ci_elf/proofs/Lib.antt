@@ -20,3 +20,5 @@ pub mod FrameHeaderLaws
 pub mod FrameMeaningLaws
 pub mod FrameRuleLaws
 pub mod FrameImageLaws
+pub mod OneOrder
+pub mod OneImage

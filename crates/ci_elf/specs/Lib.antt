@@ -10,3 +10,4 @@ pub mod RangeChecks
 pub mod SymbolChecks
 pub mod Frames
 pub mod FrameImages
+pub mod Laws
