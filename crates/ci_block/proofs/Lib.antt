@@ -8,3 +8,4 @@ pub mod LoadingLaws
 pub mod LeaderLaws
 pub mod OneListing
 pub mod BlockLaws
+pub mod OneBlock

@@ -8,3 +8,4 @@ pub mod Sources
 pub mod Loading
 pub mod Listing
 pub mod Stretches
+pub mod Laws

@@ -1,7 +1,14 @@
 //! What holds of all files, as contracts of functions without effect.
+ghost use Rattle.ci_block.specs.Laws.{BlockIsOne, BlocksAreOne};
 ghost use Rattle.ci_block.specs.Leaders.{ListingIsOne};
 
 /// The definition of the listed leaders determines them.
 pub fn leaders_are_determined()
     ensures { ListingIsOne }
+{}
+
+/// The leaders of a file determine its blocks: their instructions and their successors.
+pub fn blocks_are_determined()
+    ensures block { BlockIsOne }
+    ensures blocks { BlocksAreOne }
 {}

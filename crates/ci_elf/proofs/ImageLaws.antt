@@ -64,7 +64,7 @@ layout_permuted xs ys moved layout = record {
 }
 
 -- of two elements of a list one stands before the other, or they are one
-ordered : {A : Type 0} (R : A → A → Type 0) (xs : List A) (x y : A) → AllPairs R xs → Contains xs x → Contains xs y → R x y ⊎ (R y x ⊎ (x ≡ y))
+pub ordered : {A : Type 0} (R : A → A → Type 0) (xs : List A) (x y : A) → AllPairs R xs → Contains xs x → Contains xs y → R x y ⊎ (R y x ⊎ (x ≡ y))
 ordered R xs x y pairs c d = elim (cases_lt c.0 d.0) [
   | inl h ↦ inl (subst (λ z. R z y) c.2 (subst (R (get_or xs c.0 x)) (get_or_default xs d.0 x y d.1 ∙ d.2) (pairs c.0 d.0 x h d.1)))
   | inr h ↦ elim (cases_lt d.0 c.0) [
