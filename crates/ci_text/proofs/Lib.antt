@@ -1,2 +1,3 @@
 pub mod ByteLaws
 mod HexLaws
+pub mod MemberLaws
