@@ -2,7 +2,8 @@
 ghost use Rattle.std.specs.Prelude.{◌≡◌, ◌*◌, ◌<◌, ◌^◌, IfOk, OnErr, nat_lt, if◌then◌else◌, pos, ◌-ℤ◌};
 ghost use Rattle.ci_word.specs.Arithmetic.{word_of};
 ghost use Rattle.ci_isa.specs.declared.instruction.Insn.TheVariants.{Branch, Load, Store};
-ghost use Rattle.ci_machine.specs.Accesses.{extended, load_width, width_bytes, addresses, bytes_at};
+ghost use Rattle.ci_isa.specs.Effects.{width_bytes};
+ghost use Rattle.ci_machine.specs.Accesses.{extended, load_width, addresses, bytes_at};
 ghost use Rattle.ci_machine.specs.Actions.{Units, act, address_from, loaded, stored};
 ghost use Rattle.ci_machine.specs.Calls.{call};
 ghost use Rattle.ci_machine.specs.Cores.{register, with_register};

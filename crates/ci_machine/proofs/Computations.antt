@@ -7,7 +7,8 @@ use Rattle.ci_machine.specs.declared.ends.End.{End}
 use Rattle.ci_machine.specs.Cores.{Core, register}
 use Rattle.ci_machine.specs.Outcomes.{Reached, continued, at_start}
 use Rattle.ci_machine.specs.Actions.{Units, act, acted, accessed}
-use Rattle.ci_machine.specs.Agreement.{reads, writes, is_access, act_all, AgreeOn, AreRelated, AreActions, AreApart, AllLeaveText, needed, written}
+use Rattle.ci_isa.specs.Effects.{is_access}
+use Rattle.ci_machine.specs.Agreement.{reads, writes, act_all, AgreeOn, AreRelated, AreActions, AreApart, AllLeaveText, needed, written}
 use Rattle.ci_machine.proofs.Effects.{keeps}
 use Rattle.ci_machine.proofs.TestLaws.{by_test, by_end, excluded, neither_first, neither_second}
 use Rattle.ci_machine.proofs.Exchange.{store_accesses}

@@ -6,14 +6,14 @@ use Rattle.ci_word.specs.declared.arithmetic.Op.TheVariants.{Add}
 use Rattle.ci_word.specs.Arithmetic.{operation, word_of}
 use Rattle.ci_isa.specs.declared.instruction.Insn.{Insn}
 use Rattle.ci_isa.specs.declared.instruction.Insn.TheVariants.{Auipc, Jal, Jalr, Branch, Fence, Ecall, Ebreak, Illegal}
-use Rattle.ci_isa.specs.Effects.{ends_block}
+use Rattle.ci_isa.specs.Effects.{ends_block, is_among}
 use Rattle.ci_machine.specs.declared.ends.End.{End}
 use Rattle.ci_machine.specs.declared.ends.End.TheVariants as ends
 use Rattle.ci_machine.specs.Cores.{Core, register, with_register}
 use Rattle.ci_machine.specs.Accesses.{addresses, bytes_at, joined, with_bytes}
 use Rattle.ci_machine.specs.Outcomes.{Next, Ended, reached, at_start}
 use Rattle.ci_machine.specs.Actions.{address_from}
-use Rattle.ci_machine.specs.Agreement.{reads, writes, is_among, AgreeOutside, AgreeOn, AreRelated}
+use Rattle.ci_machine.specs.Agreement.{reads, writes, AgreeOutside, AgreeOn, AreRelated}
 use Rattle.ci_machine.specs.Programs.{Program, State, at_pc, lies_in, stack_start, stack_end}
 use Rattle.ci_machine.specs.Calls.{bad_file, bad_address, no_such_call, answering, range_at, read_length, read_into, read_call, written_from, is_output, write_call, may_end_at, with_heap_end, heap_call, numbered_call, moved_range}
 use Rattle.ci_machine.specs.Steps.{control, onward, directed, then_onward, following, is_taken, even, moved}

@@ -9,13 +9,13 @@ use Rattle.ci_isa.specs.declared.instruction.LoadKind.{LoadKind}
 use Rattle.ci_isa.specs.declared.instruction.Width.{Width}
 use Rattle.ci_isa.specs.declared.instruction.Insn.{Insn}
 use Rattle.ci_isa.specs.declared.instruction.Insn.TheVariants.{Alu, AluImm, Lui, Load, Store, Unit, Cread}
-use Rattle.ci_isa.specs.Effects.{ends_block}
+use Rattle.ci_isa.specs.Effects.{ends_block, width_bytes, is_among, is_access}
 use Rattle.ci_machine.specs.declared.ends.End.{End}
 use Rattle.ci_machine.specs.Cores.{Core, hidden, register, with_register}
-use Rattle.ci_machine.specs.Accesses.{addresses, joined, bytes_at, with_bytes, bytes_of_number, width_bytes, load_width}
+use Rattle.ci_machine.specs.Accesses.{addresses, joined, bytes_at, with_bytes, bytes_of_number, load_width}
 use Rattle.ci_machine.specs.Outcomes.{Next, Reached, reached}
 use Rattle.ci_machine.specs.Actions.{Units, acted, accessed, address_from, loaded, stored}
-use Rattle.ci_machine.specs.Agreement.{is_among, reads, writes, is_access, AgreeOn}
+use Rattle.ci_machine.specs.Agreement.{reads, writes, AgreeOn}
 use Rattle.ci_machine.proofs.RegisterLaws.{register_kept, register_written, operands_agree}
 
 -- ---- one instruction from one core

@@ -5,12 +5,12 @@ use Rattle.std.specs.Prelude.{Bool, true, false, ◌||◌}
 use Rattle.std.specs.List.{list_any}
 use Rattle.ci_isa.specs.declared.instruction.Insn.{Insn}
 use Rattle.ci_isa.specs.declared.instruction.Insn.TheVariants.{Load, Store}
-use Rattle.ci_isa.specs.Effects.{ends_block}
+use Rattle.ci_isa.specs.Effects.{ends_block, is_access}
 use Rattle.ci_machine.specs.declared.ends.End.{End}
 use Rattle.ci_machine.specs.Cores.{Core}
 use Rattle.ci_machine.specs.Outcomes.{Reached}
 use Rattle.ci_machine.specs.Actions.{Units, acted, accessed}
-use Rattle.ci_machine.specs.Agreement.{reads, writes, is_access, act_all, AgreeOutside, AgreeOn, AreRelated, AreIndependent, LeavesText}
+use Rattle.ci_machine.specs.Agreement.{reads, writes, act_all, AgreeOutside, AgreeOn, AreRelated, AreIndependent, LeavesText}
 use Rattle.ci_machine.proofs.TestLaws.{by_test, by_end, excluded, not_both, swapped, neither_first, neither_second, either_first}
 use Rattle.ci_machine.proofs.Effects.{keeps, AgreeAt, AreAlike, alike, is_store}
 

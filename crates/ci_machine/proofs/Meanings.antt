@@ -1,10 +1,7 @@
 -- There is a plain meaning, and only one; and which registers an instruction reads and writes as sets.
-use Rattle.std.proofs.Common.{◌≡◌, ◌^◌, ◌<◌, refl, ap, sym, ◌∙◌, arith, inl, inr, List, [], ◌∷◌, Option, Some, None}
-use Rattle.std.specs.Prelude.{not, ◌==◌, ◌&&◌, nat_lt, if◌then◌else◌, IfSome}
-use Rattle.std.specs.List.{list_any}
+use Rattle.std.proofs.Common.{◌≡◌, ◌^◌, ◌<◌, refl, ap, ◌∙◌, arith, inl, inr, List, [], ◌∷◌, Option, Some, None}
+use Rattle.std.specs.Prelude.{◌==◌, ◌&&◌, nat_lt, if◌then◌else◌, IfSome}
 use Rattle.std.specs.FinSet as set
-use Rattle.std.specs.Ordering.{nat_cmp, eq_by_cmp}
-use Rattle.std.specs.Cmp.{nat_cmp_total, unsigned_tied}
 use Rattle.std.specs.Option.{unwrap_or}
 use Rattle.std.proofs.lemmas.Bool.{cases_lt, lt-ltb, le-ltb}
 use Rattle.std.proofs.lemmas.Bool.Decides.{nat_tests}
@@ -12,9 +9,10 @@ use Rattle.ci_isa.specs.declared.instruction.Insn.{Insn}
 use Rattle.ci_isa.specs.declared.instruction.Insn.TheVariants.{Unit, Cread, Illegal}
 use Rattle.ci_isa.specs.Table.{Reads, IsInsnAt}
 use Rattle.ci_isa.specs.Decoding.{plain_row}
-use Rattle.ci_isa.specs.Effects.{operands, results, set_without_x0, registers_read, registers_written}
+use Rattle.ci_isa.specs.Effects.{registers_read, registers_written, is_among}
 use Rattle.ci_isa.proofs.Found.{plain_reads}
-use Rattle.ci_isa.proofs.Only.{only_plain}
+use Rattle.ci_isa.proofs.Only.{only_plain, one_insn}
+use Rattle.ci_isa.proofs.Registers.{reads_register_is, writes_register_is}
 use Rattle.ci_machine.specs.Outcomes.{continued}
 use Rattle.ci_machine.specs.Programs.{Program, State, in_text}
 use Rattle.ci_word.specs.Numbers.{sum_below}
@@ -22,7 +20,7 @@ use Rattle.ci_machine.specs.Steps.{Meaning, IsPlain, word_at, execute, fetched, 
 use Rattle.ci_machine.specs.Runs.{Latencies, latency, after, cost, step_cost}
 use Rattle.std.specs.Option.{option_map}
 use Rattle.std.specs.Prelude.{ℕ, zero, suc, ◌%◌, Bool, true, false, is_none}
-use Rattle.ci_machine.specs.Agreement.{is_among, reads, writes}
+use Rattle.ci_machine.specs.Agreement.{reads, writes}
 
 -- ---- meanings
 
@@ -43,12 +41,6 @@ stands word = elim (cases_lt word (2 ^ 32)) [
 
 pub plain_exists : (meaning : Meaning) × IsPlain meaning
 plain_exists = (record { insn = plain_insn; units = λ number a b c. (0, 0) }, stands)
-
-pub one_insn : (word : ℕ) (left right : Insn) → IsInsnAt word left → IsInsnAt word right → left ≡ right
-one_insn word (Illegal a) (Illegal b) one other = λ i. Illegal ((one.0 ∙ sym other.0) i)
-one_insn word (Illegal a) right one other = absurd (one.1 right other)
-one_insn word left (Illegal b) one other = absurd (other.1 left one)
-one_insn word left right one other = let a = only_plain word left one in let b = only_plain word right other in cc
 
 module _ (left right : Meaning) (one : IsPlain left) (other : IsPlain right) (program : Program) where
   same_execution : (word : ℕ) (insn : Insn) (state : State) → IsInsnAt word insn → execute left.units program insn state ≡ execute right.units program insn state
@@ -92,19 +84,13 @@ module _ (left right : Meaning) (one : IsPlain left) (other : IsPlain right) (pr
 
 -- ---- sets of registers
 
-among_set : (registers : List ℕ) (r : ℕ) → is_among registers r ≡ set.contains (set_without_x0 registers) r
-among_set registers r =
-    ap (λ b. not b && list_any (λ n. n == r) registers) (sym (unsigned_tied r 0))
-    ∙ ap (λ b. not (eq_by_cmp nat_cmp r 0) && b) (sym (set.contains-from_list_nat registers r))
-    ∙ sym (set.contains-remove nat_cmp_total (set.from_list registers) 0 r)
-
 not_hidden : (registers : List ℕ) (r : ℕ) → r < 32 → is_among (32 ∷ registers) r ≡ is_among registers r
 not_hidden registers r below = grind (arith, nat_tests)
 
 pub registers_read_are : (insn : Insn) (r : ℕ) → r < 32 → reads insn r ≡ set.contains (registers_read insn) r
-registers_read_are (Cread rd) r below = not_hidden [] r below ∙ among_set [] r
-registers_read_are insn r below = among_set (operands insn) r
+registers_read_are (Cread rd) r below = not_hidden [] r below ∙ reads_register_is (Cread rd) r
+registers_read_are insn r below = reads_register_is insn r
 
 pub registers_written_are : (insn : Insn) (r : ℕ) → r < 32 → writes insn r ≡ set.contains (registers_written insn) r
-registers_written_are (Unit number rd rs1 rs2 rs3) r below = not_hidden (rd ∷ []) r below ∙ among_set (rd ∷ []) r
-registers_written_are insn r below = among_set (results insn) r
+registers_written_are (Unit number rd rs1 rs2 rs3) r below = not_hidden (rd ∷ []) r below ∙ writes_register_is (Unit number rd rs1 rs2 rs3) r
+registers_written_are insn r below = writes_register_is insn r

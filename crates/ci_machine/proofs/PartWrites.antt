@@ -2,7 +2,8 @@
 use Rattle.std.proofs.Common.{◌≡◌, ℕ, ◌+◌, ◌-◌, ◌^◌, ◌≤◌, Bool, true, Option, Some, cond, List, [], length, get_or, set, refl, ap, sym, ◌∙◌, arith, subst, false, IsTrue, ◌↔◌}
 use Rattle.ci_machine.specs.declared.parts.Part.{Part}
 use Rattle.ci_isa.specs.declared.instruction.Width.{Width}
-use Rattle.ci_machine.specs.Accesses.{addresses, bytes_of_number, width_bytes, with_bytes}
+use Rattle.ci_isa.specs.Effects.{width_bytes}
+use Rattle.ci_machine.specs.Accesses.{addresses, bytes_of_number, with_bytes}
 use Rattle.ci_machine.specs.Programs.{Extent, greatest_end, lies_in}
 use Rattle.ci_machine.specs.Parts.{holds, byte_in, overwritten, with_number, IsApart, IsFound, IsLaidOut, places}
 use Rattle.ci_machine.proofs.PartLaws.{absorbed, byte_in_part, byte_in-set, IsApart-set, places-set, lies_in-bounds, end_of_part}

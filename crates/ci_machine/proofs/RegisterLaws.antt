@@ -4,7 +4,8 @@ use Rattle.std.specs.Prelude.{true, false, ◌==◌}
 use Rattle.std.specs.List.{list_any}
 use Rattle.std.proofs.lemmas.Bool.Decides.{nat_tests}
 use Rattle.ci_machine.specs.Cores.{Core, register, with_register}
-use Rattle.ci_machine.specs.Agreement.{is_among, AgreeOn}
+use Rattle.ci_isa.specs.Effects.{is_among}
+use Rattle.ci_machine.specs.Agreement.{AgreeOn}
 
 pub register_kept : (core : Core) (r value q : ℕ) → is_among (r ∷ []) q ≡ false → register (with_register core r value) q ≡ register core q
 register_kept core r value q other = grind (arith, nat_tests)

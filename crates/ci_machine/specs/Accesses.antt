@@ -41,11 +41,6 @@ with_bytes memory addresses bytes a = memory a
 
 -- ---- loads and stores
 
-abbrev pub width_bytes : Width → ℕ
-width_bytes Byte = 1
-width_bytes Half = 2
-width_bytes Word = 4
-
 abbrev pub load_width : LoadKind → Width
 load_width B = Byte
 load_width H = Half

@@ -9,7 +9,8 @@ use Rattle.ci_isa.specs.declared.instruction.Insn.TheVariants.{Alu, AluImm, Lui,
 use Rattle.ci_machine.specs.declared.ends.End.TheVariants.{Access}
 use Rattle.ci_machine.specs.Cores.{Core, hidden, register, with_register}
 use Rattle.ci_machine.specs.Outcomes.{Outcome, Next, Ended, Reached, reached}
-use Rattle.ci_machine.specs.Accesses.{addresses, number_of_bytes, bytes_of_number, bytes_at, with_bytes, width_bytes, load_width, extended}
+use Rattle.ci_isa.specs.Effects.{width_bytes}
+use Rattle.ci_machine.specs.Accesses.{addresses, number_of_bytes, bytes_of_number, bytes_at, with_bytes, load_width, extended}
 
 -- The values of the units: number, then the values of the three sources, to the two results.
 abbrev pub Units : Type 0

@@ -1,9 +1,9 @@
 -- States that agree on some registers, and on what runs are compared by.
-use Rattle.std.specs.Prelude.{◌≡◌, ℕ, Bool, true, false, ◌==◌, ◌&&◌, ◌||◌, not, ⊤, List, [], ◌∷◌, None}
+use Rattle.std.specs.Prelude.{◌≡◌, ℕ, Bool, true, false, ◌&&◌, ◌||◌, not, ⊤, List, [], ◌∷◌, None}
 use Rattle.std.specs.List.{list_any}
 use Rattle.ci_isa.specs.declared.instruction.Insn.{Insn}
-use Rattle.ci_isa.specs.declared.instruction.Insn.TheVariants.{Load, Store, Unit, Cread}
-use Rattle.ci_isa.specs.Effects.{operands, results, ends_block}
+use Rattle.ci_isa.specs.declared.instruction.Insn.TheVariants.{Unit, Cread}
+use Rattle.ci_isa.specs.Effects.{operands, results, is_among, is_access, ends_block}
 use Rattle.ci_machine.specs.Cores.{Core, hidden, register}
 use Rattle.ci_machine.specs.Outcomes.{Reached, continued}
 use Rattle.ci_machine.specs.Actions.{Units, act, accessed}
@@ -19,21 +19,11 @@ abbrev pub all_results : Insn → List ℕ
 all_results (Unit number rd rs1 rs2 rs3) = hidden ∷ rd ∷ []
 all_results insn = results insn
 
--- x0 is never read or written
-abbrev pub is_among : List ℕ → ℕ → Bool
-is_among registers r = not (r == 0) && list_any (λ n. n == r) registers
-
 abbrev pub reads : Insn → ℕ → Bool
 reads insn = is_among (all_operands insn)
 
 abbrev pub writes : Insn → ℕ → Bool
 writes insn = is_among (all_results insn)
-
--- a load or a store
-abbrev pub is_access : Insn → Bool
-is_access (Load kind rd rs1 offset) = true
-is_access (Store width rs1 rs2 offset) = true
-is_access insn = false
 
 -- ---- runs of several instructions
 

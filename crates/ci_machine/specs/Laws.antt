@@ -2,12 +2,12 @@
 use Rattle.std.specs.Prelude.{◌≡◌, ℕ, ◌+◌, ◌<◌, Bool, true, false, ◌||◌, List, ◌∷◌, ◌++◌, length, Option, None}
 use Rattle.std.specs.FinSet as set
 use Rattle.ci_isa.specs.declared.instruction.Insn.{Insn}
-use Rattle.ci_isa.specs.Effects.{ends_block, registers_read, registers_written}
+use Rattle.ci_isa.specs.Effects.{ends_block, registers_read, registers_written, is_access}
 use Rattle.ci_machine.specs.Cores.{Core}
 use Rattle.std.specs.List.{list_any}
 use Rattle.ci_machine.specs.Outcomes.{at_start, reached, Reached}
 use Rattle.ci_machine.specs.Actions.{Units, acted}
-use Rattle.ci_machine.specs.Agreement.{reads, writes, is_access, act_all, AgreeOutside, AgreeOn, AreRelated, AreIndependent, LeavesText, AreActions, AreApart, AllLeaveText, needed}
+use Rattle.ci_machine.specs.Agreement.{reads, writes, act_all, AgreeOutside, AgreeOn, AreRelated, AreIndependent, LeavesText, AreActions, AreApart, AllLeaveText, needed}
 use Rattle.ci_machine.specs.Programs.{Program, State, at_pc, in_text}
 use Rattle.ci_machine.specs.Steps.{Meaning, IsPlain, control, moved}
 use Rattle.ci_machine.specs.Runs.{Latencies, after, cost}

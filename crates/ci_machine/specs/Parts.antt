@@ -6,7 +6,8 @@ use native.Mathlib.Bridge.{le_prop}
 use Rattle.ci_elf.specs.declared.ranges.Range.{Range}
 use Rattle.ci_machine.specs.declared.parts.Part.{Part}
 use Rattle.ci_isa.specs.declared.instruction.Width.{Width}
-use Rattle.ci_machine.specs.Accesses.{addresses, bytes_at, bytes_of_number, width_bytes, with_bytes}
+use Rattle.ci_isa.specs.Effects.{width_bytes}
+use Rattle.ci_machine.specs.Accesses.{addresses, bytes_at, bytes_of_number, with_bytes}
 use Rattle.ci_machine.specs.Programs.{Extent, Program, lies_in, stack_start, stack_end, greatest_end, loaded_size}
 
 -- the address is one of the part's

@@ -7,7 +7,8 @@ use Rattle.ci_machine.specs.declared.ends.End.{End}
 use Rattle.ci_machine.specs.declared.ends.End.TheVariants as ends
 use Rattle.ci_isa.specs.declared.instruction.Width.{Width}
 use Rattle.ci_machine.specs.Cores.{Core}
-use Rattle.ci_machine.specs.Accesses.{addresses, bytes_at, width_bytes}
+use Rattle.ci_isa.specs.Effects.{width_bytes}
+use Rattle.ci_machine.specs.Accesses.{addresses, bytes_at}
 use Rattle.ci_machine.specs.Outcomes.{Reached, reached}
 use Rattle.ci_machine.specs.Actions.{stored}
 use Rattle.ci_machine.specs.Calls.{call}

@@ -1,6 +1,7 @@
 //! Numbers as bytes of a slice, the lowest first.
 ghost use Rattle.std.specs.Prelude.{◌≡◌, ℕ, ◌+◌, ◌<◌, ◌≤◌, length};
-ghost use Rattle.ci_machine.specs.Accesses.{bytes_of_number, number_of_bytes, width_bytes};
+ghost use Rattle.ci_isa.specs.Effects.{width_bytes};
+ghost use Rattle.ci_machine.specs.Accesses.{bytes_of_number, number_of_bytes};
 ghost use Rattle.ci_machine.specs.Parts.{bytes_from, overwritten};
 
 use ci_isa::Width;

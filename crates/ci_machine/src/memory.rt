@@ -1,14 +1,15 @@
 //! Memory: one vector of bytes for the stack, one for the heap, and one a segment.
 ghost use Rattle.std.specs.Prelude.{◌≡◌, ℕ, ◌+◌, ◌-◌, ◌*◌, ◌/◌, ◌%◌, ◌^◌, ◌<◌, ◌≤◌, Bool, true, false, ◌&&◌, ◌==◌, if◌then◌else◌, Option, Some, None, IfSome, IfOk, OnErr, MatchOption, is_some, length, slice_index_or, List, [], ◌∷◌, IsTrue, ◌↔◌, slice_index, is_ok, replicate, nat_le, ◌||◌};
 ghost use Rattle.std.specs.Option.{option_map};
-ghost use Rattle.ci_machine.specs.Accesses.{addresses, bytes_at, bytes_of_number, number_of_bytes, width_bytes, with_bytes};
+ghost use Rattle.ci_isa.specs.Effects.{width_bytes};
+ghost use Rattle.ci_machine.specs.Accesses.{addresses, bytes_at, bytes_of_number, number_of_bytes, with_bytes};
 ghost use Rattle.ci_elf.specs.declared.ranges.Range.{Range};
 ghost use Rattle.ci_machine.specs.Programs.{greatest_end, stack_end, stack_start};
 ghost use Rattle.ci_machine.specs.Calls.{may_end_at, range_at};
 ghost use Rattle.ci_machine.specs.Parts.{IsFound, bytes_in, heap_end_in, program_in, segments_in, with_heap_moved, holds, byte_in, overwritten, with_number, IsApart, IsApart-prop, places, IsLaidOut, IsLaidOut-prop};
 
 use crate::bytes::{bytes_of, number_at, put_number};
-use crate::parts::{Part, size};
+use crate::parts::Part;
 use ci_isa::Width;
 use std::alloc::{AllocError, Global};
 
@@ -97,8 +98,8 @@ impl Memory {
         let index = find(&self.parts, address)?;
         let part = &self.parts[index];
         let offset = (address - part.start) as usize;
-        if part.bytes.len() - offset < size(width) as usize {
-            return self.load_bytes(address, size(width));
+        if part.bytes.len() - offset < width.bytes() as usize {
+            return self.load_bytes(address, width.bytes());
         }
         Some(number_at(&part.bytes, offset, width))
     }
@@ -145,11 +146,11 @@ impl Memory {
         ensures places { places self.new.parts.items ≡ places self.old.parts.items }
         ensures loaded { self.new.loaded ≡ self.old.loaded }
     {
-        if !self.is_mapped(address, size(width)) {
+        if !self.is_mapped(address, width.bytes()) {
             return false;
         }
         let bytes = bytes_of(value);
-        self.put_all(address, &bytes[..size(width) as usize]);
+        self.put_all(address, &bytes[..width.bytes() as usize]);
         true
     }
 
@@ -283,7 +284,7 @@ fn put_in(part: &mut Part, address: u32, width: Width, value: u32) -> bool
         (if result then bytes_of_number (width_bytes width) value else []) }
 {
     let offset = (address - part.start) as usize;
-    if part.bytes.len() - offset < size(width) as usize {
+    if part.bytes.len() - offset < width.bytes() as usize {
         return false;
     }
     put_number(&mut part.bytes, offset, width, value);

@@ -1,8 +1,5 @@
 //! Parts of memory: bytes that lie side by side.
-ghost use Rattle.std.specs.Prelude.{◌≡◌, ℕ, ◌+◌, ◌-◌, ◌*◌, ◌/◌, ◌%◌, ◌^◌, ◌<◌, ◌≤◌, true, Some, None, MatchOption, length, slice_index_or};
-ghost use Rattle.ci_machine.specs.Accesses.{bytes_of_number, number_of_bytes, width_bytes};
-
-use ci_isa::Width;
+ghost use Rattle.std.specs.Prelude.{◌≡◌};
 
 /// A part of memory: its bytes, from an address on.
 #[derive(Drop)]
@@ -19,18 +16,5 @@ impl Part {
         ensures { result ≡ holds self.now address }
     {
         self.start <= address && ((address - self.start) as usize) < self.bytes.len()
-    }
-}
-
-/// How many bytes an access of this width moves.
-pub(crate) fn size(width: Width) -> u32
-    ensures size { result ≡ width_bytes width }
-    ensures least { 1 ≤ result }
-    ensures greatest { result ≤ 4 }
-{
-    match width {
-        Width::Byte => 1,
-        Width::Half => 2,
-        Width::Word => 4,
     }
 }

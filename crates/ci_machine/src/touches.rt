@@ -1,13 +1,13 @@
 //! Which byte of the text an instruction touches first.
 #![tactic(auto, unfolding(crate::specs::States::state_of, crate::specs::States::core_of, crate::specs::States::program_of))]
 
-use crate::parts::size;
 use crate::state::State;
 use ci_isa::Width;
 
 impl State {
     ghost use Rattle.std.specs.Prelude.{◌≡◌, ◌+◌, ◌-◌, ◌≤◌, find, length};
-    ghost use Rattle.ci_machine.specs.Accesses.{addresses, width_bytes};
+    ghost use Rattle.ci_isa.specs.Effects.{width_bytes};
+    ghost use Rattle.ci_machine.specs.Accesses.{addresses};
     ghost use Rattle.ci_machine.specs.Calls.{moved_by_call, moved_range, read_length};
     ghost use Rattle.ci_machine.specs.Programs.{in_text};
     ghost use Rattle.ci_machine.specs.States.{state_of, program_of};
@@ -30,7 +30,7 @@ impl State {
     pub fn touched_by_access(&self, address: u32, width: Width) -> Option<u32>
         ensures { result ≡ find (in_text (program_of self.now)) (addresses (width_bytes width) address) }
     {
-        self.first_in_text(address, size(width))
+        self.first_in_text(address, width.bytes())
     }
 
     /// The first byte of text that the environment call that the registers ask for moves. One that answers a fault

@@ -1,7 +1,8 @@
 use Rattle.std.proofs.Common.{◌≤◌, ◌-◌, ℕ, Some, length, List, subst, ap, sym, ◌∙◌, arith}
 use Rattle.std.specs.Option.{option_map}
 use Rattle.ci_machine.specs.declared.parts.Part.{Part}
-use Rattle.ci_machine.specs.Accesses.{number_of_bytes, width_bytes}
+use Rattle.ci_isa.specs.Effects.{width_bytes}
+use Rattle.ci_machine.specs.Accesses.{number_of_bytes}
 use Rattle.ci_machine.specs.Parts.{IsFound, bytes_from}
 use Rattle.ci_machine.proofs.PartReads.{bytes_at-found}
 use Rattle.ci_machine.proofs.memory.Memory.load.Goals as goal

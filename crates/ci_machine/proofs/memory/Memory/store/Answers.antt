@@ -1,6 +1,7 @@
 use Rattle.std.proofs.Common.{ℕ, Option, List, refl, sym, ap, ◌∙◌, subst, is_some}
 use Rattle.ci_machine.specs.declared.parts.Part.{Part}
-use Rattle.ci_machine.specs.Accesses.{addresses, bytes_at, width_bytes}
+use Rattle.ci_isa.specs.Effects.{width_bytes}
+use Rattle.ci_machine.specs.Accesses.{addresses, bytes_at}
 use Rattle.ci_machine.specs.Parts.{IsFound, byte_in, with_number}
 use Rattle.ci_machine.proofs.PartReads.{bytes_at-found}
 use Rattle.ci_machine.proofs.PartWrites.{stored, within_still, laid_out_still}
