@@ -5,11 +5,11 @@ use Rattle.std.proofs.Common.{refl, sym, ap, ◌∙◌, arith, inl, inr, true≢
 use Rattle.std.proofs.lemmas.Bool.{cases_eq, and_parts, and_from, or_cases, or_left, or_right, eqb-true, eq-eqb, false_from_ne_true}
 use Rattle.ci_isa.specs.declared.instruction.Insn.{Insn}
 use Rattle.ci_isa.specs.declared.instruction.Insn.TheVariants.{Unit, Cread}
-use Rattle.ci_isa.specs.Effects.{operands, results, ends_block}
+use Rattle.ci_isa.specs.Effects.{operands, results, ends_block, is_kept, without_x0, is_unit, is_cread, reads_register, writes_register}
 use Rattle.ci_cut.specs.declared.graph.Source.{Source}
 use Rattle.ci_cut.specs.declared.graph.Source.TheVariants.{Made}
 use Rattle.ci_cut.specs.FlowGraph.{is_source}
-use Rattle.ci_dfg.specs.BlockGraph.{is_kept, without_x0, is_unit, is_cread, reads_register, writes_register, insn_at, latest_writer, source_from, source_of, has_true_arc, has_anti_arc, has_output_arc, has_memory_arc, has_control_arc, has_own_arc, ends_bundle, has_arc_from_bundle, has_arc_by_cread, has_arc_inside_bundle, has_arc_into}
+use Rattle.ci_dfg.specs.BlockGraph.{insn_at, latest_writer, source_from, source_of, has_true_arc, has_anti_arc, has_output_arc, has_memory_arc, has_control_arc, has_own_arc, ends_bundle, has_arc_from_bundle, has_arc_by_cread, has_arc_inside_bundle, has_arc_into}
 use Rattle.ci_dfg.specs.Neighbours.{AreIndependent, AreJoined, ApartAreIndependent, NeighboursAreIndependent, BundlesMoveTogether}
 use Rattle.ci_dfg.proofs.Writers.{latest_writer_from}
 

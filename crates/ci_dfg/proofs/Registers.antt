@@ -4,7 +4,7 @@ use Rattle.std.specs.List.{list_any}
 use Rattle.std.proofs.Common.{refl, sym, ap, ◌∙◌, arith, inl, inr}
 use Rattle.std.proofs.lemmas.Bool.{cases_eq, ne_eqb}
 use Rattle.std.proofs.lemmas.Bool.Decides.{nat_tests}
-use Rattle.ci_dfg.specs.BlockGraph.{is_kept, without_x0, is_among}
+use Rattle.ci_isa.specs.Effects.{is_kept, without_x0, is_among}
 
 -- a test that x0 fails finds nothing more where x0 is among the registers
 pub any_without_x0 : (p : ℕ → Bool) → p 0 ≡ false → (registers : List ℕ) → list_any p (without_x0 registers) ≡ list_any p registers

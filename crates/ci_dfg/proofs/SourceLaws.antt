@@ -6,11 +6,11 @@ use Rattle.std.proofs.lemmas.Bool.{or_cases, eqb-true}
 use Rattle.std.proofs.lemmas.List.{take_more, take_all, map-append}
 use Rattle.std.proofs.lemmas.List.Elements.{filter-append}
 use Rattle.ci_isa.specs.declared.instruction.Insn.{Insn}
-use Rattle.ci_isa.specs.Effects.{operands}
+use Rattle.ci_isa.specs.Effects.{operands, is_kept, without_x0}
 use Rattle.ci_cut.specs.declared.graph.Source.{Source}
 use Rattle.ci_cut.specs.declared.graph.Source.TheVariants.{Made}
 use Rattle.ci_cut.specs.FlowGraph.{is_source}
-use Rattle.ci_dfg.specs.BlockGraph.{is_kept, without_x0, insn_at, latest_writer, source_from, source_of, sources}
+use Rattle.ci_dfg.specs.BlockGraph.{insn_at, latest_writer, source_from, source_of, sources}
 use Rattle.ci_dfg.proofs.Instructions.{insn_there}
 use Rattle.ci_dfg.proofs.Writers.{latest_writer_below}
 

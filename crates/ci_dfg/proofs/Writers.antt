@@ -5,7 +5,8 @@ use Rattle.std.proofs.lemmas.Bool.{cases_eq, false_from_ne_true, and_parts, and_
 use Rattle.ci_word.proofs.NumberLaws.{some_below_iff}
 use Rattle.ci_isa.specs.declared.instruction.Insn.{Insn}
 use Rattle.ci_dfg.proofs.Instructions.{insn_there}
-use Rattle.ci_dfg.specs.BlockGraph.{insn_at, writes_register, latest_writer, is_written_after}
+use Rattle.ci_isa.specs.Effects.{writes_register}
+use Rattle.ci_dfg.specs.BlockGraph.{insn_at, latest_writer, is_written_after}
 
 -- a latest writer below k, which is j or behind it
 pub record HasWriterFrom (insns : List Insn) (register j k : ℕ) : Type 0 where

@@ -1,49 +1,17 @@
 -- The data-flow graph of a basic block: its nodes are the instructions in order, numbered from 0.
-use Rattle.std.specs.Prelude.{ℕ, zero, suc, ◌+◌, ◌-◌, Bool, true, false, not, ◌&&◌, ◌||◌, ◌==◌, nat_lt, if◌then◌else◌, List, map, filter, length, slice_index_or, Option, Some, None}
+use Rattle.std.specs.Prelude.{ℕ, zero, suc, ◌+◌, ◌-◌, Bool, true, not, ◌&&◌, ◌||◌, ◌==◌, nat_lt, if◌then◌else◌, List, map, length, slice_index_or, Option, Some, None}
 use Rattle.std.specs.Ordering.{nat_cmp}
 use Rattle.std.specs.List.{list_any}
 use Rattle.std.specs.FinSet as set
 use Rattle.ci_word.specs.Numbers.{numbers_below, set_below, some_below}
 use Rattle.ci_isa.specs.declared.instruction.Insn.{Insn}
-use Rattle.ci_isa.specs.declared.instruction.Insn.TheVariants.{Load, Store, Ebreak, Unit, Cread}
-use Rattle.ci_isa.specs.Effects.{operands, results, ends_block, class_of, may_join}
+use Rattle.ci_isa.specs.declared.instruction.Insn.TheVariants.{Ebreak}
+use Rattle.ci_isa.specs.Effects.{operands, results, without_x0, reads_register, writes_register, is_access, ends_block, is_unit, is_cread, class_of, may_join}
 use Rattle.ci_lat.specs.Latencies.{Latencies, latency_of, delay_of}
 use Rattle.ci_cut.specs.declared.graph.Source.{Source}
 use Rattle.ci_cut.specs.declared.graph.Source.TheVariants.{Entry, Made}
 use Rattle.ci_cut.specs.declared.graph.Node.{Node}
 use Rattle.ci_cut.specs.FlowGraph.{FlowGraph, is_source}
-
--- ---- what an instruction reads and writes
-
--- the registers of a list without x0, which is never read or written
-abbrev pub is_kept : ℕ → Bool
-is_kept r = not (r == 0)
-
-abbrev pub without_x0 : List ℕ → List ℕ
-without_x0 registers = filter is_kept registers
-
-abbrev pub is_among : List ℕ → ℕ → Bool
-is_among registers r = is_kept r && list_any (λ n. n == r) registers
-
-abbrev pub reads_register : Insn → ℕ → Bool
-reads_register insn = is_among (operands insn)
-
-abbrev pub writes_register : Insn → ℕ → Bool
-writes_register insn = is_among (results insn)
-
--- a load or a store
-abbrev pub is_access : Insn → Bool
-is_access (Load kind rd rs1 offset) = true
-is_access (Store width rs1 rs2 offset) = true
-is_access insn = false
-
-abbrev pub is_unit : Insn → Bool
-is_unit (Unit number rd rs1 rs2 rs3) = true
-is_unit insn = false
-
-abbrev pub is_cread : Insn → Bool
-is_cread (Cread rd) = true
-is_cread insn = false
 
 -- ---- sources
 

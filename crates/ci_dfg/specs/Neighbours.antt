@@ -1,8 +1,8 @@
 -- Which instructions of a block may change places, and which keep together.
 use Rattle.std.specs.Prelude.{◌≡◌, ℕ, ◌+◌, ◌<◌, true, false, ◌&&◌, ◌⊎◌, List, IsTrue}
 use Rattle.ci_isa.specs.declared.instruction.Insn.{Insn}
-use Rattle.ci_isa.specs.Effects.{ends_block}
-use Rattle.ci_dfg.specs.BlockGraph.{reads_register, writes_register, is_access, insn_at, ends_bundle, has_arc_into}
+use Rattle.ci_isa.specs.Effects.{ends_block, reads_register, writes_register, is_access}
+use Rattle.ci_dfg.specs.BlockGraph.{insn_at, ends_bundle, has_arc_into}
 
 -- Neither reads what the other writes, no register is written by both, and not both of them go to memory. This speaks of
 -- x1 to x31 alone: the hidden register is what a unit word and its `cread` share.

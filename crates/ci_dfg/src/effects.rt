@@ -1,8 +1,7 @@
 //! What an instruction does with registers and memory.
 ghost use Rattle.std.specs.Prelude.{◌≡◌, [], ◌∷◌};
-ghost use Rattle.ci_isa.specs.Effects.{operands, results};
-ghost use Rattle.ci_dfg.specs.BlockGraph as terms;
-ghost use Rattle.ci_dfg.specs.BlockGraph.{without_x0};
+ghost use Rattle.ci_isa.specs.Effects.{operands, results, without_x0};
+ghost use Rattle.ci_isa.specs.Effects as terms;
 
 use ci_isa::Insn;
 

@@ -1,7 +1,7 @@
 //! Where the operands of an instruction come from.
 ghost use Rattle.std.specs.Prelude.{◌≡◌, ◌≤◌, ◌<◌, ◌++◌, ◌∷◌, [], map, length, OnOk, IfOk};
 ghost use Rattle.ci_dfg.specs.BlockGraph as terms;
-ghost use Rattle.ci_dfg.specs.BlockGraph.{without_x0};
+ghost use Rattle.ci_isa.specs.Effects.{without_x0};
 
 use crate::effects::{operands, writes_register};
 use ci_cut::{Source, Sources};

@@ -1,8 +1,7 @@
 use Rattle.std.proofs.Common.{◌≡◌, ◌==◌, not, ◌&&◌, sym, ◌∙◌, ap}
 use Rattle.std.specs.List.{list_any}
 use Rattle.std.proofs.lemmas.Bool.{ne_eqb}
-use Rattle.ci_isa.specs.Effects.{operands}
-use Rattle.ci_dfg.specs.BlockGraph.{is_among}
+use Rattle.ci_isa.specs.Effects.{operands, is_among}
 use Rattle.ci_dfg.proofs.Registers.{is_among_same}
 use Rattle.ci_dfg.proofs.effects.reads_register.Goals as goal
 
