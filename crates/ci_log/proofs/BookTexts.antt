@@ -1,6 +1,7 @@
 -- Reading what stands behind the first line is exact: searches, then rounds, then the finish.
 use Rattle.std.proofs.Common.{◌≡◌, ◌≢◌, ℕ, zero, suc, ◌<◌, ◌≤◌, ◌⊎◌, inl, inr, Bool, true, false, cond, List, [], ◌∷◌, ◌++◌, length, length-append, refl, sym, ap, ◌∙◌, subst, arith, lit<, zero-le, codes, append_assoc, append-nil, Ok, Err}
 use Rattle.std.specs.List.{flat_map, AllByRecursion}
+use Rattle.std.specs.FinSet as set
 use Rattle.std.proofs.lemmas.Bool.{eqb-true}
 use Rattle.ci_text.specs.Hex.{eight_hex_digits}
 use Rattle.ci_text.specs.Lines.{line}
@@ -9,7 +10,8 @@ use Rattle.ci_log.specs.declared.book.Entry.{Entry}
 use Rattle.ci_log.specs.declared.book.Entry.TheVariants.{Best, Without, Spent, Take}
 use Rattle.ci_log.specs.declared.book.Finish.{Finish}
 use Rattle.ci_log.specs.declared.book.Finish.TheVariants.{Empty, Count}
-use Rattle.ci_log.specs.Books.{members, IsEntry, IsSearch, AreRounds, AreInOrder, Book, IsBook, entry_text, finish_text}
+use Rattle.ci_text.specs.Members.{members_text}
+use Rattle.ci_log.specs.Books.{IsEntry, IsSearch, AreRounds, AreInOrder, Book, IsBook, entry_text, finish_text}
 use Rattle.ci_log.specs.Faults.{HasTree}
 use Rattle.ci_log.specs.declared.faults.Failure.{Failure}
 use Rattle.ci_log.specs.declared.faults.Failure.TheVariants as failure
@@ -313,7 +315,7 @@ pub record HasFront (e : Entry) : Type 0 where
   pub text : line front ≡ entry_text e
 
 pub tree_front : (e : Entry) → HasTree e → HasFront e
-tree_front (Best leader cut log) has = record { front = line (codes "block " ++ eight_hex_digits leader ++ codes " best" ++ members cut) ++ letters log; text = append_assoc (line (codes "block " ++ eight_hex_digits leader ++ codes " best" ++ members cut)) (letters log) (10 ∷ []) }
+tree_front (Best leader cut log) has = record { front = line (codes "block " ++ eight_hex_digits leader ++ codes " best" ++ members_text (set.contains cut)) ++ letters log; text = append_assoc (line (codes "block " ++ eight_hex_digits leader ++ codes " best" ++ members_text (set.contains cut))) (letters log) (10 ∷ []) }
 tree_front (Without leader log) has = record { front = line (codes "block " ++ eight_hex_digits leader ++ codes " none") ++ letters log; text = append_assoc (line (codes "block " ++ eight_hex_digits leader ++ codes " none")) (letters log) (10 ∷ []) }
 tree_front (Spent leader budget) has = absurd has
 tree_front (Take leader unit) has = absurd has

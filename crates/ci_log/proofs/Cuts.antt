@@ -9,7 +9,8 @@ use Rattle.std.proofs.lemmas.Bool.{eqb-true, cases_lt}
 use Rattle.std.proofs.lemmas.Bool.Decides.{nat_tests}
 use Rattle.ci_word.specs.Numbers.{numbers_below}
 use Rattle.ci_word.proofs.NumberLaws.{numbers_below-zero, numbers_below-suc, contains-insert_nat, same_numbers, list_any-numbers_below}
-use Rattle.ci_log.specs.Books.{IsCut, members}
+use Rattle.ci_text.specs.Members.{members_text}
+use Rattle.ci_log.specs.Books.{IsCut}
 use Rattle.ci_log.specs.declared.faults.Failure.{Failure}
 use Rattle.ci_log.specs.declared.faults.Failure.TheVariants as failure
 use Rattle.ci_log.specs.Reading.{Fails, stop, begins, Read, ◌>>=◌, closes, number, nodes_from, nodes, with_numbers, set_of}
@@ -237,7 +238,7 @@ first_one _ _ _ (more low n ys ns from others) = (n, omega (arith, low_of (n + 1
 
 -- a cut's nodes behind the first blank, and the newline
 abbrev pub IsCutText : List ℕ → set.FinSet nat_cmp → Type 0
-IsCutText ys cut = IsCut cut × (members cut ++ codes "\n" ≡ 32 ∷ ys)
+IsCutText ys cut = IsCut cut × (members_text (set.contains cut) ++ codes "\n" ≡ 32 ∷ ys)
 
 cut_of : (ys ns : List ℕ) → AreRising 0 ys ns → IsCutText ys (with_numbers set.empty ns)
 cut_of ys ns are =

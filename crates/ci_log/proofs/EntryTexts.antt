@@ -16,7 +16,8 @@ use Rattle.ci_log.specs.declared.book.Finish.{Finish}
 use Rattle.ci_log.specs.declared.book.Finish.TheVariants.{Empty, Count}
 use Rattle.ci_log.specs.declared.tokens.Numbers.{Numbers}
 use Rattle.ci_log.specs.Trees.{leaf, letters}
-use Rattle.ci_log.specs.Books.{IsEntry, IsSearch, members, entry_text, finish_text}
+use Rattle.ci_text.specs.Members.{members_text}
+use Rattle.ci_log.specs.Books.{IsEntry, IsSearch, entry_text, finish_text}
 use Rattle.ci_log.specs.Faults.{HasTree}
 use Rattle.ci_log.specs.Reading.{Read, ◌>>=◌, begins_with, word, address, begins, closes, number, nodes, set_of, tree_line, best, without, budgets, spent, search_of, search, units, take, finish}
 use Rattle.ci_log.proofs.Exact.{most, none_longer, word_sound, IsExact, along, Then, joined, ThenTree, in_first, in_second, both, view, Mapped, mapped, seen, NoTree, IsFirst, either, IsWord, is_word, word_exact}
@@ -178,12 +179,12 @@ parts_exact n =
 abbrev block : List ℕ → List ℕ → List ℕ
 block digits rest = codes "block " ++ (digits ++ (codes " " ++ rest))
 
-best_text : (leader : ℕ) (cut : set.FinSet nat_cmp) (log : List Item) (digits cs ls : List ℕ) → digits ≡ eight_hex_digits leader → members cut ++ codes "\n" ≡ 32 ∷ cs → ls ≡ line (letters log)
+best_text : (leader : ℕ) (cut : set.FinSet nat_cmp) (log : List Item) (digits cs ls : List ℕ) → digits ≡ eight_hex_digits leader → members_text (set.contains cut) ++ codes "\n" ≡ 32 ∷ cs → ls ≡ line (letters log)
     → block digits (codes "best " ++ (cs ++ ls)) ≡ entry_text (Best leader cut log)
 best_text leader cut log digits cs ls d c l =
     ap (λ v. block v (codes "best " ++ (cs ++ ls))) d
     ∙ (ap (λ v. codes "block " ++ (eight_hex_digits leader ++ (codes " best" ++ (v ++ ls)))) (sym c)
-    ∙ ap (λ v. codes "block " ++ (eight_hex_digits leader ++ (codes " best" ++ ((members cut ++ codes "\n") ++ v)))) l)
+    ∙ ap (λ v. codes "block " ++ (eight_hex_digits leader ++ (codes " best" ++ ((members_text (set.contains cut) ++ codes "\n") ++ v)))) l)
 
 without_text : (leader : ℕ) (log : List Item) (digits ls : List ℕ) → digits ≡ eight_hex_digits leader → ls ≡ line (letters log)
     → block digits (codes "none\n" ++ ls) ≡ entry_text (Without leader log)
@@ -234,7 +235,7 @@ same_front b (x ∷ xs) (y ∷ ys) e =
     let rest : xs ++ b ∷ [] ≡ ys ++ b ∷ [] = cc in
     λ i. first i ∷ same_front b xs ys rest i
 
-best_front : (leader : ℕ) (cut : set.FinSet nat_cmp) (log : List Item) (digits cs f : List ℕ) → digits ≡ eight_hex_digits leader → members cut ++ codes "\n" ≡ 32 ∷ cs → f ≡ letters log
+best_front : (leader : ℕ) (cut : set.FinSet nat_cmp) (log : List Item) (digits cs f : List ℕ) → digits ≡ eight_hex_digits leader → members_text (set.contains cut) ++ codes "\n" ≡ 32 ∷ cs → f ≡ letters log
     → line (block digits (codes "best " ++ (cs ++ f))) ≡ entry_text (Best leader cut log)
 best_front leader cut log digits cs f d c l =
     ap (λ v. line (block v (codes "best " ++ (cs ++ f)))) d

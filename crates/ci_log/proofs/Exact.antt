@@ -39,6 +39,23 @@ pub record IsExact {A : Type 0} (bound : ℕ) (p : List ℕ → Read A) (L : Lis
 abbrev pub NoTree : List ℕ → Type 0
 NoTree front = ⊥
 
+-- a stop of one reading is one of another at the same place, with what goes on there, what stops there, and the tree
+carried : {A B : Type 0} {n m : ℕ} {p : List ℕ → Read A} {q : List ℕ → Read B} {L : List ℕ → A → Type 0} {K : List ℕ → B → Type 0} {T U : List ℕ → Type 0} {xs : List ℕ} {s : Stop}
+    → (o : IsStop n p L T xs s) → (more : List ℕ) (value : B) → K (o.front ++ more) value
+    → ((b : ℕ) (tail other : List ℕ) → o.rest ≡ b ∷ tail → length (o.front ++ b ∷ other) < m → Stops (q (o.front ++ b ∷ other)))
+    → (T o.front → U o.front) → IsStop m q K U xs s
+carried o more value goes_on here tree = record {
+  front = o.front;
+  rest = o.rest;
+  splits = o.splits;
+  left = o.left;
+  more = more;
+  value = value;
+  goes_on = goes_on;
+  here = here;
+  at_tree = λ t. tree (o.at_tree t);
+}
+
 -- ---- the same reading, and another language
 
 module _ {A : Type 0} (p : List ℕ → Read A) (L K : List ℕ → A → Type 0) (T U : List ℕ → Type 0) where
@@ -46,17 +63,9 @@ module _ {A : Type 0} (p : List ℕ → Read A) (L K : List ℕ → A → Type 0
   along n e to from tree_to tree_from = record {
     whole = λ ys a rest k. e.whole ys a rest (from ys a k);
     sound = λ xs a rest small few is. let s = e.sound xs a rest small few is in (s.0, s.1, to s.0 a s.2);
-    stops = λ xs s small few is. let o = e.stops xs s small few is in record {
-      front = o.front;
-      rest = o.rest;
-      splits = o.splits;
-      left = o.left;
-      more = o.more;
-      value = o.value;
-      goes_on = to (o.front ++ o.more) o.value o.goes_on;
-      here = o.here;
-      at_tree = λ t. tree_to o.front (o.at_tree t);
-    };
+    stops = λ xs s small few is.
+        let o = e.stops xs s small few is in
+        carried o o.more o.value (to (o.front ++ o.more) o.value o.goes_on) o.here (tree_to o.front);
     trails = λ front b other u. e.trails front b other (tree_from front u);
   }
 
@@ -66,17 +75,9 @@ module _ {A : Type 0} (p : List ℕ → Read A) (L : List ℕ → A → Type 0) 
   weaker n k le e = record {
     whole = λ ys a rest l small. e.whole ys a rest l (omega (arith, small));
     sound = λ xs a rest small. e.sound xs a rest (omega (arith, small));
-    stops = λ xs s small few is. let o = e.stops xs s (omega (arith, small)) few is in record {
-      front = o.front;
-      rest = o.rest;
-      splits = o.splits;
-      left = o.left;
-      more = o.more;
-      value = o.value;
-      goes_on = o.goes_on;
-      here = λ b tail other at short. o.here b tail other at (omega (arith, short));
-      at_tree = o.at_tree;
-    };
+    stops = λ xs s small few is.
+        let o = e.stops xs s (omega (arith, small)) few is in
+        carried o o.more o.value o.goes_on (λ b tail other at short. o.here b tail other at (omega (arith, short))) (λ t. t);
     trails = λ front b other t not short. e.trails front b other t not (omega (arith, short));
   }
 
@@ -123,46 +124,61 @@ module _ {A B : Type 0} where
         let short : length (ys ++ (front ++ rest)) < n = subst (λ xs. length xs < n) same small in
         (ap (λ xs. p xs >>= λ x. q x.0 x.1) same ∙ enters ys (front ++ rest) a l short, fits ys (front ++ rest) a l short)
 
+    -- a text of both that goes on behind a front of the first, or of the second
+    on_in_first : (front more zs : List ℕ) (a : A) (b : B) → L (front ++ more) a → M a zs b → Then L M (front ++ (more ++ zs)) b
+    on_in_first front more zs a b l k = subst (λ v. Then L M v b) (append_assoc front more zs) (joined (front ++ more) zs a b l k)
+
+    on_in_second : (ys front more : List ℕ) (a : A) (b : B) → L ys a → M a (front ++ more) b → Then L M ((ys ++ front) ++ more) b
+    on_in_second ys front more a b l k = subst (λ v. Then L M v b) (sym (append_assoc ys front more)) (joined ys (front ++ more) a b l k)
+
+    -- the first has read its text, and the second reads on
+    record IsHalfway (xs : List ℕ) (a : A) (mid : List ℕ) : Type 0 where
+      front : List ℕ
+      splits : xs ≡ front ++ mid
+      is_text : L front a
+      shorter : length mid < m
+      few : length mid ≤ most
+
+    halfway : (xs : List ℕ) (a : A) (mid : List ℕ) → length xs < n → length xs ≤ most → p xs ≡ Ok (a, mid) → IsHalfway xs a mid
+    halfway xs a mid small few read =
+        let one = first.sound xs a mid small few read in
+        record {
+          front = one.0;
+          splits = one.1;
+          is_text = one.2;
+          shorter = fits one.0 mid a one.2 (subst (λ v. length v < n) one.1 small);
+          few = omega (arith, ap length one.1, length-append one.0 mid, few);
+        }
+
     sound_by : (xs : List ℕ) (b : B) (rest : List ℕ) → length xs < n → length xs ≤ most → (r : Read A) → p xs ≡ r → (r >>= λ x. q x.0 x.1) ≡ Ok (b, rest) → (ys : List ℕ) × (xs ≡ ys ++ rest) × Then L M ys b
     sound_by xs b rest small few (Err s) read is = absurd (cc)
     sound_by xs b rest small few (Ok (a, mid)) read is =
-        let one = first.sound xs a mid small few read in
-        let ys = one.0 in
-        let size : length xs ≡ length ys + length mid = ap length one.1 ∙ length-append ys mid in
-        let two = (second ys a one.2).sound mid b rest (fits ys mid a one.2 (subst (λ v. length v < n) one.1 small)) (omega (arith, size, few)) is in
-        (ys ++ two.0, one.1 ∙ (ap (λ v. ys ++ v) two.1 ∙ sym (append_assoc ys two.0 rest)), joined ys two.0 a b one.2 two.2)
+        let o = halfway xs a mid small few read in
+        let two = (second o.front a o.is_text).sound mid b rest o.shorter o.few is in
+        (o.front ++ two.0, o.splits ∙ (ap (λ v. o.front ++ v) two.1 ∙ sym (append_assoc o.front two.0 rest)), joined o.front two.0 a b o.is_text two.2)
 
     stops_by : (xs : List ℕ) (s : Stop) → length xs < n → length xs ≤ most → (r : Read A) → p xs ≡ r → (r >>= λ x. q x.0 x.1) ≡ Err s → IsStop n (λ xs. p xs >>= λ x. q x.0 x.1) (Then L M) (ThenTree T L U) xs s
     stops_by xs s small few (Err t) read is =
         let same : t ≡ s = cc in
         let o = first.stops xs s small few (read ∙ ap (λ u. Err u) same) in
         let behind = some (o.front ++ o.more) o.value o.goes_on in
-        record {
-          front = o.front;
-          rest = o.rest;
-          splits = o.splits;
-          left = o.left;
-          more = o.more ++ behind.0;
-          value = behind.1;
-          goes_on = subst (λ v. Then L M v behind.1) (append_assoc o.front o.more behind.0) (joined (o.front ++ o.more) behind.0 o.value behind.1 o.goes_on behind.2);
-          here = λ b tail other at short. let e = o.here b tail other at short in (e.0, ap (λ r. r >>= λ x. q x.0 x.1) e.1);
-          at_tree = λ t. in_first o.front (o.at_tree t);
-        }
+        carried o (o.more ++ behind.0) behind.1 (on_in_first o.front o.more behind.0 o.value behind.1 o.goes_on behind.2)
+        (λ b tail other at short. let e = o.here b tail other at short in (e.0, ap (λ r. r >>= λ x. q x.0 x.1) e.1))
+        (in_first o.front)
     stops_by xs s small few (Ok (a, mid)) read is =
-        let one = first.sound xs a mid small few read in
-        let ys = one.0 in
-        let size : length xs ≡ length ys + length mid = ap length one.1 ∙ length-append ys mid in
-        let o = (second ys a one.2).stops mid s (fits ys mid a one.2 (subst (λ v. length v < n) one.1 small)) (omega (arith, size, few)) is in
+        let one = halfway xs a mid small few read in
+        let ys = one.front in
+        let o = (second ys a one.is_text).stops mid s one.shorter one.few is in
         record {
           front = ys ++ o.front;
           rest = o.rest;
           left = o.left;
           more = o.more;
           value = o.value;
-          splits = one.1 ∙ (ap (λ v. ys ++ v) o.splits ∙ sym (append_assoc ys o.front o.rest));
-          goes_on = subst (λ v. Then L M v o.value) (sym (append_assoc ys o.front o.more)) (joined ys (o.front ++ o.more) a o.value one.2 o.goes_on);
-          here = λ b tail other at short. let into = enters_front ys o.front (b ∷ other) a one.2 short in let e = o.here b tail other at into.1 in (e.0, into.0 ∙ e.1);
-          at_tree = λ t. in_second ys o.front a one.2 (o.at_tree t);
+          splits = one.splits ∙ (ap (λ v. ys ++ v) o.splits ∙ sym (append_assoc ys o.front o.rest));
+          goes_on = on_in_second ys o.front o.more a o.value one.is_text o.goes_on;
+          here = λ b tail other at short. let into = enters_front ys o.front (b ∷ other) a one.is_text short in let e = o.here b tail other at into.1 in (e.0, into.0 ∙ e.1);
+          at_tree = λ t. in_second ys o.front a one.is_text (o.at_tree t);
         }
 
     whole_then : (xs : List ℕ) (b : B) (rest : List ℕ) → Then L M xs b → length (xs ++ rest) < n → (p (xs ++ rest) >>= λ x. q x.0 x.1) ≡ Ok (b, rest)
@@ -209,17 +225,8 @@ module _ {A B : Type 0} where
     stops_seen xs s small few (Err t) read is =
         let same : t ≡ s = cc in
         let o = e.stops xs s small few (read ∙ ap (λ u. Err u) same) in
-        record {
-          front = o.front;
-          rest = o.rest;
-          splits = o.splits;
-          left = o.left;
-          more = o.more;
-          value = f o.value;
-          goes_on = mapped (o.front ++ o.more) o.value o.goes_on;
-          here = λ b tail other at short. let k = o.here b tail other at short in (k.0, ap (view f) k.1);
-          at_tree = o.at_tree;
-        }
+        carried o o.more (f o.value) (mapped (o.front ++ o.more) o.value o.goes_on)
+        (λ b tail other at short. let k = o.here b tail other at short in (k.0, ap (view f) k.1)) (λ t. t)
 
     pub seen : IsExact n (λ xs. view f (p xs)) (Mapped f L) T
     seen = record {
@@ -275,10 +282,6 @@ module _ {A : Type 0} (n byte : ℕ) (p q : List ℕ → Read A) (L M : List ℕ
   to_right : (xs : List ℕ) → begins_with byte xs ≡ false → choice xs ≡ q xs
   to_right xs e = ap (λ b. cond b (p xs) (q xs)) e
 
-  -- where reading stops, it stops with another tail, too
-  sides : (front other tail : List ℕ) (b : ℕ) (is : Bool) → begins_with byte (front ++ b ∷ tail) ≡ is → begins_with byte (front ++ b ∷ other) ≡ is
-  sides front other tail b is e = same_first byte b front other tail ∙ e
-
   whole_either : (ys : List ℕ) (a : A) (rest : List ℕ) → L ys a ⊎ M ys a → length (ys ++ rest) < n → choice (ys ++ rest) ≡ Ok (a, rest)
   whole_either ys a rest (inl l) small = to_left (ys ++ rest) (first_in byte true ys rest (begins ys a l)) ∙ left.whole ys a rest l small
   whole_either ys a rest (inr m) small = to_right (ys ++ rest) (first_in byte false ys rest (others ys a m)) ∙ right.whole ys a rest m small
@@ -287,39 +290,21 @@ module _ {A : Type 0} (n byte : ℕ) (p q : List ℕ → Read A) (L M : List ℕ
   sound_either xs a rest small few true e read = let s = left.sound xs a rest small few (sym (to_left xs e) ∙ read) in (s.0, s.1, inl s.2)
   sound_either xs a rest small few false e read = let s = right.sound xs a rest small few (sym (to_right xs e) ∙ read) in (s.0, s.1, inr s.2)
 
+  -- where one of the two is chosen, a stop of it is one of the choice, which no other tail changes
+  stops_side : (is : Bool) (r : List ℕ → Read A) (K : List ℕ → A → Type 0) (V : List ℕ → Type 0) → ((xs : List ℕ) → begins_with byte xs ≡ is → choice xs ≡ r xs)
+      → ((ys : List ℕ) (a : A) → K ys a → L ys a ⊎ M ys a) → ((f : List ℕ) → V f → T f ⊎ U f)
+      → (xs : List ℕ) (s : Stop) → begins_with byte xs ≡ is → IsStop n r K V xs s → IsStop n choice (λ ys a. L ys a ⊎ M ys a) (λ f. T f ⊎ U f) xs s
+  stops_side is r K V chosen into tree_into xs s e o =
+      carried o o.more o.value (into (o.front ++ o.more) o.value o.goes_on)
+      (λ b tail other at short.
+      let h = o.here b tail other at short in
+      let again : begins_with byte (o.front ++ b ∷ tail) ≡ is = ap (λ v. begins_with byte (o.front ++ v)) (sym at) ∙ (ap (begins_with byte) (sym o.splits) ∙ e) in
+      (h.0, chosen (o.front ++ b ∷ other) (same_first byte b o.front other tail ∙ again) ∙ h.1))
+      (tree_into o.front)
+
   stops_either : (xs : List ℕ) (s : Stop) → length xs < n → length xs ≤ most → (is : Bool) → begins_with byte xs ≡ is → choice xs ≡ Err s → IsStop n choice (λ ys a. L ys a ⊎ M ys a) (λ f. T f ⊎ U f) xs s
-  stops_either xs s small few true e read =
-      let o = left.stops xs s small few (sym (to_left xs e) ∙ read) in
-      record {
-        front = o.front;
-        rest = o.rest;
-        splits = o.splits;
-        left = o.left;
-        more = o.more;
-        value = o.value;
-        goes_on = inl o.goes_on;
-        here = λ b tail other at short.
-            let h = o.here b tail other at short in
-            let again : begins_with byte (o.front ++ b ∷ tail) ≡ true = ap (λ v. begins_with byte (o.front ++ v)) (sym at) ∙ (ap (begins_with byte) (sym o.splits) ∙ e) in
-            (h.0, to_left (o.front ++ b ∷ other) (sides o.front other tail b true again) ∙ h.1);
-        at_tree = λ t. inl (o.at_tree t);
-      }
-  stops_either xs s small few false e read =
-      let o = right.stops xs s small few (sym (to_right xs e) ∙ read) in
-      record {
-        front = o.front;
-        rest = o.rest;
-        splits = o.splits;
-        left = o.left;
-        more = o.more;
-        value = o.value;
-        goes_on = inr o.goes_on;
-        here = λ b tail other at short.
-            let h = o.here b tail other at short in
-            let again : begins_with byte (o.front ++ b ∷ tail) ≡ false = ap (λ v. begins_with byte (o.front ++ v)) (sym at) ∙ (ap (begins_with byte) (sym o.splits) ∙ e) in
-            (h.0, to_right (o.front ++ b ∷ other) (sides o.front other tail b false again) ∙ h.1);
-        at_tree = λ t. inr (o.at_tree t);
-      }
+  stops_either xs s small few true e read = stops_side true p L T to_left (λ ys a l. inl l) (λ f t. inl t) xs s e (left.stops xs s small few (sym (to_left xs e) ∙ read))
+  stops_either xs s small few false e read = stops_side false q M U to_right (λ ys a m. inr m) (λ f u. inr u) xs s e (right.stops xs s small few (sym (to_right xs e) ∙ read))
 
   trails_either : (front : List ℕ) (b : ℕ) (other : List ℕ) → T front ⊎ U front → b ≢ 10 → length (front ++ b ∷ other) < n → choice (front ++ b ∷ other) ≡ Err (tree_stop b other)
   trails_either front b other (inl t) not small = to_left (front ++ b ∷ other) (first_in byte true front (b ∷ other) (tree_begins front t)) ∙ left.trails front b other t not small

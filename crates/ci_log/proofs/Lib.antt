@@ -1,12 +1,10 @@
 pub mod Addresses
-pub mod Appending
 pub mod BookTexts
 pub mod Cuts
 pub mod EntryTexts
 pub mod Exact
 pub mod FirstFaults
 pub mod Forests
-pub mod Members
 pub mod Numbers
 pub mod Repetition
 pub mod Total

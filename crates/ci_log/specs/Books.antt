@@ -4,9 +4,9 @@ use Rattle.std.specs.List.{flat_map, AllByRecursion}
 use Rattle.std.specs.Fmt.{decimal}
 use Rattle.std.specs.Ordering.{nat_cmp}
 use Rattle.std.specs.FinSet as set
-use Rattle.ci_word.specs.Numbers.{numbers_below}
 use Rattle.ci_text.specs.Hex.{eight_hex_digits}
 use Rattle.ci_text.specs.Lines.{line}
+use Rattle.ci_text.specs.Members.{members_text}
 use Rattle.ci_log.specs.declared.book.Entry.{Entry}
 use Rattle.ci_log.specs.declared.book.Entry.TheVariants.{Best, Without, Spent, Take}
 use Rattle.ci_log.specs.declared.book.Finish.{Finish}
@@ -58,13 +58,9 @@ pub record IsBook (book : Book) : Type 0 where
 
 -- ---- texts
 
--- the members' numbers in ascending order, each after a blank
-abbrev pub members : set.FinSet nat_cmp → List ℕ
-members cut = flat_map (λ node. codes " " ++ decimal node) (numbers_below 256 (set.contains cut))
-
 abbrev pub entry_text : Entry → List ℕ
 entry_text (Best leader cut log) =
-    line (codes "block " ++ eight_hex_digits leader ++ codes " best" ++ members cut) ++ line (letters log)
+    line (codes "block " ++ eight_hex_digits leader ++ codes " best" ++ members_text (set.contains cut)) ++ line (letters log)
 entry_text (Without leader log) = line (codes "block " ++ eight_hex_digits leader ++ codes " none") ++ line (letters log)
 entry_text (Spent leader budget) = line (codes "block " ++ eight_hex_digits leader ++ codes " spent " ++ decimal budget)
 entry_text (Take leader unit) = line (codes "take " ++ eight_hex_digits leader ++ codes " unit " ++ decimal unit)

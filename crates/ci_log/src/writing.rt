@@ -1,41 +1,16 @@
 //! From a log book to its text.
-ghost use Rattle.std.specs.Prelude.{◌≡◌, ◌<◌, ◌++◌, [], codes, if◌then◌else◌, IfOk, OnOk};
+ghost use Rattle.std.specs.Prelude.{◌≡◌, ◌++◌, IfOk, OnOk};
 ghost use Rattle.std.specs.String.{string_bytes};
-ghost use Rattle.std.specs.List.{flat_map};
 ghost use Rattle.std.specs.Fmt.{decimal};
-ghost use Rattle.std.specs.FinSet as set;
-ghost use Rattle.ci_word.specs.Numbers.{numbers_below};
+ghost use Rattle.ci_text.specs.Hex.{eight_hex_digits};
 ghost use Rattle.ci_text.specs.Lines.{line};
 ghost use Rattle.ci_log.specs.Trees.{letter, letters};
-ghost use Rattle.ci_log.specs.Books.{Spells, members, entry_text, finish_text};
+ghost use Rattle.ci_log.specs.Books.{Spells, entry_text};
 
 use crate::book::{Entry, Finish, LogBook};
 use crate::log::{Item, Log};
-use ci_text::push_hex;
-use ci_word::Row;
+use ci_text::{push_hex, push_members};
 use std::alloc::{AllocError, Global};
-
-/// Appends the node's number behind a blank, where the node is in the cut.
-fn push_if_member(text: &mut String, node: u8, cut: &Row) -> Result<(), AllocError>
-    ensures { OnOk result (string_bytes text.new ≡ string_bytes text.old
-        ++ (if set.contains cut.now node then codes " " ++ decimal node else [])) }
-{
-    if cut.has(node) {
-        write!(text, " {node}")?;
-    }
-    Ok(())
-}
-
-/// Appends the numbers of the cut's nodes.
-#[tactic(auto, using(crate::proofs::Members::members))]
-fn push_members(text: &mut String, cut: &Row) -> Result<(), AllocError>
-    ensures { OnOk result (string_bytes text.new ≡ string_bytes text.old ++ members cut.now) }
-{
-    for node in 0..256u32 {
-        push_if_member(text, node as u8, cut)?;
-    }
-    Ok(())
-}
 
 /// An item's letter.
 fn letter(item: Item) -> char
@@ -68,35 +43,37 @@ fn push_number(text: &mut String, number: u32) -> Result<(), AllocError>
     writeln!(text, "{number}")
 }
 
+/// Appends the leader's digits between two words.
+fn push_leader(text: &mut String, before: &str, leader: u32, behind: &str) -> Result<(), AllocError>
+    ensures { OnOk result (string_bytes text.new
+        ≡ string_bytes text.old ++ (before.now ++ eight_hex_digits leader ++ behind.now)) }
+{
+    text.push_str(before)?;
+    push_hex(text, leader)?;
+    text.push_str(behind)
+}
+
 /// Appends the entry's lines.
 fn push_entry(text: &mut String, entry: &Entry) -> Result<(), AllocError>
     ensures { OnOk result (string_bytes text.new ≡ string_bytes text.old ++ entry_text entry.now) }
 {
     match entry {
         Entry::Best { leader, cut, log } => {
-            text.push_str("block ")?;
-            push_hex(text, *leader)?;
-            text.push_str(" best")?;
+            push_leader(text, "block ", *leader, " best")?;
             push_members(text, cut)?;
-            text.push_str("\n")?;
+            text.push('\n')?;
             push_log(text, log)
         }
         Entry::Without { leader, log } => {
-            text.push_str("block ")?;
-            push_hex(text, *leader)?;
-            text.push_str(" none\n")?;
+            push_leader(text, "block ", *leader, " none\n")?;
             push_log(text, log)
         }
         Entry::Spent { leader, budget } => {
-            text.push_str("block ")?;
-            push_hex(text, *leader)?;
-            text.push_str(" spent ")?;
+            push_leader(text, "block ", *leader, " spent ")?;
             push_number(text, *budget)
         }
         Entry::Take { leader, unit } => {
-            text.push_str("take ")?;
-            push_hex(text, *leader)?;
-            text.push_str(" unit ")?;
+            push_leader(text, "take ", *leader, " unit ")?;
             push_number(text, u32::from(*unit))
         }
     }
