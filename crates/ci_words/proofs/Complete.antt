@@ -8,8 +8,9 @@ use Rattle.clap.specs.Lexer.{long_of, short_of}
 use Rattle.clap.specs.Walk.{Held, Row, Text, Waiting, Walk, reacted, settled, walked}
 use Rattle.clap.specs.Walk as w
 use Rattle.clap.specs.Faults.{turn_fault, walk_fault}
-use Rattle.ci_words.specs.Words.{IsEnding, IsName, Item, options, positionals, spellings, values_of}
+use Rattle.ci_words.specs.Words.{IsEnding, IsName, Item, options, positionals, spellings}
 use Rattle.ci_words.specs.Words as item
+use Rattle.ci_words.proofs.Rows.{IsNew}
 use Rattle.ci_words.proofs.Rules.{long_known, option_rule, rules, shape}
 use Rattle.ci_words.proofs.States.{Holds, Holds-filled, Holds-named, Holds-reacted, IsOption, both_none, filled, long_of-joined, long_of-opened, opened}
 use Rattle.ci_words.proofs.Steps.{IsFree, at, dashes_fault, dashes_walked, joined_fault, joined_walked, last_fault, last_walked, named, opened_fault, opened_walked, other_plain, plain_fault, plain_walked, value_fault, value_walked}
@@ -28,12 +29,12 @@ name_is_no_flag (c ∷ cs) good = go (eqb_tells c 45)
     go (inl is) = absurd (good is.1)
     go (inr not) = record { no_dashes = rw not.0 refl; no_long = rw not.0 refl; no_short = rw not.0 refl }
 
--- names, and known options that are given once, after these
+-- names, and known options that may be given, after these
 abbrev pub ProperAfter : List Text → List (Text × Text) → List Item → Type 0
 ProperAfter known given [] = ⊤
 ProperAfter known given (item.positional word ∷ items) = IsName word × ProperAfter known given items
-ProperAfter known given (item.option_in_two name value ∷ items) = Contains known name × IsName value × (values_of name given ≡ []) × ProperAfter known (given ++ (name, value) ∷ []) items
-ProperAfter known given (item.option_in_one name value ∷ items) = Contains known name × IsName value × (values_of name given ≡ []) × ProperAfter known (given ++ (name, value) ∷ []) items
+ProperAfter known given (item.option_in_two name value ∷ items) = Contains known name × IsName value × IsNew name given × ProperAfter known (given ++ (name, value) ∷ []) items
+ProperAfter known given (item.option_in_one name value ∷ items) = Contains known name × IsName value × IsNew name given × ProperAfter known (given ++ (name, value) ∷ []) items
 
 module _ (name : Text) (known : List Text) where
   -- the walk over the words has no fault, and at its end stands for these names and options
@@ -75,7 +76,7 @@ module _ (name : Text) (known : List Text) where
 
   module _ (fits : (k : Text) → Contains known k → IsOption k) where
     -- an option and its value in two words
-    two_passes : (waiting : Waiting) (h : Held) (option value : Text) (words before names : List Text) (given all : List (Text × Text)) → Contains known option → IsName value → values_of option given ≡ []
+    two_passes : (waiting : Waiting) (h : Held) (option value : Text) (words before names : List Text) (given all : List (Text × Text)) → Contains known option → IsName value → IsNew option given
         → Holds known h before given
         → (Holds known (filled known (settled (rules known) h).rows option value) before (given ++ (option, value) ∷ []) → Passes (at w.idle false (filled known (settled (rules known) h).rows option value)) words names all)
         → Passes (at waiting false h) ((codes "--" ++ option) ∷ value ∷ words) names all
@@ -96,7 +97,7 @@ module _ (name : Text) (known : List Text) where
         (rest (Holds-filled known rows before given option value is.apart among holds.stands new)))
 
     -- the same in one word
-    one_passes : (waiting : Waiting) (h : Held) (option value : Text) (words before names : List Text) (given all : List (Text × Text)) → Contains known option → values_of option given ≡ []
+    one_passes : (waiting : Waiting) (h : Held) (option value : Text) (words before names : List Text) (given all : List (Text × Text)) → Contains known option → IsNew option given
         → Holds known h before given
         → (Holds known (reacted (rules known) (option_rule option) (value ∷ []) h) before (given ++ (option, value) ∷ [])
         → Passes (at w.idle false (reacted (rules known) (option_rule option) (value ∷ []) h)) words names all)

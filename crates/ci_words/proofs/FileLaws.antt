@@ -2,8 +2,8 @@
 use Rattle.std.proofs.Common.{◌≡◌, List, [], ◌∷◌, refl, inl, inr, arith}
 use Rattle.std.specs.Prelude.{All, AllPairs, Some, None, flat_map, zip}
 use Rattle.std.proofs.lemmas.List.Elements.{All-append, All-cons, All-nil}
-use Rattle.ci_words.specs.Tables.{Access, reads, command_row, file, OptionName, inputs, outputs, steps, table, input, option_row, every_option}
-use Rattle.ci_words.specs.Words.{AreApart, Reading, best, asm, dis, run, Setting, Settings, Text, to_file, to_number}
+use Rattle.ci_words.specs.Tables.{Access, reads, command_row, file, OptionName, inputs, outputs, steps, table, input, leader, at, option_row, every_option}
+use Rattle.ci_words.specs.Words.{AreApart, Reading, best, asm, dis, run, blocks, Setting, Settings, Text, to_file}
 use Rattle.ci_words.specs.Words.{command_of, file_set, files_of, names_of, option_files, setting_of}
 
 -- the file is read
@@ -21,9 +21,8 @@ read_apart files read i j d before lt (inr writes_one) =
 
 -- what an option with a file that is read is set to
 set_read : (setting : Setting) → All IsRead (file_set (file reads) setting)
-set_read (to_number n) = All-nil IsRead
-set_read (to_file None) = All-nil IsRead
 set_read (to_file (Some name)) = All-cons IsRead (reads, name) [] refl (All-nil IsRead)
+set_read setting = All-nil IsRead
 
 -- each option has none, or one that is read
 option_read : (option : OptionName) (setting : Setting) → All IsRead (file_set (option_row option).kind setting)
@@ -32,6 +31,8 @@ option_read outputs setting = All-nil IsRead
 option_read steps setting = All-nil IsRead
 option_read table setting = set_read setting
 option_read input setting = set_read setting
+option_read leader setting = All-nil IsRead
+option_read at setting = All-nil IsRead
 
 -- so all of them are read
 options_read : (settings : Settings) (options : List OptionName) → All IsRead (flat_map (λ option. file_set (option_row option).kind (setting_of option settings)) options)
@@ -52,6 +53,7 @@ files_apart (best name settings) apart = names_read name settings
 files_apart (asm text out) apart = apart
 files_apart (dis name) apart = apart
 files_apart (run name settings) apart = names_read name settings
+files_apart (blocks name settings) apart = names_read name settings
 
 -- and only there
 pub names_apart : (reading : Reading) → AllPairs AreApart (files_of reading) → AllPairs AreApart (zip (command_row (command_of reading)).names (names_of reading))
@@ -59,3 +61,4 @@ names_apart (best name settings) apart = name_read name
 names_apart (asm text out) apart = apart
 names_apart (dis name) apart = apart
 names_apart (run name settings) apart = name_read name
+names_apart (blocks name settings) apart = name_read name

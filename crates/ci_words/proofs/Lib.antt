@@ -11,3 +11,4 @@ pub mod Matches
 pub mod Readings
 pub mod NameLaws
 pub mod FileLaws
+pub mod DigitLaws

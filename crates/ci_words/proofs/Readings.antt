@@ -1,42 +1,71 @@
 -- The readings of words, against the matches of the command that the first word names.
-use Rattle.std.proofs.Common.{◌≡◌, ◌≢◌, ◌∙◌, ◌<◌, ◌≤◌, ◌⊎◌, ℕ, Bool, true, false, List, [], ◌∷◌, length, codes, Some, refl, sym, ap, subst, arith, inl, inr, zero, suc}
+use Rattle.std.proofs.Common.{◌≡◌, ◌≢◌, ◌∙◌, ◌≤◌, ◌⊎◌, ℕ, Bool, true, false, List, [], ◌∷◌, length, codes, Some, refl, sym, ap, ap₂, subst, arith, inl, inr, drop}
 use Rattle.std.specs.Prelude.{All, AllPairs, Contains, Option, None, filter, slice_get, zip, unwrap_or, if◌then◌else◌}
-use Rattle.std.specs.List.{slice_index_or}
+use Rattle.std.specs.List.{AllZip, slice_index_or}
 use Rattle.std.specs.Str.{bytes_eq}
 use Rattle.std.proofs.lemmas.Slice.Eq.{bytes_eq-Decides}
-use Rattle.std.proofs.lemmas.List.Elements.{All-filter, All-head, All-map, All-tail, All-weaker}
+use Rattle.std.proofs.lemmas.List.Elements.{All-cons, All-filter, All-head, All-map, All-nil, All-tail, All-weaker}
 use Rattle.clap.specs.Walk.{Row}
 use Rattle.clap.specs.Simple.{matches_of}
 use Rattle.clap.specs.Faults.{fault_of}
-use Rattle.ci_words.specs.Tables.{CommandName, command_row, Kind, number, OptionName, inputs, outputs, steps, table, input, option_row}
+use Rattle.ci_words.specs.Tables.{CommandName, command_row, Kind, number, address, addresses, OptionName, inputs, outputs, steps, table, input, leader, at, option_row}
 use Rattle.ci_words.specs.Tables as tables
-use Rattle.ci_words.specs.Words.{AreApart, AreMixed, IsName, IsOptionOf, Reading, ReadsAs, HasNoReading, Setting, Settings, Sets, Text, best, asm, dis, run}
-use Rattle.ci_words.specs.Words.{command_of, is_named, names_of, setting_of, settings_of, to_file, to_number, values_of}
-use Rattle.ci_words.specs.Parses.{Gives, IsParsed, app_named, has_option, known_to, option_name, option_values, values_in}
+use Rattle.ci_words.specs.Words.{AreApart, AreDigits, AreMixed, IsAddress, IsName, IsOptionOf, Reading, ReadsAs, HasNoReading, Setting, Settings, Sets, Text, best, asm, dis, run, blocks}
+use Rattle.ci_words.specs.Words.{command_of, is_named, names_of, setting_of, settings_of, to_address, to_addresses, to_file, to_number, values_of}
+use Rattle.ci_words.specs.Parses.{Gives, IsParsed, app_named, has_option, is_repeatable, known_to, option_name, option_values, values_in}
 use Rattle.ci_words.proofs.FileLaws.{files_apart, names_apart}
 use Rattle.ci_words.proofs.Matches.{some-same}
 use Rattle.ci_words.proofs.Levels.{AreRead, passed_reads, read_meets}
 use Rattle.ci_words.proofs.Rows.{AreOf, listed}
 use Rattle.ci_words.proofs.Rules.{same_text}
-use Rattle.ci_words.proofs.States.{AreOnce, length-values_of}
-use Rattle.ci_words.proofs.TableLaws.{fits, has_option-from, is_known, known_fits, known_is, once_only, same_command, same_option}
+use Rattle.ci_words.proofs.States.{AreOnce}
+use Rattle.ci_words.proofs.TableLaws.{fits, has_option-from, is_known, known_fits, known_is, repeatable_named, same_command, same_option}
 
 -- ---- values
+
+-- a text has one number
+digits_one : (base most : ℕ) (text : Text) (n m : ℕ) → AreDigits base most text n → AreDigits base most text m → n ≡ m
+digits_one base most text n m a b = sym a.value ∙ b.value
+
+-- and is one address
+address_one : (text : Text) (n m : ℕ) → IsAddress text n → IsAddress text m → n ≡ m
+address_one text n m a b = digits_one 16 8 a.0 n m a.2 (subst (λ digits. AreDigits 16 8 digits m) same b.2)
+  where
+    same : b.0 ≡ a.0
+    same = ap (drop 2) (sym b.1 ∙ a.1)
+
+-- and so are several
+addresses_one : (values : List Text) (ns ms : List ℕ) → AllZip IsAddress values ns → AllZip IsAddress values ms → ns ≡ ms
+addresses_one [] [] [] a b = refl
+addresses_one [] (n ∷ ns) ms a b = absurd a
+addresses_one [] [] (m ∷ ms) a b = absurd b
+addresses_one (v ∷ vs) [] ms a b = absurd a
+addresses_one (v ∷ vs) (n ∷ ns) [] a b = absurd b
+addresses_one (v ∷ vs) (n ∷ ns) (m ∷ ms) a b = ap₂ (λ x xs. x ∷ xs) (address_one v n m a.0 b.0) (addresses_one vs ns ms a.1 b.1)
 
 -- values set an option one way
 sets_one : (kind : Kind) (values : List Text) (one other : Setting) → Sets kind values one → Sets kind values other → one ≡ other
 sets_one (number least greatest usual) [] (to_number n) (to_number m) a b = ap to_number (a ∙ sym b)
-sets_one (number least greatest usual) (text ∷ more) (to_number n) (to_number m) a b = ap to_number (sym a.0.value ∙ b.0.value)
+sets_one (number least greatest usual) [] (to_number n) setting a b = absurd b
+sets_one (number least greatest usual) [] setting other a b = absurd a
+sets_one (number least greatest usual) (text ∷ more) (to_number n) (to_number m) a b = ap to_number (digits_one 10 10 text n m a.0 b.0)
+sets_one (number least greatest usual) (text ∷ more) (to_number n) setting a b = absurd b
+sets_one (number least greatest usual) (text ∷ more) setting other a b = absurd a
 sets_one (tables.file access) [] (to_file f) (to_file g) a b = ap to_file (a ∙ sym b)
+sets_one (tables.file access) [] (to_file f) setting a b = absurd b
+sets_one (tables.file access) [] setting other a b = absurd a
 sets_one (tables.file access) (text ∷ more) (to_file f) (to_file g) a b = ap to_file (a ∙ sym b)
-sets_one (number least greatest usual) [] (to_file f) other a b = absurd a
-sets_one (number least greatest usual) [] (to_number n) (to_file g) a b = absurd b
-sets_one (number least greatest usual) (text ∷ more) (to_file f) other a b = absurd a
-sets_one (number least greatest usual) (text ∷ more) (to_number n) (to_file g) a b = absurd b
-sets_one (tables.file access) [] (to_number n) other a b = absurd a
-sets_one (tables.file access) [] (to_file f) (to_number m) a b = absurd b
-sets_one (tables.file access) (text ∷ more) (to_number n) other a b = absurd a
-sets_one (tables.file access) (text ∷ more) (to_file f) (to_number m) a b = absurd b
+sets_one (tables.file access) (text ∷ more) (to_file f) setting a b = absurd b
+sets_one (tables.file access) (text ∷ more) setting other a b = absurd a
+sets_one address [] (to_address n) (to_address m) a b = ap to_address (a ∙ sym b)
+sets_one address [] (to_address n) setting a b = absurd b
+sets_one address [] setting other a b = absurd a
+sets_one address (text ∷ more) (to_address (Some n)) (to_address (Some m)) a b = ap (λ k. to_address (Some k)) (address_one text n m a b)
+sets_one address (text ∷ more) (to_address (Some n)) setting a b = absurd b
+sets_one address (text ∷ more) setting other a b = absurd a
+sets_one addresses values (to_addresses ns) (to_addresses ms) a b = ap to_addresses (addresses_one values ns ms a b)
+sets_one addresses values (to_addresses ns) setting a b = absurd b
+sets_one addresses values setting other a b = absurd a
 
 -- ---- options that are given
 
@@ -55,36 +84,26 @@ values_cases P name (o ∷ os) all = go (bytes_eq o.0 name) refl (values_cases P
     go false e (inl none) = inl (rw e none)
     go false e (inr some) = inr some
 
--- the value of an option that is given once is found by its name
-value_of : (given : List (Text × Text)) → AreOnce given → (k : ℕ) (d : Text × Text) → k < length given
-    → values_of (slice_index_or given k d).0 given ≡ (slice_index_or given k d).1 ∷ []
-value_of [] once k d lt = absurd (omega arith)
-value_of (o ∷ os) once zero d lt = go (values_of o.0 os) refl
+-- values of options are names where all values that are given are
+values_good : (name : Text) (given : List (Text × Text)) → All (λ o. IsName o.1) given → All IsName (values_of name given)
+values_good name given good = All-map IsName (λ (o : Text × Text). o.1) (filter (is_named name) given) (All-filter (is_named name) (λ o. IsName o.1) given good)
+
+-- and only there
+all_good : (given : List (Text × Text)) → ((name : Text) → All IsName (values_of name given)) → All (λ o. IsName o.1) given
+all_good [] good = All-nil (λ (o : Text × Text). IsName o.1)
+all_good (o ∷ os) good = All-cons (λ o. IsName o.1) o os (All-head IsName o.1 (values_of o.0 os) (subst (All IsName) here (good o.0)))
+    (all_good os (λ name. rest name (bytes_eq o.0 name) refl))
   where
     here : values_of o.0 (o ∷ os) ≡ o.1 ∷ values_of o.0 os
     here = rw (same_text o.0) refl
 
-    go : (vs : List Text) → values_of o.0 os ≡ vs → values_of o.0 (o ∷ os) ≡ o.1 ∷ []
-    go [] e = here ∙ ap (λ rest. o.1 ∷ rest) e
-    go (v ∷ vs) e = absurd (omega (arith, once o.0, ap length here, ap length e))
-value_of (o ∷ os) once (suc k) d lt = go (bytes_eq o.0 name) refl (value_of os rest_once k d (omega arith))
-  where
-    name : Text
-    name = (slice_index_or os k d).0
-
-    rest_once : AreOnce os
-    rest_once other = omega (arith, once other, length-values_of other (o ∷ []) os)
-
-    go : (b : Bool) → bytes_eq o.0 (slice_index_or os k d).0 ≡ b → values_of (slice_index_or os k d).0 os ≡ (slice_index_or os k d).1 ∷ []
-        → values_of (slice_index_or os k d).0 (o ∷ os) ≡ (slice_index_or os k d).1 ∷ []
-    go true e found =
-        let here : values_of (slice_index_or os k d).0 (o ∷ os) ≡ o.1 ∷ values_of (slice_index_or os k d).0 os = rw e refl in
-        absurd (omega (arith, once (slice_index_or os k d).0, ap length here, ap length found))
-    go false e found = rw e found
-
--- values of options are names where all values that are given are
-values_good : (name : Text) (given : List (Text × Text)) → All (λ o. IsName o.1) given → All IsName (values_of name given)
-values_good name given good = All-map IsName (λ (o : Text × Text). o.1) (filter (is_named name) given) (All-filter (is_named name) (λ o. IsName o.1) given good)
+    rest : (name : Text) (b : Bool) → bytes_eq o.0 name ≡ b → All IsName (values_of name os)
+    rest name true e =
+        let first : values_of name (o ∷ os) ≡ o.1 ∷ values_of name os = rw e refl in
+        All-tail IsName o.1 (values_of name os) (subst (All IsName) first (good name))
+    rest name false e =
+        let same : values_of name (o ∷ os) ≡ values_of name os = rw e refl in
+        subst (All IsName) same (good name)
 
 -- ---- a reading's parts
 
@@ -94,6 +113,7 @@ remade tables.best names settings = best (slice_index_or names 0 []) settings
 remade tables.asm names settings = asm (slice_index_or names 0 []) (slice_index_or names 1 [])
 remade tables.dis names settings = dis (slice_index_or names 0 [])
 remade tables.run names settings = run (slice_index_or names 0 []) settings
+remade tables.blocks names settings = blocks (slice_index_or names 0 []) settings
 
 remade-parts : (reading : Reading) → remade (command_of reading) (names_of reading) (settings_of reading) ≡ reading
 unfolding remade
@@ -101,26 +121,39 @@ remade-parts (best file settings) = refl
 remade-parts (asm text out) = refl
 remade-parts (dis file) = refl
 remade-parts (run file settings) = refl
+remade-parts (blocks file settings) = refl
 
 -- a setting's number
 number_in : Setting → ℕ
 number_in (to_number n) = n
-number_in (to_file f) = 0
+number_in setting = 0
 
 -- a setting's file
 file_in : Setting → Option Text
-file_in (to_number n) = None
 file_in (to_file f) = f
+file_in setting = None
+
+-- a setting's address
+address_in : Setting → Option ℕ
+address_in (to_address a) = a
+address_in setting = None
+
+-- a setting's addresses
+addresses_in : Setting → List ℕ
+addresses_in (to_addresses ns) = ns
+addresses_in setting = []
 
 -- settings are what each option is set to
 settings_one : (one other : Settings) → ((option : OptionName) → setting_of option one ≡ setting_of option other) → one ≡ other
-unfolding number_in file_in
+unfolding number_in file_in address_in addresses_in
 settings_one one other same = λ i. record {
   inputs = number_in (same inputs i);
   outputs = number_in (same outputs i);
   steps = number_in (same steps i);
   input = file_in (same input i);
   table = file_in (same table i);
+  at = address_in (same at i);
+  leaders = addresses_in (same leader i);
 }
 
 -- ---- words against matches
@@ -146,9 +179,10 @@ asked words reading reads = record {
 }
   where
     once : AreOnce reads.given
-    once name = elim (values_cases (IsOptionOf (command_of reading)) name reads.given reads.of_command) [
+    once name single = elim (values_cases (IsOptionOf (command_of reading)) name reads.given reads.of_command) [
       | inl none ↦ omega (arith, ap length none)
-      | inr is ↦ subst (λ n. length (values_of n reads.given) ≤ 1) (sym is.named) (reads.once is.option (once_only is.option))
+      | inr is ↦ subst (λ n. length (values_of n reads.given) ≤ 1) (sym is.named)
+          (reads.once is.option (sym (repeatable_named is.option) ∙ (ap is_repeatable (sym is.named) ∙ single)))
     ]
 
 module _ (command : CommandName) (rows : List Row) (names : List Text) (given : List (Text × Text)) (are : AreOf rows names given) where
@@ -192,13 +226,12 @@ reading_found words reading reads =
     )
 
 -- all values that are given are names where those of each option are
-good_values : (command : CommandName) (given : List (Text × Text)) → All (λ o. IsOptionOf command o.0) given → AreOnce given
+good_values : (command : CommandName) (given : List (Text × Text)) → All (λ o. IsOptionOf command o.0) given
     → ((option : OptionName) → All IsName (values_of (option_name option) given)) → All (λ o. IsName o.1) given
-good_values command given among once good k d lt =
-    let o = slice_index_or given k d in
-    let is = among k d lt in
-    let found : values_of (option_name is.option) given ≡ o.1 ∷ [] = ap (λ n. values_of n given) (sym is.named) ∙ value_of given once k d lt in
-    All-head IsName o.1 [] (subst (All IsName) found (good is.option))
+good_values command given among good = all_good given (λ name. elim (values_cases (IsOptionOf command) name given among) [
+  | inl none ↦ subst (All IsName) (sym none) (All-nil IsName)
+  | inr is ↦ subst (λ n. All IsName (values_of n given)) (sym is.named) (good is.option)
+])
 
 -- matches without a fault give a reading of the words
 matches_read : (words : List Text) (command : CommandName) (reading : Reading) → slice_get words 0 ≡ Some (command_row command).word → fault_of (app_named command) words ≡ []
@@ -223,8 +256,8 @@ matches_read words command reading first none gives =
       good_names = here.good.good;
       apart = files_apart reading (subst (λ c. AllPairs AreApart (zip (command_row c).names (names_of reading))) (sym here.named) here.good.apart);
       of_command = subst (λ c. All (λ o. IsOptionOf c o.0) reads.given) (sym here.named) among;
-      good_values = good_values command reads.given among reads.once (λ option. subst (All IsName) (values option) (here.good_values option));
-      once = λ option _. reads.once (option_name option);
+      good_values = good_values command reads.given among (λ option. subst (All IsName) (values option) (here.good_values option));
+      once = λ option single. reads.once (option_name option) (repeatable_named option ∙ single);
       set = λ option. subst (λ vs. Sets (option_row option).kind vs (setting_of option (settings_of reading))) (values option) (here.set option);
     }
 

@@ -10,7 +10,8 @@ use Rattle.clap.specs.declared.builder.value_parser.Reading.{Reading}
 use Rattle.clap.specs.declared.builder.value_parser.Reading.TheVariants.{AsWritten}
 use Rattle.clap.specs.declared.parser.matches.ValueSource.TheVariants.{CommandLine}
 use Rattle.ci_words.specs.Words.{is_named, values_of}
-use Rattle.ci_words.proofs.Rules.{names_rule, option_rule, same_text}
+use Rattle.ci_words.specs.Parses.{is_repeatable}
+use Rattle.ci_words.proofs.Rules.{names_rule, option_rule, option_with, same_text}
 
 -- the values of the argument, with more at their end
 all_of-same : (id : Text) (how : Reading) (values : List Text) (rows : List Row) → all_of id (with_values id how CommandLine values rows) ≡ Some (unwrap_or (all_of id rows) [] ++ values)
@@ -116,17 +117,25 @@ apart_flipped a b apart = go (bytes_eq b a) refl
         cc
     go false e = refl
 
--- one more option, which was not given before
+-- an option of this name may be given again, or it was not given before
+abbrev pub IsNew : Text → List (Text × Text) → Type 0
+IsNew name given = is_repeatable name ≡ false → values_of name given ≡ []
+
+-- the values of an option are put behind those that it has, where it may stand more than once or has none
+used_values : (repeatable : Bool) (name value : Text) (rows : List Row) → (repeatable ≡ false → has_row name rows ≡ false)
+    → used (option_with repeatable name) (value ∷ []) rows ≡ with_values name AsWritten CommandLine (value ∷ []) rows
+used_values true name value rows new = refl
+used_values false name value rows new = ap (with_values name AsWritten CommandLine (value ∷ [])) (without_none name rows (new refl))
+
+-- one more option, which may be given
 pub AreOf-option : (rows : List Row) (names : List Text) (given : List (Text × Text)) (name value : Text) → AreOf rows names given → bytes_eq (codes "names") name ≡ false
-    → values_of name given ≡ [] → AreOf (used (option_rule name) (value ∷ []) rows) names (given ++ (name, value) ∷ [])
+    → IsNew name given → AreOf (used (option_rule name) (value ∷ []) rows) names (given ++ (name, value) ∷ [])
 AreOf-option rows names given name value are apart new =
-    let none : has_row name rows ≡ false = has_row-given rows names given name are apart ∙ ap (λ vs. is_some (listed vs)) new in
-    let kept : without name rows ≡ rows = without_none name rows none in
-    record {
-      of_names = ap (λ rs. all_of (codes "names") (with_values name AsWritten CommandLine (value ∷ []) rs)) kept
-          ∙ (all_of-other name (codes "names") AsWritten (value ∷ []) rows (apart_flipped (codes "names") name apart) ∙ are.of_names);
-      of_option = λ other far. ap (λ rs. all_of other (with_values name AsWritten CommandLine (value ∷ []) rs)) kept ∙ go other far (bytes_eq name other) refl;
-    }
+    let none : is_repeatable name ≡ false → has_row name rows ≡ false = λ once. has_row-given rows names given name are apart ∙ ap (λ vs. is_some (listed vs)) (new once) in
+    subst (λ rs. AreOf rs names (given ++ (name, value) ∷ [])) (sym (used_values (is_repeatable name) name value rows none)) (record {
+      of_names = all_of-other name (codes "names") AsWritten (value ∷ []) rows (apart_flipped (codes "names") name apart) ∙ are.of_names;
+      of_option = λ other far. go other far (bytes_eq name other) refl;
+    })
   where
     at_name : all_of name (with_values name AsWritten CommandLine (value ∷ []) rows) ≡ listed (values_of name (given ++ (name, value) ∷ []))
     at_name = all_of-same name AsWritten (value ∷ []) rows

@@ -1,15 +1,15 @@
 -- The arguments that `clap` makes of a command with positional words and options.
-use Rattle.std.proofs.Common.{◌≡◌, ◌∙◌, ◌<◌, ◌⊎◌, ◌||◌, ◌&&◌, ℕ, Bool, true, false, not, List, [], ◌∷◌, length, map, codes, Some, None, refl, ap, arith, inl, inr, zero, suc}
+use Rattle.std.proofs.Common.{◌≡◌, ◌∙◌, ◌<◌, ◌⊎◌, ◌||◌, ◌&&◌, ℕ, Bool, true, false, not, List, [], ◌∷◌, length, map, codes, Some, None, refl, ap, ap₂, arith, inl, inr, zero, suc}
 use Rattle.std.specs.Prelude.{Contains, find, is_some}
 use Rattle.std.specs.List.{slice_index_or}
 use Rattle.std.specs.Str.{bytes_eq}
 use Rattle.std.proofs.lemmas.Slice.Eq.{bytes_eq-Decides}
 use Rattle.clap.specs.Walk.{Rule, Text, arg_by_id, arg_by_long, arg_by_short, has_long}
-use Rattle.clap.specs.Simple.{Shape, built, filled_from, new_rule, new_shape}
-use Rattle.clap.specs.declared.builder.action.ArgAction.TheVariants.{Set, Append}
+use Rattle.clap.specs.Simple.{Shape, built, filled, filled_from, new_rule, new_shape, with_index}
+use Rattle.clap.specs.declared.builder.action.ArgAction.TheVariants.{Append}
 use Rattle.clap.specs.declared.builder.range.ValueRange.{ValueRange}
 use Rattle.clap.specs.declared.builder.value_parser.ValueParser.TheVariants as parser
-use Rattle.ci_words.specs.Parses.{app_for, option_given}
+use Rattle.ci_words.specs.Parses.{action_for, app_for, is_repeatable, option_given}
 
 -- a use has one value
 abbrev pub one_value : ValueRange
@@ -19,9 +19,13 @@ one_value = record { start_inclusive = 1; end_inclusive = 1 }
 abbrev pub names_rule : Rule
 names_rule = record (new_rule (codes "names")) { index = Some 1; action = Some Append; range = Some one_value; parser = Some parser.String }
 
--- an option with one value
+-- an option with one value, which may stand more than once or not
+abbrev pub option_with : Bool → Text → Rule
+option_with repeatable name = record (new_rule name) { long = Some name; action = Some (action_for repeatable); range = Some one_value; parser = Some parser.String }
+
+-- an option of its name
 abbrev pub option_rule : Text → Rule
-option_rule name = record (new_rule name) { long = Some name; action = Some Set; range = Some one_value; parser = Some parser.String }
+option_rule name = option_with (is_repeatable name) name
 
 -- the arguments of a command, the positional words first
 abbrev pub rules : List Text → List Rule
@@ -31,10 +35,16 @@ rules known = names_rule ∷ map option_rule known
 abbrev pub shape : Text → List Text → Shape
 shape name known = record (new_shape name) { rules = rules known; disable_help_flag = true; disable_help_subcommand = true; disable_version_flag = true; is_built = true }
 
--- what building makes of the options
+-- what building makes of an option
+filled_option : (i : ℕ) (repeatable : Bool) (name : Text)
+    → with_index i (filled (record (new_rule name) { long = Some name; action = Some (action_for repeatable) })) ≡ option_with repeatable name
+filled_option i true name = refl
+filled_option i false name = refl
+
+-- and of the options
 filled_options : (i : ℕ) (known : List Text) → filled_from i (map option_given known) ≡ map option_rule known
 filled_options i [] = refl
-filled_options i (k ∷ ks) = ap (λ rest. option_rule k ∷ rest) (filled_options i ks)
+filled_options i (k ∷ ks) = ap₂ (λ rule rest. rule ∷ rest) (filled_option i (is_repeatable k) k) (filled_options i ks)
 
 -- what building makes of the command
 pub built_is : (name : Text) (known : List Text) → built (app_for name known) ≡ record { top = shape name known; subs = [] }

@@ -8,9 +8,9 @@ use Rattle.clap.specs.Lexer.{long_of}
 use Rattle.clap.specs.Walk.{Held, Row, Text, Waiting, Walk, arg_by_long, reacted, settled, walked}
 use Rattle.clap.specs.Walk as w
 use Rattle.clap.specs.Faults.{settle_fault, turn_fault, walk_fault, react_fault}
-use Rattle.ci_words.specs.Words.{IsEnding, Item, options, positionals, spellings, values_of}
+use Rattle.ci_words.specs.Words.{IsEnding, Item, options, positionals, spellings}
 use Rattle.ci_words.specs.Words as item
-use Rattle.ci_words.proofs.Rows.{AreOf, AreOf-name, no_rows}
+use Rattle.ci_words.proofs.Rows.{AreOf, AreOf-name, IsNew, no_rows}
 use Rattle.ci_words.proofs.Rules.{long_cases, option_rule, rules, shape}
 use Rattle.ci_words.proofs.Spellings.{Look, Spells, look}
 use Rattle.ci_words.proofs.Spellings as seen
@@ -261,7 +261,7 @@ module _ (name : Text) (known : List Text) where
     open_plain word words rest rows option before given among are once none plain =
         let apart = (fits option among).apart in
         let is = value_walked name known option rows word apart among plain in
-        let new : settle_fault (rules known) false (filled known rows option word) ≡ [] → values_of option given ≡ [] = filled_new known rows before given option word apart among are in
+        let new : settle_fault (rules known) false (filled known rows option word) ≡ [] → IsNew option given = filled_new known rows before given option word apart among are in
         record {
           value = word;
           rest = words;
@@ -327,5 +327,5 @@ module _ (name : Text) (known : List Text) where
     words_found words walks settles = (both_sound words).0 w.idle w.nothing_held [] [] tt (record {
       skips = refl;
       stands = λ _. no_rows;
-      once = λ option. omega arith;
+      once = λ option _. omega arith;
     }) (record { walks = walks; settles = settles })

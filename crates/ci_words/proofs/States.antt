@@ -12,8 +12,9 @@ use Rattle.clap.specs.declared.error.kind.ErrorKind.TheVariants as kind
 use Rattle.clap.proofs.CutLemmas.{Lacks}
 use Rattle.clap.proofs.LexerLemmas.{name_and_value-at, name_and_value-without}
 use Rattle.ci_words.specs.Words.{values_of}
-use Rattle.ci_words.proofs.Rules.{id_known, option_rule, rules, same_text}
-use Rattle.ci_words.proofs.Rows.{AreOf, AreOf-name, AreOf-option, has_row-given, listed, values_of-append}
+use Rattle.ci_words.specs.Parses.{is_repeatable}
+use Rattle.ci_words.proofs.Rules.{id_known, option_rule, option_with, rules, same_text}
+use Rattle.ci_words.proofs.Rows.{AreOf, AreOf-name, AreOf-option, IsNew, has_row-given, listed, values_of-append}
 use Rattle.ci_words.proofs.Steps.{named}
 
 -- ---- faults in turn
@@ -36,19 +37,24 @@ both_none a b first second = ap (λ k. or_else k b) first ∙ second
 
 -- ---- one use of an option
 
--- an option that has no row may be used
-use_free : (option value : Text) (rows : List Row) → has_row option rows ≡ false → use_fault false (option_rule option) (value ∷ []) rows ≡ []
-use_free option value rows free = rw free refl
+module _ (option value : Text) (rows : List Row) where
+  -- an option that may stand more than once may be used, and one that has no row
+  use_free : (repeatable : Bool) → (repeatable ≡ false → has_row option rows ≡ false) → use_fault false (option_with repeatable option) (value ∷ []) rows ≡ []
+  use_free true free = refl
+  use_free false free =
+      let none : has_row option rows ≡ false = free refl in
+      rw none refl
 
--- and only such a one
-use_taken : (option value : Text) (rows : List Row) → use_fault false (option_rule option) (value ∷ []) rows ≡ [] → has_row option rows ≡ false
-use_taken option value rows none = go (has_row option rows) refl
-  where
-    go : (b : Bool) → has_row option rows ≡ b → b ≡ false
-    go true e =
-        let bad : kind.ArgumentConflict ∷ [] ≡ [] = rw e at none in
-        cc
-    go false e = refl
+  -- and only these
+  use_taken : (repeatable : Bool) → use_fault false (option_with repeatable option) (value ∷ []) rows ≡ [] → repeatable ≡ false → has_row option rows ≡ false
+  use_taken true none once = cc
+  use_taken false none once = go (has_row option rows) refl
+    where
+      go : (b : Bool) → has_row option rows ≡ b → b ≡ false
+      go true e =
+          let bad : kind.ArgumentConflict ∷ [] ≡ [] = rw e at none in
+          cc
+      go false e = refl
 
 -- an option of a command: not the argument of the names, not empty, without `=`
 pub record IsOption (option : Text) : Type 0 where
@@ -76,9 +82,9 @@ long_of-joined option value is = (
 
 -- ---- options that are given once
 
--- each option has at most one value
+-- each option that may not stand more than once has at most one value
 abbrev pub AreOnce : List (Text × Text) → Type 0
-AreOnce given = (name : Text) → length (values_of name given) ≤ 1
+AreOnce given = (name : Text) → is_repeatable name ≡ false → length (values_of name given) ≤ 1
 
 -- the values in two lists of options, counted
 pub length-values_of : (name : Text) (a b : List (Text × Text)) → length (values_of name (a ++ b)) ≡ length (values_of name a) + length (values_of name b)
@@ -89,30 +95,42 @@ empty : (texts : List Text) → length texts ≡ 0 → texts ≡ []
 empty [] e = refl
 empty (t ∷ ts) e = absurd (omega (arith, e))
 
--- one more option that was not given before
-pub AreOnce-push : (given : List (Text × Text)) (name value : Text) → AreOnce given → values_of name given ≡ [] → AreOnce (given ++ (name, value) ∷ [])
-AreOnce-push given name value once new other = go (bytes_eq name other) refl
+-- one more option that may be given
+pub AreOnce-push : (given : List (Text × Text)) (name value : Text) → AreOnce given → IsNew name given → AreOnce (given ++ (name, value) ∷ [])
+AreOnce-push given name value are_once new other once = go (bytes_eq name other) refl
   where
     go : (b : Bool) → bytes_eq name other ≡ b → length (values_of other (given ++ (name, value) ∷ [])) ≤ 1
     go true e =
-        let is : name ≡ other = (bytes_eq-Decides name other).0 e in
-        let none : length (values_of other given) ≡ 0 = ap length (ap (λ n. values_of n given) (sym is) ∙ new) in
+        let is : other ≡ name = sym ((bytes_eq-Decides name other).0 e) in
+        let none : length (values_of other given) ≡ 0 = ap length (subst (λ n. IsNew n given) (sym is) new once) in
         let one : length (values_of other ((name, value) ∷ [])) ≡ 1 = rw e refl in
         omega (arith, length-values_of other given ((name, value) ∷ []), none, one)
     go false e =
         let none : length (values_of other ((name, value) ∷ [])) ≡ 0 = rw e refl in
-        omega (arith, length-values_of other given ((name, value) ∷ []), once other, none)
+        omega (arith, length-values_of other given ((name, value) ∷ []), are_once other once, none)
 
--- an option that is given once was not given before
-pub new_option : (given : List (Text × Text)) (name value : Text) (rest : List (Text × Text)) → AreOnce (given ++ (name, value) ∷ rest) → values_of name given ≡ []
-new_option given name value rest once =
+-- an option that may be given
+pub new_option : (given : List (Text × Text)) (name value : Text) (rest : List (Text × Text)) → AreOnce (given ++ (name, value) ∷ rest) → IsNew name given
+new_option given name value rest are_once once =
     let here : length (values_of name ((name, value) ∷ rest)) ≡ suc (length (values_of name rest)) = rw (same_text name) refl in
-    empty (values_of name given) (omega (arith, length-values_of name given ((name, value) ∷ rest), once name, here))
+    empty (values_of name given) (omega (arith, length-values_of name given ((name, value) ∷ rest), are_once name once, here))
 
 -- an option without a row is not given
 none_given : (values : List Text) → is_some (listed values) ≡ false → values ≡ []
 none_given [] e = refl
 none_given (v ∷ vs) e = cc
+
+-- an option that may be given may be used
+may_use : (option value : Text) (rows : List Row) (names : List Text) (given : List (Text × Text)) → AreOf rows names given → bytes_eq (codes "names") option ≡ false → IsNew option given
+    → use_fault false (option_rule option) (value ∷ []) rows ≡ []
+may_use option value rows names given are apart new =
+    use_free option value rows (is_repeatable option) (λ once. has_row-given rows names given option are apart ∙ ap (λ vs. is_some (listed vs)) (new once))
+
+-- and only such a one
+is_new : (option value : Text) (rows : List Row) (names : List Text) (given : List (Text × Text)) → AreOf rows names given → bytes_eq (codes "names") option ≡ false
+    → use_fault false (option_rule option) (value ∷ []) rows ≡ [] → IsNew option given
+is_new option value rows names given are apart none once =
+    none_given (values_of option given) (sym (has_row-given rows names given option are apart) ∙ use_taken option value rows (is_repeatable option) none once)
 
 -- ---- what is held
 
@@ -149,16 +167,16 @@ module _ (known : List Text) where
     filled_rows = ap (λ o. used_by_id o (value ∷ []) rows) (id_known known option apart among)
 
     -- one more option, whose value waits
-    pub Holds-filled : AreOf rows names given → values_of option given ≡ [] → Holds (filled rows option value) names (given ++ (option, value) ∷ [])
+    pub Holds-filled : AreOf rows names given → IsNew option given → Holds (filled rows option value) names (given ++ (option, value) ∷ [])
     Holds-filled are new = record {
-      settles = filled_fault ∙ use_free option value rows (has_row-given rows names given option are apart ∙ ap (λ vs. is_some (listed vs)) new);
+      settles = filled_fault ∙ may_use option value rows names given are apart new;
       stands = subst (λ rs. AreOf rs names (given ++ (option, value) ∷ [])) (sym filled_rows) (AreOf-option rows names given option value are apart new);
       skips = refl;
     }
 
-    -- an option that is used without a fault was not given before
-    pub filled_new : AreOf rows names given → settle_fault (rules known) false (filled rows option value) ≡ [] → values_of option given ≡ []
-    filled_new are none = none_given (values_of option given) (sym (has_row-given rows names given option are apart) ∙ use_taken option value rows (sym filled_fault ∙ none))
+    -- an option that is used without a fault may be given
+    pub filled_new : AreOf rows names given → settle_fault (rules known) false (filled rows option value) ≡ [] → IsNew option given
+    filled_new are none = is_new option value rows names given are apart (sym filled_fault ∙ none)
 
     -- an option without a value is a fault
     pub opened_fault : settle_fault (rules known) false (opened rows option) ≢ []
@@ -170,11 +188,10 @@ module _ (known : List Text) where
 
   module _ (h : Held) (names : List Text) (given : List (Text × Text)) (option value : Text) (apart : bytes_eq (codes "names") option ≡ false) where
     -- one more option, which is used at once
-    pub Holds-reacted : Holds h names given → values_of option given ≡ []
+    pub Holds-reacted : Holds h names given → IsNew option given
         → (react_fault (rules known) false (option_rule option) (value ∷ []) h ≡ []) × Holds (reacted (rules known) (option_rule option) (value ∷ []) h) names (given ++ (option, value) ∷ [])
     Holds-reacted holds new = (
-      both_none _ _ holds.settles
-          (use_free option value (settled (rules known) h).rows (has_row-given (settled (rules known) h).rows names given option holds.stands apart ∙ ap (λ vs. is_some (listed vs)) new)),
+      both_none _ _ holds.settles (may_use option value (settled (rules known) h).rows names given holds.stands apart new),
       record {
         settles = refl;
         stands = AreOf-option (settled (rules known) h).rows names given option value holds.stands apart new;
@@ -182,7 +199,6 @@ module _ (known : List Text) where
       },
     )
 
-    -- it was not given before, where this is no fault
-    pub reacted_new : AreOf (settled (rules known) h).rows names given → react_fault (rules known) false (option_rule option) (value ∷ []) h ≡ [] → values_of option given ≡ []
-    reacted_new are none = none_given (values_of option given)
-        (sym (has_row-given (settled (rules known) h).rows names given option are apart) ∙ use_taken option value (settled (rules known) h).rows (second_none (settle_fault (rules known) false h) _ none))
+    -- it may be given, where this is no fault
+    pub reacted_new : AreOf (settled (rules known) h).rows names given → react_fault (rules known) false (option_rule option) (value ∷ []) h ≡ [] → IsNew option given
+    reacted_new are none = is_new option value (settled (rules known) h).rows names given are apart (second_none (settle_fault (rules known) false h) _ none)

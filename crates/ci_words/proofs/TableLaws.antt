@@ -7,17 +7,17 @@ use Rattle.std.proofs.lemmas.Bool.Decides.{eqb_tells}
 use Rattle.std.proofs.lemmas.List.Folds.{find_at, Any-from_list_any, list_any-from_Any}
 use Rattle.std.proofs.lemmas.Option.{get_or_from_slice_get, slice_get_within}
 use Rattle.clap.proofs.CutLemmas.{Lacks}
-use Rattle.ci_words.specs.Tables.{CommandName, best, asm, dis, run, command_row, OptionName, inputs, outputs, steps, table, input, option_row, every_option}
+use Rattle.ci_words.specs.Tables.{CommandName, best, asm, dis, run, blocks, command_row, OptionName, inputs, outputs, steps, table, input, leader, at, option_row, every_option}
 use Rattle.ci_words.specs.Words.{IsOptionOf, Text}
-use Rattle.ci_words.specs.Parses.{every_command, has_option, known_to, names_known, option_name, place_of}
+use Rattle.ci_words.specs.Parses.{every_command, has_option, is_repeatable, known_to, names_known, option_name, place_of}
 use Rattle.ci_words.proofs.Matches.{some-same}
 use Rattle.ci_words.proofs.States.{IsOption}
 
 -- what is found is there
 in_list : {X : Type 0} (test : X → Bool) (xs : List X) (x : X) → find test xs ≡ Some x → Contains xs x
 in_list test xs x found =
-    let at : slice_get xs (position_or_len test xs) ≡ Some x = sym (find_at test xs) ∙ found in
-    (position_or_len test xs, slice_get_within xs (position_or_len test xs) x at, get_or_from_slice_get xs (position_or_len test xs) x x at)
+    let there : slice_get xs (position_or_len test xs) ≡ Some x = sym (find_at test xs) ∙ found in
+    (position_or_len test xs, slice_get_within xs (position_or_len test xs) x there, get_or_from_slice_get xs (position_or_len test xs) x x there)
 
 -- ---- a row for each command
 
@@ -32,6 +32,7 @@ command_called-word best = refl
 command_called-word asm = refl
 command_called-word dis = refl
 command_called-word run = refl
+command_called-word blocks = refl
 
 -- and by its place
 command_at-place : (command : CommandName) → slice_get every_command (place_of command) ≡ Some command
@@ -39,6 +40,7 @@ command_at-place best = refl
 command_at-place asm = refl
 command_at-place dis = refl
 command_at-place run = refl
+command_at-place blocks = refl
 
 -- so no two commands have one word
 pub same_command : (one other : CommandName) → (command_row one).word ≡ (command_row other).word → one ≡ other
@@ -81,14 +83,18 @@ fits outputs = fits_as 111 (codes "ut") refl refl
 fits steps = fits_as 115 (codes "teps") refl refl
 fits table = fits_as 116 (codes "able") refl refl
 fits input = fits_as 105 (codes "nput") refl refl
+fits leader = fits_as 108 (codes "eader") refl refl
+fits at = fits_as 97 (codes "t") refl refl
 
--- no option may stand more than once
-pub once_only : (option : OptionName) → (option_row option).repeatable ≡ false
-once_only inputs = refl
-once_only outputs = refl
-once_only steps = refl
-once_only table = refl
-once_only input = refl
+-- its name says whether it may stand more than once
+pub repeatable_named : (option : OptionName) → is_repeatable (option_name option) ≡ (option_row option).repeatable
+repeatable_named inputs = refl
+repeatable_named outputs = refl
+repeatable_named steps = refl
+repeatable_named table = refl
+repeatable_named input = refl
+repeatable_named leader = refl
+repeatable_named at = refl
 
 -- the option of a name
 option_called : Text → Option OptionName
@@ -102,6 +108,8 @@ option_called-name outputs = refl
 option_called-name steps = refl
 option_called-name table = refl
 option_called-name input = refl
+option_called-name leader = refl
+option_called-name at = refl
 
 -- so no two options have one name
 pub same_option : (one other : OptionName) → option_name one ≡ option_name other → one ≡ other
@@ -171,8 +179,8 @@ module _ (command : CommandName) where
   -- the command knows its options
   pub is_known : (name : Text) → IsOptionOf command name → Contains (known_to command) name
   is_known name is =
-      let at = every_option-all is.option in
-      subst (Contains (known_to command)) (sym is.named) (among_known every_option is.option at.0 at.1 at.2 (has_option-from is.option is.had))
+      let there = every_option-all is.option in
+      subst (Contains (known_to command)) (sym is.named) (among_known every_option is.option there.0 there.1 there.2 (has_option-from is.option is.had))
 
   -- each has a name that an option can have
   pub known_fits : (name : Text) → Contains (known_to command) name → IsOption name

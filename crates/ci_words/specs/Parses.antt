@@ -1,10 +1,12 @@
 -- For private contracts only: what is asked of `clap`, and what its matches say.
-use Rattle.std.specs.Prelude.{◌≡◌, ℕ, Bool, ◌==◌, ◌<◌, List, [], ◌∷◌, length, map, filter, zip, All, AllPairs, codes, Some, true, unwrap_or, if◌then◌else◌}
+use Rattle.std.specs.Prelude.{◌≡◌, ℕ, Bool, ◌==◌, ◌&&◌, ◌<◌, List, [], ◌∷◌, length, map, filter, zip, All, AllPairs, codes, Some, true, unwrap_or, if◌then◌else◌}
 use Rattle.std.specs.List.{list_any, slice_index_or}
+use Rattle.std.specs.Str.{bytes_eq}
 use Rattle.clap.specs.Words.{App, Row, Rule, new_rule, all_of, matches_of, fault_of}
 use Rattle.clap.specs.Simple.{new_shape}
+use Rattle.clap.specs.declared.builder.action.ArgAction.{ArgAction}
 use Rattle.clap.specs.declared.builder.action.ArgAction.TheVariants.{Set, Append}
-use Rattle.ci_words.specs.Tables.{CommandName, best, asm, dis, run, command_row, OptionName, inputs, outputs, steps, table, input, option_row, every_option, Kind, number, file, Access, reads, writes}
+use Rattle.ci_words.specs.Tables.{CommandName, best, asm, dis, run, blocks, command_row, OptionName, inputs, outputs, steps, table, input, leader, at, option_row, every_option, Kind, number, file, address, addresses, Access, reads, writes}
 use Rattle.ci_words.specs.Words.{Text, Reading, command_of, names_of, settings_of, Setting, setting_of, Sets, IsName, AreApart}
 use Rattle.ci_words.specs.declared.tables.CommandName.{CommandName as CommandVariant}
 use Rattle.ci_words.specs.declared.tables.CommandName.TheVariants as command
@@ -22,6 +24,7 @@ command_named command.Best = best
 command_named command.Asm = asm
 command_named command.Dis = dis
 command_named command.Run = run
+command_named command.Blocks = blocks
 
 abbrev pub option_named : OptionVariant → OptionName
 option_named option.Inputs = inputs
@@ -29,6 +32,8 @@ option_named option.Outputs = outputs
 option_named option.Steps = steps
 option_named option.Table = table
 option_named option.Input = input
+option_named option.Leader = leader
+option_named option.At = at
 
 abbrev pub access_named : AccessVariant → Access
 access_named access.Reads = reads
@@ -37,10 +42,12 @@ access_named access.Writes = writes
 abbrev pub kind_of : KindVariant → Kind
 kind_of (kind.Number least greatest usual) = number least greatest usual
 kind_of (kind.File access) = file (access_named access)
+kind_of kind.Address = address
+kind_of kind.Addresses = addresses
 
 -- the commands in the order of their table
 abbrev pub every_command : List CommandName
-every_command = best ∷ asm ∷ dis ∷ run ∷ []
+every_command = best ∷ asm ∷ dis ∷ run ∷ blocks ∷ []
 
 -- a command's place in the table
 abbrev pub place_of : CommandName → ℕ
@@ -48,6 +55,7 @@ place_of best = 0
 place_of asm = 1
 place_of dis = 2
 place_of run = 3
+place_of blocks = 4
 
 abbrev pub has_option : CommandName → OptionName → Bool
 has_option command option = list_any (λ other. place_of other == place_of command) (option_row option).commands
@@ -62,15 +70,23 @@ names_known command options = map option_name (filter (has_option command) optio
 abbrev pub known_to : CommandName → List Text
 known_to command = names_known command every_option
 
+-- an option of this name may stand more than once
+abbrev pub is_repeatable : Text → Bool
+is_repeatable name = list_any (λ option. (option_row option).repeatable && bytes_eq (option_name option) name) every_option
+
 -- ---- what is asked of `clap`
 
 -- the argument that takes each positional word
 abbrev pub names_given : Rule
 names_given = record (new_rule (codes "names")) { action = Some Append }
 
+-- what is done with the value of an option: it is added to those before, or stands alone
+abbrev pub action_for : Bool → ArgAction
+action_for repeatable = if repeatable then Append else Set
+
 -- an option with a value
 abbrev pub option_given : Text → Rule
-option_given name = record (new_rule name) { long = Some name; action = Some Set }
+option_given name = record (new_rule name) { long = Some name; action = Some (action_for (is_repeatable name)) }
 
 -- a command with positional words and these options, without help and version flags
 abbrev pub app_for : Text → List Text → App

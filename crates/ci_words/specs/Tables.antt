@@ -1,5 +1,5 @@
 -- For every reader: the commands of the program and their options, a row each.
-use Rattle.std.specs.Prelude.{ℕ, Bool, false, List, [], ◌∷◌, codes}
+use Rattle.std.specs.Prelude.{ℕ, Bool, true, false, List, [], ◌∷◌, codes}
 
 -- ---- commands
 
@@ -18,12 +18,14 @@ pub data CommandName : Type 0 where
   asm : CommandName
   dis : CommandName
   run : CommandName
+  blocks : CommandName
 
 abbrev pub command_row : CommandName → CommandRow
 command_row best = record { word = codes "best"; names = reads ∷ [] }
 command_row asm = record { word = codes "asm"; names = reads ∷ writes ∷ [] }
 command_row dis = record { word = codes "dis"; names = reads ∷ [] }
 command_row run = record { word = codes "run"; names = reads ∷ [] }
+command_row blocks = record { word = codes "blocks"; names = reads ∷ [] }
 
 -- ---- options
 
@@ -33,6 +35,10 @@ pub data Kind : Type 0 where
   number : (least greatest usual : ℕ) → Kind
   -- a file's name, with what the command does with the file, or no file
   file : Access → Kind
+  -- an address, or none
+  address : Kind
+  -- any number of addresses
+  addresses : Kind
 
 -- an option's name, without its hyphens, the kind of its value, whether it may stand more than once, and the commands
 -- that have it
@@ -48,6 +54,8 @@ pub data OptionName : Type 0 where
   steps : OptionName
   table : OptionName
   input : OptionName
+  leader : OptionName
+  at : OptionName
 
 abbrev pub option_row : OptionName → OptionRow
 option_row inputs = record { name = codes "in"; kind = number 1 3 3; repeatable = false; commands = best ∷ [] }
@@ -56,7 +64,10 @@ option_row steps =
     record { name = codes "steps"; kind = number 1 4294967296 16777216; repeatable = false; commands = run ∷ [] }
 option_row table = record { name = codes "table"; kind = file reads; repeatable = false; commands = best ∷ run ∷ [] }
 option_row input = record { name = codes "input"; kind = file reads; repeatable = false; commands = run ∷ [] }
+option_row leader =
+    record { name = codes "leader"; kind = addresses; repeatable = true; commands = best ∷ blocks ∷ [] }
+option_row at = record { name = codes "at"; kind = address; repeatable = false; commands = best ∷ [] }
 
 -- the options in the order of their table, in which a command reads their files
 abbrev pub every_option : List OptionName
-every_option = inputs ∷ outputs ∷ steps ∷ table ∷ input ∷ []
+every_option = inputs ∷ outputs ∷ steps ∷ table ∷ input ∷ leader ∷ at ∷ []

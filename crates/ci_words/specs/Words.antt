@@ -1,7 +1,9 @@
 -- For every reader: how the words of a command line are read, by the tables of commands and of options.
-use Rattle.std.specs.Prelude.{◌≡◌, ◌≢◌, ◌⊎◌, ℕ, Bool, false, ◌+◌, ◌-◌, ◌*◌, ◌^◌, ◌≤◌, List, [], ◌∷◌, ◌++◌, length, map, filter, flat_map, zip, All, AllPairs, Contains, codes, Option, Some, None}
+use Rattle.std.specs.Prelude.{◌≡◌, ◌≢◌, ◌⊎◌, ℕ, Bool, false, ◌+◌, ◌*◌, ◌^◌, ◌<◌, ◌≤◌, List, [], ◌∷◌, ◌++◌, length, map, filter, flat_map, zip, All, AllPairs, Contains, codes, Option, Some, None}
+use Rattle.std.specs.Char.{digit_value}
+use Rattle.std.specs.List.{AllZip}
 use Rattle.std.specs.Str.{bytes_eq}
-use Rattle.ci_words.specs.Tables.{Access, writes, CommandName, command_row, Kind, number, OptionName, inputs, outputs, steps, table, input, option_row, every_option}
+use Rattle.ci_words.specs.Tables.{Access, writes, CommandName, command_row, Kind, number, address, addresses, OptionName, inputs, outputs, steps, table, input, leader, at, option_row, every_option}
 use Rattle.ci_words.specs.Tables as tables
 
 abbrev pub Text : Type 0
@@ -19,9 +21,12 @@ pub record Settings : Type 0 where
   -- the file with the input of a run, and the one with the latency table
   pub input : Option Text
   pub table : Option Text
+  -- the address of a block of an executable, and those at which blocks begin too
+  pub at : Option ℕ
+  pub leaders : List ℕ
 
 pub data Reading : Type 0 where
-  -- the best cut of the block in the file, by these settings
+  -- the best cut of the block in the file, or of one block of the executable in the file, by these settings
   best : Text → Settings → Reading
   -- the words that the text assembles to, written to a file
   asm : Text → Text → Reading
@@ -29,12 +34,15 @@ pub data Reading : Type 0 where
   dis : Text → Reading
   -- the run of the executable in the file, by these settings
   run : Text → Settings → Reading
+  -- the blocks of the executable in the file, by these settings
+  blocks : Text → Settings → Reading
 
 abbrev pub command_of : Reading → CommandName
 command_of (best file settings) = tables.best
 command_of (asm text out) = tables.asm
 command_of (dis file) = tables.dis
 command_of (run file settings) = tables.run
+command_of (blocks file settings) = tables.blocks
 
 -- the names that follow the command, in order
 abbrev pub names_of : Reading → List Text
@@ -42,11 +50,14 @@ names_of (best file settings) = file ∷ []
 names_of (asm text out) = text ∷ out ∷ []
 names_of (dis file) = file ∷ []
 names_of (run file settings) = file ∷ []
+names_of (blocks file settings) = file ∷ []
 
 -- the number that stands where none is given, of a kind that is a number
 abbrev pub usual_number : Kind → ℕ
 usual_number (number least greatest usual) = usual
 usual_number (tables.file access) = 0
+usual_number address = 0
+usual_number addresses = 0
 
 -- the settings where no option is given
 abbrev pub usual_settings : Settings
@@ -56,6 +67,8 @@ usual_settings = record {
   steps = usual_number (option_row steps).kind;
   input = None;
   table = None;
+  at = None;
+  leaders = [];
 }
 
 abbrev pub settings_of : Reading → Settings
@@ -63,6 +76,7 @@ settings_of (best file settings) = settings
 settings_of (asm text out) = usual_settings
 settings_of (dis file) = usual_settings
 settings_of (run file settings) = settings
+settings_of (blocks file settings) = settings
 
 -- ---- names and values
 
@@ -71,25 +85,36 @@ abbrev pub IsName : Text → Type 0
 IsName [] = ⊥
 IsName (c ∷ cs) = c ≢ 45
 
-abbrev pub IsDigit : ℕ → Type 0
-IsDigit c = (48 ≤ c) × (c ≤ 57)
+-- a digit of the base: `0` to `9`, and the letters from `a` on, of either case
+abbrev pub IsDigit : ℕ → ℕ → Type 0
+IsDigit base c = digit_value c < base
 
--- each digit times the power of ten of its place
-abbrev pub number_of_digits : Text → ℕ
-number_of_digits [] = 0
-number_of_digits (c ∷ cs) = (c - 48) * 10 ^ length cs + number_of_digits cs
+-- the value of each digit times the power of the base of its place
+abbrev pub number_of_digits : ℕ → Text → ℕ
+number_of_digits base [] = 0
+number_of_digits base (c ∷ cs) = digit_value c * base ^ length cs + number_of_digits base cs
+
+-- one digit of the base or more, at most so many, and their number
+pub record AreDigits (base most : ℕ) (text : Text) (n : ℕ) : Type 0 where
+  pub some : 1 ≤ length text
+  pub few : length text ≤ most
+  pub digits : All (IsDigit base) text
+  pub value : number_of_digits base text ≡ n
 
 -- one to ten decimal digits, and their number
-pub record IsNumber (text : Text) (n : ℕ) : Type 0 where
-  pub some : 1 ≤ length text
-  pub at_most_ten : length text ≤ 10
-  pub digits : All IsDigit text
-  pub value : number_of_digits text ≡ n
+abbrev pub IsNumber : Text → ℕ → Type 0
+IsNumber text n = AreDigits 10 10 text n
+
+-- `0x` and one to eight hex digits, and their number
+abbrev pub IsAddress : Text → ℕ → Type 0
+IsAddress text n = (digits : Text) × (text ≡ codes "0x" ++ digits) × AreDigits 16 8 digits n
 
 -- what an option is set to
 pub data Setting : Type 0 where
   to_number : ℕ → Setting
   to_file : Option Text → Setting
+  to_address : Option ℕ → Setting
+  to_addresses : List ℕ → Setting
 
 abbrev pub setting_of : OptionName → Settings → Setting
 setting_of inputs settings = to_number settings.inputs
@@ -97,16 +122,21 @@ setting_of outputs settings = to_number settings.outputs
 setting_of steps settings = to_number settings.steps
 setting_of table settings = to_file settings.table
 setting_of input settings = to_file settings.input
+setting_of leader settings = to_addresses settings.leaders
+setting_of at settings = to_address settings.at
 
 -- what these values set an option of the kind to: a number in its range, or the usual one where there is no value; the
--- file of that name, or no file
+-- file of that name, or no file; that address, or none; the addresses, one by one
 abbrev pub Sets : Kind → List Text → Setting → Type 0
 Sets (number least greatest usual) [] (to_number n) = n ≡ usual
 Sets (number least greatest usual) (text ∷ more) (to_number n) = IsNumber text n × (least ≤ n) × (n ≤ greatest)
-Sets (number least greatest usual) values (to_file f) = ⊥
 Sets (tables.file access) [] (to_file f) = f ≡ None
 Sets (tables.file access) (text ∷ more) (to_file f) = f ≡ Some text
-Sets (tables.file access) values (to_number n) = ⊥
+Sets address [] (to_address a) = a ≡ None
+Sets address (text ∷ more) (to_address None) = ⊥
+Sets address (text ∷ more) (to_address (Some n)) = IsAddress text n
+Sets addresses values (to_addresses ns) = AllZip IsAddress values ns
+Sets kind values setting = ⊥
 
 -- ---- positional words and options, mixed
 
@@ -171,10 +201,8 @@ pub record IsOptionOf (command : CommandName) (name : Text) : Type 0 where
 
 -- the file that an option of the kind is set to, with what the command does with it
 abbrev pub file_set : Kind → Setting → List (Access × Text)
-file_set (number least greatest usual) setting = []
-file_set (tables.file access) (to_number n) = []
-file_set (tables.file access) (to_file None) = []
 file_set (tables.file access) (to_file (Some name)) = (access, name) ∷ []
+file_set kind setting = []
 
 -- the files of the options, in the order of their table
 abbrev pub option_files : Settings → List (Access × Text)

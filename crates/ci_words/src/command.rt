@@ -8,19 +8,23 @@ ghost use Rattle.ci_words.specs.Tables.{inputs, outputs};
 ghost use Rattle.ci_words.specs.Parses.{command_named, Gives, IsGiven};
 
 use crate::parse::{
-    command_in_front, file_given, names_given, number_given, parse, values_are_names,
+    at_given, command_in_front, file_given, leaders_given, names_given, number_given, parse,
+    values_are_names,
 };
 use crate::tables::{CommandName, OptionName};
 use ci_cut::Limits;
 use clap::ArgMatches;
-use std::alloc::Global;
+use std::alloc::{AllocFailed, Global};
 
 /// What the program is asked.
 #[derive(Drop)]
 pub enum Command<'a> {
-    /// The best cut of the block in the file `file`, within the limits and by the latency table in the file `table`.
+    /// The best cut of the block in the file `file`, or of the block at `at` of the executable in the file `file`, in
+    /// which blocks begin at the `leaders` too; within the limits and by the latency table in the file `table`.
     Best {
         file: &'a str,
+        at: Option<u32>,
+        leaders: Vec<u32>,
         limits: Limits,
         table: Option<&'a str>,
     },
@@ -41,6 +45,11 @@ pub enum Command<'a> {
         input: Option<&'a str>,
         table: Option<&'a str>,
     },
+    /// The blocks of the executable in the file `file`, which begin at the `leaders` too.
+    Blocks {
+        file: &'a str,
+        leaders: Vec<u32>,
+    },
 }
 
 /// Why the words gave no command.
@@ -50,6 +59,17 @@ pub enum WordsErr {
     NoReading,
     /// Memory ran out.
     NoMemory,
+}
+
+impl<T: Drop> From<AllocFailed<T>> for WordsErr {
+    ghost use Rattle.std.specs.Prelude.{◌≡◌};
+    ghost use Rattle.ci_words.specs.declared.command.WordsErr.TheVariants.{NoMemory};
+
+    ghost from_gives = { λ _ e. e ≡ NoMemory };
+
+    fn from(_: AllocFailed<T>) -> Self {
+        WordsErr::NoMemory
+    }
 }
 
 /// The command that the words after the program's name read as.
@@ -68,10 +88,7 @@ pub fn read_words(alloc: Global, words: &[String]) -> Result<Command<'_>, WordsE
         return Err(WordsErr::NoReading);
     };
     let matches = parse(alloc, name, words)?;
-    match command_of(name, &matches) {
-        Some(command) => Ok(command),
-        None => Err(WordsErr::NoReading),
-    }
+    command_of(alloc, name, &matches)
 }
 
 /// That words have one reading at most.
@@ -81,39 +98,43 @@ pub fn words_have_one_reading()
 {}
 
 /// The command that the matches of a command give, if they give one.
-fn command_of<'a>(name: CommandName, matches: &ArgMatches<'a>) -> Option<Command<'a>>
-    ensures some { IfSome result (λ command.
+fn command_of<'a>(
+    alloc: Global,
+    name: CommandName,
+    matches: &ArgMatches<'a>,
+) -> Result<Command<'a>, WordsErr>
+    ensures ok { IfOk result (λ command.
         Gives (command_named name) (rows_of (found_of matches.now)) (reading_of command)) }
-    ensures none { IfNone result ((reading : Reading)
+    ensures none { IfErr result (λ error. error ≡ WordsErr.NoReading → (reading : Reading)
         → Gives (command_named name) (rows_of (found_of matches.now)) reading → ⊥) }
 {
-    let names = names_given(name, matches)?;
+    let names = names_given(name, matches).ok_or(WordsErr::NoReading)?;
     if !values_are_names(name, matches) {
-        return None;
+        return Err(WordsErr::NoReading);
     }
     match name {
-        CommandName::Best => {
-            let limits = limits_given(matches)?;
-            Some(Command::Best {
-                file: names[0],
-                limits,
-                table: file_given(OptionName::Table, matches),
-            })
-        }
-        CommandName::Asm => Some(Command::Asm {
+        CommandName::Best => Ok(Command::Best {
+            file: names[0],
+            at: at_given(matches).ok_or(WordsErr::NoReading)?,
+            leaders: leaders_given(alloc, matches)?,
+            limits: limits_given(matches).ok_or(WordsErr::NoReading)?,
+            table: file_given(OptionName::Table, matches),
+        }),
+        CommandName::Asm => Ok(Command::Asm {
             text: names[0],
             out: names[1],
         }),
-        CommandName::Dis => Some(Command::Dis { file: names[0] }),
-        CommandName::Run => {
-            let steps = number_given(OptionName::Steps, matches)?;
-            Some(Command::Run {
-                file: names[0],
-                steps,
-                input: file_given(OptionName::Input, matches),
-                table: file_given(OptionName::Table, matches),
-            })
-        }
+        CommandName::Dis => Ok(Command::Dis { file: names[0] }),
+        CommandName::Run => Ok(Command::Run {
+            file: names[0],
+            steps: number_given(OptionName::Steps, matches).ok_or(WordsErr::NoReading)?,
+            input: file_given(OptionName::Input, matches),
+            table: file_given(OptionName::Table, matches),
+        }),
+        CommandName::Blocks => Ok(Command::Blocks {
+            file: names[0],
+            leaders: leaders_given(alloc, matches)?,
+        }),
     }
 }
 

@@ -1,18 +1,19 @@
 //! The commands as `clap` parses them, and what its matches say.
-ghost use Rattle.std.specs.Prelude.{◌≡◌, ◌≢◌, ◌↔◌, ℕ, List, [], ◌∷◌, ◌++◌, map, codes, slice_get, true, All, IsTrue, IfOk, IfErr, IfSome, IfNone};
+ghost use Rattle.std.specs.Prelude.{◌≡◌, ◌≢◌, ◌↔◌, ℕ, List, [], ◌∷◌, ◌++◌, map, codes, slice_get, true, All, IsTrue, Option, IfOk, IfErr, IfSome, IfNone};
 ghost use Rattle.std.specs.String.{string_bytes};
 ghost use Rattle.clap.specs.Words.{app_of, is_simple_and_free, fault_of, found_of, rows_of};
 ghost use Rattle.ci_words.specs.Tables as table;
-ghost use Rattle.ci_words.specs.Words.{Text, IsName, to_number, to_file};
+ghost use Rattle.ci_words.specs.Words.{Text, IsName, to_number, to_file, to_address, to_addresses};
 ghost use Rattle.ci_words.specs.Commands.{name_in};
-ghost use Rattle.ci_words.specs.Parses.{app_for, app_named, command_named, option_named, option_values, names_known, values_in, AreNames, IsGiven, IsParsed};
+ghost use Rattle.ci_words.specs.Parses.{app_for, app_named, command_named, option_named, option_values, is_repeatable, names_known, values_in, AreNames, IsGiven, IsParsed};
+ghost use Rattle.ci_words.specs.Parses as parses;
 
 use crate::command::WordsErr;
 use crate::names::{are_good, are_names};
 use crate::tables::{
     CommandName, OptionName, all_commands, all_options, command_row, is_of, option_row,
 };
-use crate::value::read_number;
+use crate::value::{read_address, read_addresses, read_number};
 use clap::error::ErrorKind;
 use clap::{Arg, ArgAction, ArgMatches, Command};
 use std::alloc::{AllocError, Global};
@@ -77,22 +78,40 @@ fn with_options<'a>(
     let mut parser = parser;
     for option in options {
         if is_of(command, *option) {
-            parser = with_option(alloc, parser, option_row(*option).name)?;
+            let row = option_row(*option);
+            parser = with_option(alloc, parser, row.name, row.repeatable)?;
         }
     }
     Ok(parser)
 }
 
-/// The parser with one option more.
+/// The parser with one option more, which may stand more than once or not.
 fn with_option<'a>(
     alloc: Global,
     parser: Command<'a>,
     name: &'a str,
+    repeatable: bool,
 ) -> Result<Command<'a>, AllocError>
     ensures { (word : Text) (known : List Text) → app_of parser.entry ≡ app_for word known
+        → repeatable ≡ is_repeatable name.entry.now
         → IfOk result (λ more. app_of more ≡ app_for word (known ++ name.entry.now ∷ [])) }
 {
-    parser.arg(Arg::new(alloc, name).long(name).action(ArgAction::Set))
+    parser.arg(
+        Arg::new(alloc, name)
+            .long(name)
+            .action(action_for(repeatable)),
+    )
+}
+
+/// What is done with a value of an option, which may stand more than once or not.
+fn action_for(repeatable: bool) -> ArgAction
+    ensures { result ≡ parses.action_for repeatable }
+{
+    if repeatable {
+        ArgAction::Append
+    } else {
+        ArgAction::Set
+    }
 }
 
 /// The command's matches in the words, of which the first is its name.
@@ -193,4 +212,26 @@ pub fn file_given<'a>(option: OptionName, matches: &ArgMatches<'a>) -> Option<&'
         → IsGiven (option_named option) (rows_of (found_of matches.now)) (to_file (name_in result)) }
 {
     matches.get_str(option_row(option).name)
+}
+
+/// The address that `--at` is set to, if one is given, where it is an address.
+pub fn at_given(matches: &ArgMatches) -> Option<Option<u32>>
+    ensures some { IfSome result (λ a. IsGiven table.at (rows_of (found_of matches.now)) (to_address a)) }
+    ensures none { IfNone result ((a : Option ℕ)
+        → IsGiven table.at (rows_of (found_of matches.now)) (to_address a) → ⊥) }
+{
+    read_address(matches.get_str(option_row(OptionName::At).name))
+}
+
+/// The addresses that `--leader` is set to, in the order of the words.
+pub fn leaders_given(alloc: Global, matches: &ArgMatches) -> Result<Vec<u32>, WordsErr>
+    ensures ok { IfOk result (λ leaders.
+        IsGiven table.leader (rows_of (found_of matches.now)) (to_addresses leaders.items)) }
+    ensures none { IfErr result (λ error. error ≡ WordsErr.NoReading → (ns : List ℕ)
+        → IsGiven table.leader (rows_of (found_of matches.now)) (to_addresses ns) → ⊥) }
+{
+    match matches.get_raw(option_row(OptionName::Leader).name) {
+        Some(values) => read_addresses(alloc, values),
+        None => Ok(Vec::new(alloc)),
+    }
 }

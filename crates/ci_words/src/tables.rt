@@ -14,6 +14,8 @@ pub enum CommandName {
     Dis,
     /// `run`
     Run,
+    /// `blocks`
+    Blocks,
 }
 
 /// What a command does with a file.
@@ -56,6 +58,10 @@ pub fn command_row(command: CommandName) -> CommandRow
             word: "run",
             names: &[Access::Reads],
         },
+        CommandName::Blocks => CommandRow {
+            word: "blocks",
+            names: &[Access::Reads],
+        },
     }
 }
 
@@ -72,6 +78,10 @@ pub enum OptionName {
     Table,
     /// `--input`
     Input,
+    /// `--leader`
+    Leader,
+    /// `--at`
+    At,
 }
 
 /// What the value of an option is.
@@ -85,6 +95,10 @@ pub enum Kind {
     },
     /// The name of a file, with what the command does with it, or no file.
     File(Access),
+    /// An address, or none.
+    Address,
+    /// Any number of addresses.
+    Addresses,
 }
 
 /// A row of the table of options.
@@ -94,6 +108,8 @@ pub struct OptionRow {
     pub name: &'static str,
     /// The kind of its value.
     pub kind: Kind,
+    /// Whether it may stand more than once.
+    pub repeatable: bool,
     /// The commands that have it.
     pub commands: &'static [CommandName],
 }
@@ -102,6 +118,7 @@ pub struct OptionRow {
 pub fn option_row(option: OptionName) -> OptionRow
     ensures name { result.name.now ≡ (table.option_row (option_named option)).name }
     ensures kind { kind_of result.kind ≡ (table.option_row (option_named option)).kind }
+    ensures repeatable { result.repeatable ≡ (table.option_row (option_named option)).repeatable }
     ensures commands { map command_named result.commands.now
         ≡ (table.option_row (option_named option)).commands }
 {
@@ -113,6 +130,7 @@ pub fn option_row(option: OptionName) -> OptionRow
                 greatest: 3,
                 usual: 3,
             },
+            repeatable: false,
             commands: &[CommandName::Best],
         },
         OptionName::Outputs => OptionRow {
@@ -122,6 +140,7 @@ pub fn option_row(option: OptionName) -> OptionRow
                 greatest: 2,
                 usual: 2,
             },
+            repeatable: false,
             commands: &[CommandName::Best],
         },
         OptionName::Steps => OptionRow {
@@ -131,17 +150,32 @@ pub fn option_row(option: OptionName) -> OptionRow
                 greatest: 4_294_967_296,
                 usual: 16_777_216,
             },
+            repeatable: false,
             commands: &[CommandName::Run],
         },
         OptionName::Table => OptionRow {
             name: "table",
             kind: Kind::File(Access::Reads),
+            repeatable: false,
             commands: &[CommandName::Best, CommandName::Run],
         },
         OptionName::Input => OptionRow {
             name: "input",
             kind: Kind::File(Access::Reads),
+            repeatable: false,
             commands: &[CommandName::Run],
+        },
+        OptionName::Leader => OptionRow {
+            name: "leader",
+            kind: Kind::Addresses,
+            repeatable: true,
+            commands: &[CommandName::Best, CommandName::Blocks],
+        },
+        OptionName::At => OptionRow {
+            name: "at",
+            kind: Kind::Address,
+            repeatable: false,
+            commands: &[CommandName::Best],
         },
     }
 }
@@ -155,6 +189,7 @@ pub fn all_commands() -> &'static [CommandName]
         CommandName::Asm,
         CommandName::Dis,
         CommandName::Run,
+        CommandName::Blocks,
     ]
 }
 
@@ -168,6 +203,8 @@ pub fn all_options() -> &'static [OptionName]
         OptionName::Steps,
         OptionName::Table,
         OptionName::Input,
+        OptionName::Leader,
+        OptionName::At,
     ]
 }
 

@@ -17,6 +17,25 @@ fn words(alloc: Global, line: &str) -> Result<Vec<String>, AllocError> {
     Ok(words)
 }
 
+/// Appends what an option with an address is set to.
+fn push_address(
+    alloc: Global,
+    text: &mut String,
+    name: &str,
+    address: u32,
+) -> Result<(), AllocError> {
+    let shown = format!(in alloc; " {name} {address:x}")?;
+    text.push_str(shown.as_str())
+}
+
+/// Appends the leaders, in their order.
+fn push_leaders(alloc: Global, text: &mut String, leaders: &[u32]) -> Result<(), AllocError> {
+    for leader in leaders {
+        push_address(alloc, text, "leader", *leader)?;
+    }
+    Ok(())
+}
+
 /// The command of the words in short: its name, the names in it and what its options are set to.
 fn shown(alloc: Global, line: &str) -> Result<String, AllocError> {
     let words = words(alloc, line)?;
@@ -24,12 +43,27 @@ fn shown(alloc: Global, line: &str) -> Result<String, AllocError> {
         Ok(
             Command::Best {
                 file,
+                at,
+                leaders,
                 limits,
                 table,
             },
         ) => {
             let table = table.unwrap_or("-");
-            format!(in alloc; "best {file} {} {} {table}", limits.inputs, limits.outputs)
+            let mut text = format!(in alloc;
+                "best {file} {} {} {table}",
+                limits.inputs, limits.outputs
+            )?;
+            if let Some(address) = at {
+                push_address(alloc, &mut text, "at", address)?;
+            }
+            push_leaders(alloc, &mut text, &leaders)?;
+            Ok(text)
+        }
+        Ok(Command::Blocks { file, leaders }) => {
+            let mut text = format!(in alloc; "blocks {file}")?;
+            push_leaders(alloc, &mut text, &leaders)?;
+            Ok(text)
         }
         Ok(Command::Asm { text, out }) => format!(in alloc; "asm {text} {out}"),
         Ok(Command::Dis { file }) => format!(in alloc; "dis {file}"),
@@ -157,5 +191,39 @@ fn files_of_options(rt: HostRuntime) -> Result<(), Fail> {
     expect(&rt, "run F --table T --table T", "none")?;
     expect(&rt, "best F --input I", "none")?;
     expect(&rt, "asm T O --table X", "none")?;
+    Ok(())
+}
+
+#[test]
+fn addresses_of_options(rt: HostRuntime) -> Result<(), Fail> {
+    expect(&rt, "best F --at 0x100c4", "best F 3 2 - at 100c4")?;
+    expect(&rt, "best --at=0x000100C4 F", "best F 3 2 - at 100c4")?;
+    expect(&rt, "best F --at 0X1", "none")?;
+    expect(&rt, "best F --at 100c4", "none")?;
+    expect(&rt, "best F --at 0x", "none")?;
+    expect(&rt, "best F --at 0x123456789", "none")?;
+    expect(&rt, "best F --at 0xG", "none")?;
+    expect(&rt, "best F --at 0x1 --at 0x1", "none")?;
+    expect(&rt, "blocks F --at 0x1", "none")?;
+    Ok(())
+}
+
+#[test]
+fn leaders_stand_more_than_once(rt: HostRuntime) -> Result<(), Fail> {
+    expect(&rt, "blocks F", "blocks F")?;
+    expect(
+        &rt,
+        "blocks F --leader 0xFFFFFFFF",
+        "blocks F leader ffffffff",
+    )?;
+    expect(
+        &rt,
+        "best --leader 0xab --at 0x4 F --leader=0x8 --leader 0xab",
+        "best F 3 2 - at 4 leader ab leader 8 leader ab",
+    )?;
+    expect(&rt, "blocks F --leader 0x4 --leader 4", "none")?;
+    expect(&rt, "blocks F --leader 0x4 --leader", "none")?;
+    expect(&rt, "blocks F --in 2", "none")?;
+    expect(&rt, "run F --leader 0x4", "none")?;
     Ok(())
 }

@@ -1,5 +1,5 @@
 -- The value that `clap` found for the option is the file's name.
-use Rattle.std.proofs.Common.{refl, sym, option_map}
+use Rattle.std.proofs.Common.{refl, subst, sym, option_map}
 use Rattle.std.specs.Prelude.{Option, None, Some, option_to_list}
 use Rattle.clap.specs.Matches.{found_of}
 use Rattle.ci_words.specs.Tables.{Access, file}
@@ -15,4 +15,4 @@ value_is access (Some name) = refl
 pub returns : goal.returns
 returns c = λ access is.
     let value = option_map (λ t. t.now) c.get_str.result in
-    (given_by_row _ (found_of c.args.matches.now) (file access) c.option_row.result.name.now value (sym is) c.option_row.ensures.name c.get_str.ensures (to_file value)).0 (value_is access value)
+    subst (λ T. T) (given_by_row _ (found_of c.args.matches.now) (file access) c.option_row.result.name.now value (sym is) c.option_row.ensures.name c.get_str.ensures (to_file value) refl) (value_is access value)

@@ -2,7 +2,7 @@
 use Rattle.std.proofs.Common.{◌≤◌, false, length, ap, arith, codes, lit≤, refl, subst}
 use Rattle.std.specs.Prelude.{IsTrue, None, Some}
 use Rattle.clap.specs.Matches.{found_of}
-use Rattle.ci_words.specs.Tables.{CommandName, best, asm, dis, run, command_row}
+use Rattle.ci_words.specs.Tables.{CommandName, best, asm, dis, run, blocks, command_row}
 use Rattle.ci_words.specs.Parses.{AreNames, command_named}
 use Rattle.ci_words.proofs.Matches.{values_are}
 use Rattle.ci_words.proofs.parse.names_given.Goals as goal
@@ -12,6 +12,7 @@ takes_some best = lit≤ tt
 takes_some asm = lit≤ tt
 takes_some dis = lit≤ tt
 takes_some run = lit≤ tt
+takes_some blocks = lit≤ tt
 
 pub returns-in_err-names-clause-none : goal.returns-in_err-names-clause-none
 returns-in_err-names-clause-none c = rw c.from_residual.ensures (λ is.

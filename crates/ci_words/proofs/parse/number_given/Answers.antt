@@ -1,27 +1,21 @@
 -- The value that `clap` found for the option is read by the row's kind.
-use Rattle.std.proofs.Common.{option_map}
-use Rattle.std.specs.Prelude.{IfNone, None, Option, Some}
+use Rattle.std.proofs.Common.{option_map, refl, subst, sym}
 use Rattle.std.proofs.lemmas.Option.{IfSome_then}
 use Rattle.clap.specs.Matches.{found_of}
 use Rattle.ci_words.specs.Words.{to_number}
-use Rattle.ci_words.proofs.Matches.{given_by_row}
+use Rattle.ci_words.proofs.Matches.{given_by_row, if_none_then}
 use Rattle.ci_words.proofs.parse.number_given.Goals as goal
-
--- what follows where there is no value
-if_none_then : {X : Type 0} (r : Option X) (P Q : Type 0) → (P → Q) → IfNone r P → IfNone r Q
-if_none_then None P Q f p = f p
-if_none_then (Some x) P Q f p = tt
 
 pub returns-clause-some : goal.returns-clause-some
 returns-clause-some c =
     let row = c.option_row-row.ensures in
     IfSome_then c.read_number.result c.read_number.ensures.some
-    (λ n is. (given_by_row _ (found_of c.args.matches.now) _ c.option_row-row.result.name.now (option_map (λ t. t.now) c.get_str.result) row.kind row.name c.get_str.ensures (to_number n)).0 is)
+    (λ n is. subst (λ T. T) (given_by_row _ (found_of c.args.matches.now) _ c.option_row-row.result.name.now (option_map (λ t. t.now) c.get_str.result) row.kind row.name c.get_str.ensures (to_number n) refl) is)
 
 pub returns-clause-none : goal.returns-clause-none
 returns-clause-none c =
     let row = c.option_row-row.ensures in
     if_none_then c.read_number.result _ _
     (λ none n is. none n
-    ((given_by_row _ (found_of c.args.matches.now) _ c.option_row-row.result.name.now (option_map (λ t. t.now) c.get_str.result) row.kind row.name c.get_str.ensures (to_number n)).1 is))
+    (subst (λ T. T) (sym (given_by_row _ (found_of c.args.matches.now) _ c.option_row-row.result.name.now (option_map (λ t. t.now) c.get_str.result) row.kind row.name c.get_str.ensures (to_number n) refl)) is))
     c.read_number.ensures.none

@@ -5,9 +5,10 @@ use Rattle.std.proofs.lemmas.List.{append-nil, map-append, take_more}
 use Rattle.std.proofs.lemmas.List.Elements.{filter-append}
 use Rattle.clap.specs.Words.{app_of}
 use Rattle.ci_words.specs.Tables.{CommandName, OptionName}
-use Rattle.ci_words.specs.Parses.{app_for, command_named, has_option, names_known, option_name, option_named}
+use Rattle.ci_words.specs.Parses.{app_for, command_named, has_option, is_repeatable, names_known, option_name, option_named}
 use Rattle.ci_words.specs.declared.tables.OptionName.{OptionName as OptionVariant}
 use Rattle.ci_words.specs.declared.tables.OptionName.TheVariants.{Inputs}
+use Rattle.ci_words.proofs.TableLaws.{repeatable_named}
 use Rattle.ci_words.proofs.parse.with_options.Goals as goal
 use Rattle.ci_words.proofs.parse.with_options.Goals.{then-is_of+in_ok-parser, else-is_of}
 
@@ -36,8 +37,13 @@ loop-option-preserved c = λ word is.
     let known = names_known command (map option_named (take i options)) in
     let before : app_of c.loop-option.parser ≡ app_for word known = c.loop-option.invariant word is in
     elim c.if-is_of.branch [
-      | then-is_of+in_ok-parser w ↦ ap app_of w.parser-is ∙ (w.in_ok-parser.ensures word known before
-          ∙ ap (app_for word) (ap (λ name. known ++ name ∷ []) w.option_row.ensures.name ∙ sym (names_known-more command options i Inputs true c.loop-option-test.true (sym c.is_of.ensures ∙ w.if-is_of.true))))
+      | then-is_of+in_ok-parser w ↦
+          let row = w.option_row-row.ensures in
+          let option = option_named (get_or options i Inputs) in
+          let repeatable : w.option_row-row.result.repeatable ≡ is_repeatable w.option_row-row.result.name.now =
+          row.repeatable ∙ (sym (repeatable_named option) ∙ ap is_repeatable (sym row.name)) in
+          ap app_of w.parser-is ∙ (w.in_ok-parser.ensures word known before repeatable
+          ∙ ap (app_for word) (ap (λ name. known ++ name ∷ []) row.name ∙ sym (names_known-more command options i Inputs true c.loop-option-test.true (sym c.is_of.ensures ∙ w.if-is_of.true))))
       | else-is_of w ↦ ap app_of w.parser-is ∙ (before
           ∙ ap (app_for word) (sym (names_known-more command options i Inputs false c.loop-option-test.true (sym c.is_of.ensures ∙ w.if-is_of.false) ∙ append-nil known)))
     ]

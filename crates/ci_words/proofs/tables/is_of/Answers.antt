@@ -5,7 +5,7 @@ use denote.Enum.Bare.{sameb}
 use denote.Enum.Declared.{tag_of}
 use Rattle.ci_words.specs.contracts.tables.CommandName.{the_type}
 use Rattle.ci_words.specs.declared.tables.CommandName.{CommandName}
-use Rattle.ci_words.specs.declared.tables.CommandName.TheVariants.{Best, Asm, Dis, Run}
+use Rattle.ci_words.specs.declared.tables.CommandName.TheVariants.{Best, Asm, Dis, Run, Blocks}
 use Rattle.ci_words.specs.Parses.{command_named, place_of}
 use Rattle.ci_words.proofs.tables.is_of.Goals as goal
 
@@ -14,6 +14,7 @@ place Best = refl
 place Asm = refl
 place Dis = refl
 place Run = refl
+place Blocks = refl
 
 found : (command : CommandName) (others : List CommandName) → list_any (λ other. sameb the_type other command) others
     ≡ list_any (λ other. place_of other == place_of (command_named command)) (map command_named others)
