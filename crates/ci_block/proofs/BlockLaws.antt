@@ -1,19 +1,19 @@
 -- Blocks as stretches from a leader to the next one.
-use Rattle.std.proofs.Common.{◌≡◌, ℕ, ◌+◌, ◌-◌, ◌*◌, ◌/◌, ◌<◌, ◌≤◌, inl, inr, min, Bool, true, false, List, [], ◌∷◌, ◌++◌, length, get_or, refl, sym, ◌∙◌, ap, subst, arith, length-append}
+use Rattle.std.proofs.Common.{◌≡◌, ℕ, ◌+◌, ◌-◌, ◌*◌, ◌/◌, ◌<◌, ◌≤◌, inl, inr, min, Bool, true, false, List, [], ◌∷◌, ◌++◌, length, map, get_or, refl, sym, ◌∙◌, ap, subst, arith, length-append}
 use Rattle.std.specs.List.{AllPairs, Contains}
 use Rattle.std.proofs.lemmas.Bool.{cases_lt}
-use Rattle.std.proofs.lemmas.List.{get_or_append_left, get_or_default, map-append, take_all, take_more}
+use Rattle.std.proofs.lemmas.List.{get_or_append_left, get_or_default, get_or-map, length-map, map-append, take_all, take_more}
 use Rattle.std.proofs.Math.Seq.{get_or-append_seam}
 use Rattle.std.proofs.lemmas.List.Elements.{Contains-get_or, Contains-push_cases}
 use Rattle.ci_isa.specs.declared.instruction.Insn.{Insn}
 use Rattle.ci_elf.specs.Executables.{Executable, IsTextWord}
 use Rattle.ci_block.specs.declared.blocks.Block.{Block}
-use Rattle.ci_block.specs.Blocks.{IsBlockAt, at_end_of_range, at_leader, end_of_block, size_of, AreBlocks}
+use Rattle.ci_block.specs.Blocks.{IsBlockAt, at_end_of_range, at_leader, end_of_block, size_of, AreBlocks, AreInOrder}
 use Rattle.ci_block.specs.Leaders.{AreLeaders, behind_terminator}
 use Rattle.ci_block.specs.Marking.{range_at}
 use Rattle.ci_block.specs.Stretches.{AreBlocksOf, AreInsns, EndsStretch, IsBlockOf, IsRangeEnd, IsStretch}
 use Rattle.ci_block.specs.Text.{EndsAt, StandsAt}
-use Rattle.ci_block.proofs.RangeLaws.{held_below, range_there, text_held}
+use Rattle.ci_block.proofs.RangeLaws.{held_below, nowhere, range_there, text_at}
 
 -- ---- where a stretch ends
 
@@ -48,9 +48,9 @@ module _ (image : Executable) (leaders : List ℕ) (are : AreLeaders image leade
   ends_with_range none = record {
     stretch = record {
       index = range.index;
-      from = range.holds.from;
+      from = range.holds.from nowhere;
       to = omega (arith, range.is);
-      some = omega (arith, range.is, range.holds.to);
+      some = omega (arith, range.is, range.holds.to nowhere);
       start_aligned = (word_of index within).0;
       end_aligned = omega (arith, range.is, range.text.aligned range.index);
       below_top = omega (arith, range.is, range.text.below_top range.index);
@@ -66,9 +66,9 @@ module _ (image : Executable) (leaders : List ℕ) (are : AreLeaders image leade
       record {
         stretch = record {
           index = range.index;
-          from = range.holds.from;
+          from = range.holds.from nowhere;
           to = omega (arith, range.is);
-          some = omega (arith, range.is, range.holds.to, rises);
+          some = omega (arith, range.is, range.holds.to nowhere, rises);
           start_aligned = (word_of index within).0;
           end_aligned = elim (cases_lt next last) [
             | inl l ↦ let same : min last next ≡ next = omega arith in rw same ((word_of (index + 1) more).0)
@@ -88,10 +88,7 @@ module _ (image : Executable) (leaders : List ℕ) (are : AreLeaders image leade
 pub stretch_word : (image : Executable) (start end word : ℕ) → IsStretch image start end → start + 4 * word < end → IsTextWord image.ranges (start + 4 * word)
 stretch_word image start end word stretch before = (
   omega (arith, stretch.start_aligned),
-  text_held image.ranges (start + 4 * word) stretch.index (record {
-    from = omega (arith, stretch.from);
-    to = omega (arith, stretch.to);
-  }),
+  text_at image.ranges (start + 4 * word) stretch.index (omega (arith, stretch.from)) (omega (arith, stretch.to)),
 )
 
 -- a whole number of them
@@ -102,10 +99,8 @@ whole_words image start end stretch = omega (arith, stretch.some, stretch.start_
 pub last_word : (image : Executable) (start end : ℕ) → IsStretch image start end → IsTextWord image.ranges (end - 4)
 last_word image start end stretch = (
   omega (arith, stretch.end_aligned),
-  text_held image.ranges (end - 4) stretch.index (record {
-    from = omega (arith, stretch.from, stretch.some, stretch.start_aligned, stretch.end_aligned);
-    to = omega (arith, stretch.to, stretch.some);
-  }),
+  text_at image.ranges (end - 4) stretch.index (omega (arith, stretch.from, stretch.some, stretch.start_aligned, stretch.end_aligned))
+      (omega (arith, stretch.to, stretch.some)),
 )
 
 pub no_insns : (image : Executable) (start : ℕ) → AreInsns image start 0 []
@@ -142,7 +137,7 @@ module _ (image : Executable) (leaders : List ℕ) (are : AreLeaders image leade
       let aligned = terminator.stands.text.0 in
       let word : IsTextWord image.ranges (a + 4) = (
         omega (arith, aligned),
-        text_held image.ranges (a + 4) here.index (record { from = omega (arith, here.from); to = omega (arith, here.to) }),
+        text_at image.ranges (a + 4) here.index (omega (arith, here.from)) (omega (arith, here.to)),
       ) in
       ends.alone (a + 4) (omega arith) before ((are.listing.listed (a + 4)).1 (word, inl (behind_terminator a terminator refl)))
 
@@ -152,7 +147,7 @@ module _ (image : Executable) (leaders : List ℕ) (are : AreLeaders image leade
     | inl l ↦
         let word : IsTextWord image.ranges (leader + 4 * 256) = (
           omega (arith, here.start_aligned),
-          text_held image.ranges (leader + 4 * 256) here.index (record { from = omega (arith, here.from); to = omega (arith, here.to) }),
+          text_at image.ranges (leader + 4 * 256) here.index (omega (arith, here.from)) (omega (arith, here.to)),
         ) in
         let held = held_below image.ranges (leader + 4 * 256) here.index (omega (arith, here.to)) in
         absurd (ends.alone (leader + 4 * 256) (omega arith) l ((are.listing.listed (leader + 4 * 256)).1 (
@@ -219,3 +214,13 @@ pub all_blocks : (image : Executable) (leaders : List ℕ) (count : ℕ) (blocks
     → AreBlocks image leaders blocks
 all_blocks image leaders count blocks all so_far =
     record { by_leader = so_far.by_leader ∙ take_all count leaders all; each = so_far.each }
+
+-- the blocks of leaders that ascend stand in order
+pub blocks_in_order : (leaders : List ℕ) (blocks : List Block) → map (λ (block : Block). block.leader) blocks ≡ leaders
+    → AllPairs (λ a b. a < b) leaders → AreInOrder blocks
+blocks_in_order leaders blocks same ascending i j d before within =
+    let f : Block → ℕ = λ block. block.leader in
+    let many : length leaders ≡ length blocks = ap length (sym same) ∙ length-map blocks f in
+    let at_i : get_or leaders i 0 ≡ f (get_or blocks i d) = ap (λ (xs : List ℕ). get_or xs i 0) (sym same) ∙ get_or-map f blocks i d 0 (omega arith) in
+    let at_j : get_or leaders j 0 ≡ f (get_or blocks j d) = ap (λ (xs : List ℕ). get_or xs j 0) (sym same) ∙ get_or-map f blocks j d 0 within in
+    omega (arith, ascending i j 0 before (omega arith))

@@ -11,7 +11,7 @@ use Rattle.ci_block.specs.Marking.{range_at, AreTextRanges}
 use Rattle.ci_block.specs.Marks.{Adds, AreMarksOf, IsMarked}
 use Rattle.ci_block.specs.Sources.{IsFromData, IsFromMeeting, IsFromText}
 use Rattle.ci_block.specs.Text.{EndsAt}
-use Rattle.ci_block.proofs.RangeLaws.{held_below, number_of, range_there, text_below_top, text_held}
+use Rattle.ci_block.proofs.RangeLaws.{held_below, number_of, range_there, text_at, text_below_top}
 use Rattle.ci_block.proofs.SourceLaws.{meeting_from, meeting_met}
 
 -- ---- one source after the other
@@ -104,10 +104,7 @@ module _ (image : Executable) (targets named : List ℕ) where
         let distance = f.distance in
         let behind : IsTextWord image.ranges (last + 4) = (
           omega (arith, aligned),
-          text_held image.ranges (last + 4) f.index (record {
-            from = omega (arith, f.from);
-            to = omega (arith, f.to, is_text.0, aligned);
-          }),
+          text_at image.ranges (last + 4) f.index (omega (arith, f.from)) (omega (arith, f.to, is_text.0, aligned)),
         ) in
         let mark = marked.complete (last + 4) behind (behind_terminator last ends refl) in
         elim (cases_lt (last + 4) a) [

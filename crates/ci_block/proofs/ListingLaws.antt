@@ -9,7 +9,7 @@ use Rattle.ci_elf.specs.declared.ranges.Range.{Range}
 use Rattle.ci_elf.specs.Executables.{IsTextWord, end_of}
 use Rattle.ci_block.specs.Marking.{range_at, AreTextRanges}
 use Rattle.ci_block.specs.Listing.{IsFull, IsFullBefore, IsLastFrom, IsListedBelow}
-use Rattle.ci_block.proofs.RangeLaws.{apart, before_first, between, one_range, word_of_range}
+use Rattle.ci_block.proofs.RangeLaws.{apart, before_first, between, held_at, one_range, word_of_range}
 
 module _ (ranges : List Range) (leaders : List ℕ) (limit : ℕ) where
   -- a further leader changes nothing up to its own address
@@ -113,8 +113,9 @@ module _ (ranges : List Range) (text : AreTextRanges ranges) (P : ℕ → Type 0
   pub from_full : (last : Option ℕ) → IsLastFrom (range_at ranges i).start leaders last
       → IsFull ranges leaders ((range_at ranges i).start + 4 * word) → IsFullBefore last word
   from_full last is f =
-      let same : f.index ≡ i = one_range ranges text ((range_at ranges i).start + 4 * word) f.index i
-      (record { from = omega (arith, f.from, f.distance); to = f.to }) (record { from = omega arith; to = omega arith }) in
+      let here = (range_at ranges i).start + 4 * word in
+      let same : f.index ≡ i = one_range ranges text here f.index i (held_at ranges here f.index (omega (arith, f.from, f.distance)) f.to)
+      (held_at ranges here i (omega arith) (omega arith)) in
       go last is (subst (λ k. (range_at ranges k).start ≤ f.leader) same f.from)
     where
       go : (last : Option ℕ) → IsLastFrom (range_at ranges i).start leaders last → (range_at ranges i).start ≤ f.leader → IsFullBefore last word

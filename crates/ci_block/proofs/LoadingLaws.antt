@@ -1,71 +1,25 @@
 -- What segments load from the file, and data words.
-use Rattle.std.proofs.Common.{◌≡◌, ℕ, zero, suc, lit<, ◌+◌, ◌-◌, ◌*◌, ◌/◌, ◌%◌, ◌<◌, ◌≤◌, ◌⊎◌, inl, inr, List, [], ◌∷◌, length, get_or, sym, ◌∙◌, subst, arith}
+use Rattle.std.proofs.Common.{◌≡◌, ℕ, zero, suc, lit<, ◌+◌, ◌*◌, ◌/◌, ◌%◌, ◌<◌, ◌≤◌, ◌⊎◌, inl, inr, List, [], ◌∷◌, length, get_or, sym, ◌∙◌, subst, arith}
 use Rattle.std.specs.Prelude.{Option, Some, None, IfSome}
 use Rattle.byteorder.specs.Endian.{little_number}
 use Rattle.std.specs.List.{Contains}
 use Rattle.std.proofs.lemmas.Bool.{cases_lt}
 use Rattle.std.proofs.lemmas.List.{get_or_default}
-use Rattle.std.proofs.lemmas.List.Sorted.{Contains-permutation, IsPermutation-sym}
 use Rattle.ci_elf.specs.declared.ranges.Range.{Range}
 use Rattle.ci_elf.specs.declared.segments.Segment.{Segment}
-use Rattle.ci_elf.specs.Checks.{IsLastBefore}
-use Rattle.ci_elf.specs.Executables.{Executable, InText}
+use Rattle.ci_elf.specs.Executables.{Executable, InText, IsLoaded, IsWellFormed}
 use Rattle.ci_elf.specs.Fields.{field}
-use Rattle.ci_elf.proofs.ImageLaws.{layout_of, layout_permuted, loader}
-use Rattle.ci_block.specs.Loading.{AreInOrder, IsFromDataWords, IsFromSegments, end_word, first_word, segment_at}
+use Rattle.ci_block.specs.Loading.{IsFromDataWords, IsFromSegments, end_word, first_word, segment_at}
 use Rattle.ci_block.specs.Marking.{AreTextRanges}
 use Rattle.ci_block.specs.Sources.{IsFromData}
-use Rattle.ci_block.specs.Text.{IsDataWord, IsLoaded, IsLoadedWord}
-use Rattle.ci_block.proofs.RangeLaws.{holder, text_held}
+use Rattle.ci_block.specs.Text.{IsDataWord, IsLoadedWord}
+use Rattle.ci_block.proofs.RangeLaws.{holder, nowhere, text_at}
 
 abbrev nothing : Segment
 nothing = record { address = 0; memory_size = 0; offset = 0; file_size = 0 }
 
-module _ (image : Executable) (segments : List Segment) (in_order : AreInOrder image segments) where
-  pub of_image : (s : Segment) → Contains segments s → Contains image.segments s
-  of_image s c = Contains-permutation segments image.segments s (IsPermutation-sym image.segments segments in_order.same) c
-
-  among : (s : Segment) → Contains image.segments s → Contains segments s
-  among s c = Contains-permutation image.segments segments s in_order.same c
-
-  pub segment_top : (s : Segment) → Contains segments s → s.address + s.file_size ≤ 0xffff0000
-  segment_top s c =
-      let there = of_image s c in
-      omega (arith, in_order.well_formed.filled s there, in_order.well_formed.below_top s there)
-
-  -- ---- bytes
-
-  module _ (address : ℕ) where
-    pub nothing_before : ((s : Segment) → Contains segments s → address < s.address) → (byte : ℕ) → ¬ IsLoaded image address byte
-    nothing_before none byte l = omega (arith, none l.segment (among l.segment l.there), l.from)
-
-    module _ (s : Segment) (last : IsLastBefore segments address s) where
-      -- what loads the byte is this segment
-      one_loader : (byte : ℕ) (l : IsLoaded image address byte) → l.segment ≡ s
-      one_loader byte l =
-          loader segments address s l.segment (layout_permuted image.segments segments in_order.same (layout_of image in_order.well_formed)) last
-          (among l.segment l.there) (record { from = l.from; to = l.to })
-
-      pub not_loaded : s.file_size ≤ address - s.address → (byte : ℕ) → ¬ IsLoaded image address byte
-      not_loaded past byte l =
-          let to : address < s.address + s.file_size = subst (λ (t : Segment). address < t.address + t.file_size) (one_loader byte l) l.to in
-          omega (arith, to)
-
-      pub is_loaded : address - s.address < s.file_size → (byte : ℕ) → byte ≡ get_or image.bytes (s.offset + (address - s.address)) 0
-          → IsLoaded image address byte
-      is_loaded within byte is = record {
-        segment = s;
-        there = of_image s last.among;
-        from = last.before;
-        to = omega (arith, last.before);
-        byte = sym is;
-      }
-
-      pub only_byte : (found byte : ℕ) → found ≡ get_or image.bytes (s.offset + (address - s.address)) 0 → IsLoaded image address byte → found ≡ byte
-      only_byte found byte is l = is ∙ subst (λ (t : Segment). get_or image.bytes (t.offset + (address - t.address)) 0 ≡ byte) (one_loader byte l) l.byte
-
-      pub in_file : address - s.address < s.file_size → s.offset + (address - s.address) < length image.bytes
-      in_file within = omega (arith, in_order.well_formed.in_file s (of_image s last.among) (omega arith))
+pub segment_top : (image : Executable) → IsWellFormed image → (s : Segment) → Contains image.segments s → s.address + s.file_size ≤ 0xffff0000
+segment_top image formed s there = omega (arith, formed.filled s there, formed.below_top s there)
 
 -- ---- words
 
@@ -101,10 +55,7 @@ some_is a b is = cc
 pub word_of_text : (ranges : List Range) → AreTextRanges ranges → (address k : ℕ) → address % 4 ≡ 0 → k < 4 → InText ranges (address + k) → InText ranges address
 word_of_text ranges text address k aligned h in_text =
     let held = holder ranges (address + k) in_text in
-    text_held ranges address held.0 (record {
-      from = omega (arith, held.1.from, text.aligned held.0);
-      to = omega (arith, held.1.to);
-    })
+    text_at ranges address held.0 (omega (arith, held.1.from nowhere, text.aligned held.0)) (omega (arith, held.1.to nowhere))
 
 pub as_data_word : (image : Executable) (address : ℕ) → address % 4 ≡ 0 → AreTextRanges image.ranges → ¬ InText image.ranges address
     → (value : Option ℕ) → IfSome value (λ v. IsLoadedWord image address v) → IfSome value (λ v. IsDataWord image address v)
@@ -135,36 +86,36 @@ module _ (image : Executable) (first n : ℕ) (value : Option ℕ)
 
 -- ---- segment after segment
 
-module _ (image : Executable) (segments : List Segment) where
-  pub from_no_segments : (a : ℕ) → ¬ IsFromSegments image segments 0 a
+module _ (image : Executable) where
+  pub from_no_segments : (a : ℕ) → ¬ IsFromSegments image 0 a
   from_no_segments a f = omega (arith, f.before)
 
   pub from_segment : (count a : ℕ)
-      → IsFromSegments image segments count a
-      ⊎ IsFromDataWords image (first_word (segment_at segments count)) (end_word (segment_at segments count)) a
-      → IsFromSegments image segments (count + 1) a
+      → IsFromSegments image count a
+      ⊎ IsFromDataWords image (first_word (segment_at image.segments count)) (end_word (segment_at image.segments count)) a
+      → IsFromSegments image (count + 1) a
   from_segment count a (inl f) = record { index = f.index; before = omega (arith, f.before); words = f.words }
   from_segment count a (inr w) = record { index = count; before = omega arith; words = w }
 
-  pub segment_or_before : (count a : ℕ) → IsFromSegments image segments (count + 1) a
-      → IsFromSegments image segments count a
-      ⊎ IsFromDataWords image (first_word (segment_at segments count)) (end_word (segment_at segments count)) a
+  pub segment_or_before : (count a : ℕ) → IsFromSegments image (count + 1) a
+      → IsFromSegments image count a
+      ⊎ IsFromDataWords image (first_word (segment_at image.segments count)) (end_word (segment_at image.segments count)) a
   segment_or_before count a f = elim (cases_lt f.index count) [
     | inl l ↦ inl (record { index = f.index; before = l; words = f.words })
     | inr l ↦
         let same : f.index ≡ count = omega (arith, f.before) in
-        inr (subst (λ i. IsFromDataWords image (first_word (segment_at segments i)) (end_word (segment_at segments i)) a) same f.words)
+        inr (subst (λ i. IsFromDataWords image (first_word (segment_at image.segments i)) (end_word (segment_at image.segments i)) a) same f.words)
   ]
 
-  pub data_from_segments : (count a : ℕ) → IsFromSegments image segments count a → IsFromData image a
+  pub data_from_segments : (count a : ℕ) → IsFromSegments image count a → IsFromData image a
   data_from_segments count a f = record { place = 4 * f.words.number; word = f.words.word }
 
-  pub segments_from_data : AreInOrder image segments → (a : ℕ) → IsFromData image a → IsFromSegments image segments (length segments) a
-  segments_from_data in_order a f =
+  pub segments_from_data : (a : ℕ) → IsFromData image a → IsFromSegments image (length image.segments) a
+  segments_from_data a f =
       let byte = f.word.word.loaded 0 (lit< tt) in
-      let there = among image segments in_order byte.segment byte.there in
+      let there = byte.there in
       let i = there.0 in
-      let is : segment_at segments i ≡ byte.segment = get_or_default segments i nothing byte.segment there.1 ∙ there.2 in
+      let is : segment_at image.segments i ≡ byte.segment = get_or_default image.segments i nothing byte.segment there.1 ∙ there.2 in
       let number = f.place / 4 in
       let place : 4 * number ≡ f.place = omega (arith, f.word.aligned) in
       record {

@@ -5,13 +5,13 @@ use Rattle.std.specs.List.{Contains}
 use Rattle.std.proofs.lemmas.Bool.{cases_lt, cases_eq}
 use Rattle.std.proofs.lemmas.List.{get_or-set_same, get_or-set_other, take_more}
 use Rattle.std.proofs.lemmas.List.Elements.{Contains-append_left, Contains-push, Contains-push_cases}
-use Rattle.ci_elf.specs.Executables.{IsTextWord}
+use Rattle.ci_elf.specs.Executables.{HoldsAddress, IsTextWord}
 use Rattle.ci_block.specs.declared.places.Places.{Places}
 use Rattle.ci_block.specs.declared.marks.Marks.{Marks}
-use Rattle.ci_block.specs.Marking.{range_at, ArePlaces, HoldsAddress}
+use Rattle.ci_block.specs.Marking.{range_at, ArePlaces}
 use Rattle.ci_block.specs.Places.{IsPlace}
 use Rattle.ci_block.specs.Marks.{Adds, IsMarked}
-use Rattle.ci_block.proofs.RangeLaws.{held_below, one_range}
+use Rattle.ci_block.proofs.RangeLaws.{held_at, one_range}
 
 module _ (places : Places) where
   -- a place by its range and its word in it
@@ -20,7 +20,7 @@ module _ (places : Places) where
   placed i word h = record { index = i; word = word; within = h; stands = refl; behind_first = refl }
 
   held : (a p : ℕ) (h : IsPlace places a p) → HoldsAddress places.ranges.items a h.index
-  held a p h = record { from = omega (arith, h.stands); to = omega (arith, h.stands, h.within) }
+  held a p h = held_at places.ranges.items a h.index (omega (arith, h.stands)) (omega (arith, h.stands, h.within))
 
   module _ (laid : ArePlaces places.ranges.items places.firsts.items places.count) where
     -- a word has one place
@@ -34,8 +34,8 @@ module _ (places : Places) where
     -- a place is that of one word
     pub one_word : (a b p : ℕ) → IsPlace places a p → IsPlace places b p → a ≡ b
     one_word a b p h l =
-        let within_h = held_below places.ranges.items a h.index (held a p h).to in
-        let within_l = held_below places.ranges.items b l.index (held b p l).to in
+        let within_h = (held a p h).within in
+        let within_l = (held b p l).within in
         elim (cases_lt h.index l.index) [
           | inl m ↦ absurd (omega (arith, h.behind_first, h.within, l.behind_first, laid.apart h.index l.index m within_l))
           | inr m ↦ elim (cases_lt l.index h.index) [
@@ -50,7 +50,7 @@ module _ (places : Places) where
 
     pub place_within : (a p : ℕ) → IsPlace places a p → p < places.count
     place_within a p h =
-        let within = held_below places.ranges.items a h.index (held a p h).to in
+        let within = (held a p h).within in
         omega (arith, h.behind_first, h.within, laid.within h.index within)
 
 module _ (marks : Marks) (a p : ℕ) (there : IsPlace marks.places a p) where

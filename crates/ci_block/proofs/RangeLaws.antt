@@ -1,12 +1,12 @@
 -- The ranges of a text: in which of them an address lies.
 use Rattle.std.proofs.Common.{◌≡◌, ℕ, lit≤, ◌+◌, ◌*◌, ◌<◌, ◌≤◌, inl, inr, List, length, refl, ◌∙◌, ap, arith}
 use Rattle.std.specs.List.{Contains}
-use Rattle.std.specs.List.Sorted.{IsNonDecreasingBy}
 use Rattle.std.proofs.lemmas.Bool.{cases_lt}
 use Rattle.std.proofs.lemmas.List.{get_or_default, get_or_past}
 use Rattle.ci_elf.specs.declared.ranges.Range.{Range}
-use Rattle.ci_elf.specs.Executables.{Executable, InText, IsTextWord, IsWellFormed, end_of}
-use Rattle.ci_block.specs.Marking.{range_at, AreTextRanges, HoldsAddress}
+use Rattle.ci_elf.specs.Executables.{Executable, HoldsAddress, InText, IsTextWord, IsWellFormed, end_of}
+use Rattle.ci_elf.proofs.RangeLaws.{text_held}
+use Rattle.ci_block.specs.Marking.{range_at, AreTextRanges}
 
 abbrev pub nowhere : Range
 nowhere = record { start = 0; words = 0 }
@@ -25,17 +25,26 @@ number_of ranges range there = (there.0, there.1, get_or_default ranges there.0 
 pub range_there : (ranges : List Range) (k : ℕ) → k < length ranges → Contains ranges (range_at ranges k)
 range_there ranges k h = (k, h, get_or_default ranges k (range_at ranges k) nowhere h)
 
--- an address that a range has is text
-pub text_held : (ranges : List Range) (address i : ℕ) → HoldsAddress ranges address i → InText ranges address
-text_held ranges address i h =
-    let within = held_below ranges address i h.to in
-    (i, range_at ranges i, within, get_or_default ranges i (range_at ranges i) nowhere within, (h.from, h.to))
+-- range i has the addresses from its start to its end
+pub held_at : (ranges : List Range) (address i : ℕ) → (range_at ranges i).start ≤ address → address < end_of (range_at ranges i)
+    → HoldsAddress ranges address i
+held_at ranges address i from to =
+    let within = held_below ranges address i to in
+    record {
+      within = within;
+      from = λ d. rw (get_or_default ranges i d nowhere within) from;
+      to = λ d. rw (get_or_default ranges i d nowhere within) to;
+    }
 
--- and text lies in a range
+-- and these are text
+pub text_at : (ranges : List Range) (address i : ℕ) → (range_at ranges i).start ≤ address → address < end_of (range_at ranges i) → InText ranges address
+text_at ranges address i from to = text_held ranges address i (held_at ranges address i from to)
+
+-- text lies in a range
 pub holder : (ranges : List Range) (address : ℕ) → InText ranges address → (i : ℕ) × HoldsAddress ranges address i
 holder ranges address h =
     let is : range_at ranges h.0 ≡ h.1 = get_or_default ranges h.0 nowhere h.1 h.2 ∙ h.3 in
-    (h.0, record { from = rw is h.4.0; to = rw is h.4.1 })
+    (h.0, held_at ranges address h.0 (rw is h.4.0) (rw is h.4.1))
 
 module _ (ranges : List Range) (text : AreTextRanges ranges) where
   pub apart : (i j : ℕ) → i < j → j < length ranges → end_of (range_at ranges i) ≤ (range_at ranges j).start
@@ -44,9 +53,9 @@ module _ (ranges : List Range) (text : AreTextRanges ranges) where
   -- an address lies in one range
   pub one_range : (address i j : ℕ) → HoldsAddress ranges address i → HoldsAddress ranges address j → i ≡ j
   one_range address i j h l = elim (cases_lt i j) [
-    | inl m ↦ absurd (omega (arith, h.to, l.from, apart i j m (held_below ranges address j l.to)))
+    | inl m ↦ absurd (omega (arith, h.to nowhere, l.from nowhere, apart i j m l.within))
     | inr m ↦ elim (cases_lt j i) [
-      | inl o ↦ absurd (omega (arith, l.to, h.from, apart j i o (held_below ranges address i h.to)))
+      | inl o ↦ absurd (omega (arith, l.to nowhere, h.from nowhere, apart j i o h.within))
       | inr o ↦ omega arith
     ]
   ]
@@ -56,15 +65,17 @@ module _ (ranges : List Range) (text : AreTextRanges ranges) where
   between i address within past before h =
       let held = holder ranges address h in
       let j = held.0 in
-      let below = held_below ranges address j held.1.to in
+      let below = held.1.within in
+      let from = held.1.from nowhere in
+      let to = held.1.to nowhere in
       elim (cases_lt j (i + 1)) [
         | inl l ↦ elim (cases_lt j i) [
-          | inl m ↦ omega (arith, held.1.to, held.1.from, apart j i m (omega arith))
-          | inr m ↦ let same : j ≡ i = omega arith in omega (arith, rw same at held.1.to)
+          | inl m ↦ omega (arith, to, from, apart j i m (omega arith))
+          | inr m ↦ let same : j ≡ i = omega arith in omega (arith, rw same at to)
         ]
         | inr l ↦ elim (cases_lt (i + 1) j) [
-          | inl m ↦ omega (arith, held.1.from, before (omega arith), apart (i + 1) j m below, text.worded (i + 1) (omega arith))
-          | inr m ↦ let same : j ≡ i + 1 = omega arith in omega (arith, rw same at held.1.from, before (omega arith))
+          | inl m ↦ omega (arith, from, before (omega arith), apart (i + 1) j m below, text.worded (i + 1) (omega arith))
+          | inr m ↦ let same : j ≡ i + 1 = omega arith in omega (arith, rw same at from, before (omega arith))
         ]
       ]
 
@@ -72,32 +83,25 @@ module _ (ranges : List Range) (text : AreTextRanges ranges) where
   pub before_first : (address : ℕ) → (0 < length ranges → address < (range_at ranges 0).start) → ¬ InText ranges address
   before_first address before h =
       let held = holder ranges address h in
-      let below = held_below ranges address held.0 held.1.to in
+      let below = held.1.within in
+      let from = held.1.from nowhere in
       elim (cases_lt 0 held.0) [
-        | inl m ↦ omega (arith, held.1.from, before (omega arith), apart 0 held.0 m below, text.worded 0 (omega arith))
-        | inr m ↦ let same : held.0 ≡ 0 = omega arith in omega (arith, rw same at held.1.from, before (omega arith))
+        | inl m ↦ omega (arith, from, before (omega arith), apart 0 held.0 m below, text.worded 0 (omega arith))
+        | inr m ↦ let same : held.0 ≡ 0 = omega arith in omega (arith, rw same at from, before (omega arith))
       ]
 
   -- text lies below the top of memory
   pub text_below_top : (address : ℕ) → InText ranges address → address < 0xffff0000
   text_below_top address h =
       let held = holder ranges address h in
-      omega (arith, held.1.to, text.below_top held.0)
+      omega (arith, held.1.to nowhere, text.below_top held.0)
 
   -- the words of a range are words of the text
   pub word_of_range : (i word : ℕ) → word < (range_at ranges i).words → IsTextWord ranges ((range_at ranges i).start + 4 * word)
   word_of_range i word h = (
     omega (arith, text.aligned i),
-    text_held ranges ((range_at ranges i).start + 4 * word) i (record { from = omega arith; to = omega arith }),
+    text_at ranges ((range_at ranges i).start + 4 * word) i (omega arith) (omega arith),
   )
-
-pub starts_rise : (ranges : List Range) → AreTextRanges ranges → IsNonDecreasingBy (λ r. r.start) ranges
-starts_rise ranges text i j d h l = elim (cases_lt i j) [
-  | inl m ↦ omega (arith, text.ascending i j d m l)
-  | inr m ↦
-      let same : i ≡ j = omega arith in
-      rw same (omega arith)
-]
 
 -- the ranges of a file
 pub text_ranges : (image : Executable) → IsWellFormed image → AreTextRanges image.ranges

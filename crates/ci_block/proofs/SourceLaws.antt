@@ -9,7 +9,7 @@ use Rattle.ci_block.specs.Marking.{range_at, AreTextRanges}
 use Rattle.ci_block.specs.Sources.{IsFromMeeting, IsFromRanges, IsFromText, IsFromWords, Leads, Meets}
 use Rattle.ci_block.specs.Text.{StandsAt}
 use Rattle.ci_block.proofs.InsnLaws.{stands_alone}
-use Rattle.ci_block.proofs.RangeLaws.{apart, held_below, holder, number_of, range_there}
+use Rattle.ci_block.proofs.RangeLaws.{apart, holder, nowhere, number_of, range_there}
 
 module _ (image : Executable) (start : ℕ) where
   pub from_no_words : (a : ℕ) → ¬ IsFromWords image start 0 a
@@ -62,15 +62,16 @@ module _ (image : Executable) where
   ranges_from_text text a f =
       let held = holder image.ranges f.from f.stands.text.1 in
       let i = held.0 in
+      let from = held.1.from nowhere in
       let start = (range_at image.ranges i).start in
       let word = (f.from - start) / 4 in
-      let place : start + 4 * word ≡ f.from = omega (arith, held.1.from, f.stands.text.0, text.aligned i) in
+      let place : start + 4 * word ≡ f.from = omega (arith, from, f.stands.text.0, text.aligned i) in
       record {
         index = i;
-        before = held_below image.ranges f.from i held.1.to;
+        before = held.1.within;
         words = record {
           word = word;
-          before = omega (arith, held.1.from, held.1.to, place);
+          before = omega (arith, from, held.1.to nowhere, place);
           insn = f.insn;
           stands = subst (λ from. StandsAt image from f.insn) (sym place) f.stands;
           leads = subst (λ from. Leads from f.insn a) (sym place) f.leads;

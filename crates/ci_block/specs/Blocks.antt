@@ -1,6 +1,6 @@
 -- The basic blocks of an executable file, and their successors.
 use Rattle.std.specs.Prelude.{◌≡◌, ◌≢◌, ℕ, ◌+◌, ◌-◌, ◌*◌, ◌<◌, ◌≤◌, Bool, true, false, List, [], ◌∷◌, length, map, slice_index_or}
-use Rattle.std.specs.List.{Contains}
+use Rattle.std.specs.List.{AllPairs, Contains}
 use Rattle.ci_word.specs.declared.arithmetic.Op.TheVariants.{Add}
 use Rattle.ci_word.specs.Arithmetic.{operation, word_of}
 use Rattle.ci_isa.specs.declared.instruction.Insn.{Insn}
@@ -80,6 +80,10 @@ pub record IsBlockAt (image : Executable) (leaders : List ℕ) (block : Block) :
   pub next :
       (d : Insn)
       → IsNext image (end_of_block block - 4) (slice_index_or block.insns.items (size_of block - 1) d) block.next
+
+-- the blocks stand in the order of their leaders
+abbrev pub AreInOrder : List Block → Type 0
+AreInOrder blocks = AllPairs (λ earlier later. earlier.leader < later.leader) blocks
 
 -- the blocks of the leaders, in their order
 pub record AreBlocks (image : Executable) (leaders : List ℕ) (blocks : List Block) : Type 0 where

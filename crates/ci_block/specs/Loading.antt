@@ -1,15 +1,8 @@
--- Segments in the order of their addresses, and the data words that they load, for private contracts.
+-- The data words that segments load, for private contracts.
 use Rattle.std.specs.Prelude.{ℕ, ◌+◌, ◌*◌, ◌/◌, ◌<◌, ◌≤◌, List, slice_index_or}
-use Rattle.std.specs.List.Sorted.{IsNonDecreasingBy, IsPermutation}
 use Rattle.ci_elf.specs.declared.segments.Segment.{Segment}
-use Rattle.ci_elf.specs.Executables.{Executable, IsWellFormed}
+use Rattle.ci_elf.specs.Executables.{Executable}
 use Rattle.ci_block.specs.Text.{IsDataWord}
-
--- the segments of the file, in the order of their addresses
-pub record AreInOrder (image : Executable) (segments : List Segment) : Type 0 where
-  pub well_formed : IsWellFormed image
-  pub order : IsNonDecreasingBy (λ s. s.address) segments
-  pub same : IsPermutation image.segments segments
 
 -- segment k, and past the last one a segment without memory
 abbrev pub segment_at : List Segment → ℕ → Segment
@@ -30,8 +23,9 @@ pub record IsFromDataWords (image : Executable) (first end address : ℕ) : Type
   pub word : IsDataWord image (4 * number) address
 
 -- a data word has the address as its value, and one of the first segments loads a byte of it
-pub record IsFromSegments (image : Executable) (segments : List Segment) (count address : ℕ) : Type 0 where
+pub record IsFromSegments (image : Executable) (count address : ℕ) : Type 0 where
   pub index : ℕ
   pub before : index < count
   pub words :
-      IsFromDataWords image (first_word (segment_at segments index)) (end_word (segment_at segments index)) address
+      IsFromDataWords image (first_word (segment_at image.segments index))
+      (end_word (segment_at image.segments index)) address

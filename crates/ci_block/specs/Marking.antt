@@ -14,11 +14,6 @@ pub record AreTextRanges (ranges : List Range) : Type 0 where
   pub worded : (k : ℕ) → k < length ranges → 0 < (range_at ranges k).words
   pub below_top : (k : ℕ) → end_of (range_at ranges k) ≤ 0xffff0000
 
--- range i has the address
-pub record HoldsAddress (ranges : List Range) (address i : ℕ) : Type 0 where
-  pub from : (range_at ranges i).start ≤ address
-  pub to : address < end_of (range_at ranges i)
-
 -- the places of the words of each range begin at these ones, behind those of the ranges before it, and there are so
 -- many places
 pub record ArePlaces (ranges : List Range) (firsts : List ℕ) (count : ℕ) : Type 0 where

@@ -3,10 +3,10 @@ use Rattle.std.specs.Prelude.{◌≡◌, ℕ, ◌+◌, ◌*◌, ◌%◌, ◌<◌
 use Rattle.std.specs.List.{Contains}
 use Rattle.ci_isa.specs.declared.instruction.Insn.{Insn}
 use Rattle.ci_elf.specs.declared.ranges.Range.{Range}
-use Rattle.ci_elf.specs.Executables.{Executable, end_of}
+use Rattle.ci_elf.specs.Executables.{Executable, HoldsAddress, end_of}
 use Rattle.ci_block.specs.declared.blocks.Block.{Block}
 use Rattle.ci_block.specs.Blocks.{IsBlockAt, IsNext}
-use Rattle.ci_block.specs.Marking.{range_at, AreTextRanges, HoldsAddress}
+use Rattle.ci_block.specs.Marking.{range_at, AreTextRanges}
 use Rattle.ci_block.specs.Text.{StandsAt}
 
 -- the range of an address ends here

@@ -1,15 +1,13 @@
 -- What stands at the words of the text, where that may lead, and what a file loads beside the text.
-use Rattle.std.specs.Prelude.{◌≡◌, ℕ, ◌+◌, ◌-◌, ◌%◌, ◌<◌, ◌≤◌, true, List, Option, Some, None, slice_index}
-use Rattle.std.specs.List.{Contains}
+use Rattle.std.specs.Prelude.{◌≡◌, ℕ, ◌+◌, ◌%◌, ◌<◌, true, List, Option, Some, None, slice_index}
 use Rattle.ci_word.specs.declared.arithmetic.Op.TheVariants.{Add}
 use Rattle.ci_word.specs.Arithmetic.{operation, word_of}
 use Rattle.ci_isa.specs.declared.instruction.Insn.{Insn}
 use Rattle.ci_isa.specs.declared.instruction.Insn.TheVariants.{Jal, Branch}
 use Rattle.ci_isa.specs.Table.{IsInsnAt}
 use Rattle.ci_isa.specs.Effects.{ends_block}
-use Rattle.ci_elf.specs.declared.segments.Segment.{Segment}
 use Rattle.ci_elf.specs.Fields.{field}
-use Rattle.ci_elf.specs.Executables.{Executable, InText, IsTextWord, place_of}
+use Rattle.ci_elf.specs.Executables.{Executable, InText, IsLoaded, IsTextWord, place_of}
 
 -- ---- instructions
 
@@ -37,14 +35,6 @@ target_of address (Branch cond rs1 rs2 offset) = Some (operation Add address (wo
 target_of address insn = None
 
 -- ---- data
-
--- a segment loads this byte from the file to the address (System V gABI, chapter 5, "Program Header")
-pub record IsLoaded (image : Executable) (address value : ℕ) : Type 0 where
-  pub segment : Segment
-  pub there : Contains image.segments segment
-  pub from : segment.address ≤ address
-  pub to : address < segment.address + segment.file_size
-  pub byte : slice_index image.bytes (segment.offset + (address - segment.address)) ≡ value
 
 -- four bytes from an address on are all loaded from the file, and this is their little-endian value
 pub record IsLoadedWord (image : Executable) (address value : ℕ) : Type 0 where

@@ -6,9 +6,8 @@ ghost use Rattle.ci_block.specs.Leaders.{AreLeaders};
 ghost use Rattle.ci_block.specs.Stretches.{AreInsns, EndsStretch, IsBlockOf, IsRangeEnd, IsStretch};
 
 use crate::Leaders;
-use crate::places::range_with;
 use crate::text::{address_behind, insn_in};
-use ci_elf::Image;
+use ci_elf::{Image, range_with};
 use ci_isa::Insn;
 use std::alloc::{AllocError, Global};
 use std::marker::Model;
@@ -50,14 +49,20 @@ impl Model for Blocks {
     ghost Value = { List Block };
 
     ghost view = { λ b. b.blocks.items };
+
+    ghost use Rattle.ci_block.specs.Blocks.{AreInOrder};
+
+    ghost invariant = { λ b. AreInOrder b.blocks.items };
 }
 
 impl Blocks {
     ghost use Rattle.std.specs.Prelude.{◌≡◌};
+    ghost use Rattle.ci_block.specs.Blocks.{AreInOrder};
 
     /// The blocks, in the order of their leaders.
     pub fn all(&self) -> &[Block]
-        ensures { result.now ≡ self.now }
+        ensures value { result.now ≡ self.now }
+        ensures order { AreInOrder self.now }
     {
         &self.blocks
     }

@@ -84,7 +84,7 @@ fn marks_of(
     mark_from_text(&mut marks, image);
     mark_where_ranges_meet(&mut marks, ranges);
     marks.mark_all(image.symbols());
-    mark_from_data(alloc, &mut marks, image)?;
+    mark_from_data(&mut marks, image);
     marks.mark_all(targets);
     marks.mark_all(given);
     Ok(marks)

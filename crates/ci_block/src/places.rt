@@ -1,9 +1,7 @@
 //! The places of the words of a text: their numbers, one range behind the other.
-ghost use Rattle.std.specs.Prelude.{◌≡◌, ℕ, ◌<◌, ◌≤◌, length, MatchOption};
-ghost use Rattle.ci_elf.specs.Executables.{InText};
-ghost use Rattle.ci_block.specs.Marking.{range_at, ArePlaces, AreTextRanges, HoldsAddress};
+ghost use Rattle.ci_block.specs.Marking.{ArePlaces};
 
-use ci_elf::Range;
+use ci_elf::{Range, range_with};
 use std::alloc::{AllocError, Global};
 
 /// Where each word of the text has its place.
@@ -15,33 +13,6 @@ pub(crate) struct Places {
     /// How many places there are.
     pub(crate) count: usize,
     ghost laid_out: { ArePlaces ranges.items firsts.items count },
-}
-
-/// How many ranges begin at or before an address, of ranges in the order of their addresses.
-fn ranges_up_to(ranges: &[Range], address: u32) -> usize
-    requires { AreTextRanges ranges.now }
-    ensures within { result ≤ length ranges.now }
-    ensures before { (k : ℕ) → k < result → (range_at ranges.now k).start ≤ address }
-    ensures behind { (k : ℕ) → result ≤ k → k < length ranges.now → address < (range_at ranges.now k).start }
-{
-    ranges.partition_point(|range| range.start <= address)
-}
-
-/// The number of the range that an address lies in, of ranges in the order of their addresses.
-pub(crate) fn range_with(ranges: &[Range], address: u32) -> Option<usize>
-    requires { AreTextRanges ranges.now }
-    ensures { MatchOption result (¬ (InText ranges.now address)) (HoldsAddress ranges.now address) }
-{
-    let after = ranges_up_to(ranges, address);
-    if after == 0 {
-        return None;
-    }
-    let range = ranges[after - 1];
-    if (address - range.start) / 4 < range.words {
-        Some(after - 1)
-    } else {
-        None
-    }
 }
 
 impl Places {

@@ -1,11 +1,11 @@
 use Rattle.std.proofs.Common.{sym, ap, subst, arith}
-use Rattle.ci_elf.specs.Executables.{end_of}
-use Rattle.ci_block.specs.Marking.{AreTextRanges, HoldsAddress, range_at}
+use Rattle.ci_elf.specs.Executables.{HoldsAddress, IsAscending, end_of}
+use Rattle.ci_block.specs.Marking.{AreTextRanges, range_at}
 use Rattle.ci_block.proofs.RangeLaws.{text_ranges}
 use Rattle.ci_block.proofs.blocks.range_end.Goals as goal
 
 pub range_with-requires : goal.range_with-requires
-range_with-requires c = rw c.ranges-ranges.ensures.value (text_ranges c.args.image.now c.ranges-ranges.ensures.well_formed)
+range_with-requires c = subst IsAscending (sym c.ranges-ranges.ensures.value) c.ranges-ranges.ensures.well_formed.ascending
 
 pub overflow_mul-result : goal.overflow_mul-result
 overflow_mul-result c =

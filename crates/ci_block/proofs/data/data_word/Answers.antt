@@ -13,7 +13,7 @@ returns-then-in_text-clause-only c value w =
 pub returns-clause-found : goal.returns-clause-found
 returns-clause-found c =
     let image = c.args.image.now in
-    as_data_word image c.args.address c.requires.aligned (text_ranges image c.requires.order.well_formed)
+    as_data_word image c.args.address c.requires.aligned (text_ranges image c.requires.well_formed)
     (λ t. true≢false (sym (c.in_text.ensures.1 t) ∙ c.if-in_text.false)) c.loaded_word.result c.loaded_word.ensures.found
 
 pub returns-clause-only : goal.returns-clause-only

@@ -8,15 +8,15 @@ use Rattle.ci_block.proofs.data.mark_from_segment.Goals as goal
 
 pub overflow_add-end : goal.overflow_add-end
 overflow_add-end c =
-    omega (arith, segment_top c.args.image.now c.args.segments.now c.requires.order c.args.segment c.requires.there)
+    omega (arith, segment_top c.args.image.now c.requires.well_formed c.args.segment c.requires.there)
 
 pub overflow_add-end-2 : goal.overflow_add-end-2
 overflow_add-end-2 c =
-    omega (arith, segment_top c.args.image.now c.args.segments.now c.requires.order c.args.segment c.requires.there)
+    omega (arith, segment_top c.args.image.now c.requires.well_formed c.args.segment c.requires.there)
 
 pub overflow_mul-word : goal.overflow_mul-word
 overflow_mul-word c =
-    omega (arith, segment_top c.args.image.now c.args.segments.now c.requires.order c.args.segment c.requires.there)
+    omega (arith, segment_top c.args.image.now c.requires.well_formed c.args.segment c.requires.there)
 
 pub loop-word-preserved : goal.loop-word-preserved
 loop-word-preserved c =

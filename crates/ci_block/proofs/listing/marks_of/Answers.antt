@@ -26,7 +26,7 @@ returns c =
     (subst (λ rs. Adds c.mark_from_text.new.marks c.mark_where_ranges_meet.new.marks (IsFromMeeting rs (length rs))) text c.mark_where_ranges_meet.ensures) in
     let with_symbols = more_marked with_meetings
     (subst (λ xs. Adds c.mark_where_ranges_meet.new.marks c.mark_all.new.self (λ a. Contains xs a)) c.symbols.ensures c.mark_all.ensures) in
-    let with_data = more_marked with_symbols c.in_ok-mark_from_data.ensures in
+    let with_data = more_marked with_symbols c.mark_from_data.ensures in
     let with_targets = more_marked with_data c.mark_all-2.ensures in
     all_marked image c.args.targets.now c.args.given.now (text_ranges image c.ranges-ranges.ensures.well_formed) c.mark_all-3.new.self
     (more_marked with_targets c.mark_all-3.ensures)

@@ -1,9 +1,8 @@
 use Rattle.std.proofs.Common.{subst}
-use Rattle.ci_block.specs.Marking.{HoldsAddress}
-use Rattle.ci_block.proofs.RangeLaws.{held_below}
+use Rattle.ci_elf.specs.Executables.{HoldsAddress}
 use Rattle.ci_block.proofs.places.Places.of.Goals as goal
 
 pub range-requires : goal.range-requires
 range-requires c =
     let holds = subst (λ rs. HoldsAddress rs c.args.address c.in_ok-index.index) c.deref.ensures.value c.in_ok-index.ensures in
-    held_below c.args.self.now.ranges.items c.args.address c.in_ok-index.index holds.to
+    holds.within
