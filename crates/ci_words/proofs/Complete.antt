@@ -33,8 +33,10 @@ name_is_no_flag (c ∷ cs) good = go (eqb_tells c 45)
 abbrev pub ProperAfter : List Text → List (Text × Text) → List Item → Type 0
 ProperAfter known given [] = ⊤
 ProperAfter known given (item.positional word ∷ items) = IsName word × ProperAfter known given items
-ProperAfter known given (item.option_in_two name value ∷ items) = Contains known name × IsName value × IsNew name given × ProperAfter known (given ++ (name, value) ∷ []) items
-ProperAfter known given (item.option_in_one name value ∷ items) = Contains known name × IsName value × IsNew name given × ProperAfter known (given ++ (name, value) ∷ []) items
+ProperAfter known given (item.option_in_two name value ∷ items) =
+    Contains known name × IsName value × IsNew name given × ProperAfter known (given ++ (name, value) ∷ []) items
+ProperAfter known given (item.option_in_one name value ∷ items) =
+    Contains known name × IsName value × IsNew name given × ProperAfter known (given ++ (name, value) ∷ []) items
 
 module _ (name : Text) (known : List Text) where
   -- the walk over the words has no fault, and at its end stands for these names and options
@@ -76,7 +78,8 @@ module _ (name : Text) (known : List Text) where
 
   module _ (fits : (k : Text) → Contains known k → IsOption k) where
     -- an option and its value in two words
-    two_passes : (waiting : Waiting) (h : Held) (option value : Text) (words before names : List Text) (given all : List (Text × Text)) → Contains known option → IsName value → IsNew option given
+    two_passes : (waiting : Waiting) (h : Held) (option value : Text) (words before names : List Text)
+        (given all : List (Text × Text)) → Contains known option → IsName value → IsNew option given
         → Holds known h before given
         → (Holds known (filled known (settled (rules known) h).rows option value) before (given ++ (option, value) ∷ []) → Passes (at w.idle false (filled known (settled (rules known) h).rows option value)) words names all)
         → Passes (at waiting false h) ((codes "--" ++ option) ∷ value ∷ words) names all
@@ -97,7 +100,8 @@ module _ (name : Text) (known : List Text) where
         (rest (Holds-filled known rows before given option value is.apart among holds.stands new)))
 
     -- the same in one word
-    one_passes : (waiting : Waiting) (h : Held) (option value : Text) (words before names : List Text) (given all : List (Text × Text)) → Contains known option → IsNew option given
+    one_passes : (waiting : Waiting) (h : Held) (option value : Text) (words before names : List Text)
+        (given all : List (Text × Text)) → Contains known option → IsNew option given
         → Holds known h before given
         → (Holds known (reacted (rules known) (option_rule option) (value ∷ []) h) before (given ++ (option, value) ∷ [])
         → Passes (at w.idle false (reacted (rules known) (option_rule option) (value ∷ []) h)) words names all)

@@ -1,6 +1,6 @@
 -- The files of a command: its options give it only such as it reads, so that its names alone have to be apart.
 use Rattle.std.proofs.Common.{◌≡◌, List, [], ◌∷◌, refl, inl, inr, arith}
-use Rattle.std.specs.Prelude.{All, AllPairs, Some, None, flat_map, zip}
+use Rattle.std.specs.Prelude.{All, AllPairs, Some, flat_map, zip}
 use Rattle.std.proofs.lemmas.List.Elements.{All-append, All-cons, All-nil}
 use Rattle.ci_words.specs.Tables.{Access, reads, command_row, file, OptionName, inputs, outputs, steps, table, input, leader, at, option_row, every_option}
 use Rattle.ci_words.specs.Words.{AreApart, Reading, best, asm, dis, run, blocks, Setting, Settings, Text, to_file}

@@ -35,20 +35,23 @@ address_one text n m a b = digits_one 16 8 a.0 n m a.2 (subst (λ digits. AreDig
     same = ap (drop 2) (sym b.1 ∙ a.1)
 
 -- and so are several
-addresses_one : (values : List Text) (ns ms : List ℕ) → AllZip IsAddress values ns → AllZip IsAddress values ms → ns ≡ ms
+addresses_one : (values : List Text) (ns ms : List ℕ) → AllZip IsAddress values ns → AllZip IsAddress values ms
+    → ns ≡ ms
 addresses_one [] [] [] a b = refl
 addresses_one [] (n ∷ ns) ms a b = absurd a
 addresses_one [] [] (m ∷ ms) a b = absurd b
 addresses_one (v ∷ vs) [] ms a b = absurd a
 addresses_one (v ∷ vs) (n ∷ ns) [] a b = absurd b
-addresses_one (v ∷ vs) (n ∷ ns) (m ∷ ms) a b = ap₂ (λ x xs. x ∷ xs) (address_one v n m a.0 b.0) (addresses_one vs ns ms a.1 b.1)
+addresses_one (v ∷ vs) (n ∷ ns) (m ∷ ms) a b =
+    ap₂ (λ x xs. x ∷ xs) (address_one v n m a.0 b.0) (addresses_one vs ns ms a.1 b.1)
 
 -- values set an option one way
 sets_one : (kind : Kind) (values : List Text) (one other : Setting) → Sets kind values one → Sets kind values other → one ≡ other
 sets_one (number least greatest usual) [] (to_number n) (to_number m) a b = ap to_number (a ∙ sym b)
 sets_one (number least greatest usual) [] (to_number n) setting a b = absurd b
 sets_one (number least greatest usual) [] setting other a b = absurd a
-sets_one (number least greatest usual) (text ∷ more) (to_number n) (to_number m) a b = ap to_number (digits_one 10 10 text n m a.0 b.0)
+sets_one (number least greatest usual) (text ∷ more) (to_number n) (to_number m) a b =
+    ap to_number (digits_one 10 10 text n m a.0 b.0)
 sets_one (number least greatest usual) (text ∷ more) (to_number n) setting a b = absurd b
 sets_one (number least greatest usual) (text ∷ more) setting other a b = absurd a
 sets_one (tables.file access) [] (to_file f) (to_file g) a b = ap to_file (a ∙ sym b)
@@ -60,7 +63,8 @@ sets_one (tables.file access) (text ∷ more) setting other a b = absurd a
 sets_one address [] (to_address n) (to_address m) a b = ap to_address (a ∙ sym b)
 sets_one address [] (to_address n) setting a b = absurd b
 sets_one address [] setting other a b = absurd a
-sets_one address (text ∷ more) (to_address (Some n)) (to_address (Some m)) a b = ap (λ k. to_address (Some k)) (address_one text n m a b)
+sets_one address (text ∷ more) (to_address (Some n)) (to_address (Some m)) a b =
+    ap (λ k. to_address (Some k)) (address_one text n m a b)
 sets_one address (text ∷ more) (to_address (Some n)) setting a b = absurd b
 sets_one address (text ∷ more) setting other a b = absurd a
 sets_one addresses values (to_addresses ns) (to_addresses ms) a b = ap to_addresses (addresses_one values ns ms a b)
@@ -85,13 +89,17 @@ values_cases P name (o ∷ os) all = go (bytes_eq o.0 name) refl (values_cases P
     go false e (inr some) = inr some
 
 -- values of options are names where all values that are given are
-values_good : (name : Text) (given : List (Text × Text)) → All (λ o. IsName o.1) given → All IsName (values_of name given)
-values_good name given good = All-map IsName (λ (o : Text × Text). o.1) (filter (is_named name) given) (All-filter (is_named name) (λ o. IsName o.1) given good)
+values_good : (name : Text) (given : List (Text × Text)) → All (λ o. IsName o.1) given
+    → All IsName (values_of name given)
+values_good name given good = All-map IsName (λ (o : Text × Text). o.1) (filter (is_named name) given)
+    (All-filter (is_named name) (λ o. IsName o.1) given good)
 
 -- and only there
-all_good : (given : List (Text × Text)) → ((name : Text) → All IsName (values_of name given)) → All (λ o. IsName o.1) given
+all_good : (given : List (Text × Text)) → ((name : Text) → All IsName (values_of name given))
+    → All (λ o. IsName o.1) given
 all_good [] good = All-nil (λ (o : Text × Text). IsName o.1)
-all_good (o ∷ os) good = All-cons (λ o. IsName o.1) o os (All-head IsName o.1 (values_of o.0 os) (subst (All IsName) here (good o.0)))
+all_good (o ∷ os) good = All-cons (λ o. IsName o.1) o os
+    (All-head IsName o.1 (values_of o.0 os) (subst (All IsName) here (good o.0)))
     (all_good os (λ name. rest name (bytes_eq o.0 name) refl))
   where
     here : values_of o.0 (o ∷ os) ≡ o.1 ∷ values_of o.0 os
@@ -228,10 +236,11 @@ reading_found words reading reads =
 -- all values that are given are names where those of each option are
 good_values : (command : CommandName) (given : List (Text × Text)) → All (λ o. IsOptionOf command o.0) given
     → ((option : OptionName) → All IsName (values_of (option_name option) given)) → All (λ o. IsName o.1) given
-good_values command given among good = all_good given (λ name. elim (values_cases (IsOptionOf command) name given among) [
-  | inl none ↦ subst (All IsName) (sym none) (All-nil IsName)
-  | inr is ↦ subst (λ n. All IsName (values_of n given)) (sym is.named) (good is.option)
-])
+good_values command given among good = all_good given
+    (λ name. elim (values_cases (IsOptionOf command) name given among) [
+      | inl none ↦ subst (All IsName) (sym none) (All-nil IsName)
+      | inr is ↦ subst (λ n. All IsName (values_of n given)) (sym is.named) (good is.option)
+    ])
 
 -- matches without a fault give a reading of the words
 matches_read : (words : List Text) (command : CommandName) (reading : Reading) → slice_get words 0 ≡ Some (command_row command).word → fault_of (app_named command) words ≡ []
@@ -256,7 +265,8 @@ matches_read words command reading first none gives =
       good_names = here.good.good;
       apart = files_apart reading (subst (λ c. AllPairs AreApart (zip (command_row c).names (names_of reading))) (sym here.named) here.good.apart);
       of_command = subst (λ c. All (λ o. IsOptionOf c o.0) reads.given) (sym here.named) among;
-      good_values = good_values command reads.given among (λ option. subst (All IsName) (values option) (here.good_values option));
+      good_values = good_values command reads.given among
+          (λ option. subst (All IsName) (values option) (here.good_values option));
       once = λ option single. reads.once (option_name option) (repeatable_named option ∙ single);
       set = λ option. subst (λ vs. Sets (option_row option).kind vs (setting_of option (settings_of reading))) (values option) (here.set option);
     }

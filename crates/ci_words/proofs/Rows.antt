@@ -122,18 +122,23 @@ abbrev pub IsNew : Text → List (Text × Text) → Type 0
 IsNew name given = is_repeatable name ≡ false → values_of name given ≡ []
 
 -- the values of an option are put behind those that it has, where it may stand more than once or has none
-used_values : (repeatable : Bool) (name value : Text) (rows : List Row) → (repeatable ≡ false → has_row name rows ≡ false)
+used_values : (repeatable : Bool) (name value : Text) (rows : List Row)
+    → (repeatable ≡ false → has_row name rows ≡ false)
     → used (option_with repeatable name) (value ∷ []) rows ≡ with_values name AsWritten CommandLine (value ∷ []) rows
 used_values true name value rows new = refl
-used_values false name value rows new = ap (with_values name AsWritten CommandLine (value ∷ [])) (without_none name rows (new refl))
+used_values false name value rows new = ap (with_values name AsWritten CommandLine (value ∷ []))
+    (without_none name rows (new refl))
 
 -- one more option, which may be given
 pub AreOf-option : (rows : List Row) (names : List Text) (given : List (Text × Text)) (name value : Text) → AreOf rows names given → bytes_eq (codes "names") name ≡ false
     → IsNew name given → AreOf (used (option_rule name) (value ∷ []) rows) names (given ++ (name, value) ∷ [])
 AreOf-option rows names given name value are apart new =
-    let none : is_repeatable name ≡ false → has_row name rows ≡ false = λ once. has_row-given rows names given name are apart ∙ ap (λ vs. is_some (listed vs)) (new once) in
-    subst (λ rs. AreOf rs names (given ++ (name, value) ∷ [])) (sym (used_values (is_repeatable name) name value rows none)) (record {
-      of_names = all_of-other name (codes "names") AsWritten (value ∷ []) rows (apart_flipped (codes "names") name apart) ∙ are.of_names;
+    let none : is_repeatable name ≡ false → has_row name rows ≡ false =
+    λ once. has_row-given rows names given name are apart ∙ ap (λ vs. is_some (listed vs)) (new once) in
+    subst (λ rs. AreOf rs names (given ++ (name, value) ∷ []))
+    (sym (used_values (is_repeatable name) name value rows none)) (record {
+      of_names = all_of-other name (codes "names") AsWritten (value ∷ []) rows
+          (apart_flipped (codes "names") name apart) ∙ are.of_names;
       of_option = λ other far. go other far (bytes_eq name other) refl;
     })
   where

@@ -9,7 +9,7 @@ use Rattle.clap.specs.Simple.{Shape, built, filled, filled_from, new_rule, new_s
 use Rattle.clap.specs.declared.builder.action.ArgAction.TheVariants.{Append}
 use Rattle.clap.specs.declared.builder.range.ValueRange.{ValueRange}
 use Rattle.clap.specs.declared.builder.value_parser.ValueParser.TheVariants as parser
-use Rattle.ci_words.specs.Parses.{action_for, app_for, is_repeatable, option_given}
+use Rattle.ci_words.specs.Parses.{app_for, is_repeatable, option_by, option_given}
 
 -- a use has one value
 abbrev pub one_value : ValueRange
@@ -21,7 +21,7 @@ names_rule = record (new_rule (codes "names")) { index = Some 1; action = Some A
 
 -- an option with one value, which may stand more than once or not
 abbrev pub option_with : Bool → Text → Rule
-option_with repeatable name = record (new_rule name) { long = Some name; action = Some (action_for repeatable); range = Some one_value; parser = Some parser.String }
+option_with repeatable name = record (option_by repeatable name) { range = Some one_value; parser = Some parser.String }
 
 -- an option of its name
 abbrev pub option_rule : Text → Rule
@@ -36,8 +36,8 @@ abbrev pub shape : Text → List Text → Shape
 shape name known = record (new_shape name) { rules = rules known; disable_help_flag = true; disable_help_subcommand = true; disable_version_flag = true; is_built = true }
 
 -- what building makes of an option
-filled_option : (i : ℕ) (repeatable : Bool) (name : Text)
-    → with_index i (filled (record (new_rule name) { long = Some name; action = Some (action_for repeatable) })) ≡ option_with repeatable name
+filled_option : (i : ℕ) (repeatable : Bool) (name : Text) → with_index i (filled (option_by repeatable name))
+    ≡ option_with repeatable name
 filled_option i true name = refl
 filled_option i false name = refl
 

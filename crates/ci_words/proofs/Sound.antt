@@ -261,7 +261,8 @@ module _ (name : Text) (known : List Text) where
     open_plain word words rest rows option before given among are once none plain =
         let apart = (fits option among).apart in
         let is = value_walked name known option rows word apart among plain in
-        let new : settle_fault (rules known) false (filled known rows option word) ≡ [] → IsNew option given = filled_new known rows before given option word apart among are in
+        let new : settle_fault (rules known) false (filled known rows option word) ≡ [] → IsNew option given =
+        filled_new known rows before given option word apart among are in
         record {
           value = word;
           rest = words;

@@ -39,14 +39,16 @@ both_none a b first second = ap (λ k. or_else k b) first ∙ second
 
 module _ (option value : Text) (rows : List Row) where
   -- an option that may stand more than once may be used, and one that has no row
-  use_free : (repeatable : Bool) → (repeatable ≡ false → has_row option rows ≡ false) → use_fault false (option_with repeatable option) (value ∷ []) rows ≡ []
+  use_free : (repeatable : Bool) → (repeatable ≡ false → has_row option rows ≡ false)
+      → use_fault false (option_with repeatable option) (value ∷ []) rows ≡ []
   use_free true free = refl
   use_free false free =
       let none : has_row option rows ≡ false = free refl in
       rw none refl
 
   -- and only these
-  use_taken : (repeatable : Bool) → use_fault false (option_with repeatable option) (value ∷ []) rows ≡ [] → repeatable ≡ false → has_row option rows ≡ false
+  use_taken : (repeatable : Bool) → use_fault false (option_with repeatable option) (value ∷ []) rows ≡ []
+      → repeatable ≡ false → has_row option rows ≡ false
   use_taken true none once = cc
   use_taken false none once = go (has_row option rows) refl
     where
@@ -96,7 +98,8 @@ empty [] e = refl
 empty (t ∷ ts) e = absurd (omega (arith, e))
 
 -- one more option that may be given
-pub AreOnce-push : (given : List (Text × Text)) (name value : Text) → AreOnce given → IsNew name given → AreOnce (given ++ (name, value) ∷ [])
+pub AreOnce-push : (given : List (Text × Text)) (name value : Text) → AreOnce given → IsNew name given
+    → AreOnce (given ++ (name, value) ∷ [])
 AreOnce-push given name value are_once new other once = go (bytes_eq name other) refl
   where
     go : (b : Bool) → bytes_eq name other ≡ b → length (values_of other (given ++ (name, value) ∷ [])) ≤ 1
@@ -110,10 +113,12 @@ AreOnce-push given name value are_once new other once = go (bytes_eq name other)
         omega (arith, length-values_of other given ((name, value) ∷ []), are_once other once, none)
 
 -- an option that may be given
-pub new_option : (given : List (Text × Text)) (name value : Text) (rest : List (Text × Text)) → AreOnce (given ++ (name, value) ∷ rest) → IsNew name given
+pub new_option : (given : List (Text × Text)) (name value : Text) (rest : List (Text × Text))
+    → AreOnce (given ++ (name, value) ∷ rest) → IsNew name given
 new_option given name value rest are_once once =
     let here : length (values_of name ((name, value) ∷ rest)) ≡ suc (length (values_of name rest)) = rw (same_text name) refl in
-    empty (values_of name given) (omega (arith, length-values_of name given ((name, value) ∷ rest), are_once name once, here))
+    let whole = length-values_of name given ((name, value) ∷ rest) in
+    empty (values_of name given) (omega (arith, whole, are_once name once, here))
 
 -- an option without a row is not given
 none_given : (values : List Text) → is_some (listed values) ≡ false → values ≡ []
@@ -121,16 +126,20 @@ none_given [] e = refl
 none_given (v ∷ vs) e = cc
 
 -- an option that may be given may be used
-may_use : (option value : Text) (rows : List Row) (names : List Text) (given : List (Text × Text)) → AreOf rows names given → bytes_eq (codes "names") option ≡ false → IsNew option given
+may_use : (option value : Text) (rows : List Row) (names : List Text) (given : List (Text × Text))
+    → AreOf rows names given → bytes_eq (codes "names") option ≡ false → IsNew option given
     → use_fault false (option_rule option) (value ∷ []) rows ≡ []
 may_use option value rows names given are apart new =
-    use_free option value rows (is_repeatable option) (λ once. has_row-given rows names given option are apart ∙ ap (λ vs. is_some (listed vs)) (new once))
+    use_free option value rows (is_repeatable option)
+    (λ once. has_row-given rows names given option are apart ∙ ap (λ vs. is_some (listed vs)) (new once))
 
 -- and only such a one
-is_new : (option value : Text) (rows : List Row) (names : List Text) (given : List (Text × Text)) → AreOf rows names given → bytes_eq (codes "names") option ≡ false
+is_new : (option value : Text) (rows : List Row) (names : List Text) (given : List (Text × Text))
+    → AreOf rows names given → bytes_eq (codes "names") option ≡ false
     → use_fault false (option_rule option) (value ∷ []) rows ≡ [] → IsNew option given
 is_new option value rows names given are apart none once =
-    none_given (values_of option given) (sym (has_row-given rows names given option are apart) ∙ use_taken option value rows (is_repeatable option) none once)
+    none_given (values_of option given) (sym (has_row-given rows names given option are apart)
+    ∙ use_taken option value rows (is_repeatable option) none once)
 
 -- ---- what is held
 
@@ -167,7 +176,8 @@ module _ (known : List Text) where
     filled_rows = ap (λ o. used_by_id o (value ∷ []) rows) (id_known known option apart among)
 
     -- one more option, whose value waits
-    pub Holds-filled : AreOf rows names given → IsNew option given → Holds (filled rows option value) names (given ++ (option, value) ∷ [])
+    pub Holds-filled : AreOf rows names given → IsNew option given
+        → Holds (filled rows option value) names (given ++ (option, value) ∷ [])
     Holds-filled are new = record {
       settles = filled_fault ∙ may_use option value rows names given are apart new;
       stands = subst (λ rs. AreOf rs names (given ++ (option, value) ∷ [])) (sym filled_rows) (AreOf-option rows names given option value are apart new);
@@ -175,7 +185,8 @@ module _ (known : List Text) where
     }
 
     -- an option that is used without a fault may be given
-    pub filled_new : AreOf rows names given → settle_fault (rules known) false (filled rows option value) ≡ [] → IsNew option given
+    pub filled_new : AreOf rows names given → settle_fault (rules known) false (filled rows option value) ≡ []
+        → IsNew option given
     filled_new are none = is_new option value rows names given are apart (sym filled_fault ∙ none)
 
     -- an option without a value is a fault
@@ -191,7 +202,8 @@ module _ (known : List Text) where
     pub Holds-reacted : Holds h names given → IsNew option given
         → (react_fault (rules known) false (option_rule option) (value ∷ []) h ≡ []) × Holds (reacted (rules known) (option_rule option) (value ∷ []) h) names (given ++ (option, value) ∷ [])
     Holds-reacted holds new = (
-      both_none _ _ holds.settles (may_use option value (settled (rules known) h).rows names given holds.stands apart new),
+      both_none _ _ holds.settles
+          (may_use option value (settled (rules known) h).rows names given holds.stands apart new),
       record {
         settles = refl;
         stands = AreOf-option (settled (rules known) h).rows names given option value holds.stands apart new;
@@ -200,5 +212,7 @@ module _ (known : List Text) where
     )
 
     -- it may be given, where this is no fault
-    pub reacted_new : AreOf (settled (rules known) h).rows names given → react_fault (rules known) false (option_rule option) (value ∷ []) h ≡ [] → IsNew option given
-    reacted_new are none = is_new option value (settled (rules known) h).rows names given are apart (second_none (settle_fault (rules known) false h) _ none)
+    pub reacted_new : AreOf (settled (rules known) h).rows names given
+        → react_fault (rules known) false (option_rule option) (value ∷ []) h ≡ [] → IsNew option given
+    reacted_new are none = is_new option value (settled (rules known) h).rows names given are apart
+        (second_none (settle_fault (rules known) false h) _ none)

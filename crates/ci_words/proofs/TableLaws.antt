@@ -16,8 +16,12 @@ use Rattle.ci_words.proofs.States.{IsOption}
 -- what is found is there
 in_list : {X : Type 0} (test : X → Bool) (xs : List X) (x : X) → find test xs ≡ Some x → Contains xs x
 in_list test xs x found =
-    let there : slice_get xs (position_or_len test xs) ≡ Some x = sym (find_at test xs) ∙ found in
-    (position_or_len test xs, slice_get_within xs (position_or_len test xs) x there, get_or_from_slice_get xs (position_or_len test xs) x x there)
+    let there : slice_get xs (position_or_len test xs) ≡ Some x = sym (find_at test xs) ∙ found in (
+      position_or_len test xs,
+      slice_get_within xs (position_or_len test xs) x there,
+      get_or_from_slice_get xs
+          (position_or_len test xs) x x there,
+    )
 
 -- ---- a row for each command
 
@@ -180,7 +184,8 @@ module _ (command : CommandName) where
   pub is_known : (name : Text) → IsOptionOf command name → Contains (known_to command) name
   is_known name is =
       let there = every_option-all is.option in
-      subst (Contains (known_to command)) (sym is.named) (among_known every_option is.option there.0 there.1 there.2 (has_option-from is.option is.had))
+      subst (Contains (known_to command)) (sym is.named)
+      (among_known every_option is.option there.0 there.1 there.2 (has_option-from is.option is.had))
 
   -- each has a name that an option can have
   pub known_fits : (name : Text) → Contains (known_to command) name → IsOption name

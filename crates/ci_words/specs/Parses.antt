@@ -72,7 +72,8 @@ known_to command = names_known command every_option
 
 -- an option of this name may stand more than once
 abbrev pub is_repeatable : Text → Bool
-is_repeatable name = list_any (λ option. (option_row option).repeatable && bytes_eq (option_name option) name) every_option
+is_repeatable name =
+    list_any (λ option. (option_row option).repeatable && bytes_eq (option_name option) name) every_option
 
 -- ---- what is asked of `clap`
 
@@ -84,9 +85,13 @@ names_given = record (new_rule (codes "names")) { action = Some Append }
 abbrev pub action_for : Bool → ArgAction
 action_for repeatable = if repeatable then Append else Set
 
--- an option with a value
+-- an option with a value, which may stand more than once or not
+abbrev pub option_by : Bool → Text → Rule
+option_by repeatable name = record (new_rule name) { long = Some name; action = Some (action_for repeatable) }
+
+-- the option of this name
 abbrev pub option_given : Text → Rule
-option_given name = record (new_rule name) { long = Some name; action = Some (action_for (is_repeatable name)) }
+option_given name = option_by (is_repeatable name) name
 
 -- a command with positional words and these options, without help and version flags
 abbrev pub app_for : Text → List Text → App

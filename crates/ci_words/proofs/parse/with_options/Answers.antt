@@ -43,7 +43,9 @@ loop-option-preserved c = λ word is.
           let repeatable : w.option_row-row.result.repeatable ≡ is_repeatable w.option_row-row.result.name.now =
           row.repeatable ∙ (sym (repeatable_named option) ∙ ap is_repeatable (sym row.name)) in
           ap app_of w.parser-is ∙ (w.in_ok-parser.ensures word known before repeatable
-          ∙ ap (app_for word) (ap (λ name. known ++ name ∷ []) row.name ∙ sym (names_known-more command options i Inputs true c.loop-option-test.true (sym c.is_of.ensures ∙ w.if-is_of.true))))
+          ∙ ap (app_for word) (ap (λ name. known ++ name ∷ []) row.name
+          ∙ sym (names_known-more command options i Inputs true c.loop-option-test.true
+          (sym c.is_of.ensures ∙ w.if-is_of.true))))
       | else-is_of w ↦ ap app_of w.parser-is ∙ (before
           ∙ ap (app_for word) (sym (names_known-more command options i Inputs false c.loop-option-test.true (sym c.is_of.ensures ∙ w.if-is_of.false) ∙ append-nil known)))
     ]
