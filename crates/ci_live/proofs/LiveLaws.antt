@@ -9,12 +9,13 @@ use Rattle.std.proofs.lemmas.List.{get_or_past, get_or-map, length-map}
 use Rattle.std.proofs.lemmas.List.Sums.{position_or_len_is}
 use Rattle.ci_word.proofs.NumberLaws.{contains-set_below_iff}
 use Rattle.ci_block.specs.declared.blocks.Block.{Block}
+use Rattle.ci_block.specs.Blocks.{AreInOrder}
 use Rattle.ci_live.specs.declared.flow.Flow.{Flow}
 use Rattle.ci_live.specs.declared.iteration.Found.{Found as FoundSets}
 use Rattle.ci_live.specs.Bits.{Has, registers_in}
 use Rattle.ci_live.specs.Flows.{AreFlows, AreWithin, IsWithin, flow_at}
 use Rattle.ci_live.specs.Found.{IsSolution, IsSound, on_ways}
-use Rattle.ci_live.specs.Liveness.{AreInOrder, AreLiveSets, IsLive, IsLiveAfter}
+use Rattle.ci_live.specs.Liveness.{AreLiveSets, IsLive, IsLiveAfter}
 use Rattle.ci_live.specs.Sets.{set_of}
 use Rattle.ci_live.proofs.LookLaws.{on_ways_reached}
 use Rattle.ci_live.proofs.NumberedBlocks.{block_at, leader_at, leads_iff_live_after, reached_iff_live}
@@ -52,15 +53,6 @@ leaders_ascend leaders blocks same ascending i j d before within =
     let at_i : get_or leaders i d ≡ f (get_or blocks i some) = ap (λ (xs : List ℕ). get_or xs i d) same ∙ get_or-map f blocks i some d (omega arith) in
     let at_j : get_or leaders j d ≡ f (get_or blocks j some) = ap (λ (xs : List ℕ). get_or xs j d) same ∙ get_or-map f blocks j some d (omega arith) in
     omega (arith, ascending i j some before (omega arith))
-
--- the blocks of leaders that ascend stand in order
-pub blocks_in_order : (leaders : List ℕ) (blocks : List Block) → map (λ (block : Block). block.leader) blocks ≡ leaders → Ascend leaders → AreInOrder blocks
-blocks_in_order leaders blocks same ascending i j d before within =
-    let f : Block → ℕ = λ block. block.leader in
-    let many = leaders_many leaders blocks (sym same) in
-    let at_i : get_or leaders i 0 ≡ f (get_or blocks i d) = ap (λ (xs : List ℕ). get_or xs i 0) (sym same) ∙ get_or-map f blocks i d 0 (omega arith) in
-    let at_j : get_or leaders j 0 ≡ f (get_or blocks j d) = ap (λ (xs : List ℕ). get_or xs j 0) (sym same) ∙ get_or-map f blocks j d 0 within in
-    omega (arith, ascending i j 0 before (omega arith))
 
 -- each flow leads to some of the flows
 pub flows_within :

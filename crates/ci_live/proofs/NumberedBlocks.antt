@@ -5,10 +5,11 @@ use Rattle.std.proofs.lemmas.Bool.{cases_lt}
 use Rattle.std.proofs.lemmas.List.{get_or_default, get_or-map, length-map}
 use Rattle.std.proofs.lemmas.List.Elements.{All-cons, All-head}
 use Rattle.ci_block.specs.declared.blocks.Block.{Block}
+use Rattle.ci_block.specs.Blocks.{AreInOrder}
 use Rattle.ci_live.specs.declared.flow.Flow.{Flow}
 use Rattle.ci_live.specs.declared.flow.Ways.{Ways}
 use Rattle.ci_live.specs.Flows.{AreFlows, AreWays, IsReached, here, further, Leads, flow_at}
-use Rattle.ci_live.specs.Liveness.{AreInOrder, FollowEachOther, IsLive, IsLiveAfter, IsSuccessor, LeadsTo, ReadFirst, Write, first_of}
+use Rattle.ci_live.specs.Liveness.{FollowEachOther, IsLive, IsLiveAfter, IsSuccessor, LeadsTo, ReadFirst, Write, first_of}
 use Rattle.ci_live.proofs.LivenessLaws.{live_from_steps, live_where_read}
 
 -- block k is this one

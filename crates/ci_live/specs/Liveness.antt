@@ -1,7 +1,7 @@
 -- Liveness: the registers whose value on entry to a block may still be read. Public contracts cite these definitions.
 use Rattle.std.specs.Prelude.{◌≡◌, ℕ, ◌<◌, ◌⊎◌, ◌↔◌, List, [], ◌∷◌, ◌++◌, map, IsTrue}
 use Rattle.std.specs.FinSet as set
-use Rattle.std.specs.List.{All, AllPairs, Contains}
+use Rattle.std.specs.List.{All, Contains}
 use Rattle.ci_isa.specs.declared.instruction.Insn.{Insn}
 use Rattle.ci_isa.specs.Effects.{registers_read, registers_written}
 use Rattle.ci_block.specs.declared.blocks.Block.{Block}
@@ -52,10 +52,6 @@ first_of (block ∷ passed) last = block
 abbrev pub FollowEachOther : List Block → Block → Type 0
 FollowEachOther [] last = Unit {0}
 FollowEachOther (block ∷ passed) last = IsSuccessor block (first_of passed last) × FollowEachOther passed last
-
--- the blocks stand in the order of their leaders
-abbrev pub AreInOrder : List Block → Type 0
-AreInOrder blocks = AllPairs (λ earlier later. earlier.leader < later.leader) blocks
 
 -- ---- liveness
 

@@ -2,7 +2,8 @@
 ghost use Rattle.std.specs.Prelude.{◌≡◌, ℕ, ◌<◌, ◌≤◌, length, IfOk, IfSome, OnOk};
 ghost use Rattle.std.specs.List.{All, Contains};
 ghost use Rattle.ci_live.specs.Flows.{AreWithin, IsWithin};
-ghost use Rattle.ci_live.specs.Found.{AreLooks, IsGrown, IsLook, IsSolution, IsSound, on_way as what_is_on, on_ways, room};
+ghost use Rattle.ci_live.specs.Found.{AreLooks, IsGrown, IsLook, IsSolution, IsSound};
+ghost use Rattle.ci_live.specs.Found.{on_way as what_is_on, on_ways, room};
 
 use crate::flow::{Flow, Ways};
 use crate::predecessors::Predecessors;

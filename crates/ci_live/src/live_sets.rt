@@ -1,9 +1,10 @@
 //! The live sets of blocks.
 ghost use Rattle.std.specs.Prelude.{◌≡◌, ℕ, ◌<◌, length, map, slice_index, IfOk};
 ghost use Rattle.std.specs.List.{Contains};
+ghost use Rattle.ci_block.specs.Blocks.{AreInOrder};
 ghost use Rattle.ci_live.specs.Flows.{AreWithin, flow_at};
 ghost use Rattle.ci_live.specs.Found.{IsSolution, on_ways};
-ghost use Rattle.ci_live.specs.Liveness.{AreInOrder, AreLiveSets};
+ghost use Rattle.ci_live.specs.Liveness.{AreLiveSets};
 ghost use Rattle.ci_live.specs.Sets.{after_block, at_leader};
 
 use crate::flow::{Flow, find, flows};
@@ -107,11 +108,10 @@ fn live_of(alloc: Global, blocks: &[Block]) -> Result<LiveSets, AllocError>
     })
 }
 
-/// The live sets of the blocks of a file. An Err is out of memory.
+/// The live sets of the blocks of a file.
 ///
-/// The blocks stand in the order of their leaders, as those that `split` makes do.
+/// An Err is out of memory.
 pub fn live(alloc: Global, blocks: &Blocks) -> Result<LiveSets, AllocError>
-    requires { AreInOrder blocks.now }
     ensures { IfOk result (AreLiveSets blocks.now) }
 {
     live_of(alloc, blocks.all())
