@@ -1,12 +1,12 @@
 -- Sums and counts over the members of a set of nodes, one node more, and how great they are.
-use Rattle.std.proofs.Common.{◌≡◌, ℕ, ◌+◌, ◌≤◌, Bool, true, false, cond, length, nat_lt, ap, ◌∙◌, add-one, arith, IsTrue}
+use Rattle.std.proofs.Common.{◌≡◌, ℕ, ◌+◌, ◌≤◌, Bool, true, false, cond, nat_lt, ap, ◌∙◌, add-one, arith, IsTrue}
 use Rattle.ci_word.specs.Numbers.{sum_below}
-use Rattle.ci_word.proofs.NumberLaws.{sum_below-suc, count_below-le}
+use Rattle.ci_word.proofs.NumberLaws.{sum_below-suc}
 use Rattle.ci_cut.specs.declared.graph.Limits.{Limits}
-use Rattle.ci_cut.specs.FlowGraph.{FlowGraph, IsFlowGraph, node_at}
+use Rattle.ci_cut.specs.FlowGraph.{FlowGraph, node_at}
 use Rattle.ci_cut.specs.Walks.{IsConvex}
-use Rattle.ci_cut.specs.Ports.{size, inputs, outputs, is_output}
-use Rattle.ci_cut.specs.Gain.{saved_cycles, further_words_of, software, further_words, gain, Fits}
+use Rattle.ci_cut.specs.Ports.{size, inputs, inputs_from, is_outside, outputs}
+use Rattle.ci_cut.specs.Gain.{saved_cycles, saved_by, further_words_of, software, further_words, Fits}
 use Rattle.ci_cut.specs.Hardware.{hardware}
 
 -- one member more
@@ -24,17 +24,18 @@ one_at_most : (b : Bool) → cond b 1 0 ≤ 1
 one_at_most true = omega arith
 one_at_most false = omega arith
 
--- the further words by the ports
-pub further_is : (graph : FlowGraph) (cut : ℕ → Bool) (ins outs : ℕ) → ins ≡ inputs graph cut → outs ≡ outputs graph cut → {further : ℕ} → further ≡ further_words_of ins outs → further ≡ further_words graph cut
-further_is graph cut ins outs a b is = is ∙ (λ i. further_words_of (a i) (b i))
-
 -- the further words are few
-pub further_words-le : (graph : FlowGraph) (cut : ℕ → Bool) → IsFlowGraph graph → further_words graph cut ≤ 256
-further_words-le graph cut kept = omega (arith, kept.few, one_at_most (nat_lt 3 (inputs graph cut)), count_below-le (length graph.nodes) (is_output graph cut))
+pub further_words-le : (ins outs n : ℕ) → outs ≤ n → n ≤ 256 → further_words_of ins outs ≤ 256
+further_words-le ins outs n few most = omega (arith, one_at_most (nat_lt 3 ins))
 
--- the gain by its parts
-pub gain_from_parts : (graph : FlowGraph) (cut : ℕ → Bool) (read pad saved time further members : ℕ) → read ≡ graph.read → pad ≡ graph.pad → saved ≡ software graph cut → time ≡ hardware graph cut → further ≡ further_words graph cut → members ≡ size graph cut → saved_cycles read pad saved time further members ≡ gain graph cut
-gain_from_parts graph cut read pad saved time further members a b c d e f = λ i. saved_cycles (a i) (b i) (c i) (d i) (e i) (f i)
+-- the saved cycles by their parts
+pub saved_from_parts : (graph : FlowGraph) (members core : ℕ → Bool) (read pad saved time ins outs further size_of : ℕ)
+    → read ≡ graph.read → pad ≡ graph.pad → saved ≡ software graph members → time ≡ hardware graph core
+    → ins ≡ inputs_from graph (is_outside members) core → outs ≡ outputs graph core → further ≡ further_words_of ins outs → size_of ≡ size graph members
+    → saved_cycles read pad saved time further size_of ≡ saved_by graph members core
+saved_from_parts graph members core read pad saved time ins outs further size_of a b c d e f g h =
+    let words = g ∙ (λ i. further_words_of (e i) (f i)) in
+    λ i. saved_cycles (a i) (b i) (c i) (d i) (words i) (h i)
 
 -- ---- what fits
 

@@ -8,7 +8,6 @@ pub mod NodeLaws
 pub mod PortLaws
 pub mod SavedCycles
 pub mod SetLaws
-pub mod SettledInputs
 pub mod SourceSetLaws
 pub mod Tries
 pub mod WalkLaws

@@ -46,14 +46,14 @@ module _ (graph : FlowGraph) (cut : ℕ → Bool) (members : Bool) (k : ℕ) (ha
       old ≡ is_read_below k graph (is_reader cut members) source → old ≡ is_read_below (k + 1) graph (is_reader cut members) source
   not_read_here source old other so_far = rw (read_more source, other, ← so_far) (sym (or-false old))
 
--- a source outside the set that some member reads
-abbrev pub is_input : FlowGraph → (ℕ → Bool) → Source → Bool
-is_input graph cut source = is_outside cut source && is_read_by graph cut source
+-- a source outside the set that some reader reads
+abbrev pub is_input : FlowGraph → (ℕ → Bool) → (ℕ → Bool) → Source → Bool
+is_input graph inside readers source = is_outside inside source && is_read_by graph readers source
 
 -- whether a node is an input or an output, by what is read
-pub is_input-made : (graph : FlowGraph) (cut : ℕ → Bool) (k : ℕ) (read : Bool) → read ≡ is_read_by graph cut (Made k) →
-    is_input graph cut (Made k) ≡ (not (cut k) && read)
-is_input-made graph cut k read read_is = ap (λ r. not (cut k) && r) (sym read_is)
+pub is_input-made : (graph : FlowGraph) (inside readers : ℕ → Bool) (k : ℕ) (read : Bool) → read ≡ is_read_by graph readers (Made k) →
+    is_input graph inside readers (Made k) ≡ (not (inside k) && read)
+is_input-made graph inside readers k read read_is = ap (λ r. not (inside k) && r) (sym read_is)
 
 pub is_output-at : (graph : FlowGraph) (cut : ℕ → Bool) (k : ℕ) (node : Node) (read wanted : Bool) → node_at graph k ≡ node →
     read ≡ is_read_by graph (λ j. not (cut j)) (Made k) → wanted ≡ (node.live || read) →

@@ -46,3 +46,14 @@ saved_cycles-antitone read pad latency less more fewer further members cheap slo
 
     split : (m n k : ℕ) → k ≡ m + n → k * read ≡ m * read + n * read
     split m n k is = ap (λ (j : ℕ). j * read) is ∙ both m n
+
+-- more members with latencies of at least a no-op each save no less
+gains_more : (latency more_latency hardware reads pads : ℕ) (a b : ℤ) → latency + pads ≤ more_latency → b ≡ a -ℤ pos pads → (((pos latency -ℤ pos hardware) -ℤ pos reads) -ℤ b) ≤ℤ (((pos more_latency -ℤ pos hardware) -ℤ pos reads) -ℤ a)
+gains_more latency more_latency hardware reads pads a b enough b_is = omega (arith, ints)
+
+pub saved_cycles-members : (read pad latency more_latency hardware further members more : ℕ) → members ≤ more → latency + (more - members) * pad ≤ more_latency → saved_cycles read pad latency hardware further members ≤ℤ saved_cycles read pad more_latency hardware further more
+saved_cycles-members read pad latency more_latency hardware further members more grows enough =
+    let d = more - members in
+    let places : places_of members further ≡ places_of more further -ℤ pos d = omega (arith, ints) in
+    gains_more latency more_latency hardware (further * read) (d * pad) (places_of more further *ℤ pos pad) (places_of members further *ℤ pos pad) enough
+    (ap (λ z. z *ℤ pos pad) places ∙ pads_less (places_of more further) d pad)

@@ -4,7 +4,7 @@ use Rattle.ci_word.specs.Numbers.{sum_below}
 use Rattle.ci_cut.specs.declared.graph.Limits.{Limits}
 use Rattle.ci_cut.specs.FlowGraph.{FlowGraph, node_at}
 use Rattle.ci_cut.specs.Walks.{IsConvex}
-use Rattle.ci_cut.specs.Ports.{size, inputs, outputs}
+use Rattle.ci_cut.specs.Ports.{size, inputs, inputs_from, is_outside, outputs}
 use Rattle.ci_cut.specs.Hardware.{hardware}
 
 -- ---- by numbers alone
@@ -29,6 +29,13 @@ software graph cut = sum_below (length graph.nodes) cut (λ k. (node_at graph k)
 
 abbrev pub further_words : FlowGraph → (ℕ → Bool) → ℕ
 further_words graph cut = further_words_of (inputs graph cut) (outputs graph cut)
+
+-- The saved cycles by the software latency and the size of the members, by the hardware time and the outputs of a core
+-- of them, and by what the core reads from outside the members.
+abbrev pub saved_by : FlowGraph → (ℕ → Bool) → (ℕ → Bool) → ℤ
+saved_by graph members core =
+    saved_cycles graph.read graph.pad (software graph members) (hardware graph core)
+    (further_words_of (inputs_from graph (is_outside members) core) (outputs graph core)) (size graph members)
 
 abbrev pub gain : FlowGraph → (ℕ → Bool) → ℤ
 gain graph cut =

@@ -8,7 +8,7 @@ ghost use Rattle.ci_cut.specs.Best.{IsBest, HasNoCut};
 ghost use Rattle.ci_cut.specs.Tried.{IsBetterFrom};
 
 use crate::graph::{Graph, Limits};
-use crate::value::{fitting_ports, gain_by_ports};
+use crate::value::{fitting_ports, saved_by_ports};
 use ci_word::Row;
 
 /// The best cut among the sets tried so far, and what it gains; with no cut its gain is 0.
@@ -66,7 +66,7 @@ fn better(graph: &Graph, limits: &Limits, cut: Row, reached: Reached) -> Reached
     let Some(ports) = fitting_ports(graph, limits, &cut) else {
         return reached;
     };
-    let gain = gain_by_ports(graph, &cut, &ports);
+    let gain = saved_by_ports(graph, &cut, &cut, &ports);
     if gain > reached.gain {
         Reached {
             cut: Some(cut),

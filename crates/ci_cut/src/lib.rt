@@ -4,9 +4,9 @@
 pub use choice::best_of_all;
 pub use convexity::is_convex;
 pub use graph::{Graph, Limits, Node, Source, Sources};
-pub use ports::{inputs, outputs};
+pub use ports::{inputs, inputs_from_outside, outputs};
 pub use timing::{hardware, hardware_is_the_critical_path};
-pub use value::{fits, gain};
+pub use value::{fits, gain, saved_by};
 
 mod choice;
 mod convexity;

@@ -8,7 +8,7 @@ ghost use Rattle.ci_cut.specs.FlowGraph.{AreNodes, node_in, node_at};
 
 use crate::convexity::is_convex;
 use crate::graph::{Graph, Limits, Node};
-use crate::ports::{Ports, ports_of};
+use crate::ports::{Ports, inputs_from_outside, outputs, ports_of};
 use crate::timing::hardware;
 use ci_word::Row;
 
@@ -20,19 +20,37 @@ pub fn gain(graph: &Graph, cut: &Row) -> i64
     requires { AreNodes graph.now cut.now }
     ensures { result ≡ terms.gain graph.now (set.contains cut.now) }
 {
-    gain_by_ports(graph, cut, &ports_of(graph, cut))
+    saved_by_ports(graph, cut, cut, &ports_of(graph, cut))
 }
 
-/// The gain of a set that has these ports.
-pub(crate) fn gain_by_ports(graph: &Graph, cut: &Row, ports: &Ports) -> i64
-    requires are_nodes { AreNodes graph.now cut.now }
-    requires inputs { ports.now.inputs ≡ counts.inputs graph.now (set.contains cut.now) }
-    requires outputs { ports.now.outputs ≡ counts.outputs graph.now (set.contains cut.now) }
-    ensures { result ≡ terms.gain graph.now (set.contains cut.now) }
+/// The saved cycles by the latencies and the size of one set of nodes, the hardware time and the outputs of another,
+/// and the inputs that the other has from outside the first. For one set alone they are its gain.
+///
+/// Each number of the sets has to be a node.
+pub fn saved_by(graph: &Graph, members: &Row, core: &Row) -> i64
+    requires members { AreNodes graph.now members.now }
+    requires core { AreNodes graph.now core.now }
+    ensures { result ≡ terms.saved_by graph.now (set.contains members.now) (set.contains core.now) }
 {
-    let saved = software(graph.nodes(), cut) as i64 - hardware(graph, cut) as i64;
+    let ports = Ports {
+        inputs: inputs_from_outside(graph, members, core),
+        outputs: outputs(graph, core),
+    };
+    saved_by_ports(graph, members, core, &ports)
+}
+
+/// The saved cycles, where these ports are known.
+pub(crate) fn saved_by_ports(graph: &Graph, members: &Row, core: &Row, ports: &Ports) -> i64
+    requires members { AreNodes graph.now members.now }
+    requires core { AreNodes graph.now core.now }
+    requires inputs { ports.now.inputs
+        ≡ counts.inputs_from graph.now (counts.is_outside (set.contains members.now)) (set.contains core.now) }
+    requires outputs { ports.now.outputs ≡ counts.outputs graph.now (set.contains core.now) }
+    ensures { result ≡ terms.saved_by graph.now (set.contains members.now) (set.contains core.now) }
+{
+    let saved = software(graph.nodes(), members) as i64 - hardware(graph, core) as i64;
     let further = ports.further_words() as i64;
-    let places = cut.count() as i64 - 1 - further;
+    let places = members.count() as i64 - 1 - further;
     saved - further * graph.read() as i64 - places * graph.pad() as i64
 }
 

@@ -8,12 +8,12 @@ returns-in_default c = kept_for_one _ _ _ _ (λ fits. absurd (true≢false (sym 
 
 pub returns-then-gain-reached : goal.returns-then-gain-reached
 returns-then-gain-reached c =
-    let gained : SFits w64 c.gain_by_ports-gain.result = search rules in
+    let gained : SFits w64 c.saved_by_ports-gain.result = search rules in
     let before : SFits w64 c.args.reached.gain = search rules in
-    found_for_one _ _ _ _ _ (c.in-Some.ensures.fits.0 refl) (to_z-of_z w64 _ gained ∙ c.gain_by_ports-gain.ensures) (grind (arith, ints))
+    found_for_one _ _ _ _ _ (c.in-Some.ensures.fits.0 refl) (to_z-of_z w64 _ gained ∙ c.saved_by_ports-gain.ensures) (grind (arith, ints))
 
 pub returns-else-gain-reached : goal.returns-else-gain-reached
 returns-else-gain-reached c =
-    let gained : SFits w64 c.gain_by_ports-gain.result = search rules in
+    let gained : SFits w64 c.saved_by_ports-gain.result = search rules in
     let before : SFits w64 c.args.reached.gain = search rules in
     kept_for_one _ _ _ _ (λ fits. grind (arith, ints))
