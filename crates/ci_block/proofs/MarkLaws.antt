@@ -114,6 +114,11 @@ added_as old new P Q adds to from = record {
   only = λ a m. elim (adds.only a m) [ inl o ↦ inl o | inr p ↦ inr (to a p) ];
 }
 
+-- what the first items add, once there are no others
+pub added_by_all : (old new : Marks) (P : ℕ → ℕ → Type 0) (Q : ℕ → Type 0) (i n : ℕ) → i ≡ n → Adds old new (P i) → ((a : ℕ) → P i a → Q a)
+    → ((a : ℕ) → Q a → P n a) → Adds old new Q
+added_by_all old new P Q i n all adds to from = added_as old new (P i) Q adds to (λ a q. subst (λ m. P m a) (sym all) (from a q))
+
 -- one after the other
 pub added_both : (first middle last : Marks) (P Q R : ℕ → Type 0) → Adds first middle P → Adds middle last Q
     → ((a : ℕ) → P a ⊎ Q a → R a) → ((a : ℕ) → R a → P a ⊎ Q a) → Adds first last R

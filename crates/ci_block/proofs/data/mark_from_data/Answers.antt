@@ -1,9 +1,10 @@
-use Rattle.std.proofs.Common.{◌≡◌, ◌+◌, length, sym, subst, arith}
+use Rattle.std.proofs.Common.{◌+◌, List, length, ap, subst, arith}
+use Rattle.ci_elf.specs.declared.segments.Segment.{Segment}
 use Rattle.ci_block.specs.Loading.{IsFromSegments, IsFromDataWords, first_word, end_word, segment_at}
 use Rattle.ci_block.specs.Marks.{Adds}
 use Rattle.ci_block.specs.Sources.{IsFromData}
 use Rattle.ci_block.proofs.LoadingLaws.{from_segment, segment_or_before, data_from_segments, segments_from_data}
-use Rattle.ci_block.proofs.MarkLaws.{added_as, added_both}
+use Rattle.ci_block.proofs.MarkLaws.{added_both, added_by_all}
 use Rattle.ci_block.proofs.data.mark_from_data.Goals as goal
 
 pub loop-segment-preserved : goal.loop-segment-preserved
@@ -21,8 +22,6 @@ pub returns : goal.returns
 returns c =
     let image = c.args.image.now in
     let i = c.loop-segment.segment-index in
-    let all : i ≡ length image.segments =
-    subst (λ ss. i ≡ length ss) c.segments-segment-items.ensures.value (let end : i ≡ length c.segments-segment-items.result.now = omega arith in end) in
-    added_as c.args.marks.now c.loop-segment.marks (IsFromSegments image i) (IsFromData image) c.loop-segment.invariant
-    (data_from_segments image i)
-    (λ a f. subst (λ n. IsFromSegments image n a) (sym all) (segments_from_data image a f))
+    added_by_all c.args.marks.now c.loop-segment.marks (IsFromSegments image) (IsFromData image) i (length image.segments)
+    (omega (arith, ap (λ (ss : List Segment). length ss) c.segments-segment-items.ensures.value)) c.loop-segment.invariant
+    (data_from_segments image i) (segments_from_data image)

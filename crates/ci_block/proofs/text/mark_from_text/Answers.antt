@@ -1,8 +1,9 @@
-use Rattle.std.proofs.Common.{◌≡◌, ◌+◌, ◌<◌, length, sym, subst, arith}
+use Rattle.std.proofs.Common.{◌+◌, ◌<◌, List, length, ap, subst, arith}
+use Rattle.ci_elf.specs.declared.ranges.Range.{Range}
 use Rattle.ci_block.specs.Marking.{range_at}
 use Rattle.ci_block.specs.Marks.{Adds}
 use Rattle.ci_block.specs.Sources.{IsFromRanges, IsFromText, IsFromWords}
-use Rattle.ci_block.proofs.MarkLaws.{added_as, added_both}
+use Rattle.ci_block.proofs.MarkLaws.{added_both, added_by_all}
 use Rattle.ci_block.proofs.RangeLaws.{range_there}
 use Rattle.ci_block.proofs.SourceLaws.{from_range, range_or_before, text_from_ranges, ranges_from_text}
 use Rattle.ci_block.proofs.text.mark_from_text.Goals as goal
@@ -28,7 +29,6 @@ pub returns : goal.returns
 returns c =
     let image = c.args.image.now in
     let i = c.loop-range.range-index in
-    let all : i ≡ length image.ranges =
-    subst (λ rs. i ≡ length rs) c.ranges-range-items.ensures.value (let end : i ≡ length c.ranges-range-items.result.now = omega arith in end) in
-    added_as c.args.marks.now c.loop-range.marks (IsFromRanges image i) (IsFromText image) c.loop-range.invariant (text_from_ranges image i)
-    (λ a f. subst (λ n. IsFromRanges image n a) (sym all) (ranges_from_text image c.requires a f))
+    added_by_all c.args.marks.now c.loop-range.marks (IsFromRanges image) (IsFromText image) i (length image.ranges)
+    (omega (arith, ap (λ (rs : List Range). length rs) c.ranges-range-items.ensures.value)) c.loop-range.invariant
+    (text_from_ranges image i) (ranges_from_text image c.requires)
