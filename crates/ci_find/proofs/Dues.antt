@@ -1,8 +1,10 @@
 -- What is due to the words over the files that a shelf tells: one status.
 use Rattle.std.proofs.Common.{◌≡◌, ℕ, ◌⊎◌, inl, inr, List, [], ◌∷◌, Option, Some, None, length, refl, sym, ap, subst, ◌∙◌, arith}
 use Rattle.ci_io.specs.Outcomes.{Files}
+use Rattle.ci_elf.specs.Executables.{IsImageOf}
 use Rattle.ci_lat.proofs.FaultLaws.{table_or_fault}
-use Rattle.ci_words.specs.Words.{Reading, ReadsAs, HasNoReading, best, asm, dis, run}
+use Rattle.ci_words.specs.Words.{Reading, ReadsAs, HasNoReading, best, asm, dis, run, blocks}
+use Rattle.ci_find.specs.BestCommand.{HoldsBlock}
 use Rattle.ci_find.specs.Commands.{inputs_of, IsMade, IsUnmade}
 use Rattle.ci_find.specs.Endings.{IsRefusal, usage, file, unmade, IsDue}
 use Rattle.ci_find.specs.Files.{optional_bytes}
@@ -11,7 +13,7 @@ use Rattle.ci_find.specs.Inputs.{Input, IsGood, AreRead, IsRefusedFile, absent, 
 use Rattle.ci_find.specs.Success.{Success}
 use Rattle.ci_words.proofs.Readings.{one_reading}
 use Rattle.ci_find.proofs.FormLaws.{text_or_fault, kept_or_broken}
-use Rattle.ci_find.proofs.Spelling.{block_or_unsupported}
+use Rattle.ci_find.proofs.OneBlock.{answered_or_not, custom_or_none}
 
 -- ---- one file
 
@@ -98,10 +100,14 @@ module _ (held : Files) where
 made_or_unmade : (reading : Reading) (read : List (List ℕ)) (success : Success) (status : ℕ) (text : List ℕ) → IsMade reading read success → IsUnmade reading read status text → ⊥
 made_or_unmade (best name settings) read success status text made is =
     let same : made.bytes ≡ is.bytes = let lists : made.bytes ∷ optional_bytes made.table ≡ is.bytes ∷ is.others = sym made.read_is ∙ is.read_is in cc in
-    block_or_unsupported is.bytes made.operations is.position is.word is.unsupported (rw (← same) made.block)
+    answered_or_not settings.at settings.leaders is.bytes made.insns made.live_out is.position is.word
+    (subst (λ bytes. HoldsBlock settings.at settings.leaders bytes made.insns made.live_out) same made.block) made.few is.unsupported
 made_or_unmade (asm name out) read success status text made is = is
 made_or_unmade (dis name) read success status text made is = is
 made_or_unmade (run name settings) read success status text made is = is
+made_or_unmade (blocks name settings) read success status text made is =
+    let same : made.bytes ≡ is.bytes = let lists : made.bytes ∷ [] ≡ is.bytes ∷ [] = sym made.read_is ∙ is.read_is in cc in
+    custom_or_none is.bytes made.file is.file is.address is.word (subst (λ bytes. IsImageOf bytes made.file) same made.file_is) is.file_is made.text.no_custom is.custom
 
 -- it is refused with one status
 unmade_once : (reading : Reading) (read : List (List ℕ)) (first second : ℕ) (text other : List ℕ) → IsUnmade reading read first text → IsUnmade reading read second other → first ≡ second
@@ -109,6 +115,7 @@ unmade_once (best name settings) read first second text other a b = a.status_is 
 unmade_once (asm name out) read first second text other a b = absurd a
 unmade_once (dis name) read first second text other a b = absurd a
 unmade_once (run name settings) read first second text other a b = absurd a
+unmade_once (blocks name settings) read first second text other a b = a.status_is ∙ sym b.status_is
 
 -- ---- one status is due
 

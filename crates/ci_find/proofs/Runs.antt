@@ -1,7 +1,7 @@
 -- How a call of the program ends.
 use Rattle.std.proofs.Common.{◌≡◌, ℕ, inl, inr, List, ◌∷◌, [], Contains, lit<, Option, Some, None, IfSome, refl, sym, ap, subst}
 use Rattle.ci_io.specs.Outcomes.{Files}
-use Rattle.ci_words.specs.Words.{Reading, best, asm, dis, run}
+use Rattle.ci_words.specs.Words.{Reading, best, asm, dis, run, blocks}
 use Rattle.ci_find.specs.declared.faults.Refusal.{Refusal}
 use Rattle.ci_find.specs.declared.faults.Refusal.TheVariants.{NoMemory}
 use Rattle.ci_find.specs.Commands.{inputs_of, IsUnmade}
@@ -100,6 +100,7 @@ unmade-status (best name settings) read status text is = subst (Contains statuse
 unmade-status (asm name out) read status text is = absurd is
 unmade-status (dis name) read status text is = absurd is
 unmade-status (run name settings) read status text is = absurd is
+unmade-status (blocks name settings) read status text is = subst (Contains statuses) (sym is.status_is) (7, lit< tt, refl)
 
 -- a status that is due is one of them
 IsRefusal-status : (told : Option Files) (words : List (List ℕ)) (status : ℕ) (text : List ℕ) → IsRefusal told words status text → Contains statuses status

@@ -1,12 +1,15 @@
--- For private contracts only: when the bytes of a file are refused as a block.
-use Rattle.std.specs.Prelude.{ℕ, List}
-use Rattle.ci_find.specs.declared.commands.best.block.Operation.{Operation}
-use Rattle.ci_find.specs.declared.commands.best.block.BlockErr.{BlockErr}
-use Rattle.ci_find.specs.declared.commands.best.block.BlockErr.TheVariants.{Unsupported, NoMemory}
-use Rattle.ci_find.specs.Block.{IsBlock, IsUnsupported}
+-- For private contracts only: why there is no answer on a block.
+use Rattle.std.specs.Prelude.{ℕ}
+use Rattle.ci_find.specs.declared.analysis.BlockErr.{BlockErr}
+use Rattle.ci_find.specs.declared.analysis.BlockErr.TheVariants as err
+use Rattle.ci_find.specs.declared.faults.Refusal.{Refusal}
+use Rattle.ci_find.specs.declared.faults.Refusal.TheVariants.{Unsupported, NoMemory}
 
--- They are no block, for this reason. Out of memory says nothing of them.
-abbrev pub IsCauseOf : List ℕ → BlockErr → Type 0
-IsCauseOf bytes (Unsupported position word) =
-    IsUnsupported bytes position word × ((operations : List Operation) → IsBlock bytes operations → ⊥)
-IsCauseOf bytes NoMemory = Unit {0}
+-- The position and the word that it names have this property. Out of memory says nothing.
+abbrev pub IsCause : (ℕ → ℕ → Type 0) → BlockErr → Type 0
+IsCause P (err.Unsupported position word) = P position word
+IsCause P err.NoMemory = Unit {0}
+
+abbrev pub refusal_of : BlockErr → Refusal
+refusal_of (err.Unsupported position word) = Unsupported position word
+refusal_of err.NoMemory = NoMemory

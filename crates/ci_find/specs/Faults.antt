@@ -8,7 +8,7 @@ use Rattle.ci_elf.specs.declared.faults.ElfFault.{ElfFault}
 use Rattle.ci_elf.specs.declared.faults.ElfFault.TheVariants as elf
 use Rattle.ci_lat.specs.declared.faults.LatFault.{LatFault}
 use Rattle.ci_lat.specs.declared.faults.LatFault.TheVariants as lat
-use Rattle.ci_words.specs.Words.{Text, Reading, best, run, usual_settings, ReadsAs, HasNoReading}
+use Rattle.ci_words.specs.Words.{Text, Reading, best, run, blocks, usual_settings, ReadsAs, HasNoReading}
 use Rattle.ci_find.specs.declared.faults.Refusal.{Refusal}
 use Rattle.ci_find.specs.declared.faults.Refusal.TheVariants.{Usage, Read, TooLarge, BadElf, BadTable, Unsupported, BadAsm, NoMemory}
 use Rattle.ci_find.specs.Commands.{inputs_of, IsMade, IsUnmade}
@@ -93,10 +93,21 @@ pub record IsUnmadeFor (told : Option Files) (reading : Reading) (refusal : Refu
   pub files : AreRead told (inputs_of reading) read
   pub unmade : IsUnmade reading read (status_of refusal) (line_of refusal)
 
--- the reading of `best` with these limits and this table
-abbrev pub best_by : Text → Limits → Option Text → Reading
-best_by file limits table =
-    best file (record usual_settings { inputs = limits.inputs; outputs = limits.outputs; table = table })
+-- the reading of `best` with these options
+abbrev pub best_by : Text → Option ℕ → List ℕ → Limits → Option Text → Reading
+best_by file at leaders limits table =
+    best file
+    (record usual_settings {
+      inputs = limits.inputs;
+      outputs = limits.outputs;
+      table = table;
+      at = at;
+      leaders = leaders;
+    })
+
+-- the reading of `blocks` with these leaders
+abbrev pub blocks_by : Text → List ℕ → Reading
+blocks_by file leaders = blocks file (record usual_settings { leaders = leaders })
 
 -- the reading of `run` with these options
 abbrev pub run_by : Text → ℕ → Option Text → Option Text → Reading

@@ -1,10 +1,9 @@
 -- The lines that the program prints.
-use Rattle.std.specs.Prelude.{◌≡◌, ℕ, ◌⊎◌, Bool, List, ◌++◌, length, codes, Option, Some, None}
-use Rattle.std.specs.List.{flat_map}
+use Rattle.std.specs.Prelude.{◌≡◌, ℕ, ◌⊎◌, Bool, List, ◌++◌, codes, Option, Some, None}
 use Rattle.std.specs.Fmt.{decimal, signed_decimal}
 use Rattle.ci_text.specs.Lines.{line}
 use Rattle.ci_text.specs.Hex.{eight_hex_digits}
-use Rattle.ci_word.specs.Numbers.{numbers_below}
+use Rattle.ci_text.specs.Members.{members_text}
 use Rattle.ci_elf.specs.declared.faults.ElfFault.{ElfFault}
 use Rattle.ci_elf.specs.declared.faults.ElfFault.TheVariants as elf
 use Rattle.ci_lat.specs.declared.faults.LatFault.{LatFault}
@@ -12,7 +11,7 @@ use Rattle.ci_lat.specs.declared.faults.LatFault.TheVariants as lat
 use Rattle.ci_lat.specs.Keys.{key_name}
 use Rattle.ci_machine.specs.declared.ends.End.{End}
 use Rattle.ci_machine.specs.declared.ends.End.TheVariants as ends
-use Rattle.ci_machine.specs.Accesses.{width_bytes}
+use Rattle.ci_isa.specs.Effects.{width_bytes}
 use Rattle.ci_cut.specs.declared.graph.Limits.{Limits}
 use Rattle.ci_cut.specs.FlowGraph.{FlowGraph}
 use Rattle.ci_cut.specs.Gain.{gain}
@@ -77,8 +76,7 @@ no_memory_line = line (codes "fault 12 no memory")
 -- the members in ascending order, and the gain
 abbrev pub cut_line : FlowGraph → (ℕ → Bool) → List ℕ
 cut_line graph cut =
-    line (codes "cut" ++ flat_map (λ k. codes " " ++ decimal k) (numbers_below (length graph.nodes) cut)
-    ++ codes " gain " ++ signed_decimal (gain graph cut))
+    line (codes "cut" ++ members_text cut ++ codes " gain " ++ signed_decimal (gain graph cut))
 
 -- the line of the best cut, or that there is none
 abbrev pub IsBestLine : FlowGraph → Limits → List ℕ → Type 0

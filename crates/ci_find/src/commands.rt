@@ -14,6 +14,7 @@ use std::alloc::Global;
 
 mod asm;
 mod best;
+mod blocks;
 mod dis;
 mod run;
 
@@ -69,9 +70,11 @@ fn make_command<'a, F: Shelf>(
     match command {
         Command::Best {
             file,
+            at,
+            leaders,
             limits,
             table,
-        } => best::make(alloc, *file, limits, *table, shelf),
+        } => best::make(alloc, *file, *at, leaders.as_slice(), limits, *table, shelf),
         Command::Asm { text, out } => asm::make(alloc, *text, *out, shelf),
         Command::Dis { file } => dis::make(alloc, *file, shelf),
         Command::Run {
@@ -80,5 +83,8 @@ fn make_command<'a, F: Shelf>(
             input,
             table,
         } => run::make(alloc, *file, *steps, *input, *table, shelf),
+        Command::Blocks { file, leaders } => {
+            blocks::make(alloc, *file, leaders.as_slice(), shelf)
+        }
     }
 }

@@ -29,7 +29,7 @@ pub const BAD_ELF: u8 = 5;
 /// The status where the file is no latency table.
 pub const BAD_TABLE: u8 = 6;
 
-/// The status where the file holds no block.
+/// The status where the file isn't one that the command takes.
 pub const UNSUPPORTED: u8 = 7;
 
 /// The status where memory ran out.
@@ -51,7 +51,7 @@ pub enum Refusal<'a> {
     BadElf(ElfFault),
     /// The file is no latency table.
     BadTable(LatFault),
-    /// The file holds no block, for the word at this offset, or for its length and 0.
+    /// The file isn't one that the command takes, for this word at this position.
     Unsupported { position: u32, word: u32 },
     /// The file holds no assembler text, by a fault of this kind at this line and column.
     BadAsm { kind: u8, line: u32, column: u32 },
@@ -176,7 +176,7 @@ fn bad_table_text(alloc: Global, fault: &LatFault) -> Result<String, AllocError>
     }
 }
 
-/// The fault line of a file that holds no block.
+/// The fault line of a file that the command doesn't take.
 fn unsupported_text(alloc: Global, position: u32, word: u32) -> Result<String, AllocError>
     ensures { IfOk result (λ text. string_bytes text ≡ unsupported_line position word) }
 {

@@ -11,6 +11,7 @@ use faults::refuse;
 use finish::finish;
 use std::alloc::Global;
 
+mod analysis;
 mod commands;
 mod faults;
 mod finish;
@@ -23,24 +24,29 @@ mod tests;
 /// `words` are those after the program's name. The commands are:
 ///
 /// - `best FILE`, with the options `--in N`, `--out N` and `--table FILE`: puts the line of the best cut of the block
-///   whose words FILE holds, by the latencies of the table.
+///   whose words FILE holds, by the latencies of the table. With `--at ADDR`, FILE is an executable, and the block is
+///   the one at this leader. With `--leader ADDR`, as often as wanted, a block begins at that address too.
+/// - `blocks FILE`, with `--leader ADDR`: puts a line for each basic block of the executable FILE, with its leader, its
+///   length and the registers that are live at the leader.
 /// - `run FILE`, with the options `--steps N`, `--input FILE` and `--table FILE`: runs the executable FILE, and puts its
 ///   output and a line with its end, its steps and their cost.
 /// - `asm TEXT OUT`: writes the words that TEXT assembles to, the lowest byte of each first, to OUT. It puts nothing.
 /// - `dis FILE`: puts a line for each whole word of FILE.
 ///
-/// Files are read in the order FILE, table, input, each with its limit and its form tested before the next; only that
-/// FILE of `best` holds a block is tested once all are read. Every refusal puts one fault line:
+/// Files are read in the order FILE, table, input, each with its limit and its form tested before the next; only what
+/// gives status 7 is tested once all are read. Every refusal puts one fault line:
 ///
 /// - 1, `fault 1 usage`: the words have no reading.
 /// - 2, `fault 2 read NAME`: the file isn't there, or reading it failed.
 /// - 3, `fault 3 write NAME`: writing the file failed, or the sink, whose name is `-`, failed to take the text.
-/// - 4, `fault 4 too large NAME`: the file has more bytes than one of its kind may have: 1024 for a block, 1,048,576
-///   for FILE of `dis` and for a text, 65,536 for a table, and 16,777,216 for an executable and for an input.
+/// - 4, `fault 4 too large NAME`: the file has more bytes than one of its kind may have: 1024 for the words of a block,
+///   1,048,576 for FILE of `dis` and for a text, 65,536 for a table, and 16,777,216 for an executable and for an input.
 /// - 5, `fault 5 elf RULE A B`: the file is no executable, and RULE is the number of the fault and A and B its numbers.
 /// - 6, `fault 6 table RULE KEY`: the file is no latency table, and RULE is the number of the fault and KEY its key.
-/// - 7, `fault 7 unsupported POSITION WORD`: the file holds no block, for the word at that offset, or for its length
-///   and 0.
+/// - 7, `fault 7 unsupported POSITION WORD`: in an executable, the address of the first word of a custom opcode and that
+///   word, or the address of `--at`, where no block begins, and 0; in a file of words, its length, where that is no
+///   multiple of four, and 0, or the offset of the first word of a custom opcode or of a terminator that isn't last,
+///   and that word; and of a block with more than twelve instructions that may be members, their number and 0.
 /// - 12, `fault 12 no memory`: memory ran out.
 /// - 13, `fault 13 asm KIND LINE COLUMN`: the file holds no assembler text. Where it isn't UTF-8 the numbers are 1 1 1.
 pub fn run<F: Shelf, O: Sink>(alloc: Global, words: &Vec<String>, shelf: &mut F, out: &mut O) -> u8

@@ -76,15 +76,33 @@ const UNEVEN: [u8; 2] = [0x13, 0x05];
 /// A unit word, a read of the hidden register, and a word of neither table.
 const CUSTOM: [u32; 3] = [0x60B5028B, 0x0000032B, 0xFFFFFFFF];
 
-/// A sum, and the word that only fills a place.
-const NO_RESULT: [u8; 8] = [0xB3, 0x02, 0xB5, 0x00, 0x13, 0x00, 0x00, 0x00];
+/// A sum, and the word of a unit.
+const SUM_AND_UNIT: [u32; 2] = [0x00B502B3, 0x60B5028B];
+
+/// A sum, a word of the opcode custom-1 that no table has, and an environment call.
+const SUM_AND_CUSTOM: [u32; 3] = [0x00B502B3, 0x8000102B, 0x00000073];
+
+/// A sum between two environment calls.
+const CALLS_ROUND_A_SUM: [u32; 3] = [0x00000073, 0x00B502B3, 0x00000073];
 
 /// A sum, thirteen times.
 const THIRTEEN: [u32; 13] = [0x00B502B3; 13];
 
+/// An operation, a load by its result, and two more of which the first takes the load's.
+const ROUND_A_LOAD: [u32; 4] = [0x00B542B3, 0x0002A303, 0x005342B3, 0x00A2C2B3];
+
+/// A sum, a load into the register of an operand of it, and a sum of both.
+const OVER_A_LOAD: [u32; 3] = [0x00B502B3, 0x00062503, 0x00A282B3];
+
+/// A constant in two parts.
+const TWO_PARTS: [u32; 2] = [0x123452B7, 0x67828293];
+
+/// Two sums, and a return.
+const SUMS_AND_RETURN: [u32; 3] = [0x00B502B3, 0x00C282B3, 0x00008067];
+
 #[test]
 fn blocks(rt: HostRuntime) -> Result<(), Fail> {
-    let rows: [(&[u32], &str, &str); 9] = [
+    let rows: [(&[u32], &str, &str); 13] = [
         (&SUMS, "best F --in 3 --out 1", "cut 0 1 gain 1\n"),
         (&SUMS, "best F --in 2 --out 1", "no cut\n"),
         (&SUMS, "best --out=1 F --in 3", "cut 0 1 gain 1\n"),
@@ -94,6 +112,15 @@ fn blocks(rt: HostRuntime) -> Result<(), Fail> {
         (&CONSTANT, "best F --in 2 --out 2", "no cut\n"),
         (&LOGIC, "best F --in 3 --out 2", "cut 0 1 2 3 gain 2\n"),
         (&PAIRS, "best F --in 3 --out 1", "cut 2 3 gain 1\n"),
+        (&ROUND_A_LOAD, "best F --in 3 --out 2", "cut 2 3 gain 1\n"),
+        (&OVER_A_LOAD, "best F --in 3 --out 1", "no cut\n"),
+        (&TWO_PARTS, "best F --in 1 --out 1", "cut 0 1 gain 1\n"),
+        // Without an address, leaders are passed over.
+        (
+            &SUMS_AND_RETURN,
+            "best F --leader 0x4 --out 1",
+            "cut 0 1 gain 1\n",
+        ),
     ];
     for (block, text, line) in rows {
         let bytes = bytes_of(rt.alloc(), block)?;
@@ -124,6 +151,9 @@ fn words_with_no_reading(rt: HostRuntime) -> Result<(), Fail> {
         "dis F --in 3",
         "best -F",
         "best F --in ''",
+        "best F --at 10074",
+        "blocks F --at 0x10074",
+        "blocks",
     ];
     let bytes = bytes_of(rt.alloc(), &SUMS)?;
     for text in rows {
@@ -134,7 +164,13 @@ fn words_with_no_reading(rt: HostRuntime) -> Result<(), Fail> {
 
 #[test]
 fn files_not_read(rt: HostRuntime) -> Result<(), Fail> {
-    for text in ["best F", "asm F OUT", "dis F"] {
+    for text in [
+        "best F",
+        "best F --at 0x10074",
+        "blocks F",
+        "asm F OUT",
+        "dis F",
+    ] {
         expect(&rt, None, text, 2, "fault 2 read F\n")?;
     }
     Ok(())
@@ -159,16 +195,21 @@ fn files_too_large(rt: HostRuntime) -> Result<(), Fail> {
 
 #[test]
 fn files_with_no_block(rt: HostRuntime) -> Result<(), Fail> {
-    let rows: [(&[u8], &str); 2] = [
-        (&UNEVEN, "fault 7 unsupported 00000002 00000000\n"),
-        (&NO_RESULT, "fault 7 unsupported 00000004 00000013\n"),
+    let line = "fault 7 unsupported 00000002 00000000\n";
+    expect(&rt, Some(&UNEVEN), "best F", 7, line)?;
+    let rows: [(&[u32], &str); 4] = [
+        (&SUM_AND_UNIT, "fault 7 unsupported 00000004 60b5028b\n"),
+        (&SUM_AND_CUSTOM, "fault 7 unsupported 00000004 8000102b\n"),
+        (
+            &CALLS_ROUND_A_SUM,
+            "fault 7 unsupported 00000000 00000073\n",
+        ),
+        (&THIRTEEN, "fault 7 unsupported 0000000d 00000000\n"),
     ];
-    for (bytes, line) in rows {
-        expect(&rt, Some(bytes), "best F", 7, line)?;
+    for (block, line) in rows {
+        let bytes = bytes_of(rt.alloc(), block)?;
+        expect(&rt, Some(bytes.as_slice()), "best F", 7, line)?;
     }
-    let bytes = bytes_of(rt.alloc(), &THIRTEEN)?;
-    let line = "fault 7 unsupported 00000030 00b502b3\n";
-    expect(&rt, Some(bytes.as_slice()), "best F", 7, line)?;
     Ok(())
 }
 
@@ -279,4 +320,5 @@ fn a_write_that_fails(rt: HostRuntime) -> Result<(), Fail> {
     Ok(())
 }
 
+mod analyses;
 mod runs;

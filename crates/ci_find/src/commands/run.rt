@@ -3,7 +3,7 @@ ghost use Rattle.std.specs.Prelude.{◌≡◌, ◌≤◌, ◌++◌, IfOk, IfErr,
 ghost use Rattle.std.specs.String.{string_bytes};
 ghost use Rattle.std.specs.Fmt.{decimal};
 ghost use Rattle.ci_text.specs.Hex.{eight_hex_digits};
-ghost use Rattle.ci_machine.specs.Accesses.{width_bytes};
+ghost use Rattle.ci_isa.specs.Effects.{width_bytes};
 ghost use Rattle.ci_words.specs.Commands.{name_in};
 ghost use Rattle.ci_find.specs.Faults.{Makes, MakesNothing, run_by, reads_between};
 ghost use Rattle.ci_find.specs.Finish.{success_of};
@@ -115,18 +115,7 @@ fn access_text(alloc: Global, address: u32, width: Width) -> Result<String, Allo
         ≡ codes "access " ++ eight_hex_digits address ++ codes " " ++ decimal (width_bytes width)) }
 {
     let mut text = word_text(alloc, "access ", address)?;
-    let bytes = width_bytes(width);
+    let bytes = width.bytes();
     write!(text, " {bytes}")?;
     Ok(text)
-}
-
-/// How many bytes an access of this width moves.
-fn width_bytes(width: Width) -> u8
-    ensures { result ≡ width_bytes width }
-{
-    match width {
-        Width::Byte => 1,
-        Width::Half => 2,
-        Width::Word => 4,
-    }
 }

@@ -58,7 +58,7 @@ fn expect_over(
 }
 
 /// The same over a file `F` alone.
-fn expect_of(
+pub(super) fn expect_of(
     rt: &(impl Abort + AllocGlobal),
     file: &[u8],
     text: &str,
@@ -70,7 +70,7 @@ fn expect_of(
 }
 
 /// The same over a file `F` and a table `T`.
-fn expect_by(
+pub(super) fn expect_by(
     rt: &(impl Abort + AllocGlobal),
     file: &[u8],
     table: &str,
@@ -83,19 +83,19 @@ fn expect_by(
 }
 
 /// The executable of a text, with some values behind it.
-fn program(
+pub(super) fn program(
     rt: &(impl Abort + AllocGlobal),
     text: &[u32],
     constants: &[u32],
     values: &[u32],
 ) -> Result<Vec<u8>, AllocError> {
     assert!(rt; !text.is_empty());
-    assert!(rt; text.len() <= 100 && constants.len() <= 100 && values.len() <= 100);
+    assert!(rt; text.len() <= 300 && constants.len() <= 100 && values.len() <= 100);
     frame(rt.alloc(), text, constants, values)
 }
 
 /// Thirty words: calls of two functions through a table, a constant, a word of output, and an exit.
-const CALLS: [u32; 30] = [
+pub(super) const CALLS: [u32; 30] = [
     0x00020437, 0x00400493, 0x00000913, 0x00042283, 0x00090513, 0x000280e7, 0x00050913, 0x00440413,
     0xfff48493, 0xfe0494e3, 0x000205b7, 0x0125a823, 0x01058593, 0x00100513, 0x00400613, 0x04000893,
     0x00000073, 0x00000513, 0x05d00893, 0x00000073, 0x00351313, 0x00a34333, 0x00530513, 0x00008067,
@@ -103,10 +103,10 @@ const CALLS: [u32; 30] = [
 ];
 
 /// The constant that they load.
-const CONSTANTS: [u32; 1] = [0x000003e8];
+pub(super) const CONSTANTS: [u32; 1] = [0x000003e8];
 
 /// The table of the functions' addresses, and the word that is put.
-const VALUES: [u32; 5] = [0x000100c4, 0x000100d4, 0x000100c4, 0x000100d4, 0];
+pub(super) const VALUES: [u32; 5] = [0x000100c4, 0x000100d4, 0x000100c4, 0x000100d4, 0];
 
 /// What they put, and the end line.
 const CALLS_TEXT: &[u8] = b"\xe8\x1d\x00\x00end exit 00000000 steps 61 cost 75\n";

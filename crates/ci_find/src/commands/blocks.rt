@@ -1,0 +1,85 @@
+//! The command `blocks`: the basic blocks of an executable, and the registers that are live where they begin.
+ghost use Rattle.std.specs.Prelude.{◌≡◌, ◌++◌, [], IfOk, IfErr, OnOk, map};
+ghost use Rattle.std.specs.List.{flat_map, Contains};
+ghost use Rattle.std.specs.String.{string_bytes};
+ghost use Rattle.ci_block.specs.declared.blocks.Block.{Block as BasicBlock};
+ghost use Rattle.ci_find.specs.BlockErrs.{IsCause};
+ghost use Rattle.ci_find.specs.BlocksCommand.{IsBlocksText, block_line};
+ghost use Rattle.ci_find.specs.CustomWords.{IsFirstCustomWord};
+ghost use Rattle.ci_find.specs.Faults.{Makes, MakesNothing, blocks_by, reads_between};
+ghost use Rattle.ci_find.specs.Finish.{success_of};
+
+use super::Success;
+use crate::analysis::{BlockErr, analysis_of, refusal_of};
+use crate::faults::Refusal;
+use crate::inputs::read_image;
+use ci_block::Block;
+use ci_elf::Image;
+use ci_io::Shelf;
+use ci_live::LiveSets;
+use ci_text::{hex_text, push_members};
+use std::alloc::{AllocError, Global};
+
+/// Makes the lines of the blocks of the executable in the file. `named` are addresses that the user names as leaders.
+pub fn make<'a, F: Shelf>(
+    alloc: Global,
+    file: &'a str,
+    named: &[u32],
+    shelf: &mut F,
+) -> Result<Success<'a>, Refusal<'a>>
+    ensures made { IfOk result (λ success.
+        Makes (F.state shelf.old).files (blocks_by file.now named.now) (success_of success)) }
+    ensures refused { IfErr result (MakesNothing
+        (reads_between F.read_may_fail (F.state shelf.old) (F.state shelf.new)) (blocks_by file.now named.now)) }
+    ensures files_stay { (F.state shelf.new).files ≡ (F.state shelf.old).files }
+    ensures no_write { (F.state shelf.new).write_faults ≡ (F.state shelf.old).write_faults }
+{
+    let image = read_image(alloc, file, shelf)?;
+    match block_lines(alloc, &image, named) {
+        Ok(text) => Ok(Success {
+            writes: Vec::new(alloc),
+            text: text.into_bytes(),
+        }),
+        Err(error) => Err(refusal_of(error)),
+    }
+}
+
+/// The lines of the blocks.
+fn block_lines(alloc: Global, image: &Image, named: &[u32]) -> Result<String, BlockErr>
+    ensures done { IfOk result (λ text. IsBlocksText image.now named.now (string_bytes text)) }
+    ensures cause { IfErr result (IsCause (IsFirstCustomWord image.now)) }
+{
+    let analysis = analysis_of(alloc, image, named)?;
+    let text = lines_of(alloc, analysis.blocks.all(), &analysis.live)?;
+    Ok(text)
+}
+
+/// The lines of these blocks, by their live sets.
+fn lines_of(alloc: Global, blocks: &[Block], live: &LiveSets) -> Result<String, AllocError>
+    requires { map (λ block. block.leader) blocks.now ≡ live.now.leaders }
+    ensures { IfOk result (λ text. string_bytes text ≡ flat_map (block_line live.now) blocks.now) }
+{
+    let mut text = String::new(alloc);
+    for block in blocks {
+        push_line(alloc, &mut text, block, live)?;
+    }
+    Ok(text)
+}
+
+/// Appends the line of a block: its leader, its length in instructions, and the registers that are live at the leader.
+fn push_line(
+    alloc: Global,
+    text: &mut String,
+    block: &Block,
+    live: &LiveSets,
+) -> Result<(), AllocError>
+    requires { Contains live.now.leaders block.now.leader }
+    ensures { OnOk result (string_bytes text.new ≡ string_bytes text.old ++ block_line live.now block.now) }
+{
+    let leader = hex_text(alloc, block.leader)?;
+    let length = block.insns.as_slice().len();
+    write!(text, "block {leader} length {length} live")?;
+    push_members(text, &live.at(block.leader))?;
+    text.push('\n')?;
+    Ok(())
+}
