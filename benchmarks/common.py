@@ -1,4 +1,6 @@
-"""What the benchmarks share: where the program is, and how long a call takes and how much memory."""
+"""What the benchmarks share: where the program is, how files are made, and how long a call takes and how much memory.
+The modules of checks/ are found from here on."""
+import multiprocessing
 import os
 import signal
 import subprocess
@@ -11,6 +13,8 @@ import time
 PATIENCE = 120
 HERE = os.path.dirname(os.path.abspath(__file__))
 TOP = os.path.join(HERE, "..")
+sys.path.insert(0, os.path.join(TOP, "checks"))
+import executable  # noqa: E402, F401  (it stands in another folder)
 
 
 def program():
@@ -40,3 +44,12 @@ def measure(*words):
         stop.cancel()
         output.seek(0)
         return output.read(), os.waitstatus_to_exitcode(ended), seconds, usage.ru_maxrss / 1024
+
+
+def write(how, *words):
+    """Writes a file in a process of its own: the system counts the memory that this one holds as the next call's."""
+    process = multiprocessing.get_context("fork").Process(target=how, args=words)
+    process.start()
+    process.join()
+    if process.exitcode != 0:
+        sys.exit("a file could not be made")

@@ -7,17 +7,14 @@ PROGRAM is the built program; with none the script at the top of the repository 
 file has the seconds of the faster of two runs, the limit, the greatest resident memory, and the answer. It ends with
 status 0 where each answer is the right one and comes within its limit.
 """
-import multiprocessing
 import os
 import re
 import struct
 import sys
 import tempfile
 
-from common import HERE, build, measure, program
-
-sys.path.insert(0, os.path.join(HERE, "..", "checks"))
-import executable  # noqa: E402  (it stands in another folder)
+from common import build, executable, measure, program, write
+from executable import header, load, section
 
 FILE_SIZE, COUNT = 16_777_216, 65_535
 # A prime, so that its multiples modulo COUNT are all numbers below it, in an order that no sort has from the start.
@@ -27,20 +24,6 @@ NO_OP = struct.pack("<I", 0x13)
 EXIT = "end exit 00000000 steps 2 cost 2"
 ELF_LIMIT, TABLE_LIMIT = 1.0, 0.1
 TABLE_SIZE = 65_536
-
-
-def header(entry, headers, sections):
-    """The file header; each table is its offset and its number of entries."""
-    return b"\x7fELF\x01\x01\x01" + bytes(9) + struct.pack(
-        "<HHIIIIIHHHHHH", 2, 243, 1, entry, headers[0], sections[0], 0, 52, 32, headers[1], 40, sections[1], 0)
-
-
-def load(offset, address, file_size, size):
-    return struct.pack("<8I", 1, offset, address, address, file_size, size, 7, 1)
-
-
-def section(kind, flags, address, offset, size, entry_size=0):
-    return struct.pack("<10I", 0, kind, flags, address, offset, size, 0, 0, 4, entry_size)
 
 
 def tiny():
@@ -130,15 +113,6 @@ def write_table(name, make, _):
     assert len(data) == TABLE_SIZE
     with open(name, "wb") as file:
         file.write(data)
-
-
-def write(how, *words):
-    """Writes a file in a process of its own: the system counts the memory that this one holds as the next call's."""
-    process = multiprocessing.get_context("fork").Process(target=how, args=words)
-    process.start()
-    process.join()
-    if process.exitcode != 0:
-        sys.exit("a file could not be made")
 
 
 def report(name, wanted, limit, *words):

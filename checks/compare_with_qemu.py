@@ -17,56 +17,24 @@ It ends with status 0 where all agree, and where the tools are missing, with a l
 import os
 import re
 import resource
-import shutil
 import signal
 import subprocess
 import sys
 import tempfile
 
+import compiled
 import executable
+from instructions import ALL, mnemonic
 
 HERE = os.path.dirname(os.path.abspath(__file__))
 TOP = os.path.join(HERE, "..")
 RUMTSAFI = os.path.abspath(sys.argv[1] if len(sys.argv) > 1 else os.path.join(TOP, "rumtsafi"))
-PROGRAMS, SAMPLES = os.path.join(HERE, "programs"), os.path.join(TOP, "samples")
 INTERPRETER = os.path.join(TOP, "benchmarks", "interpreter.c")
-GCC, LINKER, QEMU, HOST_GCC = "riscv64-unknown-elf-gcc", "riscv64-unknown-elf-ld", "qemu-riscv32", "gcc"
-TARGET = ["-march=rv32im", "-mabi=ilp32", "-static", "--specs=picolibc.specs", "-nostartfiles"]
-LEVELS = ("-O2", "-Os")
-INPUT = os.path.join(PROGRAMS, "count.c")
+QEMU, HOST_GCC = "qemu-riscv32", "gcc"
+INPUT = os.path.join(compiled.PROGRAMS, "count.c")
 LIMIT = 60
 SIGNALS = {"break": signal.SIGTRAP, "access": signal.SIGSEGV, "illegal": signal.SIGILL}
 END = re.compile(rb"end (exit|break|access|misaligned|fetch|illegal|limit)((?: [0-9a-f]+)*) steps \d+ cost \d+\n\Z")
-
-BRANCHES = {0: "beq", 1: "bne", 4: "blt", 5: "bge", 6: "bltu", 7: "bgeu"}
-LOADS = {0: "lb", 1: "lh", 2: "lw", 4: "lbu", 5: "lhu"}
-STORES = {0: "sb", 1: "sh", 2: "sw"}
-IMMEDIATES = {0: "addi", 1: "slli", 2: "slti", 3: "sltiu", 4: "xori", 5: "srli", 6: "ori", 7: "andi"}
-OPERATIONS = {0: ("add", "sll", "slt", "sltu", "xor", "srl", "or", "and"),
-              1: ("mul", "mulh", "mulhsu", "mulhu", "div", "divu", "rem", "remu")}
-SPECIAL = {0x00000073: "ecall", 0x00100073: "ebreak"}
-ALL = {"lui", "auipc", "jal", "jalr", "fence", "srai", "sub", "sra", *SPECIAL.values(), *BRANCHES.values(),
-       *LOADS.values(), *STORES.values(), *IMMEDIATES.values(), *OPERATIONS[0], *OPERATIONS[1]}
-
-
-def mnemonic(word):
-    """The name of an instruction of RV32IM, by the tables of the standard's chapter 24; None for another word."""
-    opcode, funct3, funct7 = word & 0x7F, word >> 12 & 7, word >> 25
-    if opcode in (0x37, 0x17, 0x6F):
-        return {0x37: "lui", 0x17: "auipc", 0x6F: "jal"}[opcode]
-    if opcode in (0x67, 0x0F):
-        return {0x67: "jalr", 0x0F: "fence"}[opcode] if funct3 == 0 else None
-    if opcode == 0x13:
-        if funct3 == 5 and funct7 == 0x20:
-            return "srai"
-        return IMMEDIATES[funct3] if funct3 not in (1, 5) or funct7 == 0 else None
-    if opcode == 0x33 and funct7 == 0x20:
-        return {0: "sub", 5: "sra"}.get(funct3)
-    if opcode == 0x33:
-        return OPERATIONS[funct7][funct3] if funct7 in OPERATIONS else None
-    if opcode == 0x73:
-        return SPECIAL.get(word)
-    return {0x63: BRANCHES, 0x03: LOADS, 0x23: STORES}.get(opcode, {}).get(funct3)
 
 
 def executed(log):
@@ -112,35 +80,10 @@ def compare(name, program, interpreter, log):
     return faults
 
 
-def write_layout(name):
-    """Writes the linker's own layout. It stands in the place of picolibc's, which is for a board with two memories."""
-    verbose = subprocess.run([LINKER, "-m", "elf32lriscv", "--verbose"], check=True, capture_output=True, text=True)
-    with open(name, "w", encoding="utf-8") as file:
-        file.write(re.split("^=+$", verbose.stdout, flags=re.M)[1])
-
-
-def executables(folder):
-    """Each executable with a name: those of samples/, and those of checks/programs, which are built here."""
-    layout = os.path.join(folder, "layout")
-    write_layout(layout)
-    found = [(name, os.path.join(SAMPLES, name)) for name in sorted(os.listdir(SAMPLES)) if name.endswith(".elf")]
-    for name in sorted(os.listdir(PROGRAMS)):
-        for level in LEVELS:
-            if name.endswith(".c") and name != "support.c":
-                program = os.path.join(folder, name[:-2] + level)
-                subprocess.run([GCC, *TARGET, level, "-T", layout, os.path.join(PROGRAMS, name),
-                                os.path.join(PROGRAMS, "support.c"), "-o", program], check=True)
-                found.append((f"{name} {level}", program))
-    return found
-
-
 def main():
-    missing = [tool for tool in (GCC, LINKER, QEMU, HOST_GCC) if not shutil.which(tool)]
-    if not missing and run([GCC, "-print-file-name=picolibc.specs"]).stdout.strip() == b"picolibc.specs":
-        missing = ["picolibc.specs"]
+    missing = compiled.missing({QEMU: "qemu-user", HOST_GCC: "gcc"})
     if missing:
-        print(f"skipped: {', '.join(missing)} not found "
-              "(Debian's gcc-riscv64-unknown-elf, picolibc-riscv64-unknown-elf, qemu-user, gcc)")
+        print(missing)
         return 0
     # A program that ends by a signal leaves no dump of its memory.
     resource.setrlimit(resource.RLIMIT_CORE, (0, resource.getrlimit(resource.RLIMIT_CORE)[1]))
@@ -150,7 +93,7 @@ def main():
     with tempfile.TemporaryDirectory() as folder:
         interpreter, log = os.path.join(folder, "interpreter"), os.path.join(folder, "log")
         subprocess.run([HOST_GCC, "-O2", INTERPRETER, "-o", interpreter], check=True)
-        programs, faults, seen = executables(folder), [], set()
+        programs, faults, seen = compiled.executables(folder), [], set()
         for name, program in programs:
             faults += compare(name, program, interpreter, log)
             seen |= executed(log)

@@ -1,5 +1,6 @@
 """A plain reader of executables: the first rule that one breaks, by the order of the rules and their numbers in
-`fault 5 elf RULE A B`. It shares nothing with the program, so that the checks can compare the two."""
+`fault 5 elf RULE A B`, and what a faultless one holds. It shares nothing with the program, so that the checks can
+compare the two. And a plain writer of the headers of executables that are made up."""
 import bisect
 import struct
 
@@ -8,6 +9,22 @@ STACK, HIGHEST_END, MEMORY_LIMIT, TEXT_LIMIT = (0x7FF00000, 0x80000000), 0xFFFF0
 LOAD, INTERPRETER, PROGBITS, SYMBOLS, ALLOC_AND_EXECUTE = 1, 3, 1, 2, 6
 # Offset, size and wanted value of the fields that the kind of a file is told by.
 KIND = ((4, 1, 1), (5, 1, 1), (6, 1, 1), (16, 2, 2), (18, 2, 243), (20, 4, 1))
+
+
+def header(entry, headers, sections):
+    """The file header; each table is its offset and its number of entries."""
+    return b"\x7fELF\x01\x01\x01" + bytes(9) + struct.pack(
+        "<HHIIIIIHHHHHH", 2, 243, 1, entry, headers[0], sections[0], 0, 52, 32, headers[1], 40, sections[1], 0)
+
+
+def load(offset, address, file_size, size):
+    """The program header of a loadable segment."""
+    return struct.pack("<8I", LOAD, offset, address, address, file_size, size, 7, 1)
+
+
+def section(kind, flags, address, offset, size, entry_size=0):
+    """A section header."""
+    return struct.pack("<10I", 0, kind, flags, address, offset, size, 0, 0, 4, entry_size)
 
 
 class Fault(Exception):
@@ -141,15 +158,44 @@ def read_text(data, headers, sections, segments):
     return text
 
 
+def read_ranges(text):
+    """The whole words of each text section that has any: the addresses of the first word and of what is behind the last
+    one, in ascending order."""
+    ranges = [((address + 3) // 4 * 4, (address + size) // 4 * 4) for address, _, size in text]
+    return sorted((start, past) for start, past in ranges if start < past)
+
+
+class Image:
+    """What a faultless executable holds: the entry, the ranges of the text, the bytes that are loaded from the file by
+    their addresses, and the values of all symbols."""
+
+    def __init__(self, data):
+        self.entry, headers, sections = read_header(data)
+        segments = read_segments(data, headers)
+        self.ranges = read_ranges(read_text(data, headers, sections, segments))
+        self.loaded = {}
+        for _, offset, address, file_size, _ in segments:
+            self.loaded.update(zip(range(address, address + file_size), data[offset:offset + file_size]))
+        self.symbols = []
+        for number in range(sections[1]):
+            _, kind, _, _, offset, size = struct.unpack_from("<6I", data, sections[0] + 40 * number)
+            if kind == SYMBOLS:
+                self.symbols += [struct.unpack_from("<I", data, at + 4)[0] for at in range(offset, offset + size, 16)]
+
+    def word(self, address):
+        """The little-endian value of four bytes that are loaded from the file, or None."""
+        found = [self.loaded.get(address + place) for place in range(4)]
+        return None if None in found else int.from_bytes(bytes(found), "little")
+
+
 def fault(data):
     """The rule that an executable breaks and its figures, or None."""
     try:
         entry, headers, sections = read_header(data)
-        text = read_text(data, headers, sections, read_segments(data, headers))
-        words = [((address + 3) // 4, (address + size) // 4) for address, _, size in text]
-        if sum(max(past - first, 0) for first, past in words) > TEXT_LIMIT:
+        ranges = read_ranges(read_text(data, headers, sections, read_segments(data, headers)))
+        if sum(past - start for start, past in ranges) > 4 * TEXT_LIMIT:
             raise Fault(TOO_LARGE, 0, 0)
-        if entry % 4 or not any(first <= entry // 4 < past for first, past in words):
+        if entry % 4 or not any(start <= entry < past for start, past in ranges):
             raise Fault(ENTRY_NOT_TEXT, 0, 0)
     except Fault as found:
         return found.args
