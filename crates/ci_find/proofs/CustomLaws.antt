@@ -22,14 +22,14 @@ module _ (file : Executable) (formed : IsWellFormed file) where
     below_top = text_below_top file.ranges (text_ranges file formed) ((range_at ranges index).start + 4 * place) word_there.1
 
   -- a word of the text is a word of a range
-  pub record IsWordOf (address : ℕ) : Type 0 where
+  pub record IsWordInRange (address : ℕ) : Type 0 where
     pub index : ℕ
     pub place : ℕ
     pub below : index < length file.ranges
     pub within : place < (range_at file.ranges index).words
     pub address_is : address ≡ (range_at file.ranges index).start + 4 * place
 
-  word_of_some_range : (address : ℕ) → IsTextWord file.ranges address → IsWordOf address
+  word_of_some_range : (address : ℕ) → IsTextWord file.ranges address → IsWordInRange address
   word_of_some_range address text =
       let held = holder file.ranges address text.1 in
       let aligned = (text_ranges file formed).aligned held.0 in

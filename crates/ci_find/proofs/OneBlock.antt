@@ -17,7 +17,7 @@ use Rattle.ci_block.specs.Laws.{BlockContents, contents_of}
 use Rattle.ci_block.proofs.OneBlock.{block_is_one}
 use Rattle.ci_block.proofs.OneListing.{listing_is_one}
 use Rattle.ci_find.proofs.ListedLaws.{mapped_there}
-use Rattle.ci_find.specs.BestCommand.{HoldsBlock, HoldsNoBlock, IsUnsupported, no_block, too_many, eligible_count}
+use Rattle.ci_find.specs.BestCommand.{HoldsBlock, HoldsNoBlock, IsUnsupported, no_block, too_many, eligible_count, most_eligible}
 use Rattle.ci_find.specs.CustomWords.{HasNoCustomWord, IsFirstCustomWord}
 use Rattle.ci_find.specs.ListedBlocks.{IsListedBlock, IsNoListedBlock, custom_word, no_leader}
 use Rattle.ci_find.specs.WordBlocks.{IsWordBlock, IsNoWordBlock, IsMisplaced}
@@ -91,7 +91,7 @@ module _ (at : Option ℕ) (named bytes : List ℕ) where
           (subst (λ file. IsNoListedBlock file named address position word) same none.2)
 
   -- a block with few enough eligible instructions has an answer
-  pub answered_or_not : (insns : List Insn) (live_out : set.FinSet nat_cmp) (position word : ℕ) → HoldsBlock at named bytes insns live_out → eligible_count insns ≤ 12 → IsUnsupported at named bytes position word → ⊥
+  pub answered_or_not : (insns : List Insn) (live_out : set.FinSet nat_cmp) (position word : ℕ) → HoldsBlock at named bytes insns live_out → eligible_count insns ≤ most_eligible → IsUnsupported at named bytes position word → ⊥
   answered_or_not insns live_out position word block few (no_block none) = held_or_none insns live_out _ _ block none
   answered_or_not insns live_out position word block few (too_many others other held more) =
       omega (arith, few, more, ap eligible_count (held_is_one insns others live_out other block held))

@@ -1,5 +1,5 @@
 -- The instructions of a block that words are, place by place.
-use Rattle.std.proofs.Common.{◌≡◌, ℕ, ◌+◌, ◌*◌, ◌/◌, ◌%◌, ◌<◌, inl, inr, List, [], ◌∷◌, ◌++◌, length, get_or, slice_get, Some, refl, sym, ap, subst, ◌∙◌, arith, length-append}
+use Rattle.std.proofs.Common.{◌≡◌, ℕ, ◌+◌, ◌*◌, ◌/◌, ◌%◌, ◌<◌, inl, inr, List, [], ◌∷◌, ◌++◌, length, get_or, slice_get, Some, sym, ap, subst, ◌∙◌, arith, length-append}
 use Rattle.std.proofs.lemmas.Bool.{cases_lt}
 use Rattle.std.proofs.lemmas.Option.{get_or_from_slice_get}
 use Rattle.std.proofs.Math.ListN.{get_or-append}
@@ -16,10 +16,6 @@ module _ (bytes : List ℕ) where
     pub count : length insns ≡ place
     pub each : (k : ℕ) (d : Insn) → k < place → IsInsnAt (get_or (words_of_bytes bytes) k 0) (get_or insns k d)
     pub placed : (k : ℕ) → k < place → ¬ IsMisplaced (words_of_bytes bytes) k (get_or (words_of_bytes bytes) k 0)
-
-  -- at the first place none is read
-  pub read_none : IsReadTo [] 0
-  read_none = record { count = refl; each = λ k d below. absurd (omega arith); placed = λ k below. absurd (omega arith) }
 
   module _ (insns : List Insn) (place word : ℕ) (read : IsReadTo insns place) (there : slice_get (words_of_bytes bytes) place ≡ Some word) where
     here : get_or (words_of_bytes bytes) place 0 ≡ word

@@ -41,13 +41,17 @@ HoldsNoBlock (Some address) named bytes position word =
 abbrev pub eligible_count : List Insn → ℕ
 eligible_count insns = count_below (length insns) (λ k. may_join (insn_at insns k))
 
--- Why there is no answer, as a position and a word: the file holds no block; or the block has more than twelve
--- instructions that may be members of a cut, and then their number is the position and the word is 0.
+-- of so many every set is tried
+abbrev pub most_eligible : ℕ
+most_eligible = 12
+
+-- Why there is no answer, as a position and a word: the file holds no block; or too many of the block's instructions may
+-- be members of a cut, and then their number is the position and the word is 0.
 pub data IsUnsupported (at : Option ℕ) (named bytes : List ℕ) : ℕ → ℕ → Type 0 where
   no_block : {position word : ℕ} → HoldsNoBlock at named bytes position word → IsUnsupported at named bytes position word
   too_many :
       (insns : List Insn) (live_out : set.FinSet nat_cmp) → HoldsBlock at named bytes insns live_out
-      → 12 < eligible_count insns → IsUnsupported at named bytes (eligible_count insns) 0
+      → most_eligible < eligible_count insns → IsUnsupported at named bytes (eligible_count insns) 0
 
 -- ---- the command
 
@@ -66,7 +70,7 @@ pub record IsBestMade (settings : Settings) (read : List (List ℕ)) (success : 
   pub latencies : Latencies
   pub limits : Limits
   pub block : HoldsBlock settings.at settings.leaders bytes insns live_out
-  pub few : eligible_count insns ≤ 12
+  pub few : eligible_count insns ≤ most_eligible
   pub latencies_are : AreLatencies table latencies
   pub inputs_are : limits.inputs ≡ settings.inputs
   pub outputs_are : limits.outputs ≡ settings.outputs

@@ -1,4 +1,4 @@
--- For private contracts only: why there is no answer on a block.
+-- For private contracts only: why there are no blocks of a file, or no best cut of one.
 use Rattle.std.specs.Prelude.{ℕ}
 use Rattle.ci_find.specs.declared.analysis.BlockErr.{BlockErr}
 use Rattle.ci_find.specs.declared.analysis.BlockErr.TheVariants as err

@@ -27,7 +27,7 @@ struct CustomWord {
     word: u32,
 }
 
-/// Why there is no answer on a block.
+/// Why there are no blocks of a file, or no best cut of one.
 #[derive(Debug, Drop)]
 pub enum BlockErr {
     /// The file isn't one that the program takes, for this word at this position.
@@ -58,7 +58,7 @@ impl From<AllocError> for BlockErr {
     }
 }
 
-/// The refusal of a command that has no answer on a block.
+/// The refusal of a command that has no blocks of a file, or no best cut of one.
 pub fn refusal_of<'a>(error: BlockErr) -> Refusal<'a>
     ensures { result ≡ refusal_of error }
 {

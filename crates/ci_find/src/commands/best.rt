@@ -6,7 +6,7 @@ ghost use Rattle.std.specs.String.{string_bytes};
 ghost use Rattle.ci_dfg.specs.BlockGraph.{graph_of};
 ghost use Rattle.ci_isa.specs.declared.instruction.Insn.{Insn as Instruction};
 ghost use Rattle.ci_words.specs.Commands.{name_in};
-ghost use Rattle.ci_find.specs.BestCommand.{HoldsBlock, HoldsNoBlock, IsUnsupported, eligible_count};
+ghost use Rattle.ci_find.specs.BestCommand.{HoldsBlock, HoldsNoBlock, IsUnsupported, eligible_count, most_eligible};
 ghost use Rattle.ci_find.specs.BlockErrs.{IsCause};
 ghost use Rattle.ci_find.specs.BlockFiles.{IsFileOf, IsTooMany, IsWithinLimit};
 ghost use Rattle.ci_find.specs.Lines.{IsBestLine};
@@ -85,7 +85,7 @@ fn best_line(
     requires { IsWithinLimit file.now }
     ensures done { IfOk result (λ line. (at : Option ℕ) (bytes : List ℕ) → IsFileOf at bytes file.now
         → (insns : List Instruction) × (live_out : set.FinSet nat_cmp) × HoldsBlock at named.now bytes insns live_out
-        × (eligible_count insns ≤ 12)
+        × (eligible_count insns ≤ most_eligible)
         × IsBestLine (graph_of insns live_out table.now) limits.now (string_bytes line)) }
     ensures cause { IfErr result (λ error. (at : Option ℕ) (bytes : List ℕ) → IsFileOf at bytes file.now
         → IsCause (IsUnsupported at named.now bytes) error) }
@@ -118,7 +118,7 @@ fn best_cut_line(
     table: &Table,
 ) -> Result<String, BlockErr>
     requires { length block.now.insns.items ≤ 256 }
-    ensures few { IfOk result (λ _. eligible_count block.now.insns.items ≤ 12) }
+    ensures few { IfOk result (λ _. eligible_count block.now.insns.items ≤ most_eligible) }
     ensures line { IfOk result (λ line.
         IsBestLine (graph_of block.now.insns.items block.now.live_out table.now) limits.now (string_bytes line)) }
     ensures cause { IfErr result (IsCause (IsTooMany block.now.insns.items)) }

@@ -20,6 +20,9 @@ const NOP: u32 = 0x0000_0013;
 /// A jump over the next word.
 const JUMP_OVER: u32 = 0x0080_006F;
 
+/// A branch that is taken over the next word.
+const BRANCH_OVER: u32 = 0x0000_0463;
+
 /// `fence 0, x0, x0`.
 const FENCE: u32 = 0x0000_000F;
 
@@ -98,19 +101,24 @@ fn leaders_by_each_rule(rt: HostRuntime) -> Result<(), Fail> {
     let cut_at_second = "block 00010074 length 1 live\nblock 00010078 length 3 live\n";
     let cut_at_third = "block 00010074 length 2 live\nblock 0001007c length 2 live\n";
     let four = [NOP; 4];
-    // The entry, which is the first word, or the third, or the last.
+    // The entry, which is the first word, or the third.
     expect_blocks(&rt, &four, &[], &[], &[], whole)?;
     let third = "block 0001007c length 2 live\n";
     expect_blocks(&rt, &four, &[], &[], &[(24, 0x1007c)], third)?;
     // The target of a jump, and the word behind it.
     let jumped =
         "block 00010074 length 1 live\nblock 00010078 length 1 live\nblock 0001007c length 2 live\n";
-    expect_blocks(&rt, &[JUMP_OVER, NOP, NOP, NOP], &[], &[], &[], jumped)?;
+    for jump in [JUMP_OVER, BRANCH_OVER] {
+        expect_blocks(&rt, &[jump, NOP, NOP, NOP], &[], &[], &[], jumped)?;
+    }
     // The word behind another terminator.
     expect_blocks(&rt, &[NOP, FENCE, NOP, NOP], &[], &[], &[], cut_at_third)?;
     // A data word, and one that is no multiple of four.
     let values = [0x10078, 0x1007e];
     expect_blocks(&rt, &four, &[], &values, &[], cut_at_second)?;
+    // The same of which three bytes are loaded, and a word of the text with an address, which is no instruction.
+    expect_blocks(&rt, &four, &[], &[0x10078], &[(100, 3)], whole)?;
+    expect_blocks(&rt, &[NOP, 0x10080, NOP, NOP], &[], &[], &[], cut_at_third)?;
     // A symbol, and others beside it: the values are a symbol table that no segment loads.
     let symbols = [0, 0x10078, 0, 0, 0, 0x1007e, 0, 0, 0, 0x10084, 0, 0];
     let table = [(84, 0), (116 + 64 + 124, 2), (116 + 64 + 156, 16)];
@@ -152,12 +160,13 @@ fn leaders_named_or_behind_full_blocks(rt: HostRuntime) -> Result<(), Fail> {
 fn executables_that_are_not_taken(rt: HostRuntime) -> Result<(), Fail> {
     let unit = "fault 7 unsupported 00010078 60b5028b\n";
     let custom = "fault 7 unsupported 00010074 8000102b\n";
+    let last = "fault 7 unsupported 0001007c 8000102b\n";
     let rows: [(&[u32], &str, &str); 4] = [
         (&[NOP, 0x60B5028B, 0x0000002B], "blocks F", unit),
         (&[NOP, 0x60B5028B], "best F --at 0x10074", unit),
         (&[0x8000102B, NOP], "blocks F", custom),
         // The word comes before the address that is no leader.
-        (&[0x8000102B, NOP], "best F --at 0x10078", custom),
+        (&[NOP, NOP, 0x8000102B], "best F --at 0x10078", last),
     ];
     for (text, command, line) in rows {
         let bytes = program(&rt, text, &[], &[])?;
