@@ -6,8 +6,9 @@
 PROGRAM is the built program; with none the script at the top of the repository builds it, if need be. Each shape of
 text is made with WORDS words and with a quarter of them. A line for each file has the seconds of the faster of two
 runs, the greatest resident memory and the number of blocks; behind that of the longer text stand how many times longer
-it took, and what misses its limit. `best --at` and `blocks` on a block of 256 instructions differ by the time for the
-block's graph and the search of its cuts. It ends with status 0 where each text is within its limits.
+it took, and what misses its limit. `best --at` and `blocks` on a block of 256 instructions, the fastest of RUNS runs
+each, differ by the time for the block's graph and the search of its cuts. It ends with status 0 where all is within its
+limits.
 """
 import os
 import struct
@@ -19,6 +20,7 @@ from instructions import with_offset
 
 WORDS, BASE = 262_144, 0x10000
 SECONDS, MEBIBYTES, TIMES = 2.0, 300, 5
+GRAPH_SECONDS, RUNS = 0.001, 100
 # Odd, so that its multiples modulo a power of two are all numbers below it, in an order that no walk in place follows.
 STRIDE = 32_771
 NO_OP, BREAK, RETURN, JUMP, BRANCH = 0x13, 0x00100073, 0x00008067, 0x6F, 0x00000063
@@ -168,20 +170,30 @@ def compare(shape, file):
     return not marks
 
 
+def graph_in_time(file):
+    """Whether `best --at` takes little longer than `blocks` on a block of 256 instructions of which one may join, where
+    the difference is the block's graph and the search of two sets; prints that, and the same for twelve."""
+    passed = True
+    for eligible in (1, 12):
+        write(write_block, file, eligible)
+        blocks, best = (min(measure(program(), *words)[2] for _ in range(RUNS))
+                        for words in (("blocks", file), ("best", file, "--at", f"0x{BASE:x}")))
+        slow = eligible == 1 and best - blocks > GRAPH_SECONDS
+        passed = passed and not slow
+        print(f"a block of {LONGEST}, {eligible:2} may join: blocks {1000 * blocks:.2f} ms, best {1000 * best:.2f} ms, "
+              f"difference {1000 * (best - blocks):.2f} ms{'  TOO SLOW' * slow}", flush=True)
+    return passed
+
+
 def main():
     build()
     with tempfile.TemporaryDirectory() as folder:
         file = os.path.join(folder, "file")
         passed = [compare(shape, file) for shape in SHAPES]
-        for eligible in (1, 12):
-            write(write_block, file, eligible)
-            for words in (("blocks", file), ("best", file, "--at", f"0x{BASE:x}")):
-                output, seconds, memory = faster(*words)
-                name = f"{words[0]}, {LONGEST} with {eligible} operations"
-                answer = output.decode().strip() if words[0] == "best" else ""
-                print(f"{name:44} {seconds:7.4f} s {memory:7.1f} MiB  {answer}")
-    print(f"{sum(passed)} of {len(passed)} shapes within {SECONDS} s, {MEBIBYTES} MiB and {TIMES} times")
-    return 0 if all(passed) else 1
+        in_time = graph_in_time(file)
+    print(f"{sum(passed)} of {len(passed)} shapes within {SECONDS} s, {MEBIBYTES} MiB and {TIMES} times; the graph of "
+          f"{LONGEST} instructions {'with' if in_time else 'not with'}in {1000 * GRAPH_SECONDS:.0f} ms")
+    return 0 if all(passed) and in_time else 1
 
 
 sys.exit(main())

@@ -12,6 +12,7 @@ several segments and odd symbols. Of each, `blocks` has to print the lines that 
 `--leader`. Those of GCC are left out where its tools are missing, with a line that says so. It ends with status 0
 where all agree.
 """
+import bisect
 import os
 import random
 import struct
@@ -83,6 +84,21 @@ class Text:
         return blocks
 
 
+def obeys(text, blocks):
+    """Whether the words that are no marks are leaders where they follow a full block: the nearest leader below lies 256
+    words before, in the same range, and no instruction from there on ends a block. And whether the last instruction of
+    a block alone ends it."""
+    marks, leaders = text.marks(), sorted(blocks)
+    for start, past in text.image.ranges:
+        for address in range(start, past, 4):
+            below = leaders[bisect.bisect_left(leaders, address) - 1] if leaders[0] < address else None
+            full = (below is not None and start <= below and address - below == 4 * LONGEST
+                    and not any(ends_block(text.words[place]) for place in range(below, address, 4)))
+            if (address in blocks) != (address in marks or full):
+                return False
+    return not any(ends_block(text.words[place]) for block in blocks.values() for place in block[:-1])
+
+
 def live_sets(text, blocks):
     """The registers that are live at each leader: the least sets of which each has what its block reads first, and what
     its block doesn't write of the sets of its successors."""
@@ -113,6 +129,8 @@ def expected(image, named):
         if word & 0x7F in CUSTOM_OPCODES:
             return f"fault 7 unsupported {address:08x} {word:08x}\n", 7, 0
     blocks = text.blocks()
+    if not obeys(text, blocks):
+        sys.exit("the leaders here don't obey their own definition")
     live = live_sets(text, blocks)
     lines = [" ".join((f"block {leader:08x} length {len(block)} live", *map(str, sorted(live[leader]))))
              for leader, block in sorted(blocks.items())]
@@ -137,7 +155,8 @@ def lists_of_leaders(image, source):
 
 
 def compare(name, data, path, source):
-    """The numbers of words and of blocks of an executable, and the lines that say where the two differ."""
+    """The numbers of words and of blocks of an executable, 0 where it is refused, and the lines that say where the two
+    differ."""
     image, faults, count = executable.Image(data), [], 0
     for named in lists_of_leaders(image, source):
         options = [word for address in named
@@ -149,7 +168,7 @@ def compare(name, data, path, source):
         if (done.returncode, ours) != (status, wanted):
             faults.append(f"{' '.join((name, *options))}: status {done.returncode} against {status}, "
                           f"{first_difference(ours, wanted)}")
-    return sum(past - start for start, past in image.ranges) // 4, count, faults
+    return sum(past - start for start, past in image.ranges) // 4 if count else 0, count, faults
 
 
 def instruction(source, address, around):
@@ -194,7 +213,9 @@ def made(source):
     around = [start + 4 * place for start, (_, size) in zip(starts, parts) for place in range(size // 4 + 1)]
     text = {address for at, size in parts for address in range((at + 3) // 4 * 4, (at + size) // 4 * 4, 4)}
     word = straight if long else instruction
-    memory = b"".join(struct.pack("<I", word(source, address, around) & 0xFFFFFFFF if address in text
+    odd = source.choice(sorted(text)) if text and source.random() < 0.1 else None
+    memory = b"".join(struct.pack("<I", source.getrandbits(25) << 7 | source.choice(CUSTOM_OPCODES) if address == odd
+                                  else word(source, address, around) & 0xFFFFFFFF if address in text
                                   else source.choice(around) + source.choice((0, 0, 1, 2)))
                       for address in range(base // 4 * 4, past + 200, 4))[base % 4:]
     code, loaded = past - base, past - base + source.randrange(90)
@@ -225,8 +246,9 @@ def executables(folder, source):
             found.append((name, file.read()))
     for number in range(MADE):
         data = made(source)
-        if executable.fault(data) is None:
-            found.append((f"made up, number {number}", data))
+        if executable.fault(data) is not None:
+            sys.exit(f"what is made up, number {number}, is no executable")
+        found.append((f"made up, number {number}", data))
     return found, missing
 
 
@@ -234,7 +256,7 @@ def main():
     if len(sys.argv) == 1:
         # Builds the program, which takes longer than a call may.
         subprocess.run([RUMTSAFI, "dis", os.devnull], check=True)
-    source, words, blocks, faults = random.Random(1), 0, 0, []
+    source, words, blocks, refused, faults = random.Random(1), 0, 0, 0, []
     with tempfile.TemporaryDirectory() as folder:
         found, missing = executables(folder, source)
         if missing:
@@ -245,10 +267,11 @@ def main():
                 file.write(data)
             counts = compare(name, data, path, source)
             words, blocks, faults = words + counts[0], blocks + counts[1], faults + counts[2]
+            refused += counts[1] == 0
     for fault in faults[:20]:
         print(fault)
-    print(f"{len(found)} executables compared, {MADE} of them made up: {words} words, {blocks} blocks, "
-          f"{len(faults)} differences")
+    print(f"{len(found)} executables compared, {MADE} of them made up, {refused} refused for a custom word, the others "
+          f"with {words} words and {blocks} blocks: {len(faults)} differences")
     return 1 if faults else 0
 
 
