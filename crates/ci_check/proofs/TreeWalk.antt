@@ -1,0 +1,146 @@
+-- A walk over the items of a tree, and what it tells of them.
+use Rattle.std.proofs.Common.{◌≡◌, ℕ, suc, ◌+◌, ◌<◌, ◌≤◌, true, false, inl, inr, List, [], ◌∷◌, ◌++◌, length, length-append, length-drop, append_assoc, drop, get_or, None, Result, Ok, Err, refl, sym, ap, ◌∙◌, subst, arith}
+use Rattle.std.proofs.lemmas.List.{drop_more, drop-drop, drop_at}
+use Rattle.std.specs.List.{AllByRecursion}
+use Rattle.ci_word.specs.Numbers.{count_below}
+use Rattle.ci_cut.specs.declared.graph.Limits.{Limits}
+use Rattle.ci_cut.specs.FlowGraph.{FlowGraph}
+use Rattle.ci_log.specs.declared.log.Item.{Item}
+use Rattle.ci_log.specs.declared.log.Item.TheVariants.{B}
+use Rattle.ci_log.specs.Trees.{IsLeaf, IsTree, leaf, branch}
+use Rattle.ci_check.specs.declared.checking.Wrong.{Wrong}
+use Rattle.ci_check.specs.Prefixes.{Prefix, is_eligible, eligible_nodes}
+use Rattle.ci_check.specs.Rules.{Given, IsRight, reason_of, Station, stations, IsRightAt, IsFirstWrongIn}
+use Rattle.ci_check.specs.Standing.{IsTreeAt, IsJudged, IsBranchOn}
+use Rattle.ci_check.proofs.Acceptance.{all_right, all_both}
+
+-- ---- trees in a list of items
+
+tree_nonempty : {items : List Item} → IsTree items → 1 ≤ length items
+tree_nonempty (leaf is) = omega arith
+tree_nonempty (branch first second) = omega arith
+
+pub length-stations : {items : List Item} (tree : IsTree items) (prefix : Prefix) → length (stations tree prefix) ≡ length items
+length-stations (leaf is) prefix = refl
+length-stations (branch {taken = in_items} {left_out = out_items} first second) prefix =
+    ap suc (length-append (stations first (true ∷ prefix)) (stations second (false ∷ prefix))
+    ∙ (λ i. length-stations first (true ∷ prefix) i + length-stations second (false ∷ prefix) i)
+    ∙ sym (length-append in_items out_items))
+
+pub tree_within : (items : List Item) (place : ℕ) → IsTreeAt items place → place < length items
+tree_within items place at_place =
+    let parts = sym (length-drop place items) ∙ ap length at_place.is_split ∙ length-append at_place.one at_place.rest in
+    omega (arith, parts, tree_nonempty at_place.tree)
+
+-- the item at a place, and the items behind it
+pub first_item : (items one rest : List Item) (place : ℕ) → place < length items → drop place items ≡ one ++ rest → get_or items place B ∷ drop (place + 1) items ≡ one ++ rest
+first_item items one rest place within is = sym (drop_more items place B within) ∙ is
+
+-- the trees below a branch
+pub record SubTrees {one : List Item} (tree : IsTree one) (prefix : Prefix) (tail rest : List Item) : Type 0 where
+  pub first : List Item
+  pub second : List Item
+  pub first_tree : IsTree first
+  pub second_tree : IsTree second
+  pub is_tail : tail ≡ first ++ (second ++ rest)
+  pub are_stations : stations tree prefix ≡ (record { prefix = prefix; item = B } ∷ (stations first_tree (true ∷ prefix) ++ stations second_tree (false ∷ prefix)))
+
+pub sub_trees : {one : List Item} (tree : IsTree one) (prefix : Prefix) (item : Item) (tail rest : List Item) → item ∷ tail ≡ one ++ rest → item ≡ B → SubTrees tree prefix tail rest
+sub_trees (leaf {item = here} is) prefix item tail rest splits branches =
+    let same : here ≡ B = (cc) in
+    absurd (subst IsLeaf same is)
+sub_trees (branch {taken = first} {left_out = second} first_tree second_tree) prefix item tail rest splits branches =
+    let behind : tail ≡ (first ++ second) ++ rest = (cc) in
+    record { first = first; second = second; first_tree = first_tree; second_tree = second_tree; is_tail = behind ∙ append_assoc first second rest; are_stations = refl }
+
+-- where the first tree below a branch ends, the second begins
+pub behind_first : (items rest : List Item) (start end : ℕ) {one : List Item} {tree : IsTree one} {prefix : Prefix} (parts : SubTrees tree prefix (drop start items) rest)
+    → end ≡ start + length (stations parts.first_tree (true ∷ prefix)) → drop end items ≡ parts.second ++ rest
+behind_first items rest start end {prefix = prefix} parts ends =
+    let at_end : end ≡ start + length parts.first = omega (arith, ends, length-stations parts.first_tree (true ∷ prefix)) in
+    ap (λ k. drop k items) at_end
+    ∙ sym (drop-drop (length parts.first) start items)
+    ∙ ap (drop (length parts.first)) parts.is_tail
+    ∙ drop_at parts.first (parts.second ++ rest) (length parts.first) refl
+
+-- ---- right and wrong items
+
+module _ (graph : FlowGraph) (limits : Limits) (best : Given) where
+  -- the first item is wrong
+  pub wrong_here : {one : List Item} (tree : IsTree one) (prefix : Prefix) (item : Item) (tail rest : List Item) → item ∷ tail ≡ one ++ rest → ¬ IsRight graph limits best prefix item
+      → IsFirstWrongIn graph limits best (stations tree prefix) 0 (reason_of item)
+  wrong_here (leaf {item = here} is) prefix item tail rest splits wrong =
+      let same : item ≡ here = (cc) in
+      record { before = []; station = record { prefix = prefix; item = here }; behind = []; is_split = refl; right_before = tt; not_right = subst (λ i. ¬ IsRight graph limits best prefix i) same wrong; is_number = refl; is_reason = ap reason_of same }
+  wrong_here (branch first second) prefix item tail rest splits wrong =
+      let same : item ≡ B = (cc) in
+      record {
+        before = [];
+        station = record { prefix = prefix; item = B };
+        behind = stations first (true ∷ prefix) ++ stations second (false ∷ prefix);
+        is_split = refl;
+        right_before = tt;
+        not_right = subst (λ i. ¬ IsRight graph limits best prefix i) same wrong;
+        is_number = refl;
+        is_reason = ap reason_of same;
+      }
+
+  -- the first item is right, and no branch
+  pub right_alone : {one : List Item} (tree : IsTree one) (prefix : Prefix) (item : Item) (tail rest : List Item) (place : ℕ) → item ∷ tail ≡ one ++ rest → IsRight graph limits best prefix item
+      → IsBranchOn graph place item None → (count_below place (is_eligible graph) ≡ 0 → eligible_nodes graph ≤ length prefix)
+      → AllByRecursion (IsRightAt graph limits best) (stations tree prefix) × (length (stations tree prefix) ≡ 1)
+  right_alone (leaf {item = here} is) prefix item tail rest place splits right alone whole =
+      let same : item ≡ here = (cc) in
+      ((subst (λ i. IsRight graph limits best prefix i) same right, tt), refl)
+  right_alone (branch first second) prefix item tail rest place splits right alone whole =
+      let same : item ≡ B = (cc) in
+      absurd (elim alone [
+        | inl is ↦ subst IsLeaf same is
+        | inr none ↦ let undecided : length prefix < eligible_nodes graph = subst (λ i. IsRight graph limits best prefix i) same right in omega (arith, whole none)
+      ])
+
+  -- a wrong item in the first of two lists, and in the second
+  module _ (station : Station) (here : IsRightAt graph limits best station) (first second : List Station) (number reason : ℕ) where
+    pub wrong_in_first : IsFirstWrongIn graph limits best first number reason → IsFirstWrongIn graph limits best (station ∷ (first ++ second)) (suc number) reason
+    wrong_in_first wrong = record {
+      before = station ∷ wrong.before;
+      station = wrong.station;
+      behind = wrong.behind ++ second;
+      is_split = ap (λ xs. station ∷ xs) (ap (λ xs. xs ++ second) wrong.is_split ∙ append_assoc wrong.before (wrong.station ∷ wrong.behind) second);
+      right_before = (here, wrong.right_before);
+      not_right = wrong.not_right;
+      is_number = ap suc wrong.is_number;
+      is_reason = wrong.is_reason;
+    }
+
+    pub wrong_in_second : AllByRecursion (IsRightAt graph limits best) first → IsFirstWrongIn graph limits best second number reason → IsFirstWrongIn graph limits best (station ∷ (first ++ second)) (suc (length first + number)) reason
+    wrong_in_second all wrong = record {
+      before = station ∷ (first ++ wrong.before);
+      station = wrong.station;
+      behind = wrong.behind;
+      is_split = ap (λ xs. station ∷ xs) (ap (λ xs. first ++ xs) wrong.is_split ∙ sym (append_assoc first wrong.before (wrong.station ∷ wrong.behind)));
+      right_before = (here, all_both (IsRightAt graph limits best) first wrong.before all wrong.right_before);
+      not_right = wrong.not_right;
+      is_number = ap suc (ap (λ n. length first + n) wrong.is_number ∙ sym (length-append first wrong.before));
+      is_reason = wrong.is_reason;
+    }
+
+  module _ {one : List Item} (tree : IsTree one) (prefix : Prefix) (tail rest : List Item) (parts : SubTrees tree prefix tail rest) (right : IsRight graph limits best prefix B) (place : ℕ) where
+    pub judged_by_first : (wrong : Wrong) → IsJudged graph limits best (stations parts.first_tree (true ∷ prefix)) (place + 1) (Err wrong) → IsJudged graph limits best (stations tree prefix) place (Err wrong)
+    judged_by_first wrong (number, is, item) =
+        rw parts.are_stations (suc number, wrong_in_first (record { prefix = prefix; item = B }) right (stations parts.first_tree (true ∷ prefix)) (stations parts.second_tree (false ∷ prefix)) number wrong.reason is, omega arith)
+
+    pub judged_by_second : (end : ℕ) (result : Result ℕ Wrong) → IsJudged graph limits best (stations parts.first_tree (true ∷ prefix)) (place + 1) (Ok end) → IsJudged graph limits best (stations parts.second_tree (false ∷ prefix)) end result → IsJudged graph limits best (stations tree prefix) place result
+    judged_by_second end (Ok last) (all, ends) (all_second, last_is) =
+        let first = stations parts.first_tree (true ∷ prefix) in
+        let second = stations parts.second_tree (false ∷ prefix) in
+        rw parts.are_stations ((right, all_both (IsRightAt graph limits best) first second all all_second), omega (arith, length-append first second))
+    judged_by_second end (Err wrong) (all, ends) (number, is, item) =
+        let first = stations parts.first_tree (true ∷ prefix) in
+        let second = stations parts.second_tree (false ∷ prefix) in
+        rw parts.are_stations (suc (length first + number), wrong_in_second (record { prefix = prefix; item = B }) right first second number wrong.reason all is, omega arith)
+
+  -- a list with a wrong item isn't right
+  pub not_all : (all : List Station) (number reason : ℕ) → IsFirstWrongIn graph limits best all number reason → AllByRecursion (IsRightAt graph limits best) all → ⊥
+  not_all all number reason wrong right =
+      wrong.not_right (all_right (IsRightAt graph limits best) wrong.before (wrong.station ∷ wrong.behind) (subst (AllByRecursion (IsRightAt graph limits best)) wrong.is_split right)).0

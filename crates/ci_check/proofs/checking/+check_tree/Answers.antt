@@ -1,0 +1,97 @@
+use Rattle.std.proofs.Common.{◌≡◌, ℕ, ◌+◌, List, ◌∷◌, ◌++◌, drop, get_or, true, false, IsTrue, arith, subst}
+use Rattle.std.proofs.lemmas.Bool.Decides.{not_from_Decides}
+use Rattle.std.proofs.lemmas.Result.{err_from_is_err_and}
+use Rattle.ci_log.specs.declared.log.Item.{Item}
+use Rattle.ci_log.specs.declared.log.Item.TheVariants.{B}
+use Rattle.ci_log.specs.Trees.{IsTree}
+use Rattle.ci_check.specs.Prefixes.{Prefix, is_next}
+use Rattle.ci_check.specs.Rules.{IsRight}
+use Rattle.ci_check.specs.Standing.{Stands}
+use Rattle.ci_check.proofs.StandingLaws.{next_from_below, all_decided}
+use Rattle.ci_check.proofs.TreeWalk.{tree_within, first_item, wrong_here, right_alone, SubTrees, sub_trees, behind_first, judged_by_first, judged_by_second}
+use Rattle.ci_check.proofs.checking.+check_tree.Goals as goal
+use Rattle.ci_check.proofs.checking.+check_tree.Goals.{In-Some}
+
+pub bounds-items-place : goal.bounds-items-place
+bounds-items-place t c = tree_within c.args.items.now c.args.place c.requires.tree
+
+pub overflow_cast-result : goal.overflow_cast-result
+overflow_cast-result t c = omega (arith, tree_within c.args.items.now c.args.place c.requires.tree)
+
+pub overflow_add-place : goal.overflow_add-place
+overflow_add-place t c = omega (arith, tree_within c.args.items.now c.args.place c.requires.tree)
+
+pub returns-then-not-is_right : goal.returns-then-not-is_right
+returns-then-not-is_right t c prefix one rest tree stands splits =
+    let items = c.args.items.now in
+    let place = c.args.place in
+    let within = tree_within items place c.requires.tree in
+    let wrong = not_from_Decides _ (c.is_right.ensures prefix stands) c.if-not-is_right.true in
+    (0, rw c.reason_of.ensures (wrong_here c.args.graph.now c.args.limits.now c.args.best.now.cut tree prefix (get_or items place B) (drop (place + 1) items) rest (first_item items one rest place within splits) wrong), omega arith)
+
+pub returns-in_default : goal.returns-in_default
+returns-in_default t c prefix one rest tree stands splits =
+    let items = c.args.items.now in
+    let place = c.args.place in
+    let within = tree_within items place c.requires.tree in
+    let right = (c.is_right.ensures prefix stands).0 c.if-not-is_right.false in
+    let judged = right_alone c.args.graph.now c.args.limits.now c.args.best.now.cut tree prefix (get_or items place B) (drop (place + 1) items) rest c.args.choices.now.place (first_item items one rest place within splits) right
+    c.in_default.ensures (all_decided c.args.graph.now prefix c.args.choices.now stands) in
+    (judged.0, omega (arith, judged.1))
+
+-- what is known at a branch: the next node, the trees below, and that the item is right
+record Branch (t : ℕ) (c : In-Some t) (prefix : Prefix) {one : List Item} (tree : IsTree one) (rest : List Item) : Type 0 where
+  next : IsTrue (is_next c.args.graph.now prefix c.in-Some.node)
+  parts : SubTrees tree prefix (drop (c.args.place + 1) c.args.items.now) rest
+  right : IsRight c.args.graph.now c.args.limits.now c.args.best.now.cut prefix B
+
+branch_at : (t : ℕ) (c : In-Some t) (prefix : Prefix) (one rest : List Item) (tree : IsTree one) → Stands c.args.graph.now prefix c.args.choices.now → drop c.args.place c.args.items.now ≡ one ++ rest → Branch t c prefix tree rest
+branch_at t c prefix one rest tree stands splits = record {
+  next = next_from_below c.args.graph.now prefix c.args.choices.now stands c.in-Some.node c.in-Some.ensures.1;
+  parts = sub_trees tree prefix (get_or c.args.items.now c.args.place B) (drop (c.args.place + 1) c.args.items.now) rest
+      (first_item c.args.items.now one rest c.args.place (tree_within c.args.items.now c.args.place c.requires.tree) splits) c.in-Some.ensures.0;
+  right = subst (λ (item : Item). IsRight c.args.graph.now c.args.limits.now c.args.best.now.cut prefix item) c.in-Some.ensures.0 ((c.is_right.ensures prefix stands).0 c.if-not-is_right.false);
+}
+
+pub check_tree-requires : goal.check_tree-requires
+check_tree-requires t c =
+    let prefix = c.requires.standing.0 in
+    let stands = c.requires.standing.1 in
+    let here = c.requires.tree in
+    let b = branch_at t (goal.at.check_tree-requires t c).In-Some prefix here.one here.rest here.tree stands here.is_split in (
+      omega (arith, c.in-Some.ensures.1.below, c.with.ensures.place),
+      (
+        (true ∷ prefix, c.with.ensures.stands c.args.graph.now prefix stands b.next),
+        (c.requires.measured, (c.requires.few, record { one = b.parts.first; rest = b.parts.second ++ here.rest; is_split = b.parts.is_tail; tree = b.parts.first_tree })),
+      ),
+    )
+
+pub returns-in_err-end : goal.returns-in_err-end
+returns-in_err-end t c prefix one rest tree stands splits =
+    let b = branch_at t (goal.at.returns-in_err-end t c).In-Some prefix one rest tree stands splits in
+    let first = c.in_err-end.ensures (true ∷ prefix) b.parts.first (b.parts.second ++ rest) b.parts.first_tree (c.with.ensures.stands c.args.graph.now prefix stands b.next) b.parts.is_tail in
+    let p = err_from_is_err_and c.from_residual.result c.from_residual.ensures.1 in
+    rw (p.1, p.2) (judged_by_first c.args.graph.now c.args.limits.now c.args.best.now.cut tree prefix _ rest b.parts b.right c.args.place c.in_err-end.field-0.0 first)
+
+pub check_tree-requires-2 : goal.check_tree-requires-2
+check_tree-requires-2 t c =
+    let prefix = c.requires.standing.0 in
+    let stands = c.requires.standing.1 in
+    let here = c.requires.tree in
+    let b = branch_at t (goal.at.check_tree-requires-2 t c).In-Some prefix here.one here.rest here.tree stands here.is_split in
+    let first = c.in_ok-end.ensures (true ∷ prefix) b.parts.first (b.parts.second ++ here.rest) b.parts.first_tree (c.with.ensures.stands c.args.graph.now prefix stands b.next) b.parts.is_tail in
+    let behind = behind_first c.args.items.now here.rest (c.args.place + 1) c.in_ok-end.end b.parts first.1 in (
+      omega (arith, c.in-Some.ensures.1.below, c.without.ensures.place),
+      (
+        (false ∷ prefix, c.without.ensures.stands c.args.graph.now prefix stands b.next),
+        (c.requires.measured, (c.requires.few, record { one = b.parts.second; rest = here.rest; is_split = behind; tree = b.parts.second_tree })),
+      ),
+    )
+
+pub returns : goal.returns
+returns t c prefix one rest tree stands splits =
+    let b = branch_at t (goal.at.returns t c).In-Some prefix one rest tree stands splits in
+    let first = c.in_ok-end.ensures (true ∷ prefix) b.parts.first (b.parts.second ++ rest) b.parts.first_tree (c.with.ensures.stands c.args.graph.now prefix stands b.next) b.parts.is_tail in
+    let second = c.check_tree-2.ensures (false ∷ prefix) b.parts.second rest b.parts.second_tree (c.without.ensures.stands c.args.graph.now prefix stands b.next)
+    (behind_first c.args.items.now rest (c.args.place + 1) c.in_ok-end.end b.parts first.1) in
+    judged_by_second c.args.graph.now c.args.limits.now c.args.best.now.cut tree prefix _ rest b.parts b.right c.args.place c.in_ok-end.end c.check_tree-2.result first second

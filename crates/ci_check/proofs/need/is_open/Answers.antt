@@ -1,0 +1,20 @@
+use Rattle.std.proofs.Common.{rules, w64, SFits, ◌<ℤ◌, sym, ◌∙◌, true≢false, subst}
+use Rattle.ci_check.proofs.GainTests.{less_by_test, test_of_less}
+use Rattle.ci_check.proofs.NeedLaws.{open_by_bound, bound_of_open}
+use Rattle.ci_check.proofs.need.is_open.Goals as goal
+
+pub returns-then-is_bounded : goal.returns-then-is_bounded
+returns-then-is_bounded c prefix stands reached =
+    let graph = c.args.graph.now in
+    let bounded : SFits w64 c.bound.result = search rules in
+    let gained : SFits w64 c.args.reached = search rules in
+    let is = c.bound.ensures prefix stands in (
+      λ e. open_by_bound graph stands.kept c.args.limits.now prefix c.args.reached reached ((c.is_bounded.ensures prefix stands).0 c.if-is_bounded.true) (subst (λ z. c.args.reached <ℤ z) is (less_by_test _ _ gained bounded e)),
+      λ is_open. test_of_less _ _ gained bounded (subst (λ z. c.args.reached <ℤ z) (sym is) (bound_of_open graph stands.kept c.args.limits.now prefix c.args.reached reached is_open)),
+    )
+
+pub returns-else-is_bounded : goal.returns-else-is_bounded
+returns-else-is_bounded c prefix stands reached = (
+  λ e. absurd (true≢false (sym e ∙ c.if-is_bounded.false)),
+  λ is_open. (c.is_bounded.ensures prefix stands).1 (record { convex = is_open.convex; outputs_within = is_open.outputs_within; inputs_within = is_open.inputs_within }),
+)

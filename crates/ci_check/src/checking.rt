@@ -1,0 +1,89 @@
+//! The checker of logs.
+ghost use Rattle.std.specs.Prelude.{◌≡◌, ◌↔◌, ◌^◌, ◌<◌, ◌≤◌, List, ◌++◌, drop, length, MatchOption, IsOk, IfErr, OnOk};
+ghost use Rattle.std.specs.FinSet as set;
+ghost use Rattle.ci_cut.specs.Best.{IsBest, HasNoCut};
+ghost use Rattle.ci_log.specs.declared.log.Item.{Item};
+ghost use Rattle.ci_log.specs.Trees.{IsTree};
+ghost use Rattle.ci_check.specs.Prefixes.{Prefix};
+ghost use Rattle.ci_check.specs.Rules.{stations, IsAccepted, IsFirstWrong};
+ghost use Rattle.ci_check.specs.Standing.{Stands, IsStanding, IsMeasured, IsTreeAt, IsJudged, IsBranchOn};
+
+use crate::choices::Choices;
+use crate::rules::{Best, good_best, is_right, reason_of};
+use ci_cut::{Graph, Limits};
+use ci_log::{Item, Log};
+use ci_word::Row;
+
+/// The first wrong item of a log.
+#[derive(Clone, Copy, Debug, PartialEq, Eq)]
+pub struct Wrong {
+    /// Its number in preorder, from 0.
+    pub item: u32,
+    /// Which rule it breaks:
+    ///
+    /// - 7, at item 0 and before all others: `best` is given and is not a set of nodes that fits with positive gain;
+    /// - 1: `O` stands at a prefix whose outputs are within the limit;
+    /// - 2: `C` stands at a prefix whose set is convex;
+    /// - 3: `I` stands at a prefix whose settled inputs are within the limit;
+    /// - 4: `G` stands at a prefix whose bound is greater than the best's gain, or equal to it where the prefix doesn't
+    ///   come after the best;
+    /// - 5: `F` stands at a choice that isn't complete, or at one that is a better cut than the best;
+    /// - 6: `B` stands at a complete choice.
+    pub reason: u8,
+}
+
+/// Whether the log shows that the cut is the best one, or that there is none; or the first item that shows nothing.
+pub fn check(graph: &Graph, limits: &Limits, best: Option<Row>, log: &Log) -> Result<(), Wrong>
+    ensures accepted { IsOk result ↔ IsAccepted graph.now limits.now best log.now }
+    ensures wrong { IfErr result (IsFirstWrong graph.now limits.now best log.now) }
+    ensures best { OnOk result (MatchOption best (HasNoCut graph.now limits.now)
+        (λ cut. IsBest graph.now limits.now (set.contains cut))) }
+{
+    let Some(best) = good_best(graph, limits, best) else {
+        return Err(Wrong { item: 0, reason: 7 });
+    };
+    check_tree(graph, limits, &best, log.items(), 0, &Choices::none(graph))?;
+    Ok(())
+}
+
+/// Checks the items of the tree that begins at `place`, at these choices, and answers where the tree ends.
+fn check_tree(
+    graph: &Graph,
+    limits: &Limits,
+    best: &Best,
+    items: &[Item],
+    place: usize,
+    choices: &Choices,
+) -> Result<usize, Wrong>
+    requires standing { IsStanding graph.now choices.now }
+    requires measured { IsMeasured graph.now limits.now best.now }
+    requires few { length items.now < 2 ^ 32 }
+    requires tree { IsTreeAt items.now place }
+    ensures { (prefix : Prefix) (one rest : List Item) (tree : IsTree one) → Stands graph.now prefix choices.now
+        → drop place items.now ≡ one ++ rest
+        → IsJudged graph.now limits.now best.now.cut (stations tree prefix) place result }
+{
+    let item = items[place];
+    if !is_right(graph, limits, best, choices, item) {
+        return Err(Wrong {
+            item: place as u32,
+            reason: reason_of(item),
+        });
+    }
+    let Some(node) = branch_on(graph, choices, item) else {
+        return Ok(place + 1);
+    };
+    let end = check_tree(graph, limits, best, items, place + 1, &choices.with(node))?;
+    check_tree(graph, limits, best, items, end, &choices.without(node))
+}
+
+/// The node that the item branches on, or `None` where it is a leaf or all nodes are decided.
+fn branch_on(graph: &Graph, choices: &Choices, item: Item) -> Option<u8>
+    requires { choices.now.place ≤ length graph.now.nodes }
+    ensures { IsBranchOn graph.now choices.now.place item result }
+{
+    match item {
+        Item::B => choices.next(graph),
+        Item::O | Item::C | Item::I | Item::G | Item::F => None,
+    }
+}
