@@ -1,0 +1,3 @@
+pub mod BoundedMap
+pub mod Cells
+pub mod Lending
