@@ -6,5 +6,6 @@ pub mod Exact
 pub mod FirstFaults
 pub mod Forests
 pub mod Numbers
+pub mod RegionTreeLaws
 pub mod Repetition
 pub mod Total

@@ -1,5 +1,7 @@
 pub mod Books
 pub mod Faults
+pub mod Listed
 pub mod Reading
+pub mod RegionTrees
 pub mod Stored
 pub mod Trees

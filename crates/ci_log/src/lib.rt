@@ -23,6 +23,7 @@
 
 pub use book::{Entry, Finish, LogBook};
 pub use faults::LogFault;
+pub use flattening::{Child, LogNode, flatten};
 pub use laws::{
     a_book_has_one_text, a_text_has_a_book_or_a_fault, a_text_has_one_book, a_text_has_one_fault,
     a_text_with_a_book_has_no_fault,
@@ -34,6 +35,7 @@ pub use writing::write;
 mod book;
 mod entries;
 mod faults;
+mod flattening;
 mod laws;
 mod log;
 mod reading;

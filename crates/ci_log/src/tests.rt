@@ -1,9 +1,11 @@
-//! A book of two searches and a take, a longer book, and faults of texts.
+//! A book of two searches and a take, a longer book, faults of texts, and a tree in a region.
 use crate::book::{Entry, Finish};
 use crate::faults::LogFault;
+use crate::flattening::{Child, LogNode, flatten};
 use crate::log::Item;
 use crate::reading::read;
 use crate::writing::write;
+use ci_region::Region;
 use std::test::Fail;
 
 const TEXT: &[u8] =
@@ -191,4 +193,22 @@ fn the_first_fault(rt: HostRuntime) {
             _ => assert!(rt; false, "{text}"),
         }
     }
+}
+
+#[test]
+fn tree_in_a_region(rt: HostRuntime) -> Result<(), Fail> {
+    let mut region = Region::with_capacity(rt.alloc(), 2)?;
+    let below = region.take(LogNode {
+        taken: Child::Leaf(Item::C),
+        left_out: Child::Leaf(Item::F),
+    })?;
+    let root = region.take(LogNode {
+        taken: Child::Inner(below),
+        left_out: Child::Leaf(Item::G),
+    })?;
+    assert_eq!(rt; region.used(), 2);
+    let log = flatten(rt.alloc(), &region, Child::Inner(root))?;
+    let items = [Item::B, Item::B, Item::C, Item::F, Item::G];
+    assert_eq!(rt; log.items(), items.as_slice());
+    Ok(())
 }
