@@ -172,7 +172,7 @@ module _ (graph : FlowGraph) (flows : IsFlowGraph graph) (limits : Limits) where
 
 -- ---- the walk
 
-continuations-more : (undecided left : ℕ) (prefix : Prefix) → undecided ≡ suc left → continuations undecided prefix ≡ (prefix ∷ (continuations left (true ∷ prefix) ++ continuations left (false ∷ prefix)))
+pub continuations-more : (undecided left : ℕ) (prefix : Prefix) → undecided ≡ suc left → continuations undecided prefix ≡ (prefix ∷ (continuations left (true ∷ prefix) ++ continuations left (false ∷ prefix)))
 unfolding continuations
 continuations-more undecided left prefix one_less = ap (λ (n : ℕ). continuations n prefix) one_less
 

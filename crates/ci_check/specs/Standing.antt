@@ -1,4 +1,4 @@
--- For private contracts only: what the code holds of a prefix, and of the best cut and a log.
+-- What the code holds of a prefix, and of the best cut and a log.
 use Rattle.std.specs.Prelude.{◌≡◌, ℕ, suc, ◌+◌, ◌<◌, ◌≤◌, Bool, ◌⊎◌, List, ◌++◌, drop, length, IsTrue, Option, None, Some, Result, Ok, Err}
 use Rattle.std.specs.List.{AllByRecursion}
 use Rattle.std.specs.FinSet as set

@@ -5,13 +5,17 @@
 //! node. `check` looks at each item of a log by itself, and `needs_more` tells whether a search needs more branches than
 //! a budget.
 //!
+//! What a search keeps of a prefix is told as the checker tells it: `Choices`, `Best` and `is_right` serve both.
+//!
 //! The definitions in `specs` say what a prefix is and what bounds the sets that go on from it (`Prefixes`), how many
 //! prefixes are open (`Need`), and when a log is accepted (`Rules`).
 #![tactic(auto)]
 
 pub use checking::{Wrong, check};
+pub use choices::Choices;
 pub use laws::each_item_has_one_prefix;
 pub use need::needs_more;
+pub use rules::{Best, is_right};
 
 mod checking;
 mod choices;

@@ -1,0 +1,4 @@
+pub mod BranchLaws
+pub mod LogLaws
+pub mod SearchLaws
+pub mod AnswerLaws

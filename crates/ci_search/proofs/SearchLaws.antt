@@ -1,0 +1,147 @@
+-- What a search has found at a prefix, from what it has found behind it.
+use Rattle.std.proofs.Common.{◌≡◌, ℕ, suc, ◌+◌, ◌<◌, ◌≤◌, true, false, IsTrue, [], ◌∷◌, ◌++◌, length, refl, sym, ◌∙◌, subst, arith, ℤ}
+use Rattle.ci_region.specs.BoundedMap.{BoundedMap, used}
+use Rattle.ci_cut.specs.declared.graph.Limits.{Limits}
+use Rattle.ci_cut.specs.FlowGraph.{FlowGraph, IsFlowGraph}
+use Rattle.ci_log.specs.declared.log.Item.{Item}
+use Rattle.ci_log.specs.declared.log.Item.TheVariants.{B, F}
+use Rattle.ci_log.specs.declared.flattening.Child.{Child}
+use Rattle.ci_log.specs.declared.flattening.Child.TheVariants.{Leaf}
+use Rattle.ci_log.specs.declared.flattening.LogNode.{LogNode}
+use Rattle.ci_log.specs.RegionTrees.{at_leaf}
+use Rattle.ci_check.specs.declared.choices.Choices.{Choices}
+use Rattle.ci_check.specs.declared.rules.Best.{Best}
+use Rattle.ci_check.specs.Prefixes.{Prefix, eligible_nodes, is_next}
+use Rattle.ci_check.specs.Need.{IsOpen, HasOpen, counted, passed, continuations}
+use Rattle.ci_check.specs.Rules.{IsRight}
+use Rattle.ci_check.specs.Standing.{Stands, IsMeasured}
+use Rattle.ci_check.specs.Walked.{IsWalked}
+use Rattle.ci_check.proofs.StandingLaws.{same_taken}
+use Rattle.ci_check.proofs.NeedLaws.{open_left, open_both, open_fewer, reached_whole, reached_in, reached_between, walked_whole, walked_closed, walked_both, continuations-more}
+use Rattle.ci_search.specs.declared.searching.Searched.{Searched}
+use Rattle.ci_search.specs.Answered.{free}
+use Rattle.ci_search.specs.Searched.{undecided, IsReady, IsBar, IsBetterOf, IsSpentAt}
+use Rattle.ci_search.specs.Trees.{IsSearched}
+use Rattle.ci_search.specs.Branches.{AreTreesOf, IsBranch}
+use Rattle.ci_search.proofs.LogLaws.{bar_closes, logged_bar, bar_is_leaf, logged_whole, reached_with_whole, after_in, after_between, logged_branch}
+
+-- the same walk, counted from one more
+one_later : {graph : FlowGraph} {limits : Limits} (prefix : Prefix) (left budget start end : ℕ) (before after : ℤ)
+    → IsWalked graph limits budget left prefix (record { «open» = start; reached = before }) (record { «open» = end; reached = after })
+    → end ≤ budget → (other last : ℕ) → last ≡ end + 1
+    → IsWalked graph limits other left prefix (record { «open» = start + 1; reached = before }) (record { «open» = last; reached = after })
+one_later prefix left budget start end before after walked within other last is = record {
+  count = walked.count;
+  is_open = omega (arith, walked.is_open);
+  found = walked.found;
+  all = λ _. walked.all within;
+  reached = λ _. walked.reached within;
+}
+
+module _ (graph : FlowGraph) (limits : Limits) (prefix : Prefix) (choices : Choices) (best : Best) (ready : IsReady graph limits choices best prefix) (is : IsMeasured graph limits best)
+    (region : BoundedMap LogNode) where
+  flows : IsFlowGraph graph
+  flows = ready.stands.kept
+
+  -- ---- leaves
+
+  pub searched_whole : used region ≤ region.capacity → eligible_nodes graph ≤ length prefix → (after : Best) → IsBetterOf graph limits best choices.taken after
+      → IsSearched graph limits prefix best region region (record { best = after; root = Leaf F })
+  searched_whole within whole after better = record {
+    items = F ∷ [];
+    tree = at_leaf tt;
+    same_capacity = refl;
+    within = within;
+    logged = logged_whole graph flows limits best after is choices.taken prefix (same_taken graph prefix choices ready.stands) ready.after_best whole better;
+    walked = walked_whole graph flows limits region.capacity prefix (undecided graph prefix) (omega arith) _ _ refl
+        (reached_whole graph flows limits prefix best.gain whole after.gain ready.reached
+        (reached_with_whole graph flows limits best after is choices.taken prefix (same_taken graph prefix choices ready.stands) ready.after_best better));
+  }
+
+  pub searched_bar : used region ≤ region.capacity → (item : Item) → IsBar item → IsRight graph limits best.cut prefix item
+      → IsSearched graph limits prefix best region region (record { best = best; root = Leaf item })
+  searched_bar within item bar right = record {
+    items = item ∷ [];
+    tree = at_leaf (bar_is_leaf graph flows limits best is prefix item bar);
+    same_capacity = refl;
+    within = within;
+    logged = logged_bar graph flows limits best is prefix ready.after_best item bar right;
+    walked = walked_closed graph flows limits region.capacity prefix (undecided graph prefix) _
+        (bar_closes graph flows limits best is prefix ready.reached item bar right) ready.reached;
+  }
+
+  -- ---- a branch
+
+  module _ (node : ℕ) (next : IsTrue (is_next graph prefix node)) (some : length prefix < eligible_nodes graph) where
+    pub ready_in : (with_node : Choices) → Stands graph (true ∷ prefix) with_node → IsReady graph limits with_node best (true ∷ prefix)
+    ready_in with_node stands = record {
+      stands = stands;
+      after_best = after_in graph flows limits prefix node next best.cut ready.after_best;
+      reached = reached_in graph flows limits prefix best.gain ready.reached;
+    }
+
+    one_less : undecided graph prefix ≡ suc (undecided graph (true ∷ prefix))
+    one_less = omega arith
+
+    more_open : (n : ℕ) → HasOpen graph limits n (prefix ∷ (continuations (undecided graph (true ∷ prefix)) (true ∷ prefix) ++ continuations (undecided graph (false ∷ prefix)) (false ∷ prefix)))
+        → HasOpen graph limits n (continuations (undecided graph prefix) prefix)
+    more_open n = subst (HasOpen graph limits n) (sym (continuations-more (undecided graph prefix) (undecided graph (true ∷ prefix)) prefix one_less))
+
+    pub spent_in : (after : BoundedMap LogNode) → IsSpentAt graph limits (true ∷ prefix) region after → IsSpentAt graph limits prefix region after
+    spent_in after (same, found) = (same, more_open _ (passed (open_left graph limits found (continuations (undecided graph (false ∷ prefix)) (false ∷ prefix)))))
+
+    module _ (between : BoundedMap LogNode) (in_found : Searched) (first : IsSearched graph limits (true ∷ prefix) best region between in_found) where
+      pub ready_out : (without_node : Choices) → Stands graph (false ∷ prefix) without_node → IsReady graph limits without_node in_found.best (false ∷ prefix)
+      ready_out without_node stands = record {
+        stands = stands;
+        after_best = after_between graph flows limits prefix node next in_found.best.cut first.logged.passed;
+        reached = reached_between graph flows limits prefix in_found.best.gain node next (first.walked.reached (omega (arith, first.within, first.same_capacity)));
+      }
+
+      -- what is left once the first tree is given back
+      pub given_in : (after last : BoundedMap LogNode) → after ≡ between → last ≡ record after { values = region.values } → last ≡ region
+      given_in after last same given =
+          given
+          ∙ (λ i. record { values = region.values; capacity = (same i).capacity })
+          ∙ (λ i. record { values = region.values; capacity = first.same_capacity i })
+
+      pub spent_out : (after last : BoundedMap LogNode) → IsSpentAt graph limits (false ∷ prefix) between after → last ≡ region → IsSpentAt graph limits prefix region last
+      spent_out after last (same, found) back = (
+        back,
+        more_open _ (passed (open_fewer graph limits (open_both graph limits (continuations (undecided graph (false ∷ prefix)) (false ∷ prefix)) first.walked.found found)
+            (suc (free region)) (omega (arith, first.walked.is_open, first.same_capacity)))),
+      )
+
+      module _ (after : BoundedMap LogNode) (out_found : Searched) (second : IsSearched graph limits (false ∷ prefix) in_found.best between after out_found) where
+        pub trees : AreTreesOf after in_found.root out_found.root first.items second.items region.values
+        trees = record { between = between.values; out_tree = second.tree; in_tree = first.tree }
+
+        pub given_both : (last : BoundedMap LogNode) → last ≡ record after { values = region.values } → last ≡ region
+        given_both last given =
+            given
+            ∙ (λ i. record { values = region.values; capacity = second.same_capacity i })
+            ∙ (λ i. record { values = region.values; capacity = first.same_capacity i })
+
+        pub spent_here : IsOpen graph limits prefix → used after ≡ after.capacity → (last : BoundedMap LogNode) → last ≡ region → IsSpentAt graph limits prefix region last
+        spent_here is_open full last back = (
+          back,
+          more_open _ (open_fewer graph limits (counted is_open (open_both graph limits (continuations (undecided graph (false ∷ prefix)) (false ∷ prefix)) first.walked.found second.walked.found))
+              (suc (free region)) (omega (arith, first.walked.is_open, second.walked.is_open, first.same_capacity, second.same_capacity))),
+        )
+
+        pub searched_branch : IsOpen graph limits prefix → (last : BoundedMap LogNode) (root : Child) → IsBranch after last in_found.root out_found.root root
+            → IsSearched graph limits prefix best region last (record { best = out_found.best; root = root })
+        searched_branch is_open last root joined = record {
+          items = B ∷ (first.items ++ second.items);
+          tree = joined.tree first.items second.items region.values trees;
+          same_capacity = joined.same_capacity ∙ second.same_capacity ∙ first.same_capacity;
+          within = omega (arith, joined.one_more, joined.was_free, joined.same_capacity);
+          logged = logged_branch graph flows limits prefix node next best in_found.best out_found.best first.items second.items first.logged second.logged some;
+          walked = walked_both graph flows limits region.capacity prefix (undecided graph prefix) (undecided graph (true ∷ prefix)) one_less is_open
+              (record { «open» = used region; reached = best.gain }) (record { «open» = used region + 1; reached = best.gain }) refl
+              (record { «open» = used between + 1; reached = in_found.best.gain })
+              (one_later (true ∷ prefix) _ _ _ _ _ _ first.walked (omega (arith, first.within, first.same_capacity)) region.capacity _ refl)
+              (record { «open» = used last; reached = out_found.best.gain })
+              (one_later (false ∷ prefix) _ _ _ _ _ _ second.walked (omega (arith, second.within, second.same_capacity)) region.capacity _ joined.one_more)
+              node next;
+        }

@@ -1,0 +1,125 @@
+//! The search.
+ghost use Rattle.std.specs.Prelude.{◌≡◌, ◌↔◌, ℕ, ◌≤◌, MatchOption, Some};
+ghost use Rattle.std.specs.FinMap as map;
+ghost use Rattle.ci_region.specs.BoundedMap.{used};
+ghost use Rattle.ci_check.specs.Prefixes.{Prefix};
+ghost use Rattle.ci_check.specs.Need.{NeedExceeds};
+ghost use Rattle.ci_check.specs.Standing.{IsMeasured};
+ghost use Rattle.ci_log.specs.declared.flattening.LogNode.{LogNode};
+ghost use Rattle.ci_search.specs.Answered.{free, IsAnswer, IsSpent, IsOptimal};
+ghost use Rattle.ci_search.specs.Searched.{IsReady, IsSpentAt};
+ghost use Rattle.ci_search.specs.Trees.{IsSearched, answer_of};
+
+use crate::leaves::{better_of, closing_item};
+use crate::trees::{branch, give_back};
+use ci_check::{Best, Choices};
+use ci_cut::{Graph, Limits};
+use ci_log::{Child, Item, LogNode};
+use ci_region::Region;
+use ci_word::Row;
+
+/// What a search finds.
+#[derive(Clone, Copy, Debug, PartialEq, Eq)]
+pub enum Found {
+    /// The best cut, and the tree of a log that shows that it is.
+    Best {
+        /// The cut.
+        cut: Row,
+        /// The tree, which lies in the region.
+        root: Child,
+    },
+    /// No set of nodes that fits has a positive gain, as the tree of a log shows.
+    NoCut {
+        /// The tree, which lies in the region.
+        root: Child,
+    },
+    /// More branches are needed than slots were free.
+    Spent {
+        /// How many slots were free.
+        budget: u32,
+    },
+}
+
+/// Searches for the best cut, and writes a log into the region.
+///
+/// Slots that were live hold what they held, and the others that are live then are those of the tree. After `Spent`
+/// there are none of these.
+pub fn search(graph: &Graph, limits: &Limits, region: &mut Region<LogNode>) -> Found
+    ensures answer { IsAnswer graph.now limits.now region.old region.new result }
+    ensures spent { IsSpent result ↔ NeedExceeds graph.now limits.now (free region.old) }
+    ensures best { IsOptimal graph.now limits.now result }
+    ensures kept { (slot : ℕ) (node : LogNode) → map.get region.old.values slot ≡ Some node
+        → map.get region.new.values slot ≡ Some node }
+    ensures capacity { region.new.capacity ≡ region.old.capacity }
+{
+    let budget = region.capacity() - region.used();
+    let none = Best { cut: None, gain: 0 };
+    let searched = search_from(graph, limits, region, &Choices::none(graph), &none);
+    answer_of(searched, budget)
+}
+
+/// What a search answers that has passed all sets, or that spent this budget.
+fn answer_of(searched: Option<Searched>, budget: u32) -> Found
+    ensures { result ≡ answer_of searched budget }
+{
+    let Some(Searched { best, root }) = searched else {
+        return Found::Spent { budget };
+    };
+    match best.cut {
+        Some(cut) => Found::Best { cut, root },
+        None => Found::NoCut { root },
+    }
+}
+
+/// What a search has found once it passed all sets that go on from a prefix.
+#[derive(Clone, Copy)]
+struct Searched {
+    /// The best cut so far.
+    best: Best,
+    /// The tree of the prefix.
+    root: Child,
+}
+
+/// Searches among the sets that go on from the choices, with this best cut so far. `None` where slots are wanting.
+fn search_from(
+    graph: &Graph,
+    limits: &Limits,
+    region: &mut Region<LogNode>,
+    choices: &Choices,
+    best: &Best,
+) -> Option<Searched>
+    requires measured { IsMeasured graph.now limits.now best.now }
+    requires ready { (prefix : Prefix) × IsReady graph.now limits.now choices.now best.now prefix }
+    requires within { used region.old ≤ region.old.capacity }
+    ensures { (prefix : Prefix) → IsReady graph.now limits.now choices.now best.now prefix
+        → MatchOption result (IsSpentAt graph.now limits.now prefix region.old region.new)
+        (IsSearched graph.now limits.now prefix best.now region.old region.new) }
+{
+    let Some(node) = choices.next(graph) else {
+        return Some(Searched {
+            best: better_of(graph, limits, best, &choices.taken),
+            root: Child::Leaf(Item::F),
+        });
+    };
+    if let Some(item) = closing_item(graph, limits, best, choices) {
+        return Some(Searched {
+            best: *best,
+            root: Child::Leaf(item),
+        });
+    }
+    let Some(taken) = search_from(graph, limits, region, &choices.with(node), best) else {
+        return None;
+    };
+    let Some(left_out) = search_from(graph, limits, region, &choices.without(node), &taken.best)
+    else {
+        give_back(region, taken.root);
+        return None;
+    };
+    let Some(root) = branch(region, taken.root, left_out.root) else {
+        return None;
+    };
+    Some(Searched {
+        best: left_out.best,
+        root,
+    })
+}
