@@ -9,6 +9,7 @@ use Rattle.ci_elf.specs.declared.ranges.Range.{Range}
 use Rattle.ci_elf.specs.declared.segments.Segment.{Segment}
 use Rattle.ci_elf.specs.Executables.{Executable, InText, IsLoaded, IsWellFormed}
 use Rattle.ci_elf.specs.Fields.{field}
+use Rattle.ci_elf.proofs.ImageLaws.{loaded_from, loaded_to}
 use Rattle.ci_block.specs.Loading.{IsFromDataWords, IsFromSegments, end_word, first_word, segment_at}
 use Rattle.ci_block.specs.Marking.{AreTextRanges}
 use Rattle.ci_block.specs.Sources.{IsFromData}
@@ -123,8 +124,8 @@ module _ (image : Executable) where
         before = there.1;
         words = rw is (record {
           number = number;
-          from = omega (arith, byte.from, f.word.aligned);
-          to = omega (arith, byte.to, f.word.aligned);
+          from = omega (arith, loaded_from byte.segment (f.place + 0) byte.loads, f.word.aligned);
+          to = omega (arith, loaded_to byte.segment (f.place + 0) byte.loads, f.word.aligned);
           word = subst (λ p. IsDataWord image p a) (sym place) f.word;
         });
       }

@@ -1,10 +1,10 @@
 -- What the segments of an image load from its file.
-use Rattle.std.proofs.Common.{◌≡◌, ◌≢◌, ℕ, suc, zero, ◌+◌, ◌-◌, ◌<◌, ◌≤◌, ◌⊎◌, inl, inr, true, List, [], ◌∷◌, ◌++◌, length, take, drop, get_or, refl, sym, ◌∙◌, ap, subst, arith, length-append, length-take, length-drop, le-leb, lt-ltb, true≢false, append_assoc}
+use Rattle.std.proofs.Common.{◌≡◌, ◌≢◌, ℕ, suc, zero, ◌+◌, ◌-◌, ◌<◌, ◌≤◌, ◌⊎◌, inl, inr, List, [], ◌∷◌, ◌++◌, length, take, drop, get_or, refl, sym, ◌∙◌, ap, subst, arith, length-append, length-take, length-drop, le-leb, lt-ltb, true≢false, append_assoc}
 use Rattle.std.proofs.lemmas.List.{append-nil, take_rest, drop_all, drop-drop}
 use borrow.Rule.Slice.PartMut.{put_mid}
 use Rattle.byteorder.specs.Endian.{little_bytes}
 use Rattle.byteorder.specs.Numbers.{length-bytes_low_first}
-use Rattle.std.specs.Prelude.{nat_le, nat_lt}
+use Rattle.std.specs.Prelude.{nat_le, nat_lt, IsTrue}
 use Rattle.std.specs.List.{AllPairs, Contains}
 use Rattle.std.specs.List.Sorted.{IsPermutation}
 use Rattle.std.proofs.lemmas.Bool.{cases_lt, cases_Bool, leb-true, ltb-true}
@@ -15,19 +15,19 @@ use Rattle.ci_elf.specs.declared.segments.Segment.{Segment}
 use Rattle.ci_elf.specs.Checks.{IsLastBefore}
 use Rattle.ci_elf.specs.SectionChecks.{AreLaidOut}
 use Rattle.ci_elf.specs.Executables.{Executable, IsLoaded, IsTextWord, IsWellFormed, ShareNoMemory, with_word, has_in_file, place_of}
-use Rattle.ci_elf.specs.Places.{IsSound, LoadsByte, IsLoadedFrom}
+use Rattle.ci_elf.specs.Places.{IsSound, IsLoadedFrom}
 use Rattle.ci_elf.proofs.SegmentLaws.{both}
 use Rattle.ci_elf.proofs.RangeLaws.{left_of}
 
--- the test whether a segment has a byte in the file
-has_true : (s : Segment) (address : ℕ) → LoadsByte s address → has_in_file s address ≡ true
-has_true s address h = rw (le-leb s.address address h.from, lt-ltb address (s.address + s.file_size) h.to) refl
+-- the test whether a segment has a byte in the file, by the bounds of its file part
+pub loads_between : (s : Segment) (address : ℕ) → s.address ≤ address → address < s.address + s.file_size → IsTrue (has_in_file s address)
+loads_between s address from to = rw (le-leb s.address address from, lt-ltb address (s.address + s.file_size) to) refl
 
-has_means : (s : Segment) (address : ℕ) → has_in_file s address ≡ true → LoadsByte s address
-has_means s address h = record {
-  from = leb-true s.address address (left_of (nat_le s.address address) (nat_lt address (s.address + s.file_size)) h);
-  to = ltb-true address (s.address + s.file_size) (both (nat_le s.address address) (nat_lt address (s.address + s.file_size)) h);
-}
+pub loaded_from : (s : Segment) (address : ℕ) → IsTrue (has_in_file s address) → s.address ≤ address
+loaded_from s address h = leb-true s.address address (left_of (nat_le s.address address) (nat_lt address (s.address + s.file_size)) h)
+
+pub loaded_to : (s : Segment) (address : ℕ) → IsTrue (has_in_file s address) → address < s.address + s.file_size
+loaded_to s address h = ltb-true address (s.address + s.file_size) (both (nat_le s.address address) (nat_lt address (s.address + s.file_size)) h)
 
 pub contains_tail : (t : Segment) (ts : List Segment) (s : Segment) → Contains ts s → Contains (t ∷ ts) s
 contains_tail t ts s c = (suc c.0, omega (arith, c.1), c.2)
@@ -38,24 +38,24 @@ contained_later t ts s (suc k) h e other = (k, omega arith, e)
 
 -- the place of a byte that a segment loads, where all that load it are one
 pub place_found :
-    (segments : List Segment) (address : ℕ) (s : Segment) → Contains segments s → LoadsByte s address
-    → ((t : Segment) → Contains segments t → LoadsByte t address → t ≡ s) → place_of segments address ≡ s.offset + (address - s.address)
+    (segments : List Segment) (address : ℕ) (s : Segment) → Contains segments s → IsTrue (has_in_file s address)
+    → ((t : Segment) → Contains segments t → IsTrue (has_in_file t address) → t ≡ s) → place_of segments address ≡ s.offset + (address - s.address)
 unfolding place_of
 place_found [] address s c loads only = absurd (omega (arith, c.1))
 place_found (t ∷ ts) address s c loads only = elim (cases_Bool (has_in_file t address)) [
-  | inl is ↦ rw is (ap (λ r. r.offset + (address - r.address)) (only t (0, omega arith, refl) (has_means t address is)))
+  | inl is ↦ rw is (ap (λ r. r.offset + (address - r.address)) (only t (0, omega arith, refl) is))
   | inr is ↦
-      let other : t ≢ s = λ same. true≢false (sym (has_true s address loads) ∙ ap (λ r. has_in_file r address) (sym same) ∙ is) in
+      let other : t ≢ s = λ same. true≢false (sym loads ∙ ap (λ r. has_in_file r address) (sym same) ∙ is) in
       rw is (place_found ts address s (contained_later t ts s c.0 c.1 c.2 other) loads (λ r d. only r (contains_tail t ts r d)))
 ]
 
 -- ---- segments in the order of their addresses
 
 pub loader : (segments : List Segment) (address : ℕ) (candidate s : Segment) → AreLaidOut segments → IsLastBefore segments address candidate
-    → Contains segments s → LoadsByte s address → s ≡ candidate
+    → Contains segments s → IsTrue (has_in_file s address) → s ≡ candidate
 loader segments address candidate s layout last c loads =
     let full : s.file_size ≤ s.memory_size = layout.filled s c in
-    layout.one s candidate c last.among (last.last s c loads.from) (omega (arith, last.before, loads.to))
+    layout.one s candidate c last.among (last.last s c (loaded_from s address loads)) (omega (arith, last.before, loaded_to s address loads))
 
 pub layout_permuted : (xs ys : List Segment) → IsPermutation xs ys → AreLaidOut xs → AreLaidOut ys
 layout_permuted xs ys moved layout = record {
@@ -88,15 +88,15 @@ module _ (image : Executable) (formed : IsWellFormed image) where
   layout_of = record { filled = formed.filled; one = one }
 
   -- what loads a byte is one segment
-  only_loader : (address : ℕ) (s : Segment) → Contains image.segments s → LoadsByte s address → (t : Segment) → Contains image.segments t → LoadsByte t address → t ≡ s
+  only_loader : (address : ℕ) (s : Segment) → Contains image.segments s → IsTrue (has_in_file s address) → (t : Segment) → Contains image.segments t → IsTrue (has_in_file t address) → t ≡ s
   only_loader address s c loads t d others = elim (cases_lt s.address t.address) [
-    | inl l ↦ sym (one s t c d (omega arith) (omega (arith, loads.to, others.from, formed.filled s c)))
-    | inr l ↦ one t s d c l (omega (arith, others.to, loads.from, formed.filled t d))
+    | inl l ↦ sym (one s t c d (omega arith) (omega (arith, loaded_to s address loads, loaded_from t address others, formed.filled s c)))
+    | inr l ↦ one t s d c l (omega (arith, loaded_to t address others, loaded_from s address loads, formed.filled t d))
   ]
 
   -- a segment loads each word of the text, which lies in the file
   pub word_loader : (address : ℕ) → IsTextWord image.ranges address
-      → (s : Segment) × Contains image.segments s × LoadsByte s address × (s.offset + (address - s.address) + 4 ≤ length image.bytes)
+      → (s : Segment) × Contains image.segments s × IsTrue (has_in_file s address) × (s.offset + (address - s.address) + 4 ≤ length image.bytes)
   word_loader address (aligned, held) =
       let range = held.1 in
       let c : Contains image.ranges range = (held.0, held.2, held.3) in
@@ -104,7 +104,7 @@ module _ (image : Executable) (formed : IsWellFormed image) where
       let loads = l.2 in (
         l.0,
         l.1,
-        record { from = omega (arith, loads.from, held.4.0); to = omega (arith, loads.to, held.4.1) },
+        loads_between l.0 address (omega (arith, loads.from, held.4.0)) (omega (arith, loads.to, held.4.1)),
         omega (arith, aligned, formed.aligned range c, held.4.0, held.4.1, loads.from, loads.to, loads.in_file),
       )
 
@@ -143,7 +143,7 @@ module _ (image : Executable) (by_address : List Segment) (sound : IsSound image
 
   module _ (address : ℕ) where
     abbrev pub Unloaded : Type 0
-    Unloaded = (s : Segment) → Contains by_address s → ¬ LoadsByte s address
+    Unloaded = (s : Segment) → Contains by_address s → ¬ IsTrue (has_in_file s address)
 
     pub word_is_loaded : IsTextWord image.ranges address → ¬ Unloaded
     word_is_loaded text none =
@@ -151,7 +151,7 @@ module _ (image : Executable) (by_address : List Segment) (sound : IsSound image
         none l.0 (among l.0 l.1) l.2
 
     module _ (place : ℕ) (from : IsLoadedFrom by_address address place) where
-      one_loader : (s : Segment) → Contains image.segments s → LoadsByte s address → s ≡ from.segment
+      one_loader : (s : Segment) → Contains image.segments s → IsTrue (has_in_file s address) → s ≡ from.segment
       one_loader = only_loader image sound.well_formed address from.segment (of_image from.segment from.there) from.loads
 
       pub place_is : place ≡ place_of image.segments address
@@ -167,14 +167,15 @@ module _ (image : Executable) (by_address : List Segment) (sound : IsSound image
 
       pub byte_in_file : place < length image.bytes
       byte_in_file =
-          omega (arith, from.is, from.loads.from, from.loads.to, sound.well_formed.in_file from.segment (of_image from.segment from.there) (omega (arith, from.loads.from, from.loads.to)))
+          let start = loaded_from from.segment address from.loads in
+          let end = loaded_to from.segment address from.loads in
+          omega (arith, from.is, start, end, sound.well_formed.in_file from.segment (of_image from.segment from.there) (omega (arith, start, end)))
 
       pub is_loaded : (byte : ℕ) → byte ≡ get_or image.bytes place byte → IsLoaded image address byte
       is_loaded byte is = record {
         segment = from.segment;
         there = of_image from.segment from.there;
-        from = from.loads.from;
-        to = from.loads.to;
+        loads = from.loads;
         byte = ap (λ k. get_or image.bytes k 0) (sym from.is) ∙ sym (get_or_read image.bytes place byte byte_in_file is 0);
       }
 
@@ -182,10 +183,10 @@ module _ (image : Executable) (by_address : List Segment) (sound : IsSound image
       only_byte found byte is l =
           get_or_read image.bytes place found byte_in_file is 0 ∙ ap (λ k. get_or image.bytes k 0) from.is
           ∙ subst (λ (s : Segment). get_or image.bytes (s.offset + (address - s.address)) 0 ≡ byte)
-          (one_loader l.segment l.there (record { from = l.from; to = l.to })) l.byte
+          (one_loader l.segment l.there l.loads) l.byte
 
     pub not_loaded : Unloaded → (byte : ℕ) → ¬ IsLoaded image address byte
-    not_loaded none byte l = none l.segment (among l.segment l.there) (record { from = l.from; to = l.to })
+    not_loaded none byte l = none l.segment (among l.segment l.there) l.loads
 
 -- what a write of a word leaves
 pub written :

@@ -1,5 +1,5 @@
 -- What an executable file means: its segments, its text and its symbols.
-use Rattle.std.specs.Prelude.{◌≡◌, ℕ, ◌+◌, ◌-◌, ◌*◌, ◌/◌, ◌%◌, ◌<◌, ◌≤◌, ◌⊎◌, ◌&&◌, Bool, if◌then◌else◌, List, [], ◌∷◌, ◌++◌, length, take, drop, nat_lt, nat_le, slice_index, slice_index_or}
+use Rattle.std.specs.Prelude.{◌≡◌, ℕ, ◌+◌, ◌-◌, ◌*◌, ◌/◌, ◌%◌, ◌<◌, ◌≤◌, ◌⊎◌, ◌&&◌, Bool, if◌then◌else◌, List, [], ◌∷◌, ◌++◌, length, take, drop, nat_lt, nat_le, slice_index, slice_index_or, IsTrue}
 use Rattle.std.specs.List.{AllPairs, Any, Contains, sum_by}
 use Rattle.std.specs.List.Sorted.{IsPermutation}
 use Rattle.ci_elf.specs.declared.segments.Segment.{Segment}
@@ -113,8 +113,7 @@ place_of (segment ∷ segments) address =
 pub record IsLoaded (image : Executable) (address value : ℕ) : Type 0 where
   pub segment : Segment
   pub there : Contains image.segments segment
-  pub from : segment.address ≤ address
-  pub to : address < segment.address + segment.file_size
+  pub loads : IsTrue (has_in_file segment address)
   pub byte : slice_index image.bytes (segment.offset + (address - segment.address)) ≡ value
 
 -- the bytes with the word at this place

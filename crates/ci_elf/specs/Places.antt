@@ -1,9 +1,9 @@
 -- The segments of an image by address, and what they load, for the model of `Image` and private contracts.
-use Rattle.std.specs.Prelude.{◌≡◌, ℕ, ◌+◌, ◌-◌, ◌<◌, ◌≤◌, List}
+use Rattle.std.specs.Prelude.{◌≡◌, ℕ, ◌+◌, ◌-◌, List, IsTrue}
 use Rattle.std.specs.List.{Contains}
 use Rattle.std.specs.List.Sorted.{IsNonDecreasingBy, IsPermutation}
 use Rattle.ci_elf.specs.declared.segments.Segment.{Segment}
-use Rattle.ci_elf.specs.Executables.{Executable, IsWellFormed}
+use Rattle.ci_elf.specs.Executables.{Executable, IsWellFormed, has_in_file}
 
 -- these are the segments of a well-formed image, in the order of their addresses
 pub record IsSound (image : Executable) (by_address : List Segment) : Type 0 where
@@ -11,14 +11,9 @@ pub record IsSound (image : Executable) (by_address : List Segment) : Type 0 whe
   pub order : IsNonDecreasingBy (λ s. s.address) by_address
   pub same : IsPermutation image.segments by_address
 
--- the segment loads the byte at the address from the file
-pub record LoadsByte (segment : Segment) (address : ℕ) : Type 0 where
-  pub from : segment.address ≤ address
-  pub to : address < segment.address + segment.file_size
-
 -- one of the segments loads the byte at the address from this place of the file
 pub record IsLoadedFrom (segments : List Segment) (address place : ℕ) : Type 0 where
   pub segment : Segment
   pub there : Contains segments segment
-  pub loads : LoadsByte segment address
+  pub loads : IsTrue (has_in_file segment address)
   pub is : place ≡ segment.offset + (address - segment.address)

@@ -1,10 +1,10 @@
 //! An executable file and what it means.
-ghost use Rattle.std.specs.Prelude.{◌≡◌, ◌+◌, ◌≤◌, length, MatchOption};
+ghost use Rattle.std.specs.Prelude.{◌≡◌, ◌+◌, ◌≤◌, length, MatchOption, IsTrue};
 ghost use Rattle.std.specs.List.{Contains};
 ghost use Rattle.std.specs.List.Sorted.{IsNonDecreasingBy};
-ghost use Rattle.ci_elf.specs.Executables.{with_word};
+ghost use Rattle.ci_elf.specs.Executables.{has_in_file, with_word};
 ghost use Rattle.ci_elf.specs.SectionChecks.{AreLaidOut};
-ghost use Rattle.ci_elf.specs.Places.{IsLoadedFrom, LoadsByte};
+ghost use Rattle.ci_elf.specs.Places.{IsLoadedFrom};
 
 use crate::fields::word_at;
 use crate::memory::{by_address, segment_before};
@@ -43,7 +43,7 @@ impl Model for Image {
 fn place_in(segments: &[Segment], address: u32) -> Option<usize>
     requires order { IsNonDecreasingBy (λ segment. segment.address) segments.now }
     requires layout { AreLaidOut segments.now }
-    ensures { MatchOption result ((s : _) → Contains segments.now s → ¬ (LoadsByte s address))
+    ensures { MatchOption result ((s : _) → Contains segments.now s → ¬ IsTrue (has_in_file s address))
         (IsLoadedFrom segments.now address) }
 {
     let segment = segment_before(segments, address)?;
@@ -66,7 +66,8 @@ fn write_word(bytes: &mut [u8], place: usize, word: u32)
 impl Image {
     ghost use Rattle.std.specs.Prelude.{◌≡◌, ℕ, ◌+◌, ◌≤◌, ◌↔◌, length, Some, IfOk, IfSome, IsTrue};
     ghost use Rattle.ci_elf.specs.Fields.{field};
-    ghost use Rattle.ci_elf.specs.Executables.{InText, IsLoaded, executable, IsTextWord, IsWellFormed, place_of, with_word};
+    ghost use Rattle.ci_elf.specs.Executables.{executable, place_of, with_word};
+    ghost use Rattle.ci_elf.specs.Executables.{InText, IsLoaded, IsTextWord, IsWellFormed};
 
     /// The image of these parts.
     pub(crate) fn new(

@@ -1,11 +1,11 @@
 use Rattle.std.proofs.Common.{◌+◌, ◌<◌, refl, subst, arith}
 use Rattle.ci_elf.specs.declared.segments.Segment.{Segment}
-use Rattle.ci_elf.proofs.ImageLaws.{loader}
+use Rattle.ci_elf.proofs.ImageLaws.{loaded_from, loaded_to, loader, loads_between}
 use Rattle.ci_elf.proofs.image.place_in.Goals as goal
 
 pub returns-in_err-segment : goal.returns-in_err-segment
 returns-in_err-segment c =
-    rw c.from_residual.ensures (λ s there loads. omega (arith, c.in_err-segment.ensures s there, loads.from))
+    rw c.from_residual.ensures (λ s there loads. omega (arith, c.in_err-segment.ensures s there, loaded_from s c.args.address loads))
 
 pub returns-then-distance-segment : goal.returns-then-distance-segment
 returns-then-distance-segment c =
@@ -13,7 +13,7 @@ returns-then-distance-segment c =
     record {
       segment = c.in_ok-segment.segment;
       there = last.among;
-      loads = record { from = last.before; to = omega (arith, last.before, c.if-distance-segment.true) };
+      loads = loads_between c.in_ok-segment.segment c.args.address last.before (omega (arith, last.before, c.if-distance-segment.true));
       is = refl;
     }
 
@@ -21,5 +21,5 @@ pub returns-else-distance-segment : goal.returns-else-distance-segment
 returns-else-distance-segment c s there loads =
     let one = loader c.args.segments.now c.args.address c.in_ok-segment.segment s c.requires.layout c.in_ok-segment.ensures there loads in
     let to : c.args.address < c.in_ok-segment.segment.address + c.in_ok-segment.segment.file_size =
-    subst (λ (t : Segment). c.args.address < t.address + t.file_size) one loads.to in
+    subst (λ (t : Segment). c.args.address < t.address + t.file_size) one (loaded_to s c.args.address loads) in
     omega (arith, to, c.if-distance-segment.false, c.in_ok-segment.ensures.before)
