@@ -88,9 +88,6 @@ module _ (image : Executable) (first n : ℕ) (value : Option ℕ)
 -- ---- segment after segment
 
 module _ (image : Executable) where
-  pub from_no_segments : (a : ℕ) → ¬ IsFromSegments image 0 a
-  from_no_segments a f = omega (arith, f.before)
-
   pub from_segment : (count a : ℕ)
       → IsFromSegments image count a
       ⊎ IsFromDataWords image (first_word (segment_at image.segments count)) (end_word (segment_at image.segments count)) a

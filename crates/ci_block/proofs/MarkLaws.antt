@@ -100,11 +100,6 @@ module _ (old new : Marks) (address place : ℕ) (same : new.places ≡ old.plac
 
 -- ---- what is added
 
-module _ (old : Marks) where
-  pub nothing_added : (P : ℕ → Type 0) → ((a : ℕ) → IsTextWord old.places.ranges.items a → ¬ P a) → Adds old old P
-  nothing_added P none =
-      record { ranges = refl; kept = λ a m. m; added = λ a text p. absurd (none a text p); only = λ a m. inl m }
-
 -- the property may be another where it is equivalent
 pub added_as : (old new : Marks) (P Q : ℕ → Type 0) → Adds old new P → ((a : ℕ) → P a → Q a) → ((a : ℕ) → Q a → P a) → Adds old new Q
 added_as old new P Q adds to from = record {

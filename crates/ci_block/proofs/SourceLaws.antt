@@ -12,9 +12,6 @@ use Rattle.ci_block.proofs.InsnLaws.{stands_alone}
 use Rattle.ci_block.proofs.RangeLaws.{apart, holder, nowhere, number_of, range_there}
 
 module _ (image : Executable) (start : ℕ) where
-  pub from_no_words : (a : ℕ) → ¬ IsFromWords image start 0 a
-  from_no_words a f = omega (arith, f.before)
-
   module _ (count : ℕ) (insn : Insn) (stands : StandsAt image (start + 4 * count) insn) (a : ℕ) where
     pub from_word : IsFromWords image start count a ⊎ Leads (start + 4 * count) insn a → IsFromWords image start (count + 1) a
     from_word (inl f) = record { word = f.word; before = omega (arith, f.before); insn = f.insn; stands = f.stands; leads = f.leads }
@@ -31,9 +28,6 @@ module _ (image : Executable) (start : ℕ) where
     ]
 
 module _ (image : Executable) where
-  pub from_no_ranges : (a : ℕ) → ¬ IsFromRanges image 0 a
-  from_no_ranges a f = omega (arith, f.before)
-
   pub from_range : (count a : ℕ)
       → IsFromRanges image count a ⊎ IsFromWords image (range_at image.ranges count).start (range_at image.ranges count).words a
       → IsFromRanges image (count + 1) a
@@ -81,9 +75,6 @@ module _ (image : Executable) where
 -- ---- where ranges meet
 
 module _ (ranges : List Range) where
-  pub from_no_meeting : (a : ℕ) → ¬ IsFromMeeting ranges 1 a
-  from_no_meeting a f = omega (arith, f.before, f.some)
-
   module _ (count : ℕ) (some : 0 < count) (below : count < length ranges) (a : ℕ) where
     pub from_meeting : IsFromMeeting ranges count a ⊎ Meets (range_at ranges (count - 1)) (range_at ranges count) a → IsFromMeeting ranges (count + 1) a
     from_meeting (inl f) = record { index = f.index; some = f.some; before = omega (arith, f.before); within = f.within; meets = f.meets }
