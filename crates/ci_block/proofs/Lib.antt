@@ -1,4 +1,5 @@
 pub mod RangeLaws
+pub mod CustomLaws
 pub mod PlaceLaws
 pub mod MarkLaws
 pub mod ListingLaws

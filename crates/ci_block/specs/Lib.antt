@@ -1,4 +1,5 @@
 pub mod Text
+pub mod CustomWords
 pub mod Leaders
 pub mod Blocks
 pub mod Marking
@@ -7,5 +8,6 @@ pub mod Marks
 pub mod Sources
 pub mod Loading
 pub mod Listing
+pub mod CustomSearch
 pub mod Stretches
 pub mod Laws

@@ -1,7 +1,7 @@
 //! Files, their leaders and their blocks.
 ghost use Rattle.std.specs.Prelude.{◌≡◌, ◌+◌, ◌<◌, ◌≤◌, length, vec_len};
 
-use crate::{Blocks, Next, leaders, split};
+use crate::{Blocks, CustomWord, Next, first_custom_word, leaders, split};
 use byteorder::{ByteOrder, LittleEndian};
 use ci_elf::{Image, frame, read};
 use std::alloc::{AllocError, Global};
@@ -294,5 +294,19 @@ fn successors_count_where_they_are_words_of_the_text(rt: HostRuntime) -> Result<
         nexts_of(&rt, alloc, &[0x0000_0163, NOP])?.as_slice(),
         [Next::One(0x10078), Next::Stop].as_slice()
     );
+    Ok(())
+}
+
+#[test]
+fn the_first_word_of_a_custom_opcode(rt: HostRuntime) -> Result<(), Fail> {
+    let alloc = rt.alloc();
+    let none = image_of(&rt, alloc, &[NOP; 2], &[])?;
+    assert_eq!(rt; first_custom_word(&none), None);
+    let some = image_of(&rt, alloc, &[NOP, 0x8000_102b, 0x0000_000b], &[])?;
+    let first = CustomWord {
+        address: 0x10078,
+        word: 0x8000_102b,
+    };
+    assert_eq!(rt; first_custom_word(&some), Some(first));
     Ok(())
 }
