@@ -1,5 +1,6 @@
 pub mod Sets
 pub mod Liveness
+pub mod Analyses
 pub mod Bits
 pub mod Flows
 pub mod Found
