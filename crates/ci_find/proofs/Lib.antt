@@ -5,7 +5,6 @@ mod Writes
 mod Makes
 mod FormLaws
 mod OneBlock
-mod CustomLaws
 mod WordLaws
 mod ListedLaws
 mod BlockGraphs

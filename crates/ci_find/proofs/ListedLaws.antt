@@ -7,9 +7,9 @@ use Rattle.std.proofs.lemmas.List.{get_or-map, length-map}
 use Rattle.ci_isa.specs.declared.instruction.Insn.{Insn}
 use Rattle.ci_elf.specs.Executables.{Executable}
 use Rattle.ci_block.specs.declared.blocks.Block.{Block}
+use Rattle.ci_block.specs.CustomWords.{HasNoCustomWord}
 use Rattle.ci_live.specs.Sets.{Sets, after_block}
-use Rattle.ci_find.specs.Analyses.{IsAnalysis}
-use Rattle.ci_find.specs.CustomWords.{HasNoCustomWord}
+use Rattle.ci_live.specs.Analyses.{IsAnalysis}
 use Rattle.ci_find.specs.ListedBlocks.{IsListedBlock, IsNoListedBlock, no_leader}
 
 -- ---- lists

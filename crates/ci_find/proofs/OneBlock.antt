@@ -18,7 +18,7 @@ use Rattle.ci_block.proofs.OneBlock.{block_is_one}
 use Rattle.ci_block.proofs.OneListing.{listing_is_one}
 use Rattle.ci_find.proofs.ListedLaws.{mapped_there}
 use Rattle.ci_find.specs.BestCommand.{HoldsBlock, HoldsNoBlock, IsUnsupported, no_block, too_many, eligible_count, most_eligible}
-use Rattle.ci_find.specs.CustomWords.{HasNoCustomWord, IsFirstCustomWord}
+use Rattle.ci_block.specs.CustomWords.{HasNoCustomWord, IsFirstCustomWord}
 use Rattle.ci_find.specs.ListedBlocks.{IsListedBlock, IsNoListedBlock, custom_word, no_leader}
 use Rattle.ci_find.specs.WordBlocks.{IsWordBlock, IsNoWordBlock, IsMisplaced}
 

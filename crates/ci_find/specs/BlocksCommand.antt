@@ -9,10 +9,10 @@ use Rattle.ci_text.specs.Members.{members_text}
 use Rattle.ci_elf.specs.Executables.{Executable, IsImageOf}
 use Rattle.ci_block.specs.declared.blocks.Block.{Block}
 use Rattle.ci_block.specs.Blocks.{size_of}
+use Rattle.ci_block.specs.CustomWords.{HasNoCustomWord, IsFirstCustomWord}
+use Rattle.ci_live.specs.Analyses.{IsAnalysis}
 use Rattle.ci_live.specs.Sets.{Sets, at_leader}
 use Rattle.ci_words.specs.Words.{Settings}
-use Rattle.ci_find.specs.Analyses.{IsAnalysis}
-use Rattle.ci_find.specs.CustomWords.{HasNoCustomWord, IsFirstCustomWord}
 use Rattle.ci_find.specs.Files.{executable_input}
 use Rattle.ci_find.specs.Inputs.{Input}
 use Rattle.ci_find.specs.Lines.{unsupported_line}

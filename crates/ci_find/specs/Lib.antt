@@ -4,8 +4,6 @@ pub mod Forms
 pub mod Inputs
 pub mod Success
 pub mod Files
-pub mod CustomWords
-pub mod Analyses
 pub mod WordBlocks
 pub mod ListedBlocks
 pub mod BestCommand
@@ -16,7 +14,6 @@ pub mod RunCommand
 pub mod Commands
 pub mod Endings
 pub mod Faults
-pub mod CustomSearch
 pub mod BlockErrs
 pub mod BlockFiles
 pub mod Finish

@@ -6,10 +6,10 @@ use Rattle.std.specs.Ordering.{nat_cmp}
 use Rattle.ci_isa.specs.declared.instruction.Insn.{Insn}
 use Rattle.ci_elf.specs.Executables.{Executable}
 use Rattle.ci_block.specs.declared.blocks.Block.{Block}
+use Rattle.ci_block.specs.CustomWords.{HasNoCustomWord, IsFirstCustomWord}
 use Rattle.ci_block.specs.Leaders.{IsListing}
+use Rattle.ci_live.specs.Analyses.{IsAnalysis}
 use Rattle.ci_live.specs.Sets.{Sets, after_block}
-use Rattle.ci_find.specs.Analyses.{IsAnalysis}
-use Rattle.ci_find.specs.CustomWords.{HasNoCustomWord, IsFirstCustomWord}
 
 module _ (file : Executable) (named : List ℕ) (address : ℕ) where
   -- The file has this block at the address, and these registers are live after it. `named` are the addresses that the

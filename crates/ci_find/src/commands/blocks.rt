@@ -3,9 +3,9 @@ ghost use Rattle.std.specs.Prelude.{◌≡◌, ◌++◌, [], IfOk, IfErr, OnOk, 
 ghost use Rattle.std.specs.List.{flat_map, Contains};
 ghost use Rattle.std.specs.String.{string_bytes};
 ghost use Rattle.ci_block.specs.declared.blocks.Block.{Block as BasicBlock};
+ghost use Rattle.ci_block.specs.CustomWords.{IsFirstCustomWord};
 ghost use Rattle.ci_find.specs.BlockErrs.{IsCause};
 ghost use Rattle.ci_find.specs.BlocksCommand.{IsBlocksText, block_line};
-ghost use Rattle.ci_find.specs.CustomWords.{IsFirstCustomWord};
 ghost use Rattle.ci_find.specs.Faults.{Makes, MakesNothing, blocks_by, reads_between};
 ghost use Rattle.ci_find.specs.Finish.{success_of};
 

@@ -1,7 +1,7 @@
 -- The lines of the blocks of the executable that the file holds, or why there are none.
 use Rattle.std.proofs.Common.{[], ◌∷◌, map, inl, ap, refl}
 use Rattle.std.proofs.lemmas.Result.{err_from_is_err_and}
-use Rattle.ci_find.specs.CustomWords.{IsFirstCustomWord}
+use Rattle.ci_block.specs.CustomWords.{IsFirstCustomWord}
 use Rattle.ci_find.specs.Faults.{blocks_by, reads_between}
 use Rattle.ci_find.specs.Finish.{written_of}
 use Rattle.ci_find.proofs.Causes.{unmade_by}

@@ -3,7 +3,7 @@ use Rattle.std.proofs.Common.{◌∙◌, subst, sym}
 use Rattle.std.specs.List.{Contains}
 use Rattle.std.proofs.lemmas.Result.{err_from_is_err_and}
 use Rattle.ci_block.specs.declared.blocks.Block.{Block}
-use Rattle.ci_find.specs.CustomWords.{IsFirstCustomWord}
+use Rattle.ci_block.specs.CustomWords.{IsFirstCustomWord}
 use Rattle.ci_find.specs.ListedBlocks.{IsNoListedBlock, custom_word}
 use Rattle.ci_find.proofs.Causes.{IsCause-weaker}
 use Rattle.ci_find.proofs.ListedLaws.{listed, short, unlisted}

@@ -1,5 +1,0 @@
-use Rattle.ci_find.specs.CustomSearch.{HasNoCustomWordIn}
-use Rattle.ci_find.proofs.analysis.first_custom_word_in.Given as goal
-
-abbrev pub invariant-loop-place : goal.invariant-loop-place
-invariant-loop-place l = HasNoCustomWordIn l.image l.index l.place
