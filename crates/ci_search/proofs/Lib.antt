@@ -2,3 +2,4 @@ pub mod BranchLaws
 pub mod LogLaws
 pub mod SearchLaws
 pub mod AnswerLaws
+pub mod EnoughLaws

@@ -1,8 +1,8 @@
 //! The search.
-ghost use Rattle.std.specs.Prelude.{◌≡◌, ◌↔◌, ℕ, ◌≤◌, MatchOption, Some};
+ghost use Rattle.std.specs.Prelude.{◌≡◌, ◌↔◌, ℕ, ◌≤◌, ◌^◌, MatchOption, Some};
 ghost use Rattle.std.specs.FinMap as map;
 ghost use Rattle.ci_region.specs.BoundedMap.{used};
-ghost use Rattle.ci_check.specs.Prefixes.{Prefix};
+ghost use Rattle.ci_check.specs.Prefixes.{Prefix, eligible_nodes};
 ghost use Rattle.ci_check.specs.Need.{NeedExceeds};
 ghost use Rattle.ci_check.specs.Standing.{IsMeasured};
 ghost use Rattle.ci_log.specs.declared.flattening.LogNode.{LogNode};
@@ -43,10 +43,11 @@ pub enum Found {
 /// Searches for the best cut, and writes a log into the region.
 ///
 /// Slots that were live hold what they held, and the others that are live then are those of the tree. After `Spent`
-/// there are none of these.
+/// there are none of these. As many free slots as a graph has sets of eligible nodes are always enough.
 pub fn search(graph: &Graph, limits: &Limits, region: &mut Region<LogNode>) -> Found
     ensures answer { IsAnswer graph.now limits.now region.old region.new result }
     ensures spent { IsSpent result ↔ NeedExceeds graph.now limits.now (free region.old) }
+    ensures enough { 2 ^ eligible_nodes graph.now ≤ free region.old → ¬ IsSpent result }
     ensures best { IsOptimal graph.now limits.now result }
     ensures kept { (slot : ℕ) (node : LogNode) → map.get region.old.values slot ≡ Some node
         → map.get region.new.values slot ≡ Some node }

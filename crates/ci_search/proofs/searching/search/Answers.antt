@@ -4,6 +4,7 @@ use Rattle.ci_search.specs.declared.searching.Found.{Found}
 use Rattle.ci_search.specs.Answered.{free, IsAnswer, IsSpent, IsOptimal}
 use Rattle.ci_search.specs.Searched.{IsSpentAt}
 use Rattle.ci_search.specs.Trees.{IsSearched}
+use Rattle.ci_search.proofs.EnoughLaws.{enough}
 use Rattle.ci_search.proofs.AnswerLaws.{none_ready, answer_is, spent_is, optimal_is, kept_is, capacity_is}
 use Rattle.ci_search.proofs.searching.search.Goals as goal
 
@@ -23,6 +24,10 @@ pub returns-clause-spent : goal.returns-clause-spent
 returns-clause-spent c =
     subst (λ (found : Found). IsSpent found ↔ NeedExceeds c.args.graph.now c.args.limits.now (free c.args.region.now)) (sym c.answer_of.ensures)
     (spent_is c.args.graph.now c.none.ensures.kept c.args.limits.now c.args.region.now c.search_from-searched.new.region c.search_from-searched.result _ (ended c))
+
+pub returns-clause-enough : goal.returns-clause-enough
+returns-clause-enough c = λ fits spent.
+    enough c.args.graph.now c.args.limits.now (free c.args.region.now) fits ((returns-clause-spent c).0 spent)
 
 pub returns-clause-best : goal.returns-clause-best
 returns-clause-best c =
