@@ -1,14 +1,9 @@
 -- Why there is no answer on a block.
-use Rattle.std.proofs.Common.{ℕ, inl, inr, List, Option, refl, sym, subst}
-use Rattle.std.specs.FinSet as set
-use Rattle.std.specs.Ordering.{nat_cmp}
-use Rattle.ci_isa.specs.declared.instruction.Insn.{Insn}
+use Rattle.std.proofs.Common.{ℕ, inl, inr, List, refl}
 use Rattle.ci_words.specs.Words.{Reading}
 use Rattle.ci_find.specs.declared.analysis.BlockErr.{BlockErr}
 use Rattle.ci_find.specs.declared.analysis.BlockErr.TheVariants.{Unsupported, NoMemory}
-use Rattle.ci_find.specs.BestCommand.{HoldsBlock, IsUnsupported, too_many, eligible_count}
 use Rattle.ci_find.specs.BlockErrs.{IsCause, refusal_of}
-use Rattle.ci_find.specs.BlockFiles.{IsTooMany}
 use Rattle.ci_find.specs.Commands.{inputs_of, IsUnmade}
 use Rattle.ci_find.specs.Faults.{MakesNothing, Reads}
 use Rattle.ci_find.specs.Inputs.{AreRead}
@@ -18,12 +13,6 @@ use Rattle.ci_find.specs.Lines.{unsupported_line}
 pub IsCause-weaker : (P Q : ℕ → ℕ → Type 0) → ((position word : ℕ) → P position word → Q position word) → (error : BlockErr) → IsCause P error → IsCause Q error
 IsCause-weaker P Q follows (Unsupported position word) is = follows position word is
 IsCause-weaker P Q follows NoMemory is = tt
-
--- a block with too many eligible instructions has no answer
-pub unsupported_by_number : (at : Option ℕ) (named bytes : List ℕ) (insns : List Insn) (live_out : set.FinSet nat_cmp) → HoldsBlock at named bytes insns live_out → (position word : ℕ) → IsTooMany insns position word → IsUnsupported at named bytes position word
-unsupported_by_number at named bytes insns live_out held position word many =
-    subst (λ p. IsUnsupported at named bytes p word) (sym many.1)
-    (subst (IsUnsupported at named bytes (eligible_count insns)) (sym many.2) (too_many insns live_out held many.0))
 
 -- of files that are all read a command makes nothing for such a cause
 module _ (reads : Reads) (reading : Reading) (read : List (List ℕ)) (files : AreRead reads.told (inputs_of reading) read) (P : ℕ → ℕ → Type 0) (unmade : (position word : ℕ) → P position word → IsUnmade reading read 7 (unsupported_line position word)) where

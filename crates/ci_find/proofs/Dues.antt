@@ -13,7 +13,7 @@ use Rattle.ci_find.specs.Inputs.{Input, IsGood, AreRead, IsRefusedFile, absent, 
 use Rattle.ci_find.specs.Success.{Success}
 use Rattle.ci_words.proofs.Readings.{one_reading}
 use Rattle.ci_find.proofs.FormLaws.{text_or_fault, kept_or_broken}
-use Rattle.ci_find.proofs.OneBlock.{answered_or_not, custom_or_none}
+use Rattle.ci_find.proofs.OneBlock.{custom_or_none, held_or_none}
 
 -- ---- one file
 
@@ -100,8 +100,8 @@ module _ (held : Files) where
 made_or_unmade : (reading : Reading) (read : List (List ℕ)) (success : Success) (status : ℕ) (text : List ℕ) → IsMade reading read success → IsUnmade reading read status text → ⊥
 made_or_unmade (best name settings) read success status text made is =
     let same : made.bytes ≡ is.bytes = let lists : made.bytes ∷ optional_bytes made.table ≡ is.bytes ∷ is.others = sym made.read_is ∙ is.read_is in cc in
-    answered_or_not settings.at settings.leaders is.bytes made.insns made.live_out is.position is.word
-    (subst (λ bytes. HoldsBlock settings.at settings.leaders bytes made.insns made.live_out) same made.block) made.few is.unsupported
+    held_or_none settings.at settings.leaders is.bytes made.insns made.live_out is.position is.word
+    (subst (λ bytes. HoldsBlock settings.at settings.leaders bytes made.insns made.live_out) same made.block) is.unsupported
 made_or_unmade (asm name out) read success status text made is = is
 made_or_unmade (dis name) read success status text made is = is
 made_or_unmade (run name settings) read success status text made is = is

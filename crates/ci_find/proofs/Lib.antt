@@ -7,7 +7,6 @@ mod FormLaws
 mod OneBlock
 mod WordLaws
 mod ListedLaws
-mod BlockGraphs
 mod Causes
 mod Dues
 mod Runs

@@ -1,5 +1,5 @@
 -- What commands read.
-use Rattle.std.proofs.Common.{◌≡◌, ◌≢◌, ℕ, ◌≤◌, inl, inr, Bool, List, [], ◌∷◌, ◌++◌, length, Option, Some, Result, Ok, Err, IfOk, refl, subst, arith}
+use Rattle.std.proofs.Common.{◌≡◌, ◌≢◌, ℕ, ◌≤◌, inl, inr, Bool, List, [], ◌∷◌, ◌++◌, length, Option, Some, Result, Ok, Err, IfOk, refl, sym, subst, arith}
 use Rattle.std.specs.Prelude.{Vec}
 use Rattle.std.specs.declared.alloc.Global.{Global}
 use Rattle.ci_io.specs.Outcomes.{Files, ShelfState}
@@ -85,11 +85,15 @@ table_given told name (Err refusal) read = tt
 
 -- ---- options
 
--- the number of steps that values set is in its range
-number_fits : (values : List (List ℕ)) (n : ℕ) → Sets (number 1 4294967296 16777216) values (to_number n) → n ≤ 4294967296
-number_fits [] n is = omega (arith, is)
-number_fits (text ∷ more) n is = is.2
+-- the number that values set is in its range, where the usual one is
+number_fits : (least greatest usual : ℕ) → usual ≤ greatest → (values : List (List ℕ)) (n : ℕ) → Sets (number least greatest usual) values (to_number n) → n ≤ greatest
+number_fits least greatest usual fits [] n is = subst (λ k. k ≤ greatest) (sym is) fits
+number_fits least greatest usual fits (text ∷ more) n is = is.2
 
--- so is that of a reading
-pub steps_fit : (words : List (List ℕ)) (reading : Reading) → ReadsAs words reading → (settings_of reading).steps ≤ 4294967296
-steps_fit words reading reads = number_fits _ _ (reads.set option.steps)
+-- so are those of a reading
+module _ (words : List (List ℕ)) (reading : Reading) (reads : ReadsAs words reading) where
+  pub steps_fit : (settings_of reading).steps ≤ 4294967296
+  steps_fit = number_fits 1 4294967296 16777216 (omega arith) _ _ (reads.set option.steps)
+
+  pub budget_fits : (settings_of reading).budget ≤ 4194304
+  budget_fits = number_fits 1 4194304 65536 (omega arith) _ _ (reads.set option.budget)

@@ -1,14 +1,12 @@
 -- The command `best`: the best cut of a block, which is that of a file of words, or one of an executable file.
-use Rattle.std.specs.Prelude.{◌≡◌, ℕ, ◌<◌, ◌≤◌, List, [], ◌∷◌, Option, Some, None, length}
+use Rattle.std.specs.Prelude.{◌≡◌, ℕ, List, [], ◌∷◌, Option, Some, None}
 use Rattle.std.specs.FinSet as set
 use Rattle.std.specs.Ordering.{nat_cmp}
-use Rattle.ci_word.specs.Numbers.{count_below}
 use Rattle.ci_isa.specs.declared.instruction.Insn.{Insn}
-use Rattle.ci_isa.specs.Effects.{may_join}
 use Rattle.ci_elf.specs.Executables.{Executable, IsImageOf}
 use Rattle.ci_lat.specs.Latencies.{Latencies}
 use Rattle.ci_cut.specs.declared.graph.Limits.{Limits}
-use Rattle.ci_dfg.specs.BlockGraph.{graph_of, insn_at}
+use Rattle.ci_dfg.specs.BlockGraph.{graph_of}
 use Rattle.ci_words.specs.Words.{Settings}
 use Rattle.ci_find.specs.Files.{executable_input, table_input, optional_input, optional_bytes, AreGiven, AreLatencies}
 use Rattle.ci_find.specs.Forms.{any_bytes}
@@ -37,29 +35,13 @@ HoldsNoBlock None named bytes position word = IsNoWordBlock bytes position word
 HoldsNoBlock (Some address) named bytes position word =
     (file : Executable) × IsImageOf bytes file × IsNoListedBlock file named address position word
 
--- how many of the instructions may be members of a cut
-abbrev pub eligible_count : List Insn → ℕ
-eligible_count insns = count_below (length insns) (λ k. may_join (insn_at insns k))
-
--- of so many every set is tried
-abbrev pub most_eligible : ℕ
-most_eligible = 12
-
--- Why there is no answer, as a position and a word: the file holds no block; or too many of the block's instructions may
--- be members of a cut, and then their number is the position and the word is 0.
-pub data IsUnsupported (at : Option ℕ) (named bytes : List ℕ) : ℕ → ℕ → Type 0 where
-  no_block : {position word : ℕ} → HoldsNoBlock at named bytes position word → IsUnsupported at named bytes position word
-  too_many :
-      (insns : List Insn) (live_out : set.FinSet nat_cmp) → HoldsBlock at named bytes insns live_out
-      → most_eligible < eligible_count insns → IsUnsupported at named bytes (eligible_count insns) 0
-
 -- ---- the command
 
 -- the file with the block, and the table
 abbrev pub best_inputs : List ℕ → Settings → List Input
 best_inputs file settings = block_input settings.at file ∷ optional_input table_input settings.table
 
--- it puts the line of the best cut of the block within the limits, by the latencies of the table
+-- it puts the line of the best cut of the block within the limits and the budget, by the latencies of the table
 pub record IsBestMade (settings : Settings) (read : List (List ℕ)) (success : Success) : Type 0 where
   pub bytes : List ℕ
   pub table : Option (List ℕ)
@@ -70,11 +52,10 @@ pub record IsBestMade (settings : Settings) (read : List (List ℕ)) (success : 
   pub latencies : Latencies
   pub limits : Limits
   pub block : HoldsBlock settings.at settings.leaders bytes insns live_out
-  pub few : eligible_count insns ≤ most_eligible
   pub latencies_are : AreLatencies table latencies
   pub inputs_are : limits.inputs ≡ settings.inputs
   pub outputs_are : limits.outputs ≡ settings.outputs
-  pub line : IsBestLine (graph_of insns live_out latencies) limits success.text
+  pub line : IsBestLine (graph_of insns live_out latencies) limits settings.budget success.text
   pub writes_none : success.writes ≡ []
 
 -- the status and the fault line where there is no answer for the block's file
@@ -84,6 +65,6 @@ pub record IsBestRefused (settings : Settings) (read : List (List ℕ)) (status 
   pub position : ℕ
   pub word : ℕ
   pub read_is : read ≡ bytes ∷ others
-  pub unsupported : IsUnsupported settings.at settings.leaders bytes position word
+  pub unsupported : HoldsNoBlock settings.at settings.leaders bytes position word
   pub status_is : status ≡ 7
   pub text_is : text ≡ unsupported_line position word

@@ -1,8 +1,6 @@
 -- For private contracts only: the file of a block once it is read.
-use Rattle.std.specs.Prelude.{◌≡◌, ℕ, ◌<◌, ◌≤◌, List, length, Option, Some, None}
-use Rattle.ci_isa.specs.declared.instruction.Insn.{Insn}
+use Rattle.std.specs.Prelude.{◌≡◌, ℕ, ◌≤◌, List, length, Option, Some, None}
 use Rattle.ci_elf.specs.Executables.{IsImageOf}
-use Rattle.ci_find.specs.BestCommand.{eligible_count, most_eligible}
 use Rattle.ci_find.specs.declared.commands.best.file.BlockFile.{BlockFile}
 use Rattle.ci_find.specs.declared.commands.best.file.BlockFile.TheVariants.{Words, Program}
 
@@ -17,7 +15,3 @@ IsFileOf (Some place) bytes (Program image address) = IsImageOf bytes image × (
 abbrev pub IsWithinLimit : BlockFile → Type 0
 IsWithinLimit (Words words) = length words.items ≤ 1024
 IsWithinLimit (Program image address) = Unit {0}
-
--- the position is the number of eligible instructions, which are too many, and the word is 0
-abbrev pub IsTooMany : List Insn → ℕ → ℕ → Type 0
-IsTooMany insns position word = (most_eligible < eligible_count insns) × (position ≡ eligible_count insns) × (word ≡ 0)

@@ -94,12 +94,13 @@ pub record IsUnmadeFor (told : Option Files) (reading : Reading) (refusal : Refu
   pub unmade : IsUnmade reading read (status_of refusal) (line_of refusal)
 
 -- the reading of `best` with these options
-abbrev pub best_by : Text → Option ℕ → List ℕ → Limits → Option Text → Reading
-best_by file at leaders limits table =
+abbrev pub best_by : Text → Option ℕ → List ℕ → Limits → ℕ → Option Text → Reading
+best_by file at leaders limits budget table =
     best file
     (record usual_settings {
       inputs = limits.inputs;
       outputs = limits.outputs;
+      budget = budget;
       table = table;
       at = at;
       leaders = leaders;

@@ -1,5 +1,5 @@
 -- The lines that the program prints.
-use Rattle.std.specs.Prelude.{◌≡◌, ℕ, ◌⊎◌, Bool, List, ◌++◌, codes, Option, Some, None}
+use Rattle.std.specs.Prelude.{ℕ, Bool, List, ◌++◌, codes, Option, Some, None}
 use Rattle.std.specs.Fmt.{decimal, signed_decimal}
 use Rattle.ci_text.specs.Lines.{line}
 use Rattle.ci_text.specs.Hex.{eight_hex_digits}
@@ -16,6 +16,7 @@ use Rattle.ci_cut.specs.declared.graph.Limits.{Limits}
 use Rattle.ci_cut.specs.FlowGraph.{FlowGraph}
 use Rattle.ci_cut.specs.Gain.{gain}
 use Rattle.ci_cut.specs.Best.{IsBest, HasNoCut}
+use Rattle.ci_check.specs.Need.{NeedExceeds}
 
 abbrev pub usage_line : List ℕ
 usage_line = line (codes "fault 1 usage")
@@ -78,11 +79,19 @@ abbrev pub cut_line : FlowGraph → (ℕ → Bool) → List ℕ
 cut_line graph cut =
     line (codes "cut" ++ members_text cut ++ codes " gain " ++ signed_decimal (gain graph cut))
 
--- the line of the best cut, or that there is none
-abbrev pub IsBestLine : FlowGraph → Limits → List ℕ → Type 0
-IsBestLine graph limits text =
-    (HasNoCut graph limits × (text ≡ line (codes "no cut")))
-    ⊎ ((cut : ℕ → Bool) × IsBest graph limits cut × (text ≡ cut_line graph cut))
+abbrev pub no_cut_line : List ℕ
+no_cut_line = line (codes "no cut")
+
+abbrev pub skipped_line : ℕ → List ℕ
+skipped_line budget = line (codes "skipped budget " ++ decimal budget)
+
+-- The line of the best cut, or that there is none. Where the need of the graph is greater than the budget, and only there,
+-- it is passed over.
+pub data IsBestLine (graph : FlowGraph) (limits : Limits) (budget : ℕ) : List ℕ → Type 0 where
+  cut_is_best : (cut : ℕ → Bool) → ¬ NeedExceeds graph limits budget → IsBest graph limits cut
+      → IsBestLine graph limits budget (cut_line graph cut)
+  no_cut : ¬ NeedExceeds graph limits budget → HasNoCut graph limits → IsBestLine graph limits budget no_cut_line
+  skipped : NeedExceeds graph limits budget → IsBestLine graph limits budget (skipped_line budget)
 
 -- how a run ended, or that it made as many steps as it may
 abbrev pub end_text : Option End → List ℕ

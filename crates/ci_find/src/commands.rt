@@ -59,7 +59,8 @@ fn make_command<'a, F: Shelf>(
     command: &Command<'a>,
     shelf: &mut F,
 ) -> Result<Success<'a>, Refusal<'a>>
-    requires { (settings_of (reading_of command.now)).steps ≤ 4294967296 }
+    requires steps { (settings_of (reading_of command.now)).steps ≤ 4294967296 }
+    requires budget { (settings_of (reading_of command.now)).budget ≤ 4194304 }
     ensures made { IfOk result (λ success.
         Makes (F.state shelf.old).files (reading_of command.now) (success_of success)) }
     ensures refused { IfErr result (MakesNothing
@@ -73,8 +74,18 @@ fn make_command<'a, F: Shelf>(
             at,
             leaders,
             limits,
+            budget,
             table,
-        } => best::make(alloc, *file, *at, leaders.as_slice(), limits, *table, shelf),
+        } => best::make(
+            alloc,
+            *file,
+            *at,
+            leaders.as_slice(),
+            limits,
+            *budget,
+            *table,
+            shelf,
+        ),
         Command::Asm { text, out } => asm::make(alloc, *text, *out, shelf),
         Command::Dis { file } => dis::make(alloc, *file, shelf),
         Command::Run {

@@ -23,9 +23,10 @@ mod tests;
 ///
 /// `words` are those after the program's name. The commands are:
 ///
-/// - `best FILE`, with the options `--in N`, `--out N` and `--table FILE`: puts the line of the best cut of the block
-///   whose words FILE holds, by the latencies of the table. With `--at ADDR`, FILE is an executable, and the block is
-///   the one at this leader. With `--leader ADDR`, as often as wanted, a block begins at that address too.
+/// - `best FILE`, with the options `--in N`, `--out N`, `--budget N` and `--table FILE`: puts the line of the best cut of
+///   the block whose words FILE holds, by the latencies of the table, or that it has none, or that a search for it needs
+///   more branches than the budget. With `--at ADDR`, FILE is an executable, and the block is the one at this leader.
+///   With `--leader ADDR`, as often as wanted, a block begins at that address too.
 /// - `blocks FILE`, with `--leader ADDR`: puts a line for each basic block of the executable FILE, with its leader, its
 ///   length and the registers that are live at the leader.
 /// - `run FILE`, with the options `--steps N`, `--input FILE` and `--table FILE`: runs the executable FILE, and puts its
@@ -46,7 +47,7 @@ mod tests;
 /// - 7, `fault 7 unsupported POSITION WORD`: in an executable, the address of the first word of a custom opcode and that
 ///   word, or the address of `--at`, where no block begins, and 0; in a file of words, its length, where that is no
 ///   multiple of four, and 0, or the offset of the first word of a custom opcode or of a terminator that isn't last,
-///   and that word; and of a block with more than twelve instructions that may be members, their number and 0.
+///   and that word.
 /// - 12, `fault 12 no memory`: memory ran out.
 /// - 13, `fault 13 asm KIND LINE COLUMN`: the file holds no assembler text. Where it isn't UTF-8 the numbers are 1 1 1.
 pub fn run<F: Shelf, O: Sink>(alloc: Global, words: &Vec<String>, shelf: &mut F, out: &mut O) -> u8

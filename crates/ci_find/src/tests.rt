@@ -138,6 +138,38 @@ fn blocks(rt: HostRuntime) -> Result<(), Fail> {
     Ok(())
 }
 
+/// A chain of 64 operations, each on the result of the one before.
+const CHAIN: [u32; 64] = [0x00A2C2B3; 64];
+
+/// Their best cut is all of them.
+const CHAIN_CUT: &str =
+    "cut 0 1 2 3 4 5 6 7 8 9 10 11 12 13 14 15 16 17 18 19 20 21 22 23 24 25 26 27 28 29 30 31 \
+    32 33 34 35 36 37 38 39 40 41 42 43 44 45 46 47 48 49 50 51 52 53 54 55 56 57 58 59 60 61 62 63 gain 57\n";
+
+// Both sides of what each block needs.
+#[test]
+fn budgets(rt: HostRuntime) -> Result<(), Fail> {
+    let rows: [(&[u32], &str, &str); 8] = [
+        (&SUMS, "best F --out 1 --budget 1", "skipped budget 1\n"),
+        (&SUMS, "best F --out 1 --budget 2", "cut 0 1 gain 1\n"),
+        (&PAIRS, "best F --out 1 --budget 6", "skipped budget 6\n"),
+        (&PAIRS, "best F --out 1 --budget 7", "cut 2 3 gain 1\n"),
+        (&[], "best F --budget 1", "no cut\n"),
+        (
+            &THIRTEEN,
+            "best F",
+            "cut 0 1 2 3 4 5 6 7 8 9 10 11 12 gain 12\n",
+        ),
+        (&CHAIN, "best F --out 1", CHAIN_CUT),
+        (&CHAIN, "best F --out 1 --budget 63", "skipped budget 63\n"),
+    ];
+    for (block, text, line) in rows {
+        let bytes = bytes_of(rt.alloc(), block)?;
+        expect(&rt, Some(bytes.as_slice()), text, 0, line)?;
+    }
+    Ok(())
+}
+
 #[test]
 fn words_with_no_reading(rt: HostRuntime) -> Result<(), Fail> {
     let rows = [
@@ -145,6 +177,7 @@ fn words_with_no_reading(rt: HostRuntime) -> Result<(), Fail> {
         "best",
         "best F --in 4",
         "best F --in 2 --in 2",
+        "best F --budget 0",
         "asm A A",
         "asm A",
         "dis",
@@ -197,14 +230,13 @@ fn files_too_large(rt: HostRuntime) -> Result<(), Fail> {
 fn files_with_no_block(rt: HostRuntime) -> Result<(), Fail> {
     let line = "fault 7 unsupported 00000002 00000000\n";
     expect(&rt, Some(&UNEVEN), "best F", 7, line)?;
-    let rows: [(&[u32], &str); 4] = [
+    let rows: [(&[u32], &str); 3] = [
         (&SUM_AND_UNIT, "fault 7 unsupported 00000004 60b5028b\n"),
         (&SUM_AND_CUSTOM, "fault 7 unsupported 00000004 8000102b\n"),
         (
             &CALLS_ROUND_A_SUM,
             "fault 7 unsupported 00000000 00000073\n",
         ),
-        (&THIRTEEN, "fault 7 unsupported 0000000d 00000000\n"),
     ];
     for (block, line) in rows {
         let bytes = bytes_of(rt.alloc(), block)?;

@@ -2,7 +2,7 @@
 use Rattle.std.proofs.Common.{◌≡◌, List, [], ◌∷◌, refl, inl, inr, arith}
 use Rattle.std.specs.Prelude.{All, AllPairs, Some, flat_map, zip}
 use Rattle.std.proofs.lemmas.List.Elements.{All-append, All-cons, All-nil}
-use Rattle.ci_words.specs.Tables.{Access, reads, command_row, file, OptionName, inputs, outputs, steps, table, input, leader, at, option_row, every_option}
+use Rattle.ci_words.specs.Tables.{Access, reads, command_row, file, OptionName, inputs, outputs, budget, steps, table, input, leader, at, option_row, every_option}
 use Rattle.ci_words.specs.Words.{AreApart, Reading, best, asm, dis, run, blocks, Setting, Settings, Text, to_file}
 use Rattle.ci_words.specs.Words.{command_of, file_set, files_of, names_of, option_files, setting_of}
 
@@ -28,6 +28,7 @@ set_read setting = All-nil IsRead
 option_read : (option : OptionName) (setting : Setting) → All IsRead (file_set (option_row option).kind setting)
 option_read inputs setting = All-nil IsRead
 option_read outputs setting = All-nil IsRead
+option_read budget setting = All-nil IsRead
 option_read steps setting = All-nil IsRead
 option_read table setting = set_read setting
 option_read input setting = set_read setting

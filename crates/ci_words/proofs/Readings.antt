@@ -8,7 +8,7 @@ use Rattle.std.proofs.lemmas.List.Elements.{All-cons, All-filter, All-head, All-
 use Rattle.clap.specs.Walk.{Row}
 use Rattle.clap.specs.Simple.{matches_of}
 use Rattle.clap.specs.Faults.{fault_of}
-use Rattle.ci_words.specs.Tables.{CommandName, command_row, Kind, number, address, addresses, OptionName, inputs, outputs, steps, table, input, leader, at, option_row}
+use Rattle.ci_words.specs.Tables.{CommandName, command_row, Kind, number, address, addresses, OptionName, inputs, outputs, budget, steps, table, input, leader, at, option_row}
 use Rattle.ci_words.specs.Tables as tables
 use Rattle.ci_words.specs.Words.{AreApart, AreDigits, AreMixed, IsAddress, IsName, IsOptionOf, Reading, ReadsAs, HasNoReading, Setting, Settings, Sets, Text, best, asm, dis, run, blocks}
 use Rattle.ci_words.specs.Words.{command_of, is_named, names_of, setting_of, settings_of, to_address, to_addresses, to_file, to_number, values_of}
@@ -157,6 +157,7 @@ unfolding number_in file_in address_in addresses_in
 settings_one one other same = λ i. record {
   inputs = number_in (same inputs i);
   outputs = number_in (same outputs i);
+  budget = number_in (same budget i);
   steps = number_in (same steps i);
   input = file_in (same input i);
   table = file_in (same table i);

@@ -7,7 +7,7 @@ use Rattle.std.proofs.lemmas.Bool.Decides.{eqb_tells}
 use Rattle.std.proofs.lemmas.List.Folds.{find_at, Any-from_list_any, list_any-from_Any}
 use Rattle.std.proofs.lemmas.Option.{get_or_from_slice_get, slice_get_within}
 use Rattle.clap.proofs.CutLemmas.{Lacks}
-use Rattle.ci_words.specs.Tables.{CommandName, best, asm, dis, run, blocks, command_row, OptionName, inputs, outputs, steps, table, input, leader, at, option_row, every_option}
+use Rattle.ci_words.specs.Tables.{CommandName, best, asm, dis, run, blocks, command_row, OptionName, inputs, outputs, budget, steps, table, input, leader, at, option_row, every_option}
 use Rattle.ci_words.specs.Words.{IsOptionOf, Text}
 use Rattle.ci_words.specs.Parses.{every_command, has_option, is_repeatable, known_to, names_known, option_name, place_of}
 use Rattle.ci_words.proofs.Matches.{some-same}
@@ -84,6 +84,7 @@ fits_as first others apart lacks = record { apart = apart; first = first; others
 pub fits : (option : OptionName) → IsOption (option_name option)
 fits inputs = fits_as 105 (codes "n") refl refl
 fits outputs = fits_as 111 (codes "ut") refl refl
+fits budget = fits_as 98 (codes "udget") refl refl
 fits steps = fits_as 115 (codes "teps") refl refl
 fits table = fits_as 116 (codes "able") refl refl
 fits input = fits_as 105 (codes "nput") refl refl
@@ -94,6 +95,7 @@ fits at = fits_as 97 (codes "t") refl refl
 pub repeatable_named : (option : OptionName) → is_repeatable (option_name option) ≡ (option_row option).repeatable
 repeatable_named inputs = refl
 repeatable_named outputs = refl
+repeatable_named budget = refl
 repeatable_named steps = refl
 repeatable_named table = refl
 repeatable_named input = refl
@@ -109,6 +111,7 @@ option_called-name : (option : OptionName) → option_called (option_name option
 unfolding option_called
 option_called-name inputs = refl
 option_called-name outputs = refl
+option_called-name budget = refl
 option_called-name steps = refl
 option_called-name table = refl
 option_called-name input = refl

@@ -11,9 +11,10 @@ abbrev pub name_in : Option (Bor Text) → Option Text
 name_in file = option_map (λ name. name.now) file
 
 abbrev pub reading_of : Command → Reading
-reading_of (Best file at leaders limits table) = best file.now (record usual_settings {
+reading_of (Best file at leaders limits budget table) = best file.now (record usual_settings {
   inputs = limits.inputs;
   outputs = limits.outputs;
+  budget = budget;
   table = name_in table;
   at = at;
   leaders = leaders.items;

@@ -6,7 +6,7 @@ use Rattle.clap.specs.Words.{App, Row, Rule, new_rule, all_of, matches_of, fault
 use Rattle.clap.specs.Simple.{new_shape}
 use Rattle.clap.specs.declared.builder.action.ArgAction.{ArgAction}
 use Rattle.clap.specs.declared.builder.action.ArgAction.TheVariants.{Set, Append}
-use Rattle.ci_words.specs.Tables.{CommandName, best, asm, dis, run, blocks, command_row, OptionName, inputs, outputs, steps, table, input, leader, at, option_row, every_option, Kind, number, file, address, addresses, Access, reads, writes}
+use Rattle.ci_words.specs.Tables.{CommandName, best, asm, dis, run, blocks, command_row, OptionName, inputs, outputs, budget, steps, table, input, leader, at, option_row, every_option, Kind, number, file, address, addresses, Access, reads, writes}
 use Rattle.ci_words.specs.Words.{Text, Reading, command_of, names_of, settings_of, Setting, setting_of, Sets, IsName, AreApart}
 use Rattle.ci_words.specs.declared.tables.CommandName.{CommandName as CommandVariant}
 use Rattle.ci_words.specs.declared.tables.CommandName.TheVariants as command
@@ -29,6 +29,7 @@ command_named command.Blocks = blocks
 abbrev pub option_named : OptionVariant → OptionName
 option_named option.Inputs = inputs
 option_named option.Outputs = outputs
+option_named option.Budget = budget
 option_named option.Steps = steps
 option_named option.Table = table
 option_named option.Input = input

@@ -51,6 +51,7 @@ pub record OptionRow : Type 0 where
 pub data OptionName : Type 0 where
   inputs : OptionName
   outputs : OptionName
+  budget : OptionName
   steps : OptionName
   table : OptionName
   input : OptionName
@@ -60,6 +61,8 @@ pub data OptionName : Type 0 where
 abbrev pub option_row : OptionName → OptionRow
 option_row inputs = record { name = codes "in"; kind = number 1 3 3; repeatable = false; commands = best ∷ [] }
 option_row outputs = record { name = codes "out"; kind = number 1 2 2; repeatable = false; commands = best ∷ [] }
+option_row budget =
+    record { name = codes "budget"; kind = number 1 4194304 65536; repeatable = false; commands = best ∷ [] }
 option_row steps =
     record { name = codes "steps"; kind = number 1 4294967296 16777216; repeatable = false; commands = run ∷ [] }
 option_row table = record { name = codes "table"; kind = file reads; repeatable = false; commands = best ∷ run ∷ [] }
@@ -70,4 +73,4 @@ option_row at = record { name = codes "at"; kind = address; repeatable = false; 
 
 -- the options in the order of their table, in which a command reads their files
 abbrev pub every_option : List OptionName
-every_option = inputs ∷ outputs ∷ steps ∷ table ∷ input ∷ leader ∷ at ∷ []
+every_option = inputs ∷ outputs ∷ budget ∷ steps ∷ table ∷ input ∷ leader ∷ at ∷ []

@@ -3,7 +3,7 @@ use Rattle.std.specs.Prelude.{◌≡◌, ◌≢◌, ◌⊎◌, ℕ, Bool, false,
 use Rattle.std.specs.Char.{digit_value}
 use Rattle.std.specs.List.{AllZip}
 use Rattle.std.specs.Str.{bytes_eq}
-use Rattle.ci_words.specs.Tables.{Access, writes, CommandName, command_row, Kind, number, address, addresses, OptionName, inputs, outputs, steps, table, input, leader, at, option_row, every_option}
+use Rattle.ci_words.specs.Tables.{Access, writes, CommandName, command_row, Kind, number, address, addresses, OptionName, inputs, outputs, budget, steps, table, input, leader, at, option_row, every_option}
 use Rattle.ci_words.specs.Tables as tables
 
 abbrev pub Text : Type 0
@@ -16,6 +16,8 @@ pub record Settings : Type 0 where
   -- the greatest numbers of inputs and of outputs of a cut
   pub inputs : ℕ
   pub outputs : ℕ
+  -- the greatest number of branches of the log of a search
+  pub budget : ℕ
   -- the greatest number of steps of a run
   pub steps : ℕ
   -- the file with the input of a run, and the one with the latency table
@@ -64,6 +66,7 @@ abbrev pub usual_settings : Settings
 usual_settings = record {
   inputs = usual_number (option_row inputs).kind;
   outputs = usual_number (option_row outputs).kind;
+  budget = usual_number (option_row budget).kind;
   steps = usual_number (option_row steps).kind;
   input = None;
   table = None;
@@ -119,6 +122,7 @@ pub data Setting : Type 0 where
 abbrev pub setting_of : OptionName → Settings → Setting
 setting_of inputs settings = to_number settings.inputs
 setting_of outputs settings = to_number settings.outputs
+setting_of budget settings = to_number settings.budget
 setting_of steps settings = to_number settings.steps
 setting_of table settings = to_file settings.table
 setting_of input settings = to_file settings.input

@@ -4,7 +4,7 @@ ghost use Rattle.std.specs.String.{string_bytes};
 ghost use Rattle.clap.specs.Words.{rows_of, found_of};
 ghost use Rattle.ci_words.specs.Words.{Text, Reading, ReadsAs, HasNoReading, to_number};
 ghost use Rattle.ci_words.specs.Commands.{reading_of};
-ghost use Rattle.ci_words.specs.Tables.{inputs, outputs};
+ghost use Rattle.ci_words.specs.Tables.{inputs, outputs, budget};
 ghost use Rattle.ci_words.specs.Parses.{command_named, Gives, IsGiven};
 
 use crate::parse::{
@@ -20,12 +20,14 @@ use std::alloc::{AllocFailed, Global};
 #[derive(Drop)]
 pub enum Command<'a> {
     /// The best cut of the block in the file `file`, or of the block at `at` of the executable in the file `file`, in
-    /// which blocks begin at the `leaders` too; within the limits and by the latency table in the file `table`.
+    /// which blocks begin at the `leaders` too; within the limits, by a search whose log has at most `budget` branches,
+    /// and by the latency table in the file `table`.
     Best {
         file: &'a str,
         at: Option<u32>,
         leaders: Vec<u32>,
         limits: Limits,
+        budget: u32,
         table: Option<&'a str>,
     },
     /// The words that the text in the file `text` assembles to, written to the file `out`.
@@ -118,6 +120,7 @@ fn command_of<'a>(
             at: at_given(matches).ok_or(WordsErr::NoReading)?,
             leaders: leaders_given(alloc, matches)?,
             limits: limits_given(matches).ok_or(WordsErr::NoReading)?,
+            budget: budget_given(matches).ok_or(WordsErr::NoReading)?,
             table: file_given(OptionName::Table, matches),
         }),
         CommandName::Asm => Ok(Command::Asm {
@@ -154,4 +157,13 @@ fn limits_given(matches: &ArgMatches) -> Option<Limits>
         inputs: inputs as u8,
         outputs: outputs as u8,
     })
+}
+
+/// The budget of a search.
+fn budget_given(matches: &ArgMatches) -> Option<u32>
+    ensures some { IfSome result (λ n. IsGiven budget (rows_of (found_of matches.now)) (to_number n)) }
+    ensures none { IfNone result ((n : ℕ)
+        → IsGiven budget (rows_of (found_of matches.now)) (to_number n) → ⊥) }
+{
+    Some(number_given(OptionName::Budget, matches)? as u32)
 }

@@ -72,6 +72,8 @@ pub enum OptionName {
     Inputs,
     /// `--out`
     Outputs,
+    /// `--budget`
+    Budget,
     /// `--steps`
     Steps,
     /// `--table`
@@ -143,6 +145,16 @@ pub fn option_row(option: OptionName) -> OptionRow
             repeatable: false,
             commands: &[CommandName::Best],
         },
+        OptionName::Budget => OptionRow {
+            name: "budget",
+            kind: Kind::Number {
+                least: 1,
+                greatest: 4_194_304,
+                usual: 65_536,
+            },
+            repeatable: false,
+            commands: &[CommandName::Best],
+        },
         OptionName::Steps => OptionRow {
             name: "steps",
             kind: Kind::Number {
@@ -200,6 +212,7 @@ pub fn all_options() -> &'static [OptionName]
     &[
         OptionName::Inputs,
         OptionName::Outputs,
+        OptionName::Budget,
         OptionName::Steps,
         OptionName::Table,
         OptionName::Input,

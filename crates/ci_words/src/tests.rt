@@ -36,6 +36,9 @@ fn push_leaders(alloc: Global, text: &mut String, leaders: &[u32]) -> Result<(),
     Ok(())
 }
 
+/// The budget where none is given.
+const USUAL_BUDGET: u32 = 65_536;
+
 /// The command of the words in short: its name, the names in it and what its options are set to.
 fn shown(alloc: Global, line: &str) -> Result<String, AllocError> {
     let words = words(alloc, line)?;
@@ -46,6 +49,7 @@ fn shown(alloc: Global, line: &str) -> Result<String, AllocError> {
                 at,
                 leaders,
                 limits,
+                budget,
                 table,
             },
         ) => {
@@ -58,6 +62,10 @@ fn shown(alloc: Global, line: &str) -> Result<String, AllocError> {
                 push_address(alloc, &mut text, "at", address)?;
             }
             push_leaders(alloc, &mut text, &leaders)?;
+            if budget != USUAL_BUDGET {
+                let shown = format!(in alloc; " budget {budget}")?;
+                text.push_str(shown.as_str())?;
+            }
             Ok(text)
         }
         Ok(Command::Blocks { file, leaders }) => {
@@ -175,6 +183,24 @@ fn options_of_run(rt: HostRuntime) -> Result<(), Fail> {
     expect(&rt, "run F --in 2", "none")?;
     expect(&rt, "run", "none")?;
     expect(&rt, "run A B", "none")?;
+    Ok(())
+}
+
+#[test]
+fn budget_of_best(rt: HostRuntime) -> Result<(), Fail> {
+    expect(&rt, "best F --budget 65536", "best F 3 2 -")?;
+    expect(&rt, "best F --budget=1", "best F 3 2 - budget 1")?;
+    expect(
+        &rt,
+        "best --budget 4194304 F",
+        "best F 3 2 - budget 4194304",
+    )?;
+    expect(&rt, "best F --budget 4194305", "none")?;
+    expect(&rt, "best F --budget 4294967297", "none")?;
+    expect(&rt, "best F --budget 0", "none")?;
+    expect(&rt, "best F --budget 2 --budget 2", "none")?;
+    expect(&rt, "blocks F --budget 2", "none")?;
+    expect(&rt, "run F --budget 2", "none")?;
     Ok(())
 }
 

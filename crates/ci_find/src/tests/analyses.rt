@@ -172,9 +172,6 @@ fn executables_that_are_not_taken(rt: HostRuntime) -> Result<(), Fail> {
         let bytes = program(&rt, text, &[], &[])?;
         expect_of(&rt, bytes.as_slice(), command, 7, line.as_bytes())?;
     }
-    let sums = program(&rt, &[0x00B502B3; 13], &[], &[])?;
-    let line = b"fault 7 unsupported 0000000d 00000000\n";
-    expect_of(&rt, sums.as_slice(), "best F --at 0x10074", 7, line)?;
     expect_of(&rt, &[], "best F --at 0x10074", 5, b"fault 5 elf 1 0 0\n")?;
     // The table is read before the text is looked at.
     let bytes = program(&rt, &[0x8000102B], &[], &[])?;
@@ -184,11 +181,11 @@ fn executables_that_are_not_taken(rt: HostRuntime) -> Result<(), Fail> {
     Ok(())
 }
 
-// Twelve sums among loads, and a break behind them.
+// Twenty sums among loads, and a break behind them, after which nothing is live.
 #[test]
-fn a_long_block_with_few_eligible_instructions(rt: HostRuntime) -> Result<(), Fail> {
+fn a_long_block_whose_results_are_not_live(rt: HostRuntime) -> Result<(), Fail> {
     let mut text = Vec::new(rt.alloc());
-    for _ in 0..12 {
+    for _ in 0..20 {
         text.extend_from_slice(&LOAD_AND_SUM)?;
     }
     text.push(BREAK)?;

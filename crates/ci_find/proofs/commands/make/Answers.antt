@@ -1,6 +1,6 @@
--- Words with no reading are refused by usage. The steps of a reading are in their range.
+-- Words with no reading are refused by usage. The steps and the budget of a reading are in their ranges.
 use Rattle.std.proofs.Common.{map, inl, refl}
-use Rattle.ci_find.proofs.Makes.{steps_fit}
+use Rattle.ci_find.proofs.Makes.{budget_fits, steps_fit}
 use Rattle.std.specs.String.{string_bytes}
 use Rattle.ci_words.specs.Words.{HasNoReading}
 use Rattle.ci_find.proofs.commands.make.Goals as goal
@@ -10,5 +10,8 @@ returns-in-Err-NoReading-clause-refused g c =
     let none : HasNoReading (map string_bytes c.args.words.now.items) = rw c.as_slice.ensures.value at (c.in-Err-NoReading.ensures.no_reading c.in-Err-NoReading.field-0-is) in
     inl (none, refl)
 
-pub make_command-requires : goal.make_command-requires
-make_command-requires g c = steps_fit _ _ c.in-Ok.ensures.ok
+pub make_command-requires-clause-steps : goal.make_command-requires-clause-steps
+make_command-requires-clause-steps g c = steps_fit _ _ c.in-Ok.ensures.ok
+
+pub make_command-requires-clause-budget : goal.make_command-requires-clause-budget
+make_command-requires-clause-budget g c = budget_fits _ _ c.in-Ok.ensures.ok

@@ -3,7 +3,7 @@ ghost use Rattle.std.specs.Prelude.{◌≡◌, IfOk};
 ghost use Rattle.std.specs.String.{string_bytes};
 ghost use Rattle.std.specs.FinSet as set;
 ghost use Rattle.ci_cut.specs.FlowGraph.{AreNodes};
-ghost use Rattle.ci_find.specs.Lines.{cut_line};
+ghost use Rattle.ci_find.specs.Lines.{cut_line, skipped_line};
 
 use ci_cut::{Graph, gain};
 use ci_text::push_members;
@@ -20,4 +20,11 @@ pub fn cut_text(alloc: Global, graph: &Graph, cut: &Row) -> Result<String, Alloc
     let gain = gain(graph, cut);
     writeln!(text, " gain {gain}")?;
     Ok(text)
+}
+
+/// That the budget of the search was too small.
+pub fn skipped_text(alloc: Global, budget: u32) -> Result<String, AllocError>
+    ensures { IfOk result (λ text. string_bytes text ≡ skipped_line budget) }
+{
+    format!(in alloc; "skipped budget {budget}\n")
 }

@@ -1,6 +1,6 @@
 -- Matches that do not give one of the settings of a command give no reading of it.
 use Rattle.clap.proofs.TakesLemmas.{passed_up}
-use Rattle.ci_words.specs.Tables.{inputs, outputs, steps, leader, at}
+use Rattle.ci_words.specs.Tables.{inputs, outputs, budget, steps, leader, at}
 use Rattle.ci_words.specs.Words.{settings_of}
 use Rattle.ci_words.proofs.Matches.{none_holds}
 use Rattle.ci_words.proofs.command.command_of.Goals as goal
@@ -24,6 +24,14 @@ returns-in_err-ok_or-in-Best-2-clause-none c =
     passed_up _ _ _ ended.1 (λ e. rw c.in-Best.is (λ reading is.
     none_holds c.limits_given.result _ c.in_err-ok_or-in-Best-2.ensures.ok_part none
     (settings_of reading).inputs (settings_of reading).outputs (is.set inputs) (is.set outputs)))
+
+pub returns-in_err-ok_or-in-Best-3-clause-none : goal.returns-in_err-ok_or-in-Best-3-clause-none
+returns-in_err-ok_or-in-Best-3-clause-none c =
+    let none = c.budget_given.ensures.none in
+    let ended = c.from_residual-in_err-ok_or-in-Best-3.ensures in
+    passed_up _ _ _ ended.1 (λ e. rw c.in-Best.is (λ reading is.
+    none_holds c.budget_given.result _ c.in_err-ok_or-in-Best-3.ensures.ok_part none
+    (settings_of reading).budget (is.set budget)))
 
 pub returns-in_err-ok_or-in-Run-clause-none : goal.returns-in_err-ok_or-in-Run-clause-none
 returns-in_err-ok_or-in-Run-clause-none c =

@@ -3,7 +3,7 @@ use Rattle.std.proofs.Common.{[], ◌∷◌, append-nil, ℕ, List, Option, map,
 use Rattle.std.proofs.lemmas.Result.{err_from_is_err_and}
 use Rattle.ci_io.specs.Outcomes.{Files}
 use Rattle.ci_words.specs.Commands.{name_in}
-use Rattle.ci_find.specs.BestCommand.{block_input, IsUnsupported}
+use Rattle.ci_find.specs.BestCommand.{block_input, HoldsNoBlock}
 use Rattle.ci_find.specs.Files.{table_input, optional_input, optional_bytes}
 use Rattle.ci_find.specs.Faults.{best_by, reads_between}
 use Rattle.ci_find.specs.Finish.{written_of}
@@ -47,11 +47,10 @@ returns-in-Ok-clause-made g c =
         latencies = c.in_ok-table.table;
         limits = c.args.limits.now;
         block = found.2;
-        few = found.3;
         latencies_are = table.3;
         inputs_are = refl;
         outputs_are = refl;
-        line = rw c.into_bytes.ensures.value found.4;
+        line = rw c.into_bytes.ensures.value found.3;
         writes_none = ap (map written_of) c.new.ensures.items;
       };
     }
@@ -64,11 +63,11 @@ returns-clause-refused g c =
     let told : Option Files = (g.F.Shelf.state c.args.shelf.now).files in
     let inputs = optional_input table_input (name_in c.args.table) in
     let reads = reads_between g.F.Shelf.read_may_fail (g.F.Shelf.state c.args.shelf.now) (g.F.Shelf.state c.read_table.new.shelf) in
-    let reading = best_by c.args.file.now c.args.at c.args.named.now c.args.limits.now (name_in c.args.table) in
+    let reading = best_by c.args.file.now c.args.at c.args.named.now c.args.limits.now c.args.budget (name_in c.args.table) in
     rw c.refusal_of.ensures
     (unmade_by reads reading (bytes ∷ optional_bytes table.0)
     (file.read.1, subst (λ (t : Option Files). AreRead t inputs (optional_bytes table.0)) file.files_stay table.2)
-    (IsUnsupported c.args.at c.args.named.now bytes)
+    (HoldsNoBlock c.args.at c.args.named.now bytes)
     (λ position word unsupported. record {
       bytes = bytes;
       others = optional_bytes table.0;
