@@ -7,15 +7,15 @@ PROGRAM is the built program; with none the script at the top of the repository 
 text is made with WORDS words and with a quarter of them. A line for each file has the seconds of the faster of two
 runs, the greatest resident memory and the number of blocks; behind that of the longer text stand how many times longer
 it took, and what misses its limit. `best --at` and `blocks` on a block of 256 instructions, the fastest of RUNS runs
-each, differ by the time for the block's graph and the search of its cuts. It ends with status 0 where all is within its
-limits.
+each, differ by the time for the block's graph, the slots for the log, and the search and the check of that, which are
+short where few operations may join. It ends with status 0 where all is within its limits.
 """
 import os
 import struct
 import sys
 import tempfile
 
-from common import build, executable, measure, program, write
+from common import build, executable, faster, measure, program, write
 from instructions import with_offset
 
 WORDS, BASE = 262_144, 0x10000
@@ -140,16 +140,6 @@ def write_block(name, eligible):
     write_executable(name, list(longest_block(eligible)), ())
 
 
-def faster(*words):
-    """The output, seconds and memory of the faster of two runs that end with status 0."""
-    runs = [measure(program(), *words) for _ in range(2)]
-    for output, status, _, _ in runs:
-        if status != 0:
-            sys.exit(f"{' '.join(words)}: status {status}, {output[-80:]!r}")
-    output, _, seconds, memory = min(runs, key=lambda run: run[2])
-    return output, seconds, memory
-
-
 def compare(shape, file):
     """Whether a shape of text is within its limits; prints its two lines."""
     name, text, data, length = shape
@@ -172,7 +162,8 @@ def compare(shape, file):
 
 def graph_in_time(file):
     """Whether `best --at` takes little longer than `blocks` on a block of 256 instructions of which one may join, where
-    the difference is the block's graph and the search of two sets; prints that, and the same for twelve."""
+    the difference is the block's graph and the slots for the log, since the search ends where it begins: one operation
+    gains nothing. Prints that, and the same for twelve."""
     passed = True
     for eligible in (1, 12):
         write(write_block, file, eligible)

@@ -2,6 +2,7 @@
 The modules of checks/ are found from here on."""
 import multiprocessing
 import os
+import shutil
 import signal
 import subprocess
 import sys
@@ -15,6 +16,11 @@ HERE = os.path.dirname(os.path.abspath(__file__))
 TOP = os.path.join(HERE, "..")
 sys.path.insert(0, os.path.join(TOP, "checks"))
 import executable  # noqa: E402, F401  (it stands in another folder)
+
+# The compilers, each with the Debian package that has it.
+CROSS, HOST = "riscv64-unknown-elf-gcc", "gcc"
+PACKAGES = {CROSS: "gcc-riscv64-unknown-elf", HOST: "gcc"}
+TARGET = ["-march=rv32im", "-mabi=ilp32", "-ffreestanding", "-nostdlib", "-nostartfiles", "-static"]
 
 
 def program():
@@ -44,6 +50,29 @@ def measure(*words):
         stop.cancel()
         output.seek(0)
         return output.read(), os.waitstatus_to_exitcode(ended), seconds, usage.ru_maxrss / 1024
+
+
+def faster(*words):
+    """The output, seconds and memory of the faster of two runs of the program that end with status 0."""
+    runs = [measure(program(), *words) for _ in range(2)]
+    for output, status, _, _ in runs:
+        if status != 0:
+            sys.exit(f"{' '.join(words)}: status {status}, {output[-80:]!r}")
+    output, _, seconds, memory = min(runs, key=lambda run: run[2])
+    return output, seconds, memory
+
+
+def missing(*compilers):
+    """A line that says which of the compilers are not there; None where none is missing."""
+    absent = [compiler for compiler in compilers if not shutil.which(compiler)]
+    if not absent:
+        return None
+    return f"skipped: {', '.join(absent)} not found (Debian's {', '.join(PACKAGES[name] for name in absent)})"
+
+
+def bare_executable(source, file, *options):
+    """Compiles a source of this folder for RV32IM, without a library, with some options of the compiler."""
+    subprocess.run([CROSS, *TARGET, *options, os.path.join(HERE, source), "-lgcc", "-o", file], check=True)
 
 
 def write(how, *words):

@@ -12,30 +12,27 @@ It ends with status 0 where both print the same, and where the tools are missing
 """
 import os
 import re
-import shutil
 import subprocess
 import sys
 import tempfile
 
-from common import HERE, build, measure, program
+from common import CROSS, HERE, HOST, bare_executable, build, measure, missing, program
 
-CROSS, HOST = "riscv64-unknown-elf-gcc", "gcc"
-TARGET = ["-march=rv32im", "-mabi=ilp32", "-O2", "-ffreestanding", "-nostdlib", "-nostartfiles", "-static"]
 ROUNDS = 2
 LEAST_STEPS = 200_000_000
 
 
 def compile_both(folder):
     work, interpreter = os.path.join(folder, "work.elf"), os.path.join(folder, "interpreter")
-    subprocess.run([CROSS, *TARGET, os.path.join(HERE, "work.c"), "-lgcc", "-o", work], check=True)
+    bare_executable("work.c", work, "-O2")
     subprocess.run([HOST, "-O2", os.path.join(HERE, "interpreter.c"), "-o", interpreter], check=True)
     return work, interpreter
 
 
 def main():
-    missing = [tool for tool in (CROSS, HOST) if not shutil.which(tool)]
-    if missing:
-        print(f"skipped: {', '.join(missing)} not found (Debian's gcc-riscv64-unknown-elf, gcc)")
+    absent = missing(CROSS, HOST)
+    if absent:
+        print(absent)
         return 0
     with tempfile.TemporaryDirectory() as folder:
         work, interpreter = compile_both(folder)
