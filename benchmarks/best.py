@@ -9,24 +9,26 @@ of ciphers.c, each at the default budget. A line for each has the seconds of the
 resident memory (which is this script's own where the program takes less), the beginning of the answer, and what misses
 its limit.
 
-The last lines tell the need of a chain, the least budget that isn't spent, and how many nodes of the log a second the
-program writes with a budget that is spent by one branch, and writes and checks with one that suffices. A log with n
-branches has 2 n + 1 nodes.
+The largest budget has to be there within 128 MiB of memory. The last lines tell the need of a chain, the least budget
+that isn't spent, and how many nodes of the log a second the program writes with a budget that is spent by one branch,
+and writes and checks with one that suffices. A log with n branches has 2 n + 1 nodes.
 
 It ends with status 0 where all is within its limits. The ciphers are left out where GCC for RISC-V is missing, with a
 line that says so.
 """
 import os
+import shutil
 import struct
 import sys
 import tempfile
 
-from common import CROSS, bare_executable, build, faster, missing
+from common import CROSS, bare_executable, build, faster, measure, missing, program
 
 XOR = 0x00A2C2B3
 LEAST, LONGEST, SMALL = 100, 256, 64
 SECONDS, SMALL_SECONDS, MEBIBYTES = 5.0, 0.1, 60
-LARGEST_BUDGET = 4_194_304
+# The slots of the largest budget are reserved at once, so the limit is on what the program may ask for.
+LARGEST_BUDGET, RESERVED_BYTES = 4_194_304, 128 * 2 ** 20
 LEVELS = ("-O2", "-O3")
 ONE_OUTPUT = ("--out", "1")
 # As many outputs as a unit may have, which is usual, and one.
@@ -108,6 +110,16 @@ def need(*words):
     return enough
 
 
+def reserves_little(*words):
+    """Whether the largest budget asks for no more memory than it may; prints its line."""
+    output, status, seconds, _ = measure(shutil.which("prlimit"), f"--as={RESERVED_BYTES}", program(), "best", *words,
+                                         "--budget", str(LARGEST_BUDGET))
+    passed = status == 0 and output.startswith(b"cut ")
+    print(f"the largest budget within {RESERVED_BYTES >> 20} MiB: {beginning(output.decode())}, {seconds:.3f} s"
+          f"{'' if passed else '  TOO MUCH MEMORY'}")
+    return passed
+
+
 def rates(*words):
     """Prints the need of a block, and how many nodes of its log a second are written, and written and checked."""
     branches = need(*words)
@@ -126,6 +138,7 @@ def main():
             print(absent)
         else:
             passed += ciphers(folder)
+        passed.append(reserves_little(write_chain(folder, LONGEST), *ONE_OUTPUT))
         print(f"{sum(passed)} of {len(passed)} within their limits")
         rates(write_chain(folder, LONGEST), *ONE_OUTPUT)
     return 0 if all(passed) else 1

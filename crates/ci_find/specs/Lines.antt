@@ -85,8 +85,8 @@ no_cut_line = line (codes "no cut")
 abbrev pub skipped_line : ℕ → List ℕ
 skipped_line budget = line (codes "skipped budget " ++ decimal budget)
 
--- The line of the best cut, or that there is none. Where the need of the graph is greater than the budget, and only there,
--- it is passed over.
+-- The line of the best cut, or that there is none; or, exactly where the need of the graph is greater than the budget,
+-- that the block is skipped.
 pub data IsBestLine (graph : FlowGraph) (limits : Limits) (budget : ℕ) : List ℕ → Type 0 where
   cut_is_best : (cut : ℕ → Bool) → ¬ NeedExceeds graph limits budget → IsBest graph limits cut
       → IsBestLine graph limits budget (cut_line graph cut)

@@ -53,7 +53,7 @@ pub fn refusal_of<'a>(error: BlockErr) -> Refusal<'a>
 
 /// The blocks of an executable whose text has no word of a custom opcode, and their live sets. `named` are addresses
 /// that the user names as leaders.
-pub fn analysis_of(alloc: Global, image: &Image, named: &[u32]) -> Result<Analysis, BlockErr>
+pub fn plain_analysis_of(alloc: Global, image: &Image, named: &[u32]) -> Result<Analysis, BlockErr>
     ensures no_custom { IfOk result (λ _. HasNoCustomWord image.now) }
     ensures done { IfOk result (λ analysis. IsAnalysis image.now [] named.now analysis.blocks analysis.live) }
     ensures cause { IfErr result (IsCause (IsFirstCustomWord image.now)) }

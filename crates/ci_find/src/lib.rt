@@ -23,10 +23,10 @@ mod tests;
 ///
 /// `words` are those after the program's name. The commands are:
 ///
-/// - `best FILE`, with the options `--in N`, `--out N`, `--budget N` and `--table FILE`: puts the line of the best cut of
-///   the block whose words FILE holds, by the latencies of the table, or that it has none, or that a search for it needs
-///   more branches than the budget. With `--at ADDR`, FILE is an executable, and the block is the one at this leader.
-///   With `--leader ADDR`, as often as wanted, a block begins at that address too.
+/// - `best FILE`, with the options `--in N`, `--out N`, `--budget N` and `--table FILE`: puts the line of the best cut
+///   of the block whose words FILE holds, by the latencies of the table, or that it has none, or that a search for it
+///   needs more branches than the budget. With `--at ADDR`, FILE is an executable, and the block is the one at this
+///   leader. With `--leader ADDR`, as often as wanted, a block begins at that address too.
 /// - `blocks FILE`, with `--leader ADDR`: puts a line for each basic block of the executable FILE, with its leader, its
 ///   length and the registers that are live at the leader.
 /// - `run FILE`, with the options `--steps N`, `--input FILE` and `--table FILE`: runs the executable FILE, and puts its

@@ -146,10 +146,10 @@ const CHAIN_CUT: &str =
     "cut 0 1 2 3 4 5 6 7 8 9 10 11 12 13 14 15 16 17 18 19 20 21 22 23 24 25 26 27 28 29 30 31 \
     32 33 34 35 36 37 38 39 40 41 42 43 44 45 46 47 48 49 50 51 52 53 54 55 56 57 58 59 60 61 62 63 gain 57\n";
 
-// Both sides of what each block needs.
+// Both sides of what blocks need, and the least and the greatest budget.
 #[test]
 fn budgets(rt: HostRuntime) -> Result<(), Fail> {
-    let rows: [(&[u32], &str, &str); 8] = [
+    let rows: [(&[u32], &str, &str); 10] = [
         (&SUMS, "best F --out 1 --budget 1", "skipped budget 1\n"),
         (&SUMS, "best F --out 1 --budget 2", "cut 0 1 gain 1\n"),
         (&PAIRS, "best F --out 1 --budget 6", "skipped budget 6\n"),
@@ -161,7 +161,13 @@ fn budgets(rt: HostRuntime) -> Result<(), Fail> {
             "cut 0 1 2 3 4 5 6 7 8 9 10 11 12 gain 12\n",
         ),
         (&CHAIN, "best F --out 1", CHAIN_CUT),
-        (&CHAIN, "best F --out 1 --budget 63", "skipped budget 63\n"),
+        (
+            &CHAIN,
+            "best F --out 1 --budget 568",
+            "skipped budget 568\n",
+        ),
+        (&CHAIN, "best F --out 1 --budget 569", CHAIN_CUT),
+        (&SUMS, "best F --out 1 --budget 4194304", "cut 0 1 gain 1\n"),
     ];
     for (block, text, line) in rows {
         let bytes = bytes_of(rt.alloc(), block)?;

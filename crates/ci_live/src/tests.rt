@@ -1,7 +1,7 @@
 //! Live sets of small programs.
 ghost use Rattle.std.specs.Prelude.{◌≡◌};
 
-use crate::{LiveSets, live};
+use crate::{LiveSets, analysis_of, live};
 use ci_block::{leaders, split};
 use ci_elf::{Image, frame, read};
 use ci_word::Row;
@@ -131,5 +131,27 @@ fn jumps_to_any_leader(rt: HostRuntime) -> Result<(), Fail> {
     let all = registers(&[1, 6, 7]);
     assert_eq!(rt; at.as_slice(), [all, all].as_slice());
     assert_eq!(rt; after.as_slice(), [all, all].as_slice());
+    Ok(())
+}
+
+// What JALR jumps to and what the user names begin blocks.
+#[test]
+fn blocks_of_an_analysis(rt: HostRuntime) -> Result<(), Fail> {
+    let alloc = rt.alloc();
+    let image = image_of(&rt, alloc, &[0x0000_0013; 4], &[])?;
+    let rows: [(&[u32], &[u32], &[u32]); 4] = [
+        (&[], &[], &[0x10074]),
+        (&[0x10078], &[], &[0x10074, 0x10078]),
+        (&[], &[0x1007c], &[0x10074, 0x1007c]),
+        (&[0x10078], &[0x1007c], &[0x10074, 0x10078, 0x1007c]),
+    ];
+    for (targets, named, wanted) in rows {
+        let analysis = analysis_of(alloc, &image, targets, named)?;
+        let mut leaders = Vec::new(alloc);
+        for block in analysis.blocks.all() {
+            leaders.push(block.leader)?;
+        }
+        assert_eq!(rt; leaders.as_slice(), wanted);
+    }
     Ok(())
 }

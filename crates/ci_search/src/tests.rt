@@ -230,13 +230,31 @@ fn budgets(rt: HostRuntime) -> Result<(), Fail> {
     Ok(())
 }
 
+/// The numbers below this one.
+fn chain_nodes(count: u8) -> Row {
+    let mut row = Row::empty();
+    for number in 0..count {
+        row.insert(number);
+    }
+    row
+}
+
 #[test]
 fn long_chain(rt: HostRuntime) -> Result<(), Fail> {
     let chain = chain_of(&rt, rt.alloc(), 64)?;
-    match answer(&rt, rt.alloc(), &chain, &ONE_OUTPUT, 43744)? {
-        Ok((Some(cut), _)) => assert_eq!(rt; cut.count(), 64),
-        _ => panic!(rt; "no cut"),
-    }
+    let whole = chain_nodes(64);
+    assert_eq!(rt;
+        answer(&rt, rt.alloc(), &chain, &ONE_OUTPUT, 65536)?,
+        Ok((Some(whole), 569))
+    );
+    assert_eq!(rt;
+        answer(&rt, rt.alloc(), &chain, &ONE_OUTPUT, 569)?,
+        Ok((Some(whole), 569))
+    );
+    assert_eq!(rt;
+        answer(&rt, rt.alloc(), &chain, &ONE_OUTPUT, 568)?,
+        Err(568)
+    );
     Ok(())
 }
 

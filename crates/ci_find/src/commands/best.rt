@@ -42,9 +42,9 @@ pub struct LiveBlock {
     pub live_out: Row,
 }
 
-/// Makes the line of the best cut of the block in the file, by the latencies of the table and within a budget. Where an
-/// address is given, the file is an executable and the block is that at the address; `named` are addresses that the user
-/// names as leaders.
+/// Makes the line of the best cut of the block in the file, by the latencies of the table and within a budget. Where
+/// an address is given, the file is an executable and the block is that at the address; `named` are addresses that the
+/// user names as leaders.
 pub fn make<'a, F: Shelf>(
     alloc: Global,
     file: &'a str,

@@ -10,7 +10,7 @@ ghost use Rattle.ci_find.specs.Faults.{Makes, MakesNothing, blocks_by, reads_bet
 ghost use Rattle.ci_find.specs.Finish.{success_of};
 
 use super::Success;
-use crate::analysis::{BlockErr, analysis_of, refusal_of};
+use crate::analysis::{BlockErr, plain_analysis_of, refusal_of};
 use crate::faults::Refusal;
 use crate::inputs::read_image;
 use ci_block::Block;
@@ -49,7 +49,7 @@ fn block_lines(alloc: Global, image: &Image, named: &[u32]) -> Result<String, Bl
     ensures done { IfOk result (λ text. IsBlocksText image.now named.now (string_bytes text)) }
     ensures cause { IfErr result (IsCause (IsFirstCustomWord image.now)) }
 {
-    let analysis = analysis_of(alloc, image, named)?;
+    let analysis = plain_analysis_of(alloc, image, named)?;
     let text = lines_of(alloc, analysis.blocks.all(), &analysis.live)?;
     Ok(text)
 }

@@ -181,9 +181,9 @@ fn executables_that_are_not_taken(rt: HostRuntime) -> Result<(), Fail> {
     Ok(())
 }
 
-// Twenty sums among loads, and a break behind them, after which nothing is live.
+// Twenty sums, each of which the next load reads, and a break behind them.
 #[test]
-fn a_long_block_whose_results_are_not_live(rt: HostRuntime) -> Result<(), Fail> {
+fn sums_that_loads_keep_apart(rt: HostRuntime) -> Result<(), Fail> {
     let mut text = Vec::new(rt.alloc());
     for _ in 0..20 {
         text.extend_from_slice(&LOAD_AND_SUM)?;
@@ -191,5 +191,27 @@ fn a_long_block_whose_results_are_not_live(rt: HostRuntime) -> Result<(), Fail> 
     text.push(BREAK)?;
     let bytes = program(&rt, text.as_slice(), &[], &[])?;
     expect_of(&rt, bytes.as_slice(), "best F --at 0x10074", 0, b"no cut\n")?;
+    Ok(())
+}
+
+// Thirteen operations in a row, and the exit of the program, which reads the last result.
+#[test]
+fn budgets_of_a_block_of_an_executable(rt: HostRuntime) -> Result<(), Fail> {
+    let mut text = vec![in rt.alloc(); 0x00B5_4533u32; 13]?;
+    text.extend_from_slice(&[0x05D0_0893, 0x0000_0073])?;
+    let bytes = program(&rt, text.as_slice(), &[], &[])?;
+    let rows = [
+        (
+            "best F --at 0x10074 --out 1 --budget 26",
+            "skipped budget 26\n",
+        ),
+        (
+            "best --budget 27 --out 1 --at 0x10074 F",
+            "cut 0 1 2 3 4 5 6 7 8 9 10 11 12 gain 11\n",
+        ),
+    ];
+    for (command, line) in rows {
+        expect_of(&rt, bytes.as_slice(), command, 0, line.as_bytes())?;
+    }
     Ok(())
 }

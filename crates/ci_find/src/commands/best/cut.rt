@@ -17,8 +17,8 @@ use ci_search::{Found, search};
 use ci_word::Row;
 use std::alloc::{AllocError, Global};
 
-/// The line of the best cut of the graph, or that it has none, or that the log of a search for it has more branches than
-/// the budget.
+/// The line of the best cut of the graph, or that it has none, or that the log of a search for it has more branches
+/// than the budget.
 pub fn best_cut_line(
     alloc: Global,
     graph: &Graph,

@@ -6,7 +6,7 @@ ghost use Rattle.ci_find.specs.BlockErrs.{IsCause};
 ghost use Rattle.ci_find.specs.ListedBlocks.{IsListedBlock, IsNoListedBlock};
 
 use super::LiveBlock;
-use crate::analysis::{BlockErr, analysis_of};
+use crate::analysis::{BlockErr, plain_analysis_of};
 use ci_block::Block;
 use ci_elf::Image;
 use std::alloc::Global;
@@ -24,7 +24,7 @@ pub fn listed_block(
         IsListedBlock image.now named.now address block.insns.items block.live_out) }
     ensures cause { IfErr result (IsCause (IsNoListedBlock image.now named.now address)) }
 {
-    let analysis = analysis_of(alloc, image, named)?;
+    let analysis = plain_analysis_of(alloc, image, named)?;
     match block_at(analysis.blocks.all(), address) {
         Some(block) => Ok(LiveBlock {
             insns: Vec::from_slice(alloc, block.insns.as_slice())?,
