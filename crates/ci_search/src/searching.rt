@@ -108,17 +108,13 @@ fn search_from(
             root: Child::Leaf(item),
         });
     }
-    let Some(taken) = search_from(graph, limits, region, &choices.with(node), best) else {
-        return None;
-    };
+    let taken = search_from(graph, limits, region, &choices.with(node), best)?;
     let Some(left_out) = search_from(graph, limits, region, &choices.without(node), &taken.best)
     else {
         give_back(region, taken.root);
         return None;
     };
-    let Some(root) = branch(region, taken.root, left_out.root) else {
-        return None;
-    };
+    let root = branch(region, taken.root, left_out.root)?;
     Some(Searched {
         best: left_out.best,
         root,

@@ -9,7 +9,7 @@ use Rattle.ci_check.proofs.StandingLaws.{taken_are_nodes, all_decided, next_from
 use Rattle.ci_search.proofs.LogLaws.{open_without_bars}
 use Rattle.ci_search.proofs.SearchLaws.{searched_whole, searched_bar, ready_in, spent_in, ready_out, given_in, spent_out, trees, given_both, spent_here, searched_branch}
 use Rattle.ci_search.proofs.searching.+search_from.Goals as goal
-use Rattle.ci_search.proofs.searching.+search_from.Goals.{In-Some, After-with, In-Some-search_from, In-Some-search_from-2}
+use Rattle.ci_search.proofs.searching.+search_from.Goals.{In-Some, After-with, In_ok-taken, In-Some-search_from}
 
 pub better_of-requires-clause-nodes : goal.better_of-requires-clause-nodes
 better_of-requires-clause-nodes t c =
@@ -62,28 +62,28 @@ search_from-requires t c =
       ),
     )
 
-pub returns-in_default-search_from : goal.returns-in_default-search_from
-returns-in_default-search_from t c prefix ready =
-    let here = at_node t (goal.at.returns-in_default-search_from t c).In-Some prefix ready in
+pub returns-in_err-taken : goal.returns-in_err-taken
+returns-in_err-taken t c prefix ready =
+    let here = at_node t (goal.at.returns-in_err-taken t c).In-Some prefix ready in
     let graph = c.args.graph.now in
-    spent_in graph c.args.limits.now prefix c.args.choices.now c.args.best.now ready c.requires.measured c.args.region.now c.in-Some.node here.next here.some c.search_from.new.region
-    (c.in_default-search_from.ensures (true ∷ prefix) (ready_in graph c.args.limits.now prefix c.args.choices.now c.args.best.now ready c.requires.measured c.args.region.now c.in-Some.node here.next here.some
-    c.with.result (c.with.ensures.stands graph prefix ready.stands here.next)))
+    rw c.from_residual.ensures (spent_in graph c.args.limits.now prefix c.args.choices.now c.args.best.now ready c.requires.measured c.args.region.now c.in-Some.node here.next here.some c.search_from.new.region
+    (c.in_err-taken.ensures (true ∷ prefix) (ready_in graph c.args.limits.now prefix c.args.choices.now c.args.best.now ready c.requires.measured c.args.region.now c.in-Some.node here.next here.some
+    c.with.result (c.with.ensures.stands graph prefix ready.stands here.next))))
 
 -- ---- once the sets with the node were passed
 
-first_at : (t : ℕ) (c : In-Some-search_from t) (prefix : Prefix) (ready : IsReady c.args.graph.now c.args.limits.now c.args.choices.now c.args.best.now prefix)
+first_at : (t : ℕ) (c : In_ok-taken t) (prefix : Prefix) (ready : IsReady c.args.graph.now c.args.limits.now c.args.choices.now c.args.best.now prefix)
     → IsTrue (is_next c.args.graph.now prefix c.in-Some.node) → length prefix < eligible_nodes c.args.graph.now
-    → IsSearched c.args.graph.now c.args.limits.now (true ∷ prefix) c.args.best.now c.args.region.now c.search_from.new.region c.in-Some-search_from.taken
+    → IsSearched c.args.graph.now c.args.limits.now (true ∷ prefix) c.args.best.now c.args.region.now c.search_from.new.region c.in_ok-taken.taken
 first_at t c prefix ready next some =
-    c.in-Some-search_from.ensures (true ∷ prefix) (ready_in c.args.graph.now c.args.limits.now prefix c.args.choices.now c.args.best.now ready c.requires.measured c.args.region.now c.in-Some.node next some
+    c.in_ok-taken.ensures (true ∷ prefix) (ready_in c.args.graph.now c.args.limits.now prefix c.args.choices.now c.args.best.now ready c.requires.measured c.args.region.now c.in-Some.node next some
     c.with.result (c.with.ensures.stands c.args.graph.now prefix ready.stands next))
 
 pub search_from-requires-2 : goal.search_from-requires-2
 search_from-requires-2 t c =
     let ready = c.requires.ready in
     let here = at_node t (goal.at.search_from-requires-2 t c).In-Some ready.0 ready.1 in
-    let first = first_at t (goal.at.search_from-requires-2 t c).In-Some-search_from ready.0 ready.1 here.next here.some in
+    let first = first_at t (goal.at.search_from-requires-2 t c).In_ok-taken ready.0 ready.1 here.next here.some in
     let graph = c.args.graph.now in (
       omega (arith, c.in-Some.ensures.below, c.without.ensures.place),
       (
@@ -92,7 +92,7 @@ search_from-requires-2 t c =
           (
             false ∷ ready.0,
             ready_out graph c.args.limits.now ready.0 c.args.choices.now c.args.best.now ready.1 c.requires.measured c.args.region.now c.in-Some.node here.next here.some
-                c.search_from.new.region c.in-Some-search_from.taken first c.without.result (c.without.ensures.stands graph ready.0 ready.1.stands here.next),
+                c.search_from.new.region c.in_ok-taken.taken first c.without.result (c.without.ensures.stands graph ready.0 ready.1.stands here.next),
           ),
           first.within,
         ),
@@ -105,72 +105,72 @@ give_back-requires t c =
     let graph = c.args.graph.now in
     let limits = c.args.limits.now in
     let here = at_node t (goal.at.give_back-requires t c).In-Some ready.0 ready.1 in
-    let first = first_at t (goal.at.give_back-requires t c).In-Some-search_from ready.0 ready.1 here.next here.some in
-    let spent = c.in_default-search_from-2.ensures (false ∷ ready.0) (ready_out graph limits ready.0 c.args.choices.now c.args.best.now ready.1 c.requires.measured c.args.region.now c.in-Some.node here.next here.some
-    c.search_from.new.region c.in-Some-search_from.taken first c.without.result (c.without.ensures.stands graph ready.0 ready.1.stands here.next)) in
-    (first.items, c.args.region.now.values, subst (λ (m : BoundedMap LogNode). IsTreeIn m.values c.in-Some-search_from.taken.root first.items c.args.region.now.values) (sym spent.0) first.tree)
+    let first = first_at t (goal.at.give_back-requires t c).In_ok-taken ready.0 ready.1 here.next here.some in
+    let spent = c.in_default-search_from.ensures (false ∷ ready.0) (ready_out graph limits ready.0 c.args.choices.now c.args.best.now ready.1 c.requires.measured c.args.region.now c.in-Some.node here.next here.some
+    c.search_from.new.region c.in_ok-taken.taken first c.without.result (c.without.ensures.stands graph ready.0 ready.1.stands here.next)) in
+    (first.items, c.args.region.now.values, subst (λ (m : BoundedMap LogNode). IsTreeIn m.values c.in_ok-taken.taken.root first.items c.args.region.now.values) (sym spent.0) first.tree)
 
-pub returns-in_default-search_from-2 : goal.returns-in_default-search_from-2
-returns-in_default-search_from-2 t c prefix ready =
+pub returns-in_default-search_from : goal.returns-in_default-search_from
+returns-in_default-search_from t c prefix ready =
     let graph = c.args.graph.now in
     let limits = c.args.limits.now in
-    let here = at_node t (goal.at.returns-in_default-search_from-2 t c).In-Some prefix ready in
-    let first = first_at t (goal.at.returns-in_default-search_from-2 t c).In-Some-search_from prefix ready here.next here.some in
-    let spent = c.in_default-search_from-2.ensures (false ∷ prefix) (ready_out graph limits prefix c.args.choices.now c.args.best.now ready c.requires.measured c.args.region.now c.in-Some.node here.next here.some
-    c.search_from.new.region c.in-Some-search_from.taken first c.without.result (c.without.ensures.stands graph prefix ready.stands here.next)) in
+    let here = at_node t (goal.at.returns-in_default-search_from t c).In-Some prefix ready in
+    let first = first_at t (goal.at.returns-in_default-search_from t c).In_ok-taken prefix ready here.next here.some in
+    let spent = c.in_default-search_from.ensures (false ∷ prefix) (ready_out graph limits prefix c.args.choices.now c.args.best.now ready c.requires.measured c.args.region.now c.in-Some.node here.next here.some
+    c.search_from.new.region c.in_ok-taken.taken first c.without.result (c.without.ensures.stands graph prefix ready.stands here.next)) in
     let given = c.give_back.ensures first.items c.args.region.now.values
-    (subst (λ (m : BoundedMap LogNode). IsTreeIn m.values c.in-Some-search_from.taken.root first.items c.args.region.now.values) (sym spent.0) first.tree) in
+    (subst (λ (m : BoundedMap LogNode). IsTreeIn m.values c.in_ok-taken.taken.root first.items c.args.region.now.values) (sym spent.0) first.tree) in
     let back = given_in graph limits prefix c.args.choices.now c.args.best.now ready c.requires.measured c.args.region.now c.in-Some.node here.next here.some
-    c.search_from.new.region c.in-Some-search_from.taken first c.search_from-2.new.region c.give_back.new.region spent.0 given in
+    c.search_from.new.region c.in_ok-taken.taken first c.search_from-2.new.region c.give_back.new.region spent.0 given in
     spent_out graph limits prefix c.args.choices.now c.args.best.now ready c.requires.measured c.args.region.now c.in-Some.node here.next here.some
-    c.search_from.new.region c.in-Some-search_from.taken first c.search_from-2.new.region c.give_back.new.region spent back
+    c.search_from.new.region c.in_ok-taken.taken first c.search_from-2.new.region c.give_back.new.region spent back
 
 -- ---- once all sets were passed
 
-second_at : (t : ℕ) (c : In-Some-search_from-2 t) (prefix : Prefix) (ready : IsReady c.args.graph.now c.args.limits.now c.args.choices.now c.args.best.now prefix)
+second_at : (t : ℕ) (c : In-Some-search_from t) (prefix : Prefix) (ready : IsReady c.args.graph.now c.args.limits.now c.args.choices.now c.args.best.now prefix)
     → (next : IsTrue (is_next c.args.graph.now prefix c.in-Some.node)) → (some : length prefix < eligible_nodes c.args.graph.now)
-    → (first : IsSearched c.args.graph.now c.args.limits.now (true ∷ prefix) c.args.best.now c.args.region.now c.search_from.new.region c.in-Some-search_from.taken)
-    → IsSearched c.args.graph.now c.args.limits.now (false ∷ prefix) c.in-Some-search_from.taken.best c.search_from.new.region c.search_from-2.new.region c.in-Some-search_from-2.left_out
+    → (first : IsSearched c.args.graph.now c.args.limits.now (true ∷ prefix) c.args.best.now c.args.region.now c.search_from.new.region c.in_ok-taken.taken)
+    → IsSearched c.args.graph.now c.args.limits.now (false ∷ prefix) c.in_ok-taken.taken.best c.search_from.new.region c.search_from-2.new.region c.in-Some-search_from.left_out
 second_at t c prefix ready next some first =
-    c.in-Some-search_from-2.ensures (false ∷ prefix) (ready_out c.args.graph.now c.args.limits.now prefix c.args.choices.now c.args.best.now ready c.requires.measured c.args.region.now c.in-Some.node next some
-    c.search_from.new.region c.in-Some-search_from.taken first c.without.result (c.without.ensures.stands c.args.graph.now prefix ready.stands next))
+    c.in-Some-search_from.ensures (false ∷ prefix) (ready_out c.args.graph.now c.args.limits.now prefix c.args.choices.now c.args.best.now ready c.requires.measured c.args.region.now c.in-Some.node next some
+    c.search_from.new.region c.in_ok-taken.taken first c.without.result (c.without.ensures.stands c.args.graph.now prefix ready.stands next))
 
-pub branch-root-requires : goal.branch-root-requires
-branch-root-requires t c =
+pub branch-region-requires : goal.branch-region-requires
+branch-region-requires t c =
     let ready = c.requires.ready in
-    let here = at_node t (goal.at.branch-root-requires t c).In-Some ready.0 ready.1 in
-    let first = first_at t (goal.at.branch-root-requires t c).In-Some-search_from ready.0 ready.1 here.next here.some in
-    let second = second_at t (goal.at.branch-root-requires t c).In-Some-search_from-2 ready.0 ready.1 here.next here.some first in (
+    let here = at_node t (goal.at.branch-region-requires t c).In-Some ready.0 ready.1 in
+    let first = first_at t (goal.at.branch-region-requires t c).In_ok-taken ready.0 ready.1 here.next here.some in
+    let second = second_at t (goal.at.branch-region-requires t c).In-Some-search_from ready.0 ready.1 here.next here.some first in (
       first.items,
       second.items,
       c.args.region.now.values,
       trees c.args.graph.now c.args.limits.now ready.0 c.args.choices.now c.args.best.now ready.1 c.requires.measured c.args.region.now c.in-Some.node here.next here.some
-          c.search_from.new.region c.in-Some-search_from.taken first c.search_from-2.new.region c.in-Some-search_from-2.left_out second,
+          c.search_from.new.region c.in_ok-taken.taken first c.search_from-2.new.region c.in-Some-search_from.left_out second,
     )
 
-pub returns-in_default-root : goal.returns-in_default-root
-returns-in_default-root t c prefix ready =
+pub returns-in_err-root : goal.returns-in_err-root
+returns-in_err-root t c prefix ready =
     let graph = c.args.graph.now in
     let limits = c.args.limits.now in
-    let here = at_node t (goal.at.returns-in_default-root t c).In-Some prefix ready in
-    let first = first_at t (goal.at.returns-in_default-root t c).In-Some-search_from prefix ready here.next here.some in
-    let second = second_at t (goal.at.returns-in_default-root t c).In-Some-search_from-2 prefix ready here.next here.some first in
+    let here = at_node t (goal.at.returns-in_err-root t c).In-Some prefix ready in
+    let first = first_at t (goal.at.returns-in_err-root t c).In_ok-taken prefix ready here.next here.some in
+    let second = second_at t (goal.at.returns-in_err-root t c).In-Some-search_from prefix ready here.next here.some first in
     let is_open = open_without_bars graph ready.stands.kept limits c.args.best.now c.requires.measured prefix ready.reached ready.after_best (c.in_default-closing_item.ensures prefix ready.stands) in
-    let undone = c.in_default-root.ensures in
+    let undone = c.in_err-root.ensures in
     let both = trees graph limits prefix c.args.choices.now c.args.best.now ready c.requires.measured c.args.region.now c.in-Some.node here.next here.some
-    c.search_from.new.region c.in-Some-search_from.taken first c.search_from-2.new.region c.in-Some-search_from-2.left_out second in
+    c.search_from.new.region c.in_ok-taken.taken first c.search_from-2.new.region c.in-Some-search_from.left_out second in
     let back = given_both graph limits prefix c.args.choices.now c.args.best.now ready c.requires.measured c.args.region.now c.in-Some.node here.next here.some
-    c.search_from.new.region c.in-Some-search_from.taken first c.search_from-2.new.region c.in-Some-search_from-2.left_out second c.branch-root.new.region (undone.given _ _ _ both) in
-    spent_here graph limits prefix c.args.choices.now c.args.best.now ready c.requires.measured c.args.region.now c.in-Some.node here.next here.some
-    c.search_from.new.region c.in-Some-search_from.taken first c.search_from-2.new.region c.in-Some-search_from-2.left_out second is_open undone.full c.branch-root.new.region back
+    c.search_from.new.region c.in_ok-taken.taken first c.search_from-2.new.region c.in-Some-search_from.left_out second c.branch-region.new.region (undone.given _ _ _ both) in
+    rw c.from_residual-in_err-root.ensures (spent_here graph limits prefix c.args.choices.now c.args.best.now ready c.requires.measured c.args.region.now c.in-Some.node here.next here.some
+    c.search_from.new.region c.in_ok-taken.taken first c.search_from-2.new.region c.in-Some-search_from.left_out second is_open undone.full c.branch-region.new.region back)
 
 pub returns : goal.returns
 returns t c prefix ready =
     let graph = c.args.graph.now in
     let limits = c.args.limits.now in
     let here = at_node t (goal.at.returns t c).In-Some prefix ready in
-    let first = first_at t (goal.at.returns t c).In-Some-search_from prefix ready here.next here.some in
-    let second = second_at t (goal.at.returns t c).In-Some-search_from-2 prefix ready here.next here.some first in
+    let first = first_at t (goal.at.returns t c).In_ok-taken prefix ready here.next here.some in
+    let second = second_at t (goal.at.returns t c).In-Some-search_from prefix ready here.next here.some first in
     let is_open = open_without_bars graph ready.stands.kept limits c.args.best.now c.requires.measured prefix ready.reached ready.after_best (c.in_default-closing_item.ensures prefix ready.stands) in
     searched_branch graph limits prefix c.args.choices.now c.args.best.now ready c.requires.measured c.args.region.now c.in-Some.node here.next here.some
-    c.search_from.new.region c.in-Some-search_from.taken first c.search_from-2.new.region c.in-Some-search_from-2.left_out second is_open c.branch-root.new.region c.in_Some-root.root c.in_Some-root.ensures
+    c.search_from.new.region c.in_ok-taken.taken first c.search_from-2.new.region c.in-Some-search_from.left_out second is_open c.branch-region.new.region c.in_ok-root.root c.in_ok-root.ensures
