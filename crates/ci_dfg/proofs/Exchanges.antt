@@ -9,7 +9,8 @@ use Rattle.ci_isa.specs.Effects.{operands, results, ends_block, is_kept, without
 use Rattle.ci_cut.specs.declared.graph.Source.{Source}
 use Rattle.ci_cut.specs.declared.graph.Source.TheVariants.{Made}
 use Rattle.ci_cut.specs.FlowGraph.{is_source}
-use Rattle.ci_dfg.specs.BlockGraph.{insn_at, latest_writer, source_from, source_of, has_true_arc, has_anti_arc, has_output_arc, has_memory_arc, has_control_arc, has_own_arc, ends_bundle, has_arc_from_bundle, has_arc_by_cread, has_arc_inside_bundle, has_arc_into}
+use Rattle.ci_isa.specs.Sequences.{insn_at, latest_writer}
+use Rattle.ci_dfg.specs.BlockGraph.{source_from, source_of, has_true_arc, has_anti_arc, has_output_arc, has_memory_arc, has_control_arc, has_own_arc, ends_bundle, has_arc_from_bundle, has_arc_by_cread, has_arc_inside_bundle, has_arc_into}
 use Rattle.ci_dfg.specs.Neighbours.{AreIndependent, AreJoined, ApartAreIndependent, NeighboursAreIndependent, BundlesMoveTogether}
 use Rattle.ci_dfg.proofs.Writers.{latest_writer_from}
 

@@ -15,7 +15,8 @@ use Rattle.ci_lat.specs.Latencies.{Latencies, IsLatencyTable}
 use Rattle.ci_cut.specs.declared.graph.Source.TheVariants.{Made}
 use Rattle.ci_cut.specs.declared.graph.Node.{Node}
 use Rattle.ci_cut.specs.FlowGraph.{IsFlowGraph, node_at, no_node, is_source}
-use Rattle.ci_dfg.specs.BlockGraph.{insn_at, has_arc_into, node_of, graph_of}
+use Rattle.ci_isa.specs.Sequences.{insn_at}
+use Rattle.ci_dfg.specs.BlockGraph.{has_arc_into, node_of, graph_of}
 use Rattle.ci_dfg.proofs.KindLaws as kinds
 use Rattle.ci_dfg.proofs.SourceLaws.{sources_rise}
 

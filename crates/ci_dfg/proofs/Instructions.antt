@@ -6,7 +6,7 @@ use Rattle.std.proofs.lemmas.List.{get_or_default}
 use Rattle.ci_isa.specs.declared.instruction.Insn.{Insn}
 use Rattle.ci_isa.specs.declared.instruction.Insn.TheVariants.{Ebreak}
 use Rattle.ci_isa.specs.Effects.{results, without_x0}
-use Rattle.ci_dfg.specs.BlockGraph.{insn_at}
+use Rattle.ci_isa.specs.Sequences.{insn_at}
 use Rattle.ci_dfg.proofs.Registers.{any_is}
 
 module _ (insns : List Insn) where

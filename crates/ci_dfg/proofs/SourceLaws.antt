@@ -10,7 +10,8 @@ use Rattle.ci_isa.specs.Effects.{operands, is_kept, without_x0}
 use Rattle.ci_cut.specs.declared.graph.Source.{Source}
 use Rattle.ci_cut.specs.declared.graph.Source.TheVariants.{Made}
 use Rattle.ci_cut.specs.FlowGraph.{is_source}
-use Rattle.ci_dfg.specs.BlockGraph.{insn_at, latest_writer, source_from, source_of, sources}
+use Rattle.ci_isa.specs.Sequences.{insn_at, latest_writer}
+use Rattle.ci_dfg.specs.BlockGraph.{source_from, source_of, sources}
 use Rattle.ci_dfg.proofs.Instructions.{insn_there}
 use Rattle.ci_dfg.proofs.Writers.{latest_writer_below}
 

@@ -6,7 +6,8 @@ use Rattle.ci_word.proofs.NumberLaws.{some_below_iff}
 use Rattle.ci_isa.specs.declared.instruction.Insn.{Insn}
 use Rattle.ci_dfg.proofs.Instructions.{insn_there}
 use Rattle.ci_isa.specs.Effects.{writes_register}
-use Rattle.ci_dfg.specs.BlockGraph.{insn_at, latest_writer, is_written_after}
+use Rattle.ci_isa.specs.Sequences.{insn_at, latest_writer}
+use Rattle.ci_dfg.specs.BlockGraph.{is_written_after}
 
 -- a latest writer below k, which is j or behind it
 pub record HasWriterFrom (insns : List Insn) (register j k : ℕ) : Type 0 where

@@ -2,7 +2,8 @@
 use Rattle.std.specs.Prelude.{◌≡◌, ℕ, ◌+◌, ◌<◌, true, false, ◌&&◌, ◌⊎◌, List, IsTrue}
 use Rattle.ci_isa.specs.declared.instruction.Insn.{Insn}
 use Rattle.ci_isa.specs.Effects.{ends_block, reads_register, writes_register, is_access}
-use Rattle.ci_dfg.specs.BlockGraph.{insn_at, ends_bundle, has_arc_into}
+use Rattle.ci_isa.specs.Sequences.{insn_at}
+use Rattle.ci_dfg.specs.BlockGraph.{ends_bundle, has_arc_into}
 
 -- Neither reads what the other writes, no register is written by both, and not both of them go to memory. This speaks of
 -- x1 to x31 alone: the hidden register is what a unit word and its `cread` share.

@@ -1,6 +1,7 @@
 //! Where the operands of an instruction come from.
 ghost use Rattle.std.specs.Prelude.{◌≡◌, ◌≤◌, ◌<◌, ◌++◌, ◌∷◌, [], map, length, OnOk, IfOk};
 ghost use Rattle.ci_dfg.specs.BlockGraph as terms;
+ghost use Rattle.ci_isa.specs.Sequences as sequences;
 ghost use Rattle.ci_isa.specs.Effects.{without_x0};
 
 use crate::effects::{operands, writes_register};
@@ -47,7 +48,7 @@ fn push_source(
 fn latest_writer(insns: &[Insn], register: u8, k: usize) -> Option<u8>
     requires few { length insns.now ≤ 256 }
     requires there { k ≤ length insns.now }
-    ensures { result ≡ terms.latest_writer insns.now register k }
+    ensures { result ≡ sequences.latest_writer insns.now register k }
 {
     let mut j = k;
     while j > 0 {

@@ -3,3 +3,4 @@ pub mod Effects
 pub mod FieldBounds
 pub mod Fields
 pub mod Table
+pub mod Sequences

@@ -5,7 +5,7 @@ use Rattle.std.proofs.Math.Seq.{drop-cons}
 use Rattle.ci_isa.specs.declared.instruction.Insn.{Insn}
 use Rattle.ci_isa.specs.Effects.{registers_read, registers_written}
 use Rattle.ci_live.specs.Bits.{Has}
-use Rattle.ci_live.specs.Liveness.{ReadFirst, Write}
+use Rattle.ci_isa.specs.Sequences.{ReadFirst, Write}
 use Rattle.ci_live.proofs.BitLaws.{has_or}
 use Rattle.ci_live.proofs.LivenessLaws.{read_first_cons, write_cons}
 

@@ -6,7 +6,8 @@ use Rattle.std.proofs.lemmas.List.Elements.{All-nil, All-head, All-tail}
 use Rattle.ci_isa.specs.declared.instruction.Insn.{Insn}
 use Rattle.ci_isa.specs.Effects.{registers_written}
 use Rattle.ci_block.specs.declared.blocks.Block.{Block}
-use Rattle.ci_live.specs.Liveness.{FollowEachOther, IsLive, IsSuccessor, ReadFirst, Reads, Write, first_of}
+use Rattle.ci_isa.specs.Sequences.{IsReadBy, ReadFirst, Write}
+use Rattle.ci_live.specs.Liveness.{FollowEachOther, IsLive, IsSuccessor, first_of}
 
 -- ---- one instruction more
 
@@ -25,7 +26,7 @@ write_cons insn insns r = (
 
 pub read_first_cons :
     (insn : Insn) (insns : List Insn) (r : ℕ)
-    → ReadFirst (insn ∷ insns) r ↔ (Reads insn r ⊎ (¬ IsTrue (set.contains (registers_written insn) r) × ReadFirst insns r))
+    → ReadFirst (insn ∷ insns) r ↔ (IsReadBy insn r ⊎ (¬ IsTrue (set.contains (registers_written insn) r) × ReadFirst insns r))
 read_first_cons insn insns r = (
   λ f. from f.before f.reader f.after f.split f.reads f.unwritten,
   λ some. elim some [
@@ -45,8 +46,8 @@ read_first_cons insn insns r = (
     no_writer : Write [] r → ⊥
     no_writer w = let h = w.there.1 in omega arith
 
-    from : (before : List Insn) (reader : Insn) (after : List Insn) → insn ∷ insns ≡ before ++ reader ∷ after → Reads reader r → ¬ Write before r → Reads insn r ⊎ (¬ IsTrue (set.contains (registers_written insn) r) × ReadFirst insns r)
-    from [] reader after split reads unwritten = let same : reader ≡ insn = cc in inl (subst (λ (i : Insn). Reads i r) same reads)
+    from : (before : List Insn) (reader : Insn) (after : List Insn) → insn ∷ insns ≡ before ++ reader ∷ after → IsReadBy reader r → ¬ Write before r → IsReadBy insn r ⊎ (¬ IsTrue (set.contains (registers_written insn) r) × ReadFirst insns r)
+    from [] reader after split reads unwritten = let same : reader ≡ insn = cc in inl (subst (λ (i : Insn). IsReadBy i r) same reads)
     from (first ∷ before) reader after split reads unwritten =
         let same : first ≡ insn = cc in
         let rest : insns ≡ before ++ reader ∷ after = cc in

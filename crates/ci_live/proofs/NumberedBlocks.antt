@@ -9,7 +9,8 @@ use Rattle.ci_block.specs.Blocks.{AreInOrder}
 use Rattle.ci_live.specs.declared.flow.Flow.{Flow}
 use Rattle.ci_live.specs.declared.flow.Ways.{Ways}
 use Rattle.ci_live.specs.Flows.{AreFlows, AreWays, IsReached, here, further, Leads, flow_at}
-use Rattle.ci_live.specs.Liveness.{FollowEachOther, IsLive, IsLiveAfter, IsSuccessor, LeadsTo, ReadFirst, Write, first_of}
+use Rattle.ci_isa.specs.Sequences.{ReadFirst, Write}
+use Rattle.ci_live.specs.Liveness.{FollowEachOther, IsLive, IsLiveAfter, IsSuccessor, LeadsTo, first_of}
 use Rattle.ci_live.proofs.LivenessLaws.{live_from_steps, live_where_read}
 
 -- block k is this one

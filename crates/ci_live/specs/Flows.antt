@@ -6,7 +6,8 @@ use Rattle.ci_live.specs.declared.flow.Flow.{Flow}
 use Rattle.ci_live.specs.declared.flow.Ways.{Ways}
 use Rattle.ci_live.specs.declared.flow.Ways.TheVariants.{Named, Anywhere}
 use Rattle.ci_live.specs.Bits.{Has}
-use Rattle.ci_live.specs.Liveness.{LeadsTo, ReadFirst, Write}
+use Rattle.ci_isa.specs.Sequences.{ReadFirst, Write}
+use Rattle.ci_live.specs.Liveness.{LeadsTo}
 
 -- the block of this number is one of the ways on
 abbrev pub Leads : Ways → ℕ → Type 0

@@ -1,34 +1,12 @@
 -- Liveness: the registers whose value on entry to a block may still be read. Public contracts cite these definitions.
-use Rattle.std.specs.Prelude.{◌≡◌, ℕ, ◌<◌, ◌⊎◌, ◌↔◌, List, [], ◌∷◌, ◌++◌, map, IsTrue}
+use Rattle.std.specs.Prelude.{◌≡◌, ℕ, ◌<◌, ◌⊎◌, ◌↔◌, List, [], ◌∷◌, map, IsTrue}
 use Rattle.std.specs.FinSet as set
 use Rattle.std.specs.List.{All, Contains}
-use Rattle.ci_isa.specs.declared.instruction.Insn.{Insn}
-use Rattle.ci_isa.specs.Effects.{registers_read, registers_written}
+use Rattle.ci_isa.specs.Sequences.{ReadFirst, Write}
 use Rattle.ci_block.specs.declared.blocks.Block.{Block}
 use Rattle.ci_block.specs.declared.blocks.Next.{Next}
 use Rattle.ci_block.specs.declared.blocks.Next.TheVariants.{Stop, One, Two, Any}
 use Rattle.ci_live.specs.Sets.{Sets, after_block, at_leader}
-
--- ---- what instructions read and write
-
-abbrev pub Reads : Insn → ℕ → Type 0
-Reads insn r = IsTrue (set.contains (registers_read insn) r)
-
--- one of the instructions writes the register
-pub record Write (insns : List Insn) (r : ℕ) : Type 0 where
-  pub writer : Insn
-  pub there : Contains insns writer
-  pub writes : IsTrue (set.contains (registers_written writer) r)
-
--- The instructions read the register before they write it: one of them reads it, and none before that one writes it.
--- An instruction reads its operands before it writes its result.
-pub record ReadFirst (insns : List Insn) (r : ℕ) : Type 0 where
-  pub before : List Insn
-  pub reader : Insn
-  pub after : List Insn
-  pub split : insns ≡ before ++ reader ∷ after
-  pub reads : Reads reader r
-  pub unwritten : ¬ Write before r
 
 -- ---- where blocks lead
 

@@ -3,7 +3,7 @@ ghost use Rattle.std.specs.Prelude.{◌≡◌, ℕ, ◌<◌, ◌↔◌, length, 
 ghost use Rattle.std.specs.List.{AllPairs, Contains};
 ghost use Rattle.ci_live.specs.Bits.{Has};
 ghost use Rattle.ci_live.specs.Flows.{AreFlows, AreWays};
-ghost use Rattle.ci_live.specs.Liveness.{ReadFirst, Write};
+ghost use Rattle.ci_isa.specs.Sequences.{ReadFirst, Write};
 
 use crate::registers::Registers;
 use ci_block::{Block, Next};

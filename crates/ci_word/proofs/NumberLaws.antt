@@ -196,6 +196,33 @@ count_below-add m (suc n) p =
     ∙ ap (λ x. x + (if p (m + n) then 1 else 0)) (count_below-add m n p)
     ∙ add_assoc (count_below m p) (count_below n (λ k. p (m + k))) (if p (m + n) then 1 else 0)
 
+pub sum_below-add : (m n : ℕ) (p : ℕ → Bool) (f : ℕ → ℕ) → sum_below (m + n) p f ≡ sum_below m p f + sum_below n (λ k. p (m + k)) (λ k. f (m + k))
+unfolding sum_below
+sum_below-add m zero p f = ap (λ x. sum_below x p f) (add-zero m) ∙ sym (add-zero (sum_below m p f))
+sum_below-add m (suc n) p f =
+    ap (λ x. sum_below x p f) (add-suc m n)
+    ∙ ap (λ x. x + (if p (m + n) then f (m + n) else 0)) (sum_below-add m n p f)
+    ∙ add_assoc (sum_below m p f) (sum_below n (λ k. p (m + k)) (λ k. f (m + k))) (if p (m + n) then f (m + n) else 0)
+
+pub sum_below-first : (n : ℕ) (p : ℕ → Bool) (f : ℕ → ℕ) → sum_below (suc n) p f ≡ (if p 0 then f 0 else 0) + sum_below n (λ k. p (suc k)) (λ k. f (suc k))
+unfolding sum_below
+sum_below-first zero p f = omega arith
+sum_below-first (suc n) p f =
+    ap (λ x. x + (if p (suc n) then f (suc n) else 0)) (sum_below-first n p f)
+    ∙ add_assoc (if p 0 then f 0 else 0) (sum_below n (λ k. p (suc k)) (λ k. f (suc k))) (if p (suc n) then f (suc n) else 0)
+
+-- ---- none
+
+pub sum_below-none : (n : ℕ) (p : ℕ → Bool) (f : ℕ → ℕ) → ((k : ℕ) → k < n → p k ≡ false) → sum_below n p f ≡ 0
+unfolding sum_below
+sum_below-none zero p f none = refl
+sum_below-none (suc n) p f none = λ i. sum_below-none n p f (λ k lt. none k (omega arith)) i + (if none n (omega arith) i then f n else 0)
+
+pub count_below-none : (n : ℕ) (p : ℕ → Bool) → ((k : ℕ) → k < n → p k ≡ false) → count_below n p ≡ 0
+unfolding count_below
+count_below-none zero p none = refl
+count_below-none (suc n) p none = λ i. count_below-none n p (λ k lt. none k (omega arith)) i + (if none n (omega arith) i then 1 else 0)
+
 pub length-numbers_below : (n : ℕ) (p : ℕ → Bool) → length (numbers_below n p) ≡ count_below n p
 unfolding numbers_below count_below
 length-numbers_below zero p = refl

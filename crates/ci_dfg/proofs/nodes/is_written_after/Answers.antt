@@ -1,7 +1,7 @@
 use Rattle.std.proofs.Common.{◌≡◌, ◌<◌, false, sym, ap, ◌∙◌}
 use borrow.Author.Count.{below_more}
 use Rattle.ci_isa.specs.Effects.{writes_register}
-use Rattle.ci_dfg.specs.BlockGraph.{insn_at}
+use Rattle.ci_isa.specs.Sequences.{insn_at}
 use Rattle.ci_dfg.proofs.Instructions.{insn_there}
 use Rattle.ci_dfg.proofs.nodes.is_written_after.Goals as goal
 

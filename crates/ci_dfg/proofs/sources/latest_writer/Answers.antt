@@ -1,5 +1,5 @@
 use Rattle.std.proofs.Common.{◌≡◌, sym, ap, ◌∙◌, arith}
-use Rattle.ci_dfg.specs.BlockGraph.{latest_writer}
+use Rattle.ci_isa.specs.Sequences.{latest_writer}
 use Rattle.ci_dfg.proofs.Writers.{latest_writer-zero}
 use Rattle.ci_dfg.proofs.sources.latest_writer.Goals as goal
 

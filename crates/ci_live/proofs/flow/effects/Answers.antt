@@ -3,7 +3,7 @@ use Rattle.std.proofs.Math.Seq.{drop-length}
 use Rattle.std.specs.FinSet as set
 use Rattle.ci_isa.specs.declared.instruction.Insn.{Insn}
 use Rattle.ci_live.specs.Bits.{Has}
-use Rattle.ci_live.specs.Liveness.{ReadFirst, Write}
+use Rattle.ci_isa.specs.Sequences.{ReadFirst, Write}
 use Rattle.ci_live.proofs.BitLaws.{has_none}
 use Rattle.ci_live.proofs.EffectLaws.{nothing_read, nothing_written, read_before, written_before}
 use Rattle.ci_live.proofs.flow.effects.Goals as goal
