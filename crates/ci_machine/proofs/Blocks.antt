@@ -1,5 +1,5 @@
 -- Lists of instructions, from runs that are related.
-use Rattle.std.proofs.Common.{◌≡◌, ℕ, refl, ap, sym, subst, ◌∙◌, arith, List, [], ◌∷◌, ◌++◌, Some, None}
+use Rattle.std.proofs.Common.{◌≡◌, ℕ, refl, ap, sym, ◌∙◌, arith, List, [], ◌∷◌, ◌++◌, Some, None}
 use Rattle.std.specs.Prelude.{Bool, true, false, not, ◌&&◌, ◌||◌}
 use Rattle.std.specs.List.{list_any}
 use Rattle.ci_isa.specs.declared.instruction.Insn.{Insn}
@@ -7,10 +7,10 @@ use Rattle.ci_isa.specs.Effects.{ends_block}
 use Rattle.ci_machine.specs.declared.ends.End.{End}
 use Rattle.ci_machine.specs.Cores.{Core}
 use Rattle.ci_machine.specs.Outcomes.{Reached, from_end, continued}
-use Rattle.ci_machine.specs.Actions.{Units, act, acted, accessed}
-use Rattle.ci_machine.specs.Agreement.{reads, writes, act_all, AreRelated, AreIndependent, LeavesText, AreActions, AllLeaveText, needed}
+use Rattle.ci_machine.specs.Actions.{Units, act, acted}
+use Rattle.ci_machine.specs.Agreement.{reads, writes, act_all, AreRelated, LeavesText, AreActions, AllLeaveText, needed}
 use Rattle.ci_machine.proofs.TestLaws.{by_end, neither_first, neither_second}
-use Rattle.ci_machine.proofs.Exchange.{exchange, frame}
+use Rattle.ci_machine.proofs.Effects.{frame}
 
 -- ---- relations
 
@@ -28,9 +28,6 @@ AreRelated-refl text set run = record {
   outside = record { memory = λ a clear. refl; heap_end = refl; input = refl; output = refl };
   registers = λ on r is. refl;
 }
-
-pub AreRelated-same : (text set : ℕ → Bool) (left right : Reached Core) → left ≡ right → AreRelated text set left right
-AreRelated-same text set left right same = subst (λ run. AreRelated text set left run) same (AreRelated-refl text set left)
 
 pub AreRelated-trans : (text set : ℕ → Bool) (left middle right : Reached Core) → AreRelated text set left middle → AreRelated text set middle right → AreRelated text set left right
 AreRelated-trans text set left middle right first second = record {
@@ -54,7 +51,7 @@ has_ended units insn run e ended = ap (from_end (act units insn) run) ended
 
 module _ (text : ℕ → Bool) (units : Units) where
   related_more : (set more : ℕ → Bool) (insn : Insn) (left right : Reached Core) → ends_block insn ≡ false
-      → ((r : ℕ) → reads insn r ≡ true → set r ≡ true) → ((r : ℕ) → more r ≡ true → (set r || writes insn r) ≡ true)
+      → ((r : ℕ) → reads units insn r ≡ true → set r ≡ true) → ((r : ℕ) → more r ≡ true → (set r || writes insn r) ≡ true)
       → AreRelated text set left right → (left.end ≡ None → LeavesText text insn left.state)
       → AreRelated text more (continued (act units insn) left) (continued (act units insn) right)
   related_more set more insn left right acts covered kept same clear =
@@ -70,15 +67,15 @@ module _ (text : ℕ → Bool) (units : Units) where
       (record { end = same.end; outside = same.outside; registers = λ on. cc }))
 
   pub list_frame : (set : ℕ → Bool) (insns : List Insn) (left right : Reached Core)
-      → AreActions insns → AreRelated text (needed insns set) left right → AllLeaveText units text insns left
+      → AreActions insns → AreRelated text (needed units insns set) left right → AllLeaveText units text insns left
       → AreRelated text set (act_all units insns left) (act_all units insns right)
   list_frame set [] left right acts same clear = same
   list_frame set (insn ∷ insns) left right acts same clear =
       list_frame set insns (continued (act units insn) left) (continued (act units insn) right)
       (neither_second (ends_block insn) _ acts)
-      (related_more (needed (insn ∷ insns) set) (needed insns set) insn left right (neither_first (ends_block insn) _ acts)
-      (λ r is. read_is (reads insn r) _ is)
-      (λ r is. kept_or_written (reads insn r) (needed insns set r) (writes insn r) is)
+      (related_more (needed units (insn ∷ insns) set) (needed units insns set) insn left right (neither_first (ends_block insn) _ acts)
+      (λ r is. read_is (reads units insn r) _ is)
+      (λ r is. kept_or_written (reads units insn r) (needed units insns set r) (writes insn r) is)
       same clear.0)
       clear.1
     where
@@ -88,39 +85,12 @@ module _ (text : ℕ → Bool) (units : Units) where
       kept_or_written : (p q w : Bool) → q ≡ true → ((p || (q && not w)) || w) ≡ true
       kept_or_written p q w is = grind arith
 
--- ---- exchange, anywhere in a list
+-- ---- lists one behind the other
 
 pub act_all-append : (units : Units) (before after : List Insn) (run : Reached Core) → act_all units (before ++ after) run ≡ act_all units after (act_all units before run)
 act_all-append units [] after run = refl
 act_all-append units (insn ∷ before) after run = act_all-append units before after (continued (act units insn) run)
 
-module _ (units : Units) where
-  pub no_text : (addresses : List ℕ) → list_any (λ _. false) addresses ≡ false
-  no_text [] = refl
-  no_text (a ∷ more) = no_text more
-
-  equal_more : (insns : List Insn) (left right : Reached Core) → AreActions insns → AreRelated (λ _. false) (λ _. true) left right
-      → AreRelated (λ _. false) (λ _. true) (act_all units insns left) (act_all units insns right)
-  equal_more [] left right acts same = same
-  equal_more (insn ∷ insns) left right acts same =
-      equal_more insns (continued (act units insn) left) (continued (act units insn) right) (neither_second (ends_block insn) _ acts)
-      (related_more (λ _. false) units (λ _. true) (λ _. true) insn left right (neither_first (ends_block insn) _ acts)
-      (λ r is. refl) (λ r is. refl) same (λ _. no_text (accessed insn left.state)))
-
-  exchange_from : (a b : Insn) (run : Reached Core) → AreIndependent a b → ends_block a ≡ false → ends_block b ≡ false
-      → AreRelated (λ _. false) (λ _. true) (act_all units (a ∷ b ∷ []) run) (act_all units (b ∷ a ∷ []) run)
-  exchange_from a b run apart acts_a acts_b =
-      by_end run.end
-      (λ on. rw (goes_on units a run on, goes_on units b run on) (exchange units run.state a b apart acts_a acts_b))
-      (λ e ended.
-      AreRelated-same _ _ _ _ (stays a b e ended ∙ sym (stays b a e ended)))
-    where
-      stays : (first second : Insn) (e : End) → run.end ≡ Some e → continued (act units second) (continued (act units first) run) ≡ run
-      stays first second e ended = ap (continued (act units second)) (has_ended units first run e ended) ∙ has_ended units second run e ended
-
-  pub exchange_within : (before after : List Insn) (a b : Insn) (run : Reached Core) → AreActions (a ∷ b ∷ after) → AreIndependent a b
-      → AreRelated (λ _. false) (λ _. true) (act_all units (before ++ a ∷ b ∷ after) run) (act_all units (before ++ b ∷ a ∷ after) run)
-  exchange_within before after a b run acts apart =
-      rw (act_all-append units before (a ∷ b ∷ after) run, act_all-append units before (b ∷ a ∷ after) run)
-      (equal_more after _ _ (neither_second (ends_block b) _ (neither_second (ends_block a) _ acts))
-      (exchange_from a b (act_all units before run) apart (neither_first (ends_block a) _ acts) (neither_first (ends_block b) _ (neither_second (ends_block a) _ acts))))
+pub no_text : (addresses : List ℕ) → list_any (λ _. false) addresses ≡ false
+no_text [] = refl
+no_text (a ∷ more) = no_text more

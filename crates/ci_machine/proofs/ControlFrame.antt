@@ -12,16 +12,15 @@ use Rattle.ci_machine.specs.declared.ends.End.TheVariants as ends
 use Rattle.ci_machine.specs.Cores.{Core, register, with_register}
 use Rattle.ci_machine.specs.Accesses.{addresses, bytes_at, joined, with_bytes}
 use Rattle.ci_machine.specs.Outcomes.{Next, Ended, reached, at_start}
-use Rattle.ci_machine.specs.Actions.{address_from}
+use Rattle.ci_machine.specs.Actions.{Units, address_from}
 use Rattle.ci_machine.specs.Agreement.{reads, writes, AgreeOutside, AgreeOn, AreRelated}
 use Rattle.ci_machine.specs.Programs.{Program, State, at_pc, lies_in, stack_start, stack_end}
 use Rattle.ci_machine.specs.Calls.{bad_file, bad_address, no_such_call, answering, range_at, read_length, read_into, read_call, written_from, is_output, write_call, may_end_at, with_heap_end, heap_call, numbered_call, moved_range}
 use Rattle.ci_machine.specs.Steps.{control, onward, directed, then_onward, following, is_taken, even, moved}
 use Rattle.ci_machine.specs.Blocks.{AreRelatedAt, HaveSameLayout, IsMapped}
 use Rattle.ci_machine.proofs.TestLaws.{by_test, either_first}
-use Rattle.ci_machine.proofs.RegisterLaws.{register_kept, register_written, operands_agree}
-use Rattle.ci_machine.proofs.Effects.{same_bytes, same_stores, first_there, second_there}
-use Rattle.ci_machine.proofs.Exchange.{outside_text}
+use Rattle.ci_machine.proofs.RegisterLaws.{register_kept, register_written, operands_agree, first_there, second_there}
+use Rattle.ci_machine.proofs.Effects.{same_bytes, same_stores, outside_text}
 
 -- ---- cores behind a write
 
@@ -258,12 +257,12 @@ module _ (text set : ℕ → Bool) (old new : Program) (layout : HaveSameLayout 
 
 -- ---- control
 
-module _ (text set : ℕ → Bool) (old new : Program) (layout : HaveSameLayout old new) (left right : Core) (mapped_left : IsMapped text left.memory)
+module _ (text set : ℕ → Bool) (units : Units) (old new : Program) (layout : HaveSameLayout old new) (left right : Core) (mapped_left : IsMapped text left.memory)
     (mapped_right : IsMapped text right.memory) (outside : AgreeOutside text left right) (agree : AgreeOn set left right) where
   read_agrees : (registers : List ℕ) (r : ℕ) → ((q : ℕ) → is_among registers q ≡ true → set q ≡ true) → list_any (λ n. n == r) registers ≡ true → register left r ≡ register right r
   read_agrees registers r covered there = operands_agree registers left right r (λ q is. agree q (covered q is)) there
 
-  pub control_frame : (insn : Insn) (pc : ℕ) → ends_block insn ≡ true → ((r : ℕ) → reads insn r ≡ true → set r ≡ true) → list_any text (moved insn left) ≡ false
+  pub control_frame : (insn : Insn) (pc : ℕ) → ends_block insn ≡ true → ((r : ℕ) → reads units insn r ≡ true → set r ≡ true) → list_any text (moved insn left) ≡ false
       → AreRelatedAt text (λ r. set r || writes insn r)
       (reached (at_pc pc left) (control old insn pc left)) (reached (at_pc pc right) (control new insn pc right))
   control_frame (Auipc rd upper) pc ends covered clear =

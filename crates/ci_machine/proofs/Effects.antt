@@ -1,6 +1,6 @@
--- What an instruction keeps, when it ends, and what its effect depends on.
+-- What an instruction keeps, when it ends, and what its effect depends on; and cores that agree go on to cores that agree.
 use Rattle.std.proofs.Common.{◌≡◌, ℕ, refl, ap, sym, subst, ◌∙◌, arith, List, [], ◌∷◌, Option, Some, None, ℤ}
-use Rattle.std.specs.Prelude.{Bool, true, false, ◌==◌, if◌then◌else◌, ⊤}
+use Rattle.std.specs.Prelude.{Bool, true, false, ◌==◌, ◌||◌, if◌then◌else◌, ⊤}
 use Rattle.std.specs.List.{list_any}
 use Rattle.std.proofs.lemmas.Bool.Decides.{nat_tests}
 use Rattle.ci_word.specs.declared.arithmetic.Op.TheVariants.{Add}
@@ -11,18 +11,24 @@ use Rattle.ci_isa.specs.declared.instruction.Insn.{Insn}
 use Rattle.ci_isa.specs.declared.instruction.Insn.TheVariants.{Alu, AluImm, Lui, Load, Store, Unit, Cread}
 use Rattle.ci_isa.specs.Effects.{ends_block, width_bytes, is_among, is_access}
 use Rattle.ci_machine.specs.declared.ends.End.{End}
-use Rattle.ci_machine.specs.Cores.{Core, hidden, register, with_register}
+use Rattle.ci_machine.specs.Cores.{Core, first_hidden, hidden, register, with_register, values_in, with_registers}
 use Rattle.ci_machine.specs.Accesses.{addresses, joined, bytes_at, with_bytes, bytes_of_number, load_width}
 use Rattle.ci_machine.specs.Outcomes.{Next, Reached, reached}
 use Rattle.ci_machine.specs.Actions.{Units, acted, accessed, address_from, loaded, stored}
-use Rattle.ci_machine.specs.Agreement.{reads, writes, AgreeOn}
-use Rattle.ci_machine.proofs.RegisterLaws.{register_kept, register_written, operands_agree}
+use Rattle.ci_machine.specs.Agreement.{reads, writes, AgreeOutside, AgreeOn, AreRelated, LeavesText}
+use Rattle.ci_machine.proofs.TestLaws.{by_test, neither_first, neither_second, either_first}
+use Rattle.ci_machine.proofs.RegisterLaws.{register_kept, register_written, operands_agree, values_agree, registers_kept, registers_written, first_there, second_there}
 
 -- ---- one instruction from one core
 
 abbrev pub is_store : Insn → Bool
 is_store (Store width rs1 rs2 offset) = true
 is_store insn = false
+
+pub store_accesses : (insn : Insn) → is_access insn ≡ false → is_store insn ≡ false
+store_accesses (Load kind rd rs1 offset) none = refl
+store_accesses (Store width rs1 rs2 offset) none = cc
+store_accesses insn none = refl
 
 -- what a run leaves alone
 pub record Keeps (insn : Insn) (core : Core) (run : Reached Core) : Type 0 where
@@ -96,9 +102,6 @@ keeps_store width rs1 rs2 offset core address value None = record {
   goes_on = λ none. cc;
 }
 
-two_kept : (core : Core) (a b v w q : ℕ) → is_among (a ∷ b ∷ []) q ≡ false → register (with_register (with_register core a v) b w) q ≡ register core q
-two_kept core a b v w q other = grind (arith, nat_tests)
-
 pub keeps : (units : Units) (insn : Insn) (core : Core) → Keeps insn core (acted units insn core)
 keeps units (Alu op rd rs1 rs2) core = keeps_result _ core rd _ (λ r. refl)
 keeps units (AluImm op rd rs1 imm) core = keeps_result _ core rd _ (λ r. refl)
@@ -106,7 +109,7 @@ keeps units (Lui rd upper) core = keeps_result _ core rd _ (λ r. refl)
 keeps units (Load kind rd rs1 offset) core = keeps_load kind rd rs1 offset core _ _
 keeps units (Store width rs1 rs2 offset) core = keeps_store width rs1 rs2 offset core _ _ _
 keeps units (Unit number rd rs1 rs2 rs3) core = record {
-  registers = λ r other. two_kept core hidden rd _ _ r other;
+  registers = registers_kept (rd ∷ hidden) (units.results number (values_in core (rs1 ∷ rs2 ∷ rs3 ∷ units.further number))) core;
   memory = λ _. refl;
   heap_end = refl;
   input = refl;
@@ -164,21 +167,8 @@ alike_store width rs1 rs2 offset left right address value (Some bytes) = record 
     none_written r is = grind (arith, nat_tests)
 alike_store width rs1 rs2 offset left right address value None = record { end = refl; written = λ none. cc; memory = λ _ same. same }
 
-two_written : (left right : Core) (a b v w v' w' q : ℕ) → v ≡ v' → w ≡ w' → is_among (a ∷ b ∷ []) q ≡ true
-    → register (with_register (with_register left a v) b w) q ≡ register (with_register (with_register right a v') b w') q
-two_written left right a b v w v' w' q first second is = grind (arith, nat_tests)
-
-pub first_there : (r : ℕ) (more : List ℕ) → list_any (λ n. n == r) (r ∷ more) ≡ true
-first_there r more = grind (arith, nat_tests)
-
-pub second_there : (a r : ℕ) (more : List ℕ) → list_any (λ n. n == r) (a ∷ r ∷ more) ≡ true
-second_there a r more = grind (arith, nat_tests)
-
-pub third_there : (a b r : ℕ) (more : List ℕ) → list_any (λ n. n == r) (a ∷ b ∷ r ∷ more) ≡ true
-third_there a b r more = grind (arith, nat_tests)
-
 module _ (units : Units) (left right : Core) where
-  pub alike : (insn : Insn) → ends_block insn ≡ false → AgreeOn (reads insn) left right → AgreeAt (accessed insn left) left.memory right.memory
+  pub alike : (insn : Insn) → ends_block insn ≡ false → AgreeOn (reads units insn) left right → AgreeAt (accessed insn left) left.memory right.memory
       → AreAlike insn left right (acted units insn left) (acted units insn right)
   alike (Alu op rd rs1 rs2) acts read moved =
       let a = operands_agree (rs1 ∷ rs2 ∷ []) left right rs1 read (first_there rs1 (rs2 ∷ [])) in
@@ -206,17 +196,43 @@ module _ (units : Units) (left right : Core) where
       (λ i. (place i, b i, bytes i))
       (alike_store width rs1 rs2 offset left right _ _ _)
   alike (Unit number rd rs1 rs2 rs3) acts read moved =
-      let a = operands_agree (rs1 ∷ rs2 ∷ rs3 ∷ []) left right rs1 read (first_there rs1 (rs2 ∷ rs3 ∷ [])) in
-      let b = operands_agree (rs1 ∷ rs2 ∷ rs3 ∷ []) left right rs2 read (second_there rs1 rs2 (rs3 ∷ [])) in
-      let c = operands_agree (rs1 ∷ rs2 ∷ rs3 ∷ []) left right rs3 read (third_there rs1 rs2 rs3 []) in
-      let values : units number (register left rs1) (register left rs2) (register left rs3) ≡ units number (register right rs1) (register right rs2) (register right rs3) =
-      λ i. units number (a i) (b i) (c i) in
+      let sources = rs1 ∷ rs2 ∷ rs3 ∷ units.further number in
+      let values = values_agree sources left right read in
       record {
         end = refl;
-        written = λ _ r is. two_written left right hidden rd _ _ _ _ r (λ i. (values i).1) (λ i. (values i).0) is;
+        written = λ _ r is.
+            registers_written (rd ∷ hidden) (units.results number (values_in left sources)) left right r is
+            ∙ ap (λ vs. register (with_registers right (rd ∷ hidden) (units.results number vs)) r) values;
         memory = λ _ same. same;
       }
   alike (Cread rd) acts read moved =
-      let a = operands_agree (hidden ∷ []) left right hidden read (first_there hidden []) in
+      let a = operands_agree (first_hidden ∷ []) left right first_hidden read (first_there first_hidden []) in
       alike_result (Cread rd) left right rd _ _ a (λ r. refl)
   alike insn acts read moved = cc
+
+-- ---- cores that agree
+
+pub outside_text : (text : ℕ → Bool) (addresses : List ℕ) (left right : ℕ → Option ℕ) → ((a : ℕ) → text a ≡ false → left a ≡ right a) → list_any text addresses ≡ false → AgreeAt addresses left right
+outside_text text [] left right same clear = tt
+outside_text text (address ∷ more) left right same clear =
+    (same address (neither_first (text address) _ clear), outside_text text more left right same (neither_second (text address) _ clear))
+
+module _ (text set : ℕ → Bool) (units : Units) (left right : Core) (outside : AgreeOutside text left right) (agree : AgreeOn set left right) where
+  pub frame : (insn : Insn) → ends_block insn ≡ false → ((r : ℕ) → reads units insn r ≡ true → set r ≡ true) → LeavesText text insn left
+      → AreRelated text (λ r. set r || writes insn r) (acted units insn left) (acted units insn right)
+  frame insn acts covered clear =
+      let kept_left = keeps units insn left in
+      let kept_right = keeps units insn right in
+      let same = alike units left right insn acts (λ r is. agree r (covered r is)) (outside_text text (accessed insn left) left.memory right.memory outside.memory clear) in
+      record {
+        end = same.end;
+        outside = record {
+          memory = λ address none. same.memory address (outside.memory address none);
+          heap_end = kept_left.heap_end ∙ outside.heap_end ∙ sym kept_right.heap_end;
+          input = kept_left.input ∙ outside.input ∙ sym kept_right.input;
+          output = kept_left.output ∙ outside.output ∙ sym kept_right.output;
+        };
+        registers = λ on r is. by_test (writes insn r)
+            (λ written. same.written on r written)
+            (λ none. kept_left.registers r none ∙ agree r (either_first (set r) (writes insn r) is none) ∙ sym (kept_right.registers r none));
+      }

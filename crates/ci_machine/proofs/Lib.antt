@@ -1,12 +1,10 @@
 pub mod TestLaws
 pub mod RegisterLaws
 pub mod Effects
-pub mod Exchange
 pub mod Blocks
 pub mod Meanings
 pub mod RunLaws
 pub mod BlockSteps
-pub mod Computations
 pub mod ControlFrame
 pub mod Rows
 pub mod PartLaws

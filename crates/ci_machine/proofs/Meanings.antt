@@ -20,7 +20,10 @@ use Rattle.ci_machine.specs.Steps.{Meaning, IsPlain, word_at, execute, fetched, 
 use Rattle.ci_machine.specs.Runs.{Latencies, latency, after, cost, step_cost}
 use Rattle.std.specs.Option.{option_map}
 use Rattle.std.specs.Prelude.{ℕ, zero, suc, ◌%◌, Bool, true, false, is_none}
+use Rattle.ci_machine.specs.Cores.{first_hidden, hidden}
+use Rattle.ci_machine.specs.Actions.{Units, TakeHidden}
 use Rattle.ci_machine.specs.Agreement.{reads, writes}
+use Rattle.ci_machine.proofs.TestLaws.{by_test}
 
 -- ---- meanings
 
@@ -40,7 +43,7 @@ stands word = elim (cases_lt word (2 ^ 32)) [
 ]
 
 pub plain_exists : (meaning : Meaning) × IsPlain meaning
-plain_exists = (record { insn = plain_insn; units = λ number a b c. (0, 0) }, stands)
+plain_exists = (record { insn = plain_insn; units = record { further = λ number. []; results = λ number values. [] } }, stands)
 
 module _ (left right : Meaning) (one : IsPlain left) (other : IsPlain right) (program : Program) where
   same_execution : (word : ℕ) (insn : Insn) (state : State) → IsInsnAt word insn → execute left.units program insn state ≡ execute right.units program insn state
@@ -84,13 +87,24 @@ module _ (left right : Meaning) (one : IsPlain left) (other : IsPlain right) (pr
 
 -- ---- sets of registers
 
-not_hidden : (registers : List ℕ) (r : ℕ) → r < 32 → is_among (32 ∷ registers) r ≡ is_among registers r
-not_hidden registers r below = grind (arith, nat_tests)
+-- three registers and further ones, of which none is this one
+none_further : (a b c : ℕ) (further : List ℕ) (r : ℕ) → is_among further r ≡ false → is_among (a ∷ b ∷ c ∷ further) r ≡ is_among (a ∷ b ∷ c ∷ []) r
+none_further a b c further r none = grind (arith, nat_tests)
 
-pub registers_read_are : (insn : Insn) (r : ℕ) → r < 32 → reads insn r ≡ set.contains (registers_read insn) r
-registers_read_are (Cread rd) r below = not_hidden [] r below ∙ reads_register_is (Cread rd) r
-registers_read_are insn r below = reads_register_is insn r
+pub registers_read_are : (units : Units) → TakeHidden units → (insn : Insn) (r : ℕ) → r < 32 → reads units insn r ≡ set.contains (registers_read insn) r
+registers_read_are units hidden_ones (Unit number rd rs1 rs2 rs3) r below =
+    none_further rs1 rs2 rs3 (units.further number) r
+    (by_test (is_among (units.further number) r) (λ is. absurd (omega (arith, hidden_ones number r is))) (λ none. none))
+    ∙ reads_register_is (Unit number rd rs1 rs2 rs3) r
+registers_read_are units hidden_ones (Cread rd) r below = not_hidden ∙ reads_register_is (Cread rd) r
+  where
+    not_hidden : is_among (first_hidden ∷ []) r ≡ is_among [] r
+    not_hidden = grind (arith, nat_tests)
+registers_read_are units hidden_ones insn r below = reads_register_is insn r
 
 pub registers_written_are : (insn : Insn) (r : ℕ) → r < 32 → writes insn r ≡ set.contains (registers_written insn) r
-registers_written_are (Unit number rd rs1 rs2 rs3) r below = not_hidden (rd ∷ []) r below ∙ writes_register_is (Unit number rd rs1 rs2 rs3) r
+registers_written_are (Unit number rd rs1 rs2 rs3) r below = rd_alone ∙ writes_register_is (Unit number rd rs1 rs2 rs3) r
+  where
+    rd_alone : is_among (rd ∷ hidden) r ≡ is_among (rd ∷ []) r
+    rd_alone = grind (arith, nat_tests)
 registers_written_are insn r below = writes_register_is insn r

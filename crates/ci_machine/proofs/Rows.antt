@@ -1,6 +1,6 @@
 -- What the definitions give on a few instructions and programs, computed.
 use Rattle.std.proofs.Common.{◌≡◌, ℕ, refl, [], ◌∷◌, Option, Some, None, pos, negsuc}
-use Rattle.std.specs.Prelude.{◌+◌, ◌==◌, if◌then◌else◌}
+use Rattle.std.specs.Prelude.{◌+◌, ◌==◌, if◌then◌else◌, List, drop, slice_index_or}
 use Rattle.std.specs.Option.{unwrap_or}
 use Rattle.ci_word.specs.declared.arithmetic.Op.TheVariants.{Add, Sra, Srl}
 use Rattle.ci_word.specs.declared.arithmetic.Class.{Class}
@@ -15,7 +15,7 @@ use Rattle.ci_isa.specs.declared.instruction.Insn.TheVariants.{Alu, AluImm, Load
 use Rattle.ci_isa.specs.Decoding.{jump_row, branch_row, load_row, store_row, immediate_row, shift_row, constant_row, operation_row, fence_row, environment_row, plain_row}
 use Rattle.ci_machine.specs.declared.ends.End.{End}
 use Rattle.ci_machine.specs.declared.ends.End.TheVariants as ends
-use Rattle.ci_machine.specs.Cores.{Core, hidden, register, with_register}
+use Rattle.ci_machine.specs.Cores.{Core, first_hidden, register, with_register}
 use Rattle.ci_machine.specs.Outcomes.{Next, Ended, Reached, reached}
 use Rattle.ci_machine.specs.Actions.{Units, acted}
 use Rattle.ci_elf.specs.Executables.{Executable}
@@ -24,10 +24,10 @@ use Rattle.ci_machine.specs.Calls.{call}
 use Rattle.ci_machine.specs.Steps.{Meaning, control, step, touched}
 use Rattle.ci_machine.specs.Runs.{Latencies, jalr_target, after, cost, steps_made, entries}
 
--- x5 has 100, x6 has 80000010, and the two bytes at 100 are mapped
+-- x5 has 100, x6 has 80000010, x7 has 4, the hidden register has 9, and the two bytes at 100 are mapped
 core : Core
 core = record {
-  registers = λ r. if r == 5 then 0x100 else if r == 6 then 0x80000010 else if r == 7 then 4 else 0;
+  registers = λ r. if r == 5 then 0x100 else if r == 6 then 0x80000010 else if r == 7 then 4 else if r == first_hidden then 9 else 0;
   memory = λ a. if a == 0x100 then Some 0x80 else if a == 0x101 then Some 0xff else None;
   heap_end = 0;
   input = [];
@@ -35,7 +35,16 @@ core = record {
 }
 
 units : Units
-units number a b c = (a + b, c)
+units = record { further = further; results = results }
+  where
+    -- unit 4 takes x7 too, and gives its value alone
+    further : ℕ → List ℕ
+    further number = if number == 4 then 7 ∷ [] else []
+
+    results : ℕ → List ℕ → List ℕ
+    results number values =
+        if number == 4 then drop 3 values
+        else (slice_index_or values 0 0 + slice_index_or values 1 0) ∷ slice_index_or values 2 0 ∷ []
 
 -- the value that an instruction leaves in a register, and its end
 left_in : ℕ → Insn → ℕ
@@ -86,9 +95,14 @@ zero_register : left_in 0 (AluImm Add 0 5 (pos 1)) ≡ 0
 unfolding left_in core
 zero_register = refl
 
-unit_results : (left_in 8 (Unit 3 8 5 6 7) ≡ 0x80000110) × (left_in hidden (Unit 3 8 5 6 7) ≡ 4)
+unit_results : (left_in 8 (Unit 3 8 5 6 7) ≡ 0x80000110) × (left_in first_hidden (Unit 3 8 5 6 7) ≡ 4)
 unfolding left_in core units
 unit_results = (refl, refl)
+
+-- a unit that takes a fourth operand, and gives one result: the hidden register takes 0
+further_operand : (left_in 8 (Unit 4 8 5 6 0) ≡ 4) × (left_in first_hidden (Unit 4 8 5 6 0) ≡ 0)
+unfolding left_in core units
+further_operand = (refl, refl)
 
 -- ---- control
 

@@ -11,15 +11,6 @@ pub by_end : {A : Type 0} (end : Option End) → (end ≡ None → A) → ((e : 
 by_end None none some = none refl
 by_end (Some e) none some = some e refl
 
-pub excluded : (p q : Bool) → (p ≡ true → q ≡ false) → q ≡ true → p ≡ false
-excluded p q none is = grind arith
-
-pub not_both : (p q : Bool) → (p && q) ≡ false → q ≡ true → p ≡ false
-not_both p q none is = grind arith
-
-pub swapped : (p q : Bool) → (p && q) ≡ false → (q && p) ≡ false
-swapped p q none = grind arith
-
 pub neither_first : (p q : Bool) → (p || q) ≡ false → p ≡ false
 neither_first p q none = grind arith
 
@@ -34,3 +25,9 @@ both_second p q both = grind arith
 
 pub either_first : (p q : Bool) → (p || q) ≡ true → q ≡ false → p ≡ true
 either_first p q is none = grind arith
+
+pub or_second : (p q : Bool) → (p || q) ≡ true → p ≡ false → q ≡ true
+or_second p q is none = grind arith
+
+pub either_second : (p q : Bool) → q ≡ true → (p || q) ≡ true
+either_second p q is = grind arith

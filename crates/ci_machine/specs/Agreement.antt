@@ -3,24 +3,26 @@ use Rattle.std.specs.Prelude.{◌≡◌, ℕ, Bool, true, false, ◌&&◌, ◌||
 use Rattle.std.specs.List.{list_any}
 use Rattle.ci_isa.specs.declared.instruction.Insn.{Insn}
 use Rattle.ci_isa.specs.declared.instruction.Insn.TheVariants.{Unit, Cread}
-use Rattle.ci_isa.specs.Effects.{operands, results, is_among, is_access, ends_block}
-use Rattle.ci_machine.specs.Cores.{Core, hidden, register}
+use Rattle.ci_isa.specs.Effects.{operands, results, is_among, ends_block}
+use Rattle.ci_machine.specs.Cores.{Core, first_hidden, hidden, register}
 use Rattle.ci_machine.specs.Outcomes.{Reached, continued}
 use Rattle.ci_machine.specs.Actions.{Units, act, accessed}
 
 -- ---- what an instruction reads and writes
 
--- the registers that it takes its operands from, and those that take its results, with the hidden one
-abbrev pub all_operands : Insn → List ℕ
-all_operands (Cread rd) = hidden ∷ []
-all_operands insn = operands insn
+-- The registers that it takes its operands from, and those that take its results, with the hidden ones. What a unit
+-- word reads depends on its unit, and what it writes on the word alone.
+abbrev pub all_operands : Units → Insn → List ℕ
+all_operands units (Unit number rd rs1 rs2 rs3) = rs1 ∷ rs2 ∷ rs3 ∷ units.further number
+all_operands units (Cread rd) = first_hidden ∷ []
+all_operands units insn = operands insn
 
 abbrev pub all_results : Insn → List ℕ
-all_results (Unit number rd rs1 rs2 rs3) = hidden ∷ rd ∷ []
+all_results (Unit number rd rs1 rs2 rs3) = rd ∷ hidden
 all_results insn = results insn
 
-abbrev pub reads : Insn → ℕ → Bool
-reads insn = is_among (all_operands insn)
+abbrev pub reads : Units → Insn → ℕ → Bool
+reads units insn = is_among (all_operands units insn)
 
 abbrev pub writes : Insn → ℕ → Bool
 writes insn = is_among (all_results insn)
@@ -51,19 +53,6 @@ pub record AreRelated (text : ℕ → Bool) (set : ℕ → Bool) (left right : R
   pub outside : AgreeOutside text left.state right.state
   pub registers : left.end ≡ None → AgreeOn set left.state right.state
 
--- ---- what instructions have to do with each other
-
--- Neither reads what the other writes, no register is written by both, and not both of them go to memory.
-pub record AreIndependent (first second : Insn) : Type 0 where
-  pub first_into_second : (r : ℕ) → writes first r ≡ true → reads second r ≡ false
-  pub second_into_first : (r : ℕ) → writes second r ≡ true → reads first r ≡ false
-  pub results : (r : ℕ) → writes first r ≡ true → writes second r ≡ false
-  pub accesses : (is_access first && is_access second) ≡ false
-
--- no byte that the instruction moves is text
-abbrev pub LeavesText : (ℕ → Bool) → Insn → Core → Type 0
-LeavesText text insn core = list_any text (accessed insn core) ≡ false
-
 -- ---- what a list of instructions needs
 
 -- none of them ends a block, so each of them acts
@@ -72,22 +61,13 @@ AreActions insns = list_any ends_block insns ≡ false
 
 -- The registers that must agree before the instructions for those of the set to agree behind them: those that are read
 -- before they are written, and those of the set that are not written.
-abbrev pub needed : List Insn → (ℕ → Bool) → ℕ → Bool
-needed [] set r = set r
-needed (insn ∷ insns) set r = reads insn r || (needed insns set r && not (writes insn r))
+abbrev pub needed : Units → List Insn → (ℕ → Bool) → ℕ → Bool
+needed units [] set r = set r
+needed units (insn ∷ insns) set r = reads units insn r || (needed units insns set r && not (writes insn r))
 
--- the registers that some of the instructions write
-abbrev pub written : List Insn → ℕ → Bool
-written insns r = list_any (λ insn. writes insn r) insns
-
--- Two lists of instructions without loads and stores. Neither needs what the other writes, and no register of the set is
--- written by both.
-pub record AreApart (set : ℕ → Bool) (first second : List Insn) : Type 0 where
-  pub first_into_second : (r : ℕ) → written first r ≡ true → needed second (λ _. false) r ≡ false
-  pub second_into_first : (r : ℕ) → written second r ≡ true → needed first (λ _. false) r ≡ false
-  pub results : (r : ℕ) → set r ≡ true → written first r ≡ true → written second r ≡ false
-  pub no_access_in_first : list_any is_access first ≡ false
-  pub no_access_in_second : list_any is_access second ≡ false
+-- no byte that the instruction moves is text
+abbrev pub LeavesText : (ℕ → Bool) → Insn → Core → Type 0
+LeavesText text insn core = list_any text (accessed insn core) ≡ false
 
 -- none of the instructions moves a byte of text, up to the one that ends
 abbrev pub AllLeaveText : Units → (ℕ → Bool) → List Insn → Reached Core → Type 0

@@ -1,6 +1,6 @@
 -- What instructions act on: registers, memory, the heap's end, input and output
 -- (RISC-V Unprivileged ISA 20191213, sections 1.4 and 2.1).
-use Rattle.std.specs.Prelude.{ℕ, ◌==◌, ◌&&◌, not, if◌then◌else◌, List, Option}
+use Rattle.std.specs.Prelude.{ℕ, ◌==◌, ◌&&◌, not, if◌then◌else◌, List, [], ◌∷◌, map, drop, slice_index_or, Option}
 
 -- Everything of a state but the pc. Memory gives the byte at each mapped address, and nothing elsewhere.
 pub record Core : Type 0 where
@@ -12,9 +12,13 @@ pub record Core : Type 0 where
 
 -- ---- registers
 
--- x0 to x31 go by their numbers. Behind them stands the hidden register, which unit words write and `cread` reads.
-abbrev pub hidden : ℕ
-hidden = 32
+-- x0 to x31 go by their numbers. Behind them stand the hidden registers, of which this one is what `cread` reads.
+abbrev pub first_hidden : ℕ
+first_hidden = 32
+
+-- those that a unit word writes beside its rd, in the order of its results
+abbrev pub hidden : List ℕ
+hidden = first_hidden ∷ []
 
 -- x0 is always 0
 abbrev pub register : Core → ℕ → ℕ
@@ -24,3 +28,13 @@ register core r = if r == 0 then 0 else core.registers r
 abbrev pub with_register : Core → ℕ → ℕ → Core
 with_register core r value =
     record core { registers = λ n. if (n == r) && not (r == 0) then value else core.registers n }
+
+-- the values in registers
+abbrev pub values_in : Core → List ℕ → List ℕ
+values_in core registers = map (register core) registers
+
+-- the core after the registers took these values in order, those without one 0
+abbrev pub with_registers : Core → List ℕ → List ℕ → Core
+with_registers core [] values = core
+with_registers core (r ∷ registers) values =
+    with_register (with_registers core registers (drop 1 values)) r (slice_index_or values 0 0)

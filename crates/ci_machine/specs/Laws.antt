@@ -1,21 +1,17 @@
 -- What holds of all instructions, blocks and runs.
-use Rattle.std.specs.Prelude.{◌≡◌, ℕ, ◌+◌, ◌<◌, Bool, true, false, ◌||◌, List, ◌∷◌, ◌++◌, length, Option, None}
+use Rattle.std.specs.Prelude.{◌≡◌, ℕ, ◌+◌, ◌<◌, Bool, true, false, ◌||◌, List, length, Option, None}
 use Rattle.std.specs.FinSet as set
 use Rattle.ci_isa.specs.declared.instruction.Insn.{Insn}
-use Rattle.ci_isa.specs.Effects.{ends_block, registers_read, registers_written, is_access}
+use Rattle.ci_isa.specs.Effects.{ends_block, registers_read, registers_written}
 use Rattle.ci_machine.specs.Cores.{Core}
 use Rattle.std.specs.List.{list_any}
 use Rattle.ci_machine.specs.Outcomes.{at_start, reached, Reached}
-use Rattle.ci_machine.specs.Actions.{Units, acted}
-use Rattle.ci_machine.specs.Agreement.{reads, writes, act_all, AgreeOutside, AgreeOn, AreRelated, AreIndependent, LeavesText, AreActions, AreApart, AllLeaveText, needed}
+use Rattle.ci_machine.specs.Actions.{Units, TakeHidden, acted}
+use Rattle.ci_machine.specs.Agreement.{reads, writes, act_all, AgreeOutside, AgreeOn, AreRelated, LeavesText, AreActions, AllLeaveText, needed}
 use Rattle.ci_machine.specs.Programs.{Program, State, at_pc, in_text}
 use Rattle.ci_machine.specs.Steps.{Meaning, IsPlain, control, moved}
 use Rattle.ci_machine.specs.Runs.{Latencies, after, cost}
 use Rattle.ci_machine.specs.Blocks.{StandAt, HaveSameText, IsRunOf, AreRelatedAt, HaveSameLayout, IsMapped}
-
--- everything is compared: all registers, and memory at each address
-abbrev pub AreEqual : Reached Core → Reached Core → Type 0
-AreEqual left right = AreRelated (λ _. false) (λ _. true) left right
 
 -- ---- instructions
 
@@ -23,24 +19,17 @@ AreEqual left right = AreRelated (λ _. false) (λ _. true) left right
 abbrev pub Frame : Type 0
 Frame =
     (text set : ℕ → Bool) (units : Units) (left right : Core) → AgreeOutside text left right → AgreeOn set left right
-    → (insn : Insn) → ends_block insn ≡ false → ((r : ℕ) → reads insn r ≡ true → set r ≡ true)
+    → (insn : Insn) → ends_block insn ≡ false → ((r : ℕ) → reads units insn r ≡ true → set r ≡ true)
     → LeavesText text insn left
     → AreRelated text (λ r. set r || writes insn r) (acted units insn left) (acted units insn right)
-
--- An instruction that goes to no memory, and writes no register of the set, may be left out.
-abbrev pub DeadWrite : Type 0
-DeadWrite =
-    (text set : ℕ → Bool) (units : Units) (left right : Core) → AgreeOutside text left right → AgreeOn set left right
-    → (insn : Insn) → is_access insn ≡ false → ((r : ℕ) → writes insn r ≡ true → set r ≡ false)
-    → AreRelated text set (acted units insn left) (at_start right)
 
 -- The same for an instruction that ends a block, in two programs of one layout.
 abbrev pub ControlFrame : Type 0
 ControlFrame =
-    (text set : ℕ → Bool) (old new : Program) → HaveSameLayout old new
+    (text set : ℕ → Bool) (units : Units) (old new : Program) → HaveSameLayout old new
     → (left right : Core) → IsMapped text left.memory → IsMapped text right.memory
     → AgreeOutside text left right → AgreeOn set left right
-    → (insn : Insn) (pc : ℕ) → ends_block insn ≡ true → ((r : ℕ) → reads insn r ≡ true → set r ≡ true)
+    → (insn : Insn) (pc : ℕ) → ends_block insn ≡ true → ((r : ℕ) → reads units insn r ≡ true → set r ≡ true)
     → list_any text (moved insn left) ≡ false
     → AreRelatedAt text (λ r. set r || writes insn r)
     (reached (at_pc pc left) (control old insn pc left))
@@ -48,30 +37,11 @@ ControlFrame =
 
 -- ---- lists of instructions
 
--- Two neighbours that are independent may change places, anywhere in a list.
-abbrev pub Exchange : Type 0
-Exchange =
-    (units : Units) (before after : List Insn) (first second : Insn) (run : Reached Core)
-    → AreActions (first ∷ second ∷ after) → AreIndependent first second
-    → AreEqual
-    (act_all units (before ++ first ∷ second ∷ after) run)
-    (act_all units (before ++ second ∷ first ∷ after) run)
-
--- Two lists of computations change places, as a unit word and its `cread` together do. Registers that both of them
--- write may differ behind them, where these are not needed.
-abbrev pub ListExchange : Type 0
-ListExchange =
-    (units : Units) (set : ℕ → Bool) (before first second after : List Insn) (run : Reached Core)
-    → AreActions first → AreActions second → AreActions after → AreApart (needed after set) first second
-    → AreRelated (λ _. false) set
-    (act_all units (before ++ first ++ second ++ after) run)
-    (act_all units (before ++ second ++ first ++ after) run)
-
 -- Cores that agree on the registers that a list needs for a set agree on that set behind it.
 abbrev pub ListFrame : Type 0
 ListFrame =
     (text set : ℕ → Bool) (units : Units) (insns : List Insn) (left right : Reached Core)
-    → AreActions insns → AreRelated text (needed insns set) left right → AllLeaveText units text insns left
+    → AreActions insns → AreRelated text (needed units insns set) left right → AllLeaveText units text insns left
     → AreRelated text set (act_all units insns left) (act_all units insns right)
 
 -- ---- runs
@@ -120,9 +90,11 @@ PlainCostsOne =
     → (program : Program) (latencies : Latencies) (n : ℕ) (state : State)
     → cost left program latencies n state ≡ cost right program latencies n state
 
--- the registers that are read and written, but for the hidden one, are the sets of the instruction
+-- the registers that are read and written, but for the hidden ones, are the sets of the instruction
 abbrev pub RegistersRead : Type 0
-RegistersRead = (insn : Insn) (r : ℕ) → r < 32 → reads insn r ≡ set.contains (registers_read insn) r
+RegistersRead =
+    (units : Units) → TakeHidden units
+    → (insn : Insn) (r : ℕ) → r < 32 → reads units insn r ≡ set.contains (registers_read insn) r
 
 abbrev pub RegistersWritten : Type 0
 RegistersWritten = (insn : Insn) (r : ℕ) → r < 32 → writes insn r ≡ set.contains (registers_written insn) r

@@ -1,5 +1,5 @@
 //! What holds of all instructions, lists of instructions and runs.
-ghost use Rattle.ci_machine.specs.Laws.{Frame, ControlFrame, DeadWrite, Exchange, ListExchange, ListFrame, RunsJoin, EndsStay, BlockSteps};
+ghost use Rattle.ci_machine.specs.Laws.{Frame, ControlFrame, ListFrame, RunsJoin, EndsStay, BlockSteps};
 ghost use Rattle.ci_machine.specs.Laws.{PlainExists, PlainIsOne, PlainCostsOne, RegistersRead, RegistersWritten};
 
 /// What an instruction does depends on the registers that it reads and the bytes that it moves, and on nothing else.
@@ -10,21 +10,6 @@ pub fn frame()
 /// The same for the instructions that end a block.
 pub fn control_frame()
     ensures { ControlFrame }
-{}
-
-/// A write that nobody reads may be left out.
-pub fn dead_write()
-    ensures { DeadWrite }
-{}
-
-/// Instructions that are independent may change places.
-pub fn exchange()
-    ensures { Exchange }
-{}
-
-/// Lists of computations may change places.
-pub fn list_exchange()
-    ensures { ListExchange }
 {}
 
 /// What a list of instructions does depends on the registers that it needs.
@@ -50,7 +35,7 @@ pub fn plain_meaning()
     ensures cost { PlainCostsOne }
 {}
 
-/// The registers that an instruction reads and writes are those of its sets.
+/// The registers that an instruction reads and writes are those of its sets, and hidden ones.
 pub fn register_sets()
     ensures read { RegistersRead }
     ensures written { RegistersWritten }

@@ -8,7 +8,7 @@ ghost use Rattle.ci_machine.specs.Loading.{AreOpening, IsInFile, IsLoaded};
 
 use crate::memory::{Memory, STACK_END, STACK_START, resize};
 use crate::parts::Part;
-use crate::state::State;
+use crate::state::{REGISTERS, State};
 use ci_elf::{Image, Segment};
 use std::alloc::{AllocError, Global};
 
@@ -123,7 +123,7 @@ impl State {
         ensures state { IfOk result (λ state. state_of state ≡ opening image.now input.now) }
         ensures program { IfOk result (λ state. program_of state ≡ loaded_program image.now) }
     {
-        let mut registers = [0; 33];
+        let mut registers = [0; REGISTERS];
         registers[STACK_POINTER] = STACK_TOP;
         Ok(State {
             pc: image.entry(),

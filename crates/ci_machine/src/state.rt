@@ -22,12 +22,15 @@ pub enum Call {
 /// The place of the hidden register among the registers.
 const HIDDEN: usize = 32;
 
+/// How many registers a state has: x0 to x31, and the hidden one.
+pub(crate) const REGISTERS: usize = 33;
+
 /// The state of a machine: pc, registers, memory, what is left of the input, and the output.
 #[derive(Drop)]
 pub struct State {
     pub(crate) pc: u32,
     /// x0 to x31, and the hidden register. x0 stays 0.
-    pub(crate) registers: [u32; 33],
+    pub(crate) registers: [u32; REGISTERS],
     pub(crate) memory: Memory,
     pub(crate) text: Vec<Range>,
     pub(crate) input: Vec<u8>,
@@ -43,7 +46,7 @@ impl State {
     ghost use Rattle.std.specs.Option.{option_map};
     ghost use Rattle.std.specs.Result.{result_ok};
     ghost use Rattle.ci_machine.specs.Accesses.{number_of_bytes};
-    ghost use Rattle.ci_machine.specs.Cores.{register, with_register, hidden};
+    ghost use Rattle.ci_machine.specs.Cores.{register, with_register, first_hidden};
     ghost use Rattle.ci_machine.specs.Programs.{in_text};
     ghost use Rattle.ci_machine.specs.States.{after_store, bytes_of, state_of, program_of};
 
@@ -83,7 +86,7 @@ impl State {
 
     /// The hidden register's value.
     pub fn hidden(&self) -> u32
-        ensures { result ≡ register (state_of self.now).core hidden }
+        ensures { result ≡ register (state_of self.now).core first_hidden }
     {
         self.registers[HIDDEN]
     }
@@ -91,7 +94,7 @@ impl State {
     /// Sets the hidden register.
     pub fn set_hidden(&mut self, value: u32)
         ensures state { state_of self.new
-            ≡ record (state_of self.old) { core = with_register (state_of self.old).core hidden value } }
+            ≡ record (state_of self.old) { core = with_register (state_of self.old).core first_hidden value } }
         ensures program { program_of self.new ≡ program_of self.old }
     {
         self.registers[HIDDEN] = value;
