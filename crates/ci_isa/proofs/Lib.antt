@@ -3,4 +3,6 @@ pub mod Constants
 pub mod Found
 pub mod Only
 pub mod Registers
+pub mod Rows
+pub mod TableLaws
 pub mod WellFormed

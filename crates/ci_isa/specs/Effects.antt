@@ -1,5 +1,5 @@
 -- What an instruction reads and writes, and what kind it is (RISC-V Unprivileged ISA 20191213, chapters 2 and 7).
-use Rattle.std.specs.Prelude.{ℕ, Bool, true, false, not, ◌&&◌, ◌==◌, if◌then◌else◌, List, [], ◌∷◌, filter, ℤ, pos, negsuc}
+use Rattle.std.specs.Prelude.{ℕ, ◌-◌, Bool, true, false, not, ◌&&◌, ◌==◌, if◌then◌else◌, List, [], ◌∷◌, ◌++◌, length, replicate, filter, ℤ, pos, negsuc}
 use Rattle.std.specs.Ordering.{nat_cmp}
 use Rattle.std.specs.List.{list_any}
 use Rattle.std.specs.FinSet as set
@@ -50,6 +50,10 @@ results Ebreak = []
 results (Unit number rd rs1 rs2 rs3) = rd ∷ []
 results (Cread rd) = rd ∷ []
 results (Illegal word) = []
+
+-- the registers of a list, and then 0 for none, as many in all as said
+abbrev pub padded : ℕ → List ℕ → List ℕ
+padded count registers = registers ++ replicate (count - length registers) 0
 
 -- a register other than x0, which is never read or written
 abbrev pub is_kept : ℕ → Bool

@@ -2,5 +2,6 @@ pub mod Decoding
 pub mod Effects
 pub mod FieldBounds
 pub mod Fields
-pub mod Table
+pub mod Laws
 pub mod Sequences
+pub mod Table

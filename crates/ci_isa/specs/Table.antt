@@ -149,3 +149,8 @@ IsWellFormed insn = (w : ℕ) × IsWordOf w insn
 abbrev pub IsInsnAt : ℕ → Insn → Type 0
 IsInsnAt w (Illegal word) = (word ≡ w) × ((insn : Insn) → ¬ Reads w insn)
 IsInsnAt w insn = Reads w insn
+
+-- the same in the extended table
+abbrev pub IsInsnAtX : ℕ → Insn → Type 0
+IsInsnAtX w (Illegal word) = (word ≡ w) × ((insn : Insn) → ¬ ReadsX w insn)
+IsInsnAtX w insn = ReadsX w insn

@@ -3,7 +3,6 @@ ghost use Rattle.std.specs.Prelude.{◌≡◌, ℕ, ◌^◌, ◌<◌, ◌↔◌,
 ghost use Rattle.ci_isa.specs.Fields as fields;
 ghost use Rattle.ci_isa.specs.Fields.{field, immediate_format, signed_immediate};
 ghost use Rattle.ci_isa.specs.declared.instruction.Insn.{Insn};
-ghost use Rattle.ci_isa.specs.FieldBounds.{FieldsFit};
 ghost use Rattle.ci_isa.specs.Table.{operation_codes, constant_form, ShiftAmount, condition_code, load_code, store_code, Reads, ReadsX, IsWordOf, IsWellFormed};
 
 use crate::immediates::{
@@ -63,12 +62,6 @@ pub fn encode(insn: &Insn) -> u32
         Insn::Illegal { word } => word,
     }
 }
-
-/// The law of well-formed instructions: some word stands for an instruction exactly where its fields are within
-/// their bounds (RISC-V Unprivileged ISA 20191213, sections 2.2 and 2.3). Nothing happens when it runs.
-pub fn well_formed_where_fields_fit()
-    ensures { (insn : Insn) → IsWellFormed insn ↔ FieldsFit insn }
-{}
 
 /// The word of an operation on two registers.
 fn operation_word(op: Op, rd: Reg, rs1: Reg, rs2: Reg) -> u32

@@ -1,5 +1,6 @@
 //! What kind of instruction an instruction is.
 ghost use Rattle.std.specs.Prelude.{◌≡◌};
+ghost use Rattle.ci_isa.specs.Effects as terms;
 ghost use Rattle.ci_isa.specs.Effects.{ends_block, register_class, constant_class, class_of, is_division, may_join};
 
 use crate::instruction::Insn;
@@ -57,6 +58,27 @@ pub fn is_eligible(insn: &Insn) -> bool
         Insn::Lui { rd, .. } => rd.number() != 0,
         _ => false,
     }
+}
+
+/// Whether the instruction is a load or a store.
+pub fn is_access(insn: &Insn) -> bool
+    ensures { result ≡ terms.is_access insn.now }
+{
+    matches!(insn, Insn::Load { .. } | Insn::Store { .. })
+}
+
+/// Whether the instruction is a unit word.
+pub fn is_unit(insn: &Insn) -> bool
+    ensures { result ≡ terms.is_unit insn.now }
+{
+    matches!(insn, Insn::Unit { .. })
+}
+
+/// Whether the instruction is a `cread`.
+pub fn is_cread(insn: &Insn) -> bool
+    ensures { result ≡ terms.is_cread insn.now }
+{
+    matches!(insn, Insn::Cread { .. })
 }
 
 /// The class of an operation on two registers.

@@ -7,21 +7,23 @@
 #![tactic(auto)]
 
 pub use decoding::{decode, decode_x, insn_at};
-pub use encoding::{encode, well_formed_where_fields_fit};
+pub use effects::{destination, operands, reads, reads_register, writes, writes_register};
+pub use encoding::encode;
 pub use instruction::{Cond, Insn, LoadKind, Width};
-pub use kinds::{class, is_eligible, is_terminator};
+pub use kinds::{class, is_access, is_cread, is_eligible, is_terminator, is_unit};
+pub use laws::{one_insn_at_each_word, tables_agree, well_formed_where_fields_fit};
 pub use opcodes::has_custom_opcode;
-pub use operands::{reads, writes};
 pub use register::Reg;
 
 mod decoding;
+mod effects;
 mod encoding;
 mod fields;
 mod immediates;
 mod instruction;
 mod kinds;
+mod laws;
 mod opcodes;
-mod operands;
 mod register;
 #[cfg(test)]
 mod tests;

@@ -2,8 +2,9 @@
 ghost use Rattle.std.specs.Prelude.{◌≡◌, ◌<◌};
 
 use crate::{
-    Cond, Insn, LoadKind, Reg, Width, class, decode, decode_x, encode, insn_at, is_eligible,
-    is_terminator, reads, writes,
+    Cond, Insn, LoadKind, Reg, Width, class, decode, decode_x, destination, encode, insn_at,
+    is_access, is_cread, is_eligible, is_terminator, is_unit, operands, reads, reads_register,
+    writes, writes_register,
 };
 use ci_word::{Class, Op};
 use std::process::Abort;
@@ -296,6 +297,12 @@ fn knows_the_registers(rt: HostRuntime) {
     assert_eq!(rt; reads(&store).count(), 2);
     assert!(rt; reads(&store).has(11) && reads(&store).has(18));
     assert_eq!(rt; writes(&store).count(), 0);
+    assert_eq!(rt; operands(&store), [11, 18, 0, 0]);
+    assert_eq!(rt; destination(&store), 0);
+    assert!(rt; reads_register(&store, 18) && !reads_register(&store, 0));
+    assert!(rt; writes_register(&call, 10) && !writes_register(&no_op, 0));
+    assert!(rt; is_access(&store) && !is_access(&call));
+    assert!(rt; !is_unit(&call) && !is_cread(&call));
 }
 
 #[test]

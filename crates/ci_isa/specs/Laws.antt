@@ -1,0 +1,24 @@
+-- What holds of the tables of words: the laws that the functions of `src/laws.rt` have as their contracts.
+use Rattle.std.specs.Prelude.{◌≡◌, ℕ, ◌↔◌}
+use Rattle.ci_isa.specs.declared.instruction.Insn.{Insn}
+use Rattle.ci_isa.specs.Fields.{HasCustomOpcode}
+use Rattle.ci_isa.specs.FieldBounds.{FieldsFit}
+use Rattle.ci_isa.specs.Table.{IsWellFormed, IsInsnAt, IsInsnAtX}
+
+-- some word stands for an instruction exactly where its fields are within their bounds
+abbrev pub WellFormedWhereFieldsFit : Type 0
+WellFormedWhereFieldsFit = (insn : Insn) → IsWellFormed insn ↔ FieldsFit insn
+
+-- Both tables say the same of each word whose opcode is neither custom-0 nor custom-1.
+abbrev pub TablesAgree : Type 0
+TablesAgree = (word : ℕ) → ¬ HasCustomOpcode word → (insn : Insn) → IsInsnAt word insn ↔ IsInsnAtX word insn
+
+-- the instruction that stands at a word, and that it is the only one
+pub record IsOnlyInsn (StandsThere : Insn → Type 0) : Type 0 where
+  pub insn : Insn
+  pub stands : StandsThere insn
+  pub only : (other : Insn) → StandsThere other → other ≡ insn
+
+-- By each table one instruction stands at a word, and one alone.
+abbrev pub OneInsnAtEachWord : Type 0
+OneInsnAtEachWord = (word : ℕ) → IsOnlyInsn (IsInsnAt word) × IsOnlyInsn (IsInsnAtX word)

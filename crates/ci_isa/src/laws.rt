@@ -1,0 +1,18 @@
+//! What holds of the tables of words. The functions do nothing; their contracts are the laws.
+ghost use Rattle.ci_isa.specs.Laws.{WellFormedWhereFieldsFit, TablesAgree, OneInsnAtEachWord};
+
+/// Some word stands for an instruction exactly where its fields are within their bounds (RISC-V Unprivileged ISA
+/// 20191213, sections 2.2 and 2.3).
+pub fn well_formed_where_fields_fit()
+    ensures { WellFormedWhereFieldsFit }
+{}
+
+/// Both tables say the same of each word without a custom opcode.
+pub fn tables_agree()
+    ensures { TablesAgree }
+{}
+
+/// By each table one instruction stands at a word, and one alone.
+pub fn one_insn_at_each_word()
+    ensures { OneInsnAtEachWord }
+{}
