@@ -2,7 +2,6 @@ pub mod Exchanges
 pub mod Graphs
 pub mod Instructions
 pub mod KindLaws
-pub mod Registers
 pub mod Sets
 pub mod SourceLaws
 pub mod Writers

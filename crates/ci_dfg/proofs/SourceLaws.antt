@@ -6,11 +6,12 @@ use Rattle.std.proofs.lemmas.Bool.{or_cases, eqb-true}
 use Rattle.std.proofs.lemmas.List.{take_more, take_all, map-append}
 use Rattle.std.proofs.lemmas.List.Elements.{filter-append}
 use Rattle.ci_isa.specs.declared.instruction.Insn.{Insn}
-use Rattle.ci_isa.specs.Effects.{operands, is_kept, without_x0}
+use Rattle.ci_isa.specs.Effects.{operands, padded, is_kept, without_x0}
 use Rattle.ci_cut.specs.declared.graph.Source.{Source}
 use Rattle.ci_cut.specs.declared.graph.Source.TheVariants.{Made}
 use Rattle.ci_cut.specs.FlowGraph.{is_source}
 use Rattle.ci_isa.specs.Sequences.{insn_at, latest_writer}
+use Rattle.ci_isa.proofs.Registers.{without_padding}
 use Rattle.ci_dfg.specs.BlockGraph.{source_from, source_of, sources}
 use Rattle.ci_dfg.proofs.Instructions.{insn_there}
 use Rattle.ci_dfg.proofs.Writers.{latest_writer_below}
@@ -28,11 +29,11 @@ module _ (insns : List Insn) (k : ℕ) where
   -- all operands of the instruction that stands there
   pub sources_all : (found : List Source) (registers : List ℕ) (i : ℕ) (insn : Insn) → length registers ≤ i
       → found ≡ map (source_of insns k) (without_x0 (take i registers))
-      → without_x0 registers ≡ without_x0 (operands insn) → k < length insns → insn ≡ get_or insns k insn
+      → registers ≡ padded 4 (operands insn) → k < length insns → insn ≡ get_or insns k insn
       → found ≡ sources insns k
   sources_all found registers i insn all is same there read =
       is ∙ ap (λ s. map (source_of insns k) (without_x0 s)) (take_all i registers all)
-      ∙ ap (map (source_of insns k)) (same ∙ ap (λ s. without_x0 (operands s)) (sym (insn_there insns k insn there read)))
+      ∙ ap (map (source_of insns k)) (ap without_x0 same ∙ without_padding 4 (operands insn) ∙ ap (λ s. without_x0 (operands s)) (sym (insn_there insns k insn there read)))
 
   -- a node that is a source is an earlier one
   made_rises : (j : ℕ) (registers : List ℕ) → IsTrue (list_any (is_source (Made j)) (map (source_of insns k) registers)) → j < k

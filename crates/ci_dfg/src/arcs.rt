@@ -5,9 +5,10 @@ ghost use Rattle.ci_word.specs.Numbers.{set_below};
 ghost use Rattle.ci_cut.specs.FlowGraph.{is_source};
 ghost use Rattle.ci_dfg.specs.BlockGraph as terms;
 
-use crate::effects::{is_access, is_cread, is_unit, reads_register, result, writes_register};
 use ci_cut::Source;
-use ci_isa::{Insn, is_terminator};
+use ci_isa::{
+    Insn, destination, is_access, is_cread, is_terminator, is_unit, reads_register, writes_register,
+};
 use ci_word::Row;
 
 /// The nodes with an arc into node `k`, which has these sources.
@@ -92,7 +93,7 @@ fn has_anti_arc(insns: &[Insn], k: usize, j: usize) -> bool
     requires order { j < k }
     ensures { result ≡ terms.has_anti_arc insns.now k j }
 {
-    reads_register(&insns[j], result(&insns[k]))
+    reads_register(&insns[j], destination(&insns[k]))
 }
 
 /// Whether both nodes write the same register.
@@ -101,7 +102,7 @@ fn has_output_arc(insns: &[Insn], k: usize, j: usize) -> bool
     requires order { j < k }
     ensures { result ≡ terms.has_output_arc insns.now k j }
 {
-    writes_register(&insns[j], result(&insns[k]))
+    writes_register(&insns[j], destination(&insns[k]))
 }
 
 /// Whether the node is among the sources.

@@ -11,11 +11,11 @@
 
 pub use laws::{apart_are_independent, bundles_move_together, neighbours_are_independent};
 pub use nodes::graph;
+pub use operand_sources::sources;
 
 mod arcs;
-mod effects;
 mod laws;
 mod nodes;
-mod sources;
+mod operand_sources;
 #[cfg(test)]
 mod tests;

@@ -4,10 +4,9 @@ ghost use Rattle.ci_dfg.specs.BlockGraph as terms;
 ghost use Rattle.ci_dfg.specs.BlockGraph.{graph_of};
 
 use crate::arcs::nodes_before;
-use crate::effects::{result, writes_register};
-use crate::sources::sources;
+use crate::operand_sources::sources;
 use ci_cut::{Graph, Node};
-use ci_isa::{Insn, class, is_eligible};
+use ci_isa::{Insn, class, destination, is_eligible, writes_register};
 use ci_lat::Table;
 use ci_word::Row;
 use std::alloc::{AllocError, Global};
@@ -65,7 +64,7 @@ fn is_live(insns: &[Insn], k: usize, live_out: Row) -> bool
     requires { k < length insns.now }
     ensures { result ≡ terms.is_live insns.now live_out k }
 {
-    let register = result(&insns[k]);
+    let register = destination(&insns[k]);
     register != 0 && live_out.has(register) && !is_written_after(insns, k, register)
 }
 

@@ -4,13 +4,17 @@ ghost use Rattle.ci_dfg.specs.BlockGraph as terms;
 ghost use Rattle.ci_isa.specs.Sequences as sequences;
 ghost use Rattle.ci_isa.specs.Effects.{without_x0};
 
-use crate::effects::{operands, writes_register};
 use ci_cut::{Source, Sources};
-use ci_isa::Insn;
+use ci_isa::{Insn, operands, writes_register};
 use std::alloc::{AllocError, Global};
 
-/// The sources of the operands of node `k`, in their order. An operand x0 has none.
-pub(crate) fn sources(alloc: Global, insns: &[Insn], k: usize) -> Result<Sources, AllocError>
+/// Where the operands of instruction `k` come from, in the order of its operands: for each the latest instruction before
+/// it that writes the operand's register, else the register as it is when the block is entered. An operand x0 has no
+/// source, and an immediate is no operand. An environment call has its arguments x10, x11 and x12 and then its number
+/// x17 as operands.
+///
+/// An Err is out of memory.
+pub fn sources(alloc: Global, insns: &[Insn], k: usize) -> Result<Sources, AllocError>
     requires few { length insns.now ≤ 256 }
     requires there { k < length insns.now }
     ensures { IfOk result (λ sources. sources ≡ terms.sources insns.now k) }

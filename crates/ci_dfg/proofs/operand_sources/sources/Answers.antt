@@ -1,6 +1,6 @@
 use Rattle.std.proofs.Common.{◌≤◌, length, ◌∙◌, arith}
 use Rattle.ci_dfg.proofs.SourceLaws.{sources_more, sources_all}
-use Rattle.ci_dfg.proofs.sources.sources.Goals as goal
+use Rattle.ci_dfg.proofs.operand_sources.sources.Goals as goal
 
 pub loop-register-preserved : goal.loop-register-preserved
 loop-register-preserved c =

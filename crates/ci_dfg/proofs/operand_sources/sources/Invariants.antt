@@ -1,7 +1,7 @@
 use Rattle.std.proofs.Common.{◌≡◌, map, take}
 use Rattle.ci_isa.specs.Effects.{without_x0}
 use Rattle.ci_dfg.specs.BlockGraph.{source_of}
-use Rattle.ci_dfg.proofs.sources.sources.Given as goal
+use Rattle.ci_dfg.proofs.operand_sources.sources.Given as goal
 
 abbrev pub invariant-loop-register : goal.invariant-loop-register
 invariant-loop-register l =
