@@ -6,3 +6,4 @@ pub mod Registers
 pub mod Rows
 pub mod TableLaws
 pub mod WellFormed
+pub mod Writers

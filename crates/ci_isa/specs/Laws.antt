@@ -1,8 +1,9 @@
--- What holds of the tables of words: the laws that the functions of `src/laws.rt` have as their contracts.
-use Rattle.std.specs.Prelude.{◌≡◌, ℕ, ◌↔◌}
+-- What holds of words and of instructions in a row: the laws that the functions of `src/laws.rt` have as their contracts.
+use Rattle.std.specs.Prelude.{◌≡◌, ℕ, ◌↔◌, List, Some}
 use Rattle.ci_isa.specs.declared.instruction.Insn.{Insn}
 use Rattle.ci_isa.specs.Fields.{HasCustomOpcode}
 use Rattle.ci_isa.specs.FieldBounds.{FieldsFit}
+use Rattle.ci_isa.specs.Sequences.{latest_writer, IsLastWriter}
 use Rattle.ci_isa.specs.Table.{IsWellFormed, IsInsnAt, IsInsnAtX}
 
 -- some word stands for an instruction exactly where its fields are within their bounds
@@ -22,3 +23,8 @@ pub record IsOnlyInsn (StandsThere : Insn → Type 0) : Type 0 where
 -- By each table one instruction stands at a word, and one alone.
 abbrev pub OneInsnAtEachWord : Type 0
 OneInsnAtEachWord = (word : ℕ) → IsOnlyInsn (IsInsnAt word) × IsOnlyInsn (IsInsnAtX word)
+
+-- The latest writer of a register before a place is the last instruction there that writes it.
+abbrev pub LatestWriterIsLast : Type 0
+LatestWriterIsLast =
+    (insns : List Insn) (r k j : ℕ) → latest_writer insns r k ≡ Some j ↔ IsLastWriter insns r k j

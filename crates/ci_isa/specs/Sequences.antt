@@ -1,6 +1,6 @@
 -- Instructions one behind the other: which of them stands at a place, who writes a register, and what is read before it
 -- is written.
-use Rattle.std.specs.Prelude.{◌≡◌, ℕ, zero, suc, ◌++◌, ◌∷◌, if◌then◌else◌, List, Option, Some, None, slice_index_or, IsTrue}
+use Rattle.std.specs.Prelude.{◌≡◌, ℕ, zero, suc, ◌<◌, true, false, ◌++◌, ◌∷◌, if◌then◌else◌, List, Option, Some, None, slice_index_or, IsTrue}
 use Rattle.std.specs.FinSet as set
 use Rattle.std.specs.List.{Contains}
 use Rattle.ci_isa.specs.declared.instruction.Insn.{Insn}
@@ -17,6 +17,12 @@ module _ (insns : List Insn) where
   unfoldable pub latest_writer : ℕ → ℕ → Option ℕ
   latest_writer register zero = None
   latest_writer register (suc k) = if writes_register (insn_at k) register then Some k else latest_writer register k
+
+-- Instruction j is the last one before place k that writes the register.
+pub record IsLastWriter (insns : List Insn) (r k j : ℕ) : Type 0 where
+  pub before : j < k
+  pub writes : writes_register (insn_at insns j) r ≡ true
+  pub none_between : (i : ℕ) → j < i → i < k → writes_register (insn_at insns i) r ≡ false
 
 -- ---- what all of them read and write
 

@@ -1,5 +1,5 @@
-//! What holds of the tables of words. The functions do nothing; their contracts are the laws.
-ghost use Rattle.ci_isa.specs.Laws.{WellFormedWhereFieldsFit, TablesAgree, OneInsnAtEachWord};
+//! What holds of words and of instructions in a row. The functions do nothing; their contracts are the laws.
+ghost use Rattle.ci_isa.specs.Laws.{WellFormedWhereFieldsFit, TablesAgree, OneInsnAtEachWord, LatestWriterIsLast};
 
 /// Some word stands for an instruction exactly where its fields are within their bounds (RISC-V Unprivileged ISA
 /// 20191213, sections 2.2 and 2.3).
@@ -15,4 +15,9 @@ pub fn tables_agree()
 /// By each table one instruction stands at a word, and one alone.
 pub fn one_insn_at_each_word()
     ensures { OneInsnAtEachWord }
+{}
+
+/// The latest writer of a register before a place is the last instruction there that writes it.
+pub fn latest_writer_is_last()
+    ensures { LatestWriterIsLast }
 {}

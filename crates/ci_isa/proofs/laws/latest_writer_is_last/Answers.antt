@@ -1,0 +1,5 @@
+use Rattle.ci_isa.proofs.Writers.{latest_writer_is_last}
+use Rattle.ci_isa.proofs.laws.latest_writer_is_last.Goals as goal
+
+pub returns : goal.returns
+returns c = latest_writer_is_last
