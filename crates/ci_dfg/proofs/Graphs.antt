@@ -44,7 +44,7 @@ module _ (insns : List Insn) (live_out : set.FinSet nat_cmp) (table : Latencies)
   contains-before k j there = ap (λ node. set.contains node.before j) (node_at_within k there) ∙ contains-set_below k (has_arc_into insns k) j
 
   -- past the last instruction stands none
-  node_at_past : (k : ℕ) → length insns ≤ k → node_at (graph_of insns live_out table) k ≡ no_node
+  pub node_at_past : (k : ℕ) → length insns ≤ k → node_at (graph_of insns live_out table) k ≡ no_node
   node_at_past k past = get_or_past (graph_of insns live_out table).nodes k no_node (rw length-nodes past)
 
   -- what holds of each instruction's node, and of none, holds at every number

@@ -1,7 +1,9 @@
-pub mod Exchanges
+pub mod ArcLaws
+pub mod Bundles
 pub mod Graphs
 pub mod Instructions
 pub mod KindLaws
+pub mod Rows
 pub mod Sets
 pub mod SourceLaws
 pub mod Writers

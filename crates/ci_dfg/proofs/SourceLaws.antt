@@ -12,9 +12,9 @@ use Rattle.ci_cut.specs.declared.graph.Source.TheVariants.{Made}
 use Rattle.ci_cut.specs.FlowGraph.{is_source}
 use Rattle.ci_isa.specs.Sequences.{insn_at, latest_writer}
 use Rattle.ci_isa.proofs.Registers.{without_padding}
+use Rattle.ci_isa.proofs.Writers.{latest_writer_is_last}
 use Rattle.ci_dfg.specs.BlockGraph.{source_from, source_of, sources}
 use Rattle.ci_dfg.proofs.Instructions.{insn_there}
-use Rattle.ci_dfg.proofs.Writers.{latest_writer_below}
 
 module _ (insns : List Insn) (k : ℕ) where
   -- one operand more
@@ -33,7 +33,8 @@ module _ (insns : List Insn) (k : ℕ) where
       → found ≡ sources insns k
   sources_all found registers i insn all is same there read =
       is ∙ ap (λ s. map (source_of insns k) (without_x0 s)) (take_all i registers all)
-      ∙ ap (map (source_of insns k)) (ap without_x0 same ∙ without_padding 4 (operands insn) ∙ ap (λ s. without_x0 (operands s)) (sym (insn_there insns k insn there read)))
+      ∙ ap (map (source_of insns k)) (ap without_x0 same ∙ without_padding 4 (operands insn))
+      ∙ ap (λ s. map (source_of insns k) (without_x0 (operands s))) (sym (insn_there insns k insn there read))
 
   -- a node that is a source is an earlier one
   made_rises : (j : ℕ) (registers : List ℕ) → IsTrue (list_any (is_source (Made j)) (map (source_of insns k) registers)) → j < k
@@ -47,7 +48,7 @@ module _ (insns : List Insn) (k : ℕ) where
       by_writer : (writer : Option ℕ) → latest_writer insns register k ≡ writer → IsTrue (is_source (Made j) (source_from insns register writer)) → j < k
       by_writer None is here = absurd (true≢false (sym here))
       by_writer (Some writer) is here =
-          let below = latest_writer_below insns register k writer is in
+          let below = ((latest_writer_is_last insns register k writer).0 is).before in
           omega (arith, eqb-true j writer here)
 
   pub sources_rise : (j : ℕ) → IsTrue (list_any (is_source (Made j)) (sources insns k)) → j < k

@@ -1,2 +1,3 @@
+pub mod Arcs
 pub mod BlockGraph
-pub mod Neighbours
+pub mod Hazards

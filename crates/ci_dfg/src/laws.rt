@@ -1,19 +1,24 @@
-//! What holds of the arcs of all blocks.
-ghost use Rattle.ci_dfg.specs.Neighbours.{ApartAreIndependent, NeighboursAreIndependent, BundlesMoveTogether};
+//! What holds of the arcs of all blocks. The functions do nothing; their contracts are the laws.
+ghost use Rattle.ci_dfg.specs.Arcs.{ArcsAreThese, GraphHasTheseArcs, BundlesMoveTogether};
+ghost use Rattle.ci_dfg.specs.Hazards.{HazardsAreJoined};
 
-/// Two nodes between which no arc leads, also not by way of a third node, are independent in x1 to x31 and in memory,
-/// and the later one doesn't end the block.
-pub fn apart_are_independent()
-    ensures { ApartAreIndependent }
+/// The arcs are those that the rules make, and no more.
+pub fn arcs_are_these()
+    ensures { ArcsAreThese }
 {}
 
-/// So are two neighbours without an arc between them. Of the hidden register nothing is said: between a `cread` and the
-/// unit word behind it there may be no arc, though their order matters.
-pub fn neighbours_are_independent()
-    ensures { NeighboursAreIndependent }
+/// So are the arcs of a block's graph.
+pub fn graph_has_these_arcs()
+    ensures { GraphHasTheseArcs }
 {}
 
 /// A unit word and its `cread` move together.
 pub fn bundles_move_together()
     ensures { BundlesMoveTogether }
+{}
+
+/// An arc, or a node between them, joins two nodes with a data hazard in x1 to x31 or in memory. Of the hidden register
+/// nothing is said: between a `cread` and the unit word behind it there may be no arc, though their order matters.
+pub fn hazards_are_joined()
+    ensures { HazardsAreJoined }
 {}

@@ -6,10 +6,10 @@
 //! or stores (memory), any node and the instruction that ends the block (control), and a unit word and its `cread`,
 //! which move together (bundle).
 //!
-//! The definition of all this is `specs/BlockGraph.antt`.
+//! The definition of all this is `specs/BlockGraph.antt`; `specs/Arcs.antt` says the arcs again, rule by rule.
 #![tactic(auto)]
 
-pub use laws::{apart_are_independent, bundles_move_together, neighbours_are_independent};
+pub use laws::{arcs_are_these, bundles_move_together, graph_has_these_arcs, hazards_are_joined};
 pub use nodes::graph;
 pub use operand_sources::sources;
 

@@ -8,11 +8,11 @@ use ci_cut::{Source, Sources};
 use ci_isa::{Insn, operands, writes_register};
 use std::alloc::{AllocError, Global};
 
-/// Where the operands of instruction `k` come from, in the order of its operands: for each the latest instruction before
-/// it that writes the operand's register, else the register as it is when the block is entered. An operand x0 has no
-/// source, and an immediate is no operand. An environment call has its arguments x10, x11 and x12 and then its number
-/// x17 as operands.
+/// Where the operands of node `k` come from, in their order: for each the latest node before it that writes the
+/// operand's register, else the register as it is when the block is entered. An operand x0 has no source, and an
+/// immediate is no operand. The operands of an environment call are x10, x11, x12 and x17.
 ///
+/// Node `k` is instruction `k` of the block, from 0.
 /// An Err is out of memory.
 pub fn sources(alloc: Global, insns: &[Insn], k: usize) -> Result<Sources, AllocError>
     requires few { length insns.now ≤ 256 }
@@ -35,7 +35,8 @@ fn push_source(
 ) -> Result<(), AllocError>
     requires few { length insns.now ≤ 256 }
     requires there { k ≤ length insns.now }
-    ensures { OnOk result (sources.new ≡ sources.old ++ map (terms.source_of insns.now k) (without_x0 (register ∷ []))) }
+    ensures { OnOk result (sources.new ≡ sources.old
+        ++ map (terms.source_of insns.now k) (without_x0 (register ∷ []))) }
 {
     if register == 0 {
         return Ok(());

@@ -27,7 +27,7 @@ any_without_x0 p fails (r ∷ rest) =
     ]
 
 -- registers that are the same without x0 are the same ones
-pub is_among_same : (left right : List ℕ) (r : ℕ) → without_x0 left ≡ without_x0 right → is_among left r ≡ is_among right r
+is_among_same : (left right : List ℕ) (r : ℕ) → without_x0 left ≡ without_x0 right → is_among left r ≡ is_among right r
 is_among_same left right r same =
     elim (cases_eq r 0) [
       | inl zero_register ↦ rw zero_register refl
@@ -67,7 +67,8 @@ among_set registers r =
 
 -- the set of registers that are the same without x0
 set_same : (left right : List ℕ) → without_x0 left ≡ without_x0 right → set_without_x0 left ≡ set_without_x0 right
-set_same left right same = same_numbers (set_without_x0 left) (set_without_x0 right) (λ r. sym (among_set left r) ∙ is_among_same left right r same ∙ among_set right r)
+set_same left right same =
+    same_numbers (set_without_x0 left) (set_without_x0 right) (λ r. sym (among_set left r) ∙ is_among_same left right r same ∙ among_set right r)
 
 pub set_without_padding : (count : ℕ) (registers : List ℕ) → set_without_x0 (padded count registers) ≡ set_without_x0 registers
 set_without_padding count registers = set_same (padded count registers) registers (without_padding count registers)

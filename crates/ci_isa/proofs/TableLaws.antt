@@ -69,7 +69,9 @@ only_at Stands one found = record { insn = found.0; stands = found.1; only = λ 
 pub one_insn_at_each_word : OneInsnAtEachWord
 one_insn_at_each_word word = (
   only_at (IsInsnAt word) (one_insn word)
-      (some_insn word (Reads word) (IsInsnAt word) (λ insn reads. reads.0) (stands_by_row word) (λ none. (refl, none)) (plain_row word) (plain_reads word) (only_plain word)),
+      (some_insn word (Reads word) (IsInsnAt word) (λ insn reads. reads.0) (stands_by_row word) (λ none. (refl, none))
+      (plain_row word) (plain_reads word) (only_plain word)),
   only_at (IsInsnAtX word) (one_insn_x word)
-      (some_insn word (ReadsX word) (IsInsnAtX word) (λ insn reads. reads.0) (stands_by_row_x word) (λ none. (refl, none)) (extended_row word) (extended_reads word) (only_extended word)),
+      (some_insn word (ReadsX word) (IsInsnAtX word) (λ insn reads. reads.0) (stands_by_row_x word) (λ none. (refl, none))
+      (extended_row word) (extended_reads word) (only_extended word)),
 )

@@ -1,5 +1,5 @@
 -- The last instruction before a place that writes a register.
-use Rattle.std.proofs.Common.{◌≡◌, ℕ, zero, suc, ◌≤◌, ◌<◌, Bool, true, false, List, Option, Some, None, refl, sym, ap, ◌∙◌, subst, arith, inl, inr, true≢false}
+use Rattle.std.proofs.Common.{◌≡◌, ℕ, zero, suc, ◌≤◌, ◌<◌, Bool, true, false, List, Some, refl, sym, ap, ◌∙◌, subst, arith, inl, inr, true≢false}
 use Rattle.std.specs.Prelude.{if◌then◌else◌}
 use Rattle.std.proofs.lemmas.Bool.{cases_eq}
 use Rattle.ci_isa.specs.declared.instruction.Insn.{Insn}
@@ -33,7 +33,8 @@ module _ (insns : List Insn) (r : ℕ) where
   is_last zero j e = cc
   is_last (suc k) j e = by_test (is_last k j) (written k) refl e
     where
-      by_test : (latest_writer insns r k ≡ Some j → IsLastWriter insns r k j) → (b : Bool) → written k ≡ b → (if b then Some k else latest_writer insns r k) ≡ Some j → IsLastWriter insns r (suc k) j
+      by_test : (latest_writer insns r k ≡ Some j → IsLastWriter insns r k j) → (b : Bool) → written k ≡ b
+          → (if b then Some k else latest_writer insns r k) ≡ Some j → IsLastWriter insns r (suc k) j
       by_test earlier true is found = let same : k ≡ j = cc in subst (IsLastWriter insns r (suc k)) same (last_here k is)
       by_test earlier false is found = last_before k j is (earlier found)
 
@@ -42,7 +43,8 @@ module _ (insns : List Insn) (r : ℕ) where
   is_latest zero j last = let before = last.before in absurd (omega arith)
   is_latest (suc k) j last = by_test (is_latest k j) (written k) refl
     where
-      by_test : (IsLastWriter insns r k j → latest_writer insns r k ≡ Some j) → (b : Bool) → written k ≡ b → (if b then Some k else latest_writer insns r k) ≡ Some j
+      by_test : (IsLastWriter insns r k j → latest_writer insns r k ≡ Some j) → (b : Bool) → written k ≡ b
+          → (if b then Some k else latest_writer insns r k) ≡ Some j
       by_test earlier b is =
           elim (cases_eq j k) [
             | inl same ↦ ap (λ b. if b then Some k else latest_writer insns r k) (sym is ∙ ap written (sym same) ∙ last.writes) ∙ ap Some (sym same)
@@ -57,7 +59,8 @@ module _ (insns : List Insn) (r : ℕ) where
   last_writer_from zero j before writes = absurd (omega arith)
   last_writer_from (suc k) j before writes = by_test (last_writer_from k j) (written k) refl
     where
-      by_test : (j < k → written j ≡ true → (w : ℕ) × IsLastWriter insns r k w × (j ≤ w)) → (b : Bool) → written k ≡ b → (w : ℕ) × IsLastWriter insns r (suc k) w × (j ≤ w)
+      by_test : (j < k → written j ≡ true → (w : ℕ) × IsLastWriter insns r k w × (j ≤ w)) → (b : Bool) → written k ≡ b
+          → (w : ℕ) × IsLastWriter insns r (suc k) w × (j ≤ w)
       by_test earlier true is = (k, last_here k is, omega arith)
       by_test earlier false is =
           elim (cases_eq j k) [

@@ -1,4 +1,4 @@
--- What holds of words and of instructions in a row: the laws that the functions of `src/laws.rt` have as their contracts.
+-- What holds of words and of instructions in a row: the contracts of the functions of `src/laws.rt`.
 use Rattle.std.specs.Prelude.{◌≡◌, ℕ, ◌↔◌, List, Some}
 use Rattle.ci_isa.specs.declared.instruction.Insn.{Insn}
 use Rattle.ci_isa.specs.Fields.{HasCustomOpcode}

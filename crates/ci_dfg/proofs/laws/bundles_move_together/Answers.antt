@@ -1,4 +1,4 @@
-use Rattle.ci_dfg.proofs.Exchanges.{bundles_move_together}
+use Rattle.ci_dfg.proofs.Bundles.{bundles_move_together}
 use Rattle.ci_dfg.proofs.laws.bundles_move_together.Goals as goal
 
 pub returns : goal.returns
