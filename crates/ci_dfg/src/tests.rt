@@ -1,8 +1,8 @@
 //! Blocks as graphs.
-use crate::graph;
+use crate::{graph, sources};
 use ci_cut::Source::{Entry, Made};
 use ci_cut::{Graph, Source};
-use ci_isa::{Insn, decode_x};
+use ci_isa::{Insn, decode_x, insn_at};
 use ci_lat::Table;
 use ci_word::Row;
 use std::alloc::{AllocError, Global};
@@ -71,6 +71,20 @@ fn no_instruction(rt: HostRuntime) -> Result<(), Fail> {
     let graph = graph_of(&rt, rt.alloc(), &[])?;
     check(&rt, &graph, &[]);
     assert_eq!(rt; (graph.read(), graph.pad()), (1, 0));
+    Ok(())
+}
+
+/// addi x17, x0, 93; ecall
+#[test]
+fn the_operands_of_a_call(rt: HostRuntime) -> Result<(), Fail> {
+    let mut insns = Vec::new(rt.alloc());
+    for word in [0x05D0_0893, 0x0000_0073] {
+        insns.push(insn_at(word))?;
+    }
+    assert!(rt; insns.len() == 2);
+    let call = sources(rt.alloc(), &insns, 1)?;
+    let told: &[Source] = &[Entry(10), Entry(11), Entry(12), Made(0)];
+    assert_eq!(rt; call.as_slice(), told);
     Ok(())
 }
 
