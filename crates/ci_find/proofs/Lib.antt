@@ -11,3 +11,4 @@ mod Causes
 mod Dues
 mod Runs
 mod RunTexts
+mod Kept

@@ -8,7 +8,8 @@ use Rattle.ci_find.specs.Commands.{inputs_of, IsUnmade}
 use Rattle.ci_find.specs.Endings.{IsRefusal, usage, file, unmade, IsDue, Change, IsPut, IsUnwritten, Finishes, done, write_fault, put_fault, no_memory_in_write, no_memory_in_put, Ends, finished, refused, read_fault, no_memory, IsAnswered}
 use Rattle.ci_find.specs.Forms.{Form, any_bytes, assembler_text, executable_file, latency_table, IsMalformed}
 use Rattle.ci_find.specs.Inputs.{Input, IsRefusedFile, absent, too_large, malformed, IsFileRefusal}
-use Rattle.ci_find.specs.Lines.{usage_line, read_fault_line, no_memory_line}
+use Rattle.ci_find.specs.Lines as lines
+use Rattle.ci_find.specs.Lines.{usage_line, read_fault_line, no_memory_line, bad_asm_line, bad_elf_line, bad_table_line, unsupported_line, IsFaultLine}
 use Rattle.ci_find.specs.Faults.{status_of, line_of, reads_between, Explains, IsRefused}
 use Rattle.ci_find.specs.Success.{Success}
 use Rattle.ci_find.proofs.Dues.{IsDue-same}
@@ -79,34 +80,55 @@ Answers-due words change status ends (Some held) tells = λ due is. Answers-end 
 abbrev statuses : List ℕ
 statuses = 0 ∷ 1 ∷ 2 ∷ 3 ∷ 4 ∷ 5 ∷ 6 ∷ 7 ∷ 12 ∷ 13 ∷ []
 
-form-status : (form : Form) (bytes : List ℕ) (status : ℕ) (text : List ℕ) → IsMalformed form bytes status text → Contains statuses status
-form-status any_bytes bytes status text is = absurd is
-form-status assembler_text bytes status text is = subst (Contains statuses) (sym is.4) (9, lit< tt, refl)
-form-status executable_file bytes status text is = subst (Contains statuses) (sym is.2) (5, lit< tt, refl)
-form-status latency_table bytes status text is = subst (Contains statuses) (sym is.2) (6, lit< tt, refl)
+-- a status with a fault line is one of them
+line-status : (status : ℕ) (text : List ℕ) → IsFaultLine status text → Contains statuses status
+line-status status text lines.no_reading = (1, lit< tt, refl)
+line-status status text (lines.unread name) = (2, lit< tt, refl)
+line-status status text (lines.unwritten name) = (3, lit< tt, refl)
+line-status status text (lines.too_long name) = (4, lit< tt, refl)
+line-status status text (lines.no_executable fault) = (5, lit< tt, refl)
+line-status status text (lines.no_table fault) = (6, lit< tt, refl)
+line-status status text (lines.unsupported position word) = (7, lit< tt, refl)
+line-status status text lines.out_of_memory = (8, lit< tt, refl)
+line-status status text (lines.no_assembly kind row column) = (9, lit< tt, refl)
 
-file-status : (told : Option Files) (input : Input) (status : ℕ) (text : List ℕ) → IsRefusedFile told input status text → Contains statuses status
-file-status told input status text (absent none) = (2, lit< tt, refl)
-file-status told input status text (too_large bytes there longer) = (4, lit< tt, refl)
-file-status told input status text (malformed {status = s} {text = t} bytes there within bad) = form-status input.form bytes s t bad
+line-at : (status other : ℕ) (text known : List ℕ) → status ≡ other → text ≡ known → IsFaultLine other known → IsFaultLine status text
+line-at status other text known e l is =
+    subst (λ n. IsFaultLine n text) (sym e) (subst (IsFaultLine other) (sym l) is)
 
-files-status : (told : Option Files) (inputs : List Input) (status : ℕ) (text : List ℕ) → IsFileRefusal told inputs status text → Contains statuses status
-files-status told [] status text is = absurd is
-files-status told (input ∷ inputs) status text (inl is) = file-status told input status text is
-files-status told (input ∷ inputs) status text (inr is) = files-status told inputs status text is.2
+form-line : (form : Form) (bytes : List ℕ) (status : ℕ) (text : List ℕ) → IsMalformed form bytes status text → IsFaultLine status text
+form-line any_bytes bytes status text is = absurd is
+form-line assembler_text bytes status text is =
+    line-at status 13 text (bad_asm_line is.0 is.1 is.2) is.4 is.5 (lines.no_assembly is.0 is.1 is.2)
+form-line executable_file bytes status text is =
+    line-at status 5 text (bad_elf_line is.0) is.2 is.3 (lines.no_executable is.0)
+form-line latency_table bytes status text is =
+    line-at status 6 text (bad_table_line is.0) is.2 is.3 (lines.no_table is.0)
 
-unmade-status : (reading : Reading) (read : List (List ℕ)) (status : ℕ) (text : List ℕ) → IsUnmade reading read status text → Contains statuses status
-unmade-status (best name settings) read status text is = subst (Contains statuses) (sym is.status_is) (7, lit< tt, refl)
-unmade-status (asm name out) read status text is = absurd is
-unmade-status (dis name) read status text is = absurd is
-unmade-status (run name settings) read status text is = absurd is
-unmade-status (blocks name settings) read status text is = subst (Contains statuses) (sym is.status_is) (7, lit< tt, refl)
+file-line : (told : Option Files) (input : Input) (status : ℕ) (text : List ℕ) → IsRefusedFile told input status text → IsFaultLine status text
+file-line told input status text (absent none) = lines.unread input.name
+file-line told input status text (too_large bytes there longer) = lines.too_long input.name
+file-line told input status text (malformed {status = s} {text = t} bytes there within bad) = form-line input.form bytes s t bad
 
--- a status that is due is one of them
-IsRefusal-status : (told : Option Files) (words : List (List ℕ)) (status : ℕ) (text : List ℕ) → IsRefusal told words status text → Contains statuses status
-IsRefusal-status told words status text (usage none) = (1, lit< tt, refl)
-IsRefusal-status told words status text (file {status = s} {text = t} reading reads is) = files-status told (inputs_of reading) s t is
-IsRefusal-status told words status text (unmade {status = s} {text = t} reading read reads files is) = unmade-status reading read s t is
+files-line : (told : Option Files) (inputs : List Input) (status : ℕ) (text : List ℕ) → IsFileRefusal told inputs status text → IsFaultLine status text
+files-line told [] status text is = absurd is
+files-line told (input ∷ inputs) status text (inl is) = file-line told input status text is
+files-line told (input ∷ inputs) status text (inr is) = files-line told inputs status text is.2
+
+unmade-line : (reading : Reading) (read : List (List ℕ)) (status : ℕ) (text : List ℕ) → IsUnmade reading read status text → IsFaultLine status text
+unmade-line (best name settings) read status text is =
+    line-at status 7 text (unsupported_line is.position is.word) is.status_is is.text_is (lines.unsupported is.position is.word)
+unmade-line (asm name out) read status text is = absurd is
+unmade-line (dis name) read status text is = absurd is
+unmade-line (run name settings) read status text is = absurd is
+unmade-line (blocks name settings) read status text is =
+    line-at status 7 text (unsupported_line is.address is.word) is.status_is is.text_is (lines.unsupported is.address is.word)
+
+-- the line of a refusal is one of its status
+pub IsRefusal-line : (told : Option Files) (words : List (List ℕ)) (status : ℕ) (text : List ℕ) → IsRefusal told words status text → IsFaultLine status text
+IsRefusal-line told words status text (usage none) = lines.no_reading
+IsRefusal-line told words status text (file {status = s} {text = t} reading reads is) = files-line told (inputs_of reading) s t is
+IsRefusal-line told words status text (unmade {status = s} {text = t} reading read reads files is) = unmade-line reading read s t is
 
 Finishes-status : (change : Change) (success : Success) (status : ℕ) → Finishes change success status → Contains statuses status
 Finishes-status change success status (done written took) = (0, lit< tt, refl)
@@ -118,6 +140,6 @@ Finishes-status change success status (no_memory_in_put fault) = (8, lit< tt, re
 -- a call ends with one of them
 pub Ends-status : (words : List (List ℕ)) (change : Change) (status : ℕ) → Ends words change status → Contains statuses status
 Ends-status words change status (finished {success = success} {status = s} made finishes) = Finishes-status change success s finishes
-Ends-status words change status (refused {status = s} {text = t} is unwritten put) = IsRefusal-status change.shelf_before.files words s t is
+Ends-status words change status (refused {status = s} {text = t} is unwritten put) = line-status s t (IsRefusal-line change.shelf_before.files words s t is)
 Ends-status words change status (read_fault reading name reads named may rose unwritten put) = (2, lit< tt, refl)
 Ends-status words change status (no_memory unwritten put) = (8, lit< tt, refl)

@@ -5,7 +5,7 @@ use Rattle.ci_io.specs.Outcomes.{Files, Rises, ShelfState, SinkState, with_file}
 use Rattle.ci_words.specs.Words.{Reading, ReadsAs, HasNoReading}
 use Rattle.ci_find.specs.Commands.{inputs_of, IsMade, IsUnmade}
 use Rattle.ci_find.specs.Inputs.{AreRead, IsFileRefusal, IsDueName}
-use Rattle.ci_find.specs.Lines.{usage_line, read_fault_line, write_fault_line, sink_name, no_memory_line}
+use Rattle.ci_find.specs.Lines.{usage_line, read_fault_line, write_fault_line, sink_name, no_memory_line, IsFaultLine}
 use Rattle.ci_find.specs.Success.{Written, Success, with_files}
 
 -- ---- what is due
@@ -172,3 +172,29 @@ IsAnswered change due status =
     ⊎ ((status ≡ 3) × (due ≡ 0)
     × (Rises change.shelf_before.write_faults change.shelf_after.write_faults
     ⊎ Rises change.sink_before.faults change.sink_after.faults))
+
+-- ---- what follows from that
+
+-- no refusal is due to the words over these files
+abbrev pub HasNoRefusal : Option Files → List (List ℕ) → Type 0
+HasNoRefusal told words = (status : ℕ) (text : List ℕ) → ¬ IsRefusal told words status text
+
+-- no read, no write and no put failed
+pub record HasNoFault (change : Change) : Type 0 where
+  pub reads : ¬ Rises change.shelf_before.read_faults change.shelf_after.read_faults
+  pub writes : ¬ Rises change.shelf_before.write_faults change.shelf_after.write_faults
+  pub puts : ¬ Rises change.sink_before.faults change.sink_after.faults
+
+-- What the sink took of a call of this status above 0: a front of the text of the success that is due, which is empty
+-- unless the status is 3, and then the status's fault line. `between` is the sink before the put of that line.
+pub record HasPrinted (words : List (List ℕ)) (change : Change) (status : ℕ) : Type 0 where
+  pub between : SinkState
+  pub front : List ℕ
+  pub line : List ℕ
+  pub front_is :
+      (front ≡ [])
+      ⊎ ((status ≡ 3) × (success : Success) × IsDone change.shelf_before.files words success
+      × (n : ℕ) × (front ≡ take n success.text))
+  pub line_is : IsFaultLine status line
+  pub front_taken : Takes change.sink_before between front
+  pub line_put : IsPut between change.sink_after line

@@ -74,6 +74,18 @@ bad_asm_line kind line_number column =
 abbrev pub no_memory_line : List ℕ
 no_memory_line = line (codes "fault 12 no memory")
 
+-- A fault line of the status: which names and numbers stand in it, and which faults, is for the call to say.
+pub data IsFaultLine : ℕ → List ℕ → Type 0 where
+  no_reading : IsFaultLine 1 usage_line
+  unread : (name : List ℕ) → IsFaultLine 2 (read_fault_line name)
+  unwritten : (name : List ℕ) → IsFaultLine 3 (write_fault_line name)
+  too_long : (name : List ℕ) → IsFaultLine 4 (too_large_line name)
+  no_executable : (fault : ElfFault) → IsFaultLine 5 (bad_elf_line fault)
+  no_table : (fault : LatFault) → IsFaultLine 6 (bad_table_line fault)
+  unsupported : (position word : ℕ) → IsFaultLine 7 (unsupported_line position word)
+  out_of_memory : IsFaultLine 12 no_memory_line
+  no_assembly : (kind line_number column : ℕ) → IsFaultLine 13 (bad_asm_line kind line_number column)
+
 -- the members in ascending order, and the gain
 abbrev pub cut_line : FlowGraph → (ℕ → Bool) → List ℕ
 cut_line graph cut =

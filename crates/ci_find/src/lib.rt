@@ -1,9 +1,9 @@
 //! The commands of the program.
 #![tactic(auto)]
 
-ghost use Rattle.std.specs.Prelude.{◌≡◌, ℕ, List, [], ◌∷◌, Some, IfSome, Contains, map};
+ghost use Rattle.std.specs.Prelude.{◌≡◌, ◌≢◌, ◌⊎◌, ℕ, List, [], ◌∷◌, Some, IfSome, Contains, map};
 ghost use Rattle.std.specs.String.{string_bytes};
-ghost use Rattle.ci_find.specs.Endings.{IsDue, changed, Ends, IsAnswered};
+ghost use Rattle.ci_find.specs.Endings.{IsDue, changed, Ends, IsAnswered, HasNoRefusal, HasNoFault, HasPrinted};
 
 use ci_io::{Shelf, Sink};
 use commands::make;
@@ -55,7 +55,7 @@ pub fn run<F: Shelf, O: Sink>(alloc: Global, words: &Vec<String>, shelf: &mut F,
     ensures ends { Ends (map string_bytes words.now.items)
         (changed F.read_may_fail F.write_may_fail (F.state shelf.old) (F.state shelf.new) (O.state out.old) (O.state out.new))
         result }
-    // What is due comes: this follows from `ends`, and so does the next clause.
+    // All that follows comes of `ends` alone. What is due comes.
     ensures due { IfSome (F.state shelf.old).files (λ held. (status : ℕ)
         → IsDue (Some held) (map string_bytes words.now.items) status
         → IsAnswered
@@ -63,6 +63,17 @@ pub fn run<F: Shelf, O: Sink>(alloc: Global, words: &Vec<String>, shelf: &mut F,
         status result) }
     // No other status comes.
     ensures statuses { Contains (0 ∷ 1 ∷ 2 ∷ 3 ∷ 4 ∷ 5 ∷ 6 ∷ 7 ∷ 12 ∷ 13 ∷ []) result }
+    // A refusal changes no file.
+    ensures files_stay { result ≢ 0 → result ≢ 3 → result ≢ 12 → (F.state shelf.new).files ≡ (F.state shelf.old).files }
+    // Where nothing is refused and nothing fails, the call succeeds, or memory runs out.
+    ensures complete { HasNoRefusal (F.state shelf.old).files (map string_bytes words.now.items)
+        → HasNoFault
+        (changed F.read_may_fail F.write_may_fail (F.state shelf.old) (F.state shelf.new) (O.state out.old) (O.state out.new))
+        → (result ≡ 0) ⊎ (result ≡ 12) }
+    // After another status than 0, the sink took a front of the text of success, mostly none, and then one fault line.
+    ensures printed { result ≢ 0 → HasPrinted (map string_bytes words.now.items)
+        (changed F.read_may_fail F.write_may_fail (F.state shelf.old) (F.state shelf.new) (O.state out.old) (O.state out.new))
+        result }
 {
     match make(alloc, words, shelf) {
         Ok(success) => finish(alloc, &success, shelf, out),

@@ -1,6 +1,7 @@
 -- A call ends with the success that is due or with a refusal.
 use Rattle.std.proofs.Common.{refl}
 use Rattle.ci_find.specs.Endings.{changed, finished}
+use Rattle.ci_find.proofs.Kept.{Ends-files_stay, Ends-complete, Ends-printed}
 use Rattle.ci_find.proofs.Runs.{Ends-refused, Ends-status, Answers-due}
 use Rattle.ci_find.proofs.Writes.{Finishes-earlier}
 use Rattle.ci_find.proofs.run.Goals as goal
@@ -16,6 +17,15 @@ returns-in-Ok-clause-due g c = Answers-due _ _ _ (returns-in-Ok-clause-ends g c)
 pub returns-in-Ok-clause-statuses : goal.returns-in-Ok-clause-statuses
 returns-in-Ok-clause-statuses g c = Ends-status _ _ _ (returns-in-Ok-clause-ends g c)
 
+pub returns-in-Ok-clause-files_stay : goal.returns-in-Ok-clause-files_stay
+returns-in-Ok-clause-files_stay g c = Ends-files_stay _ _ _ (returns-in-Ok-clause-ends g c)
+
+pub returns-in-Ok-clause-complete : goal.returns-in-Ok-clause-complete
+returns-in-Ok-clause-complete g c = Ends-complete _ _ _ (returns-in-Ok-clause-ends g c)
+
+pub returns-in-Ok-clause-printed : goal.returns-in-Ok-clause-printed
+returns-in-Ok-clause-printed g c = Ends-printed _ _ _ (returns-in-Ok-clause-ends g c)
+
 pub returns-in-Err-clause-ends : goal.returns-in-Err-clause-ends
 returns-in-Err-clause-ends g c =
     Ends-refused _ _ _ _ c.in-Err.ensures.refused (record { same_files = c.in-Err.ensures.files_stay; same_count = c.in-Err.ensures.no_write }) c.refuse.ensures
@@ -25,3 +35,12 @@ returns-in-Err-clause-due g c = Answers-due _ _ _ (returns-in-Err-clause-ends g 
 
 pub returns-in-Err-clause-statuses : goal.returns-in-Err-clause-statuses
 returns-in-Err-clause-statuses g c = Ends-status _ _ _ (returns-in-Err-clause-ends g c)
+
+pub returns-in-Err-clause-files_stay : goal.returns-in-Err-clause-files_stay
+returns-in-Err-clause-files_stay g c = Ends-files_stay _ _ _ (returns-in-Err-clause-ends g c)
+
+pub returns-in-Err-clause-complete : goal.returns-in-Err-clause-complete
+returns-in-Err-clause-complete g c = Ends-complete _ _ _ (returns-in-Err-clause-ends g c)
+
+pub returns-in-Err-clause-printed : goal.returns-in-Err-clause-printed
+returns-in-Err-clause-printed g c = Ends-printed _ _ _ (returns-in-Err-clause-ends g c)
