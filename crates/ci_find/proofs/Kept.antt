@@ -1,11 +1,17 @@
 -- What follows from how a call ends: the files stay, the call is complete, one fault line comes.
-use Rattle.std.proofs.Common.{◌≡◌, ◌≢◌, ◌∙◌, ℕ, ◌⊎◌, inl, inr, List, [], ◌++◌, take, Option, Some, None, refl, sym, ap, append-nil}
+use Rattle.std.proofs.Common.{◌≡◌, ◌≢◌, ◌∙◌, ℕ, ◌⊎◌, inl, inr, true, false, cond, List, [], ◌∷◌, ◌++◌, take, Contains, Option, Some, None, IfSome, refl, sym, ap, subst, append-nil, arith}
+use Rattle.std.specs.Cmp.{Equal-is}
+use Rattle.std.specs.Cmp.Lexicographic.{slice_cmp, nat_list_cmp_total}
+use Rattle.std.specs.FinMap as map
+use Rattle.std.specs.FinMap.{get-insert, get-remove, slice_cmp-IsAntisymmetric, nat_cmp-IsAntisymmetric}
+use Rattle.std.specs.Ordering.{nat_cmp, eq_by_cmp}
+use Rattle.std.proofs.lemmas.List.Elements.{Contains-append_left, Contains-append_right}
 use Rattle.std.specs.Option.{option_map}
-use Rattle.ci_io.specs.Outcomes.{SinkState}
-use Rattle.ci_find.specs.Endings.{Change, Takes, IsPut, Finishes, done, write_fault, put_fault, no_memory_in_write, no_memory_in_put, Ends, finished, refused, read_fault, no_memory, IsDone, HasNoRefusal, HasNoFault, HasPrinted}
+use Rattle.ci_io.specs.Outcomes.{Files, SinkState, with_file}
+use Rattle.ci_find.specs.Endings.{Change, Takes, IsPut, IsUnwritten, AreWritten, IsWriteFault, Finishes, done, write_fault, put_fault, no_memory_in_write, no_memory_in_put, Ends, finished, refused, read_fault, no_memory, IsDone, HasNoRefusal, HasNoFault, IsLeft, as_before, whole, unknown, AreLeft, HasPrinted}
 use Rattle.ci_find.specs.Lines as lines
 use Rattle.ci_find.specs.Lines.{write_fault_line, sink_name, no_memory_line, IsFaultLine}
-use Rattle.ci_find.specs.Success.{Success}
+use Rattle.ci_find.specs.Success.{Written, Success, with_files}
 use Rattle.ci_find.proofs.Runs.{IsRefusal-line}
 use Rattle.ci_find.proofs.Sinks.{Rises-earlier}
 
@@ -23,6 +29,107 @@ Ends-files_stay words change status (finished {success = success} {status = s} m
 Ends-files_stay words change status (refused is unwritten put) x y z = unwritten.same_files
 Ends-files_stay words change status (read_fault reading name reads named may rose unwritten put) x y z = unwritten.same_files
 Ends-files_stay words change status (no_memory unwritten put) x y z = unwritten.same_files
+
+-- what is said of each file, where the shelf tells its files before and after
+module _ (Says : List ℕ → Option (List ℕ) → Option (List ℕ) → Type 0) where
+  abbrev Left : Option Files → Option Files → Type 0
+  Left told left = IfSome told (λ held. IfSome left (λ after. (name : List ℕ) → Says name (map.get held name) (map.get after name)))
+
+  left_by : (told left : Option Files) (change : Files → Files) → left ≡ option_map change told
+      → ((held : Files) (name : List ℕ) → Says name (map.get held name) (map.get (change held) name))
+      → Left told left
+  left_by None left change is says = tt
+  left_by (Some held) left change is says = subst (Left (Some held)) (sym is) (says held)
+
+  left_same : (told left : Option Files) → left ≡ told → ((name : List ℕ) (content : Option (List ℕ)) → Says name content content) → Left told left
+  left_same None left is says = tt
+  left_same (Some held) left is says = subst (Left (Some held)) (sym is) (λ name. says name (map.get held name))
+
+-- a name has the content that was put there, or what it had
+with_file-get : (name : List ℕ) (content : Option (List ℕ)) (files : Files) (other : List ℕ)
+    → ((other ≡ name) × (map.get (with_file name content files) other ≡ content))
+    ⊎ (map.get (with_file name content files) other ≡ map.get files other)
+with_file-get name content files other =
+    elim (eq_by_cmp (slice_cmp nat_cmp) other name) as (λ b. eq_by_cmp (slice_cmp nat_cmp) other name ≡ b
+    → ((other ≡ name) × (map.get (with_file name content files) other ≡ content)) ⊎ (map.get (with_file name content files) other ≡ map.get files other)) [
+      | true ↦ λ same. inl (slice_cmp-IsAntisymmetric nat_cmp-IsAntisymmetric other name ((Equal-is (slice_cmp nat_cmp other name)).0 same), there content ∙ ap (λ b. cond b content (map.get files other)) same)
+      | false ↦ λ apart. inr (there content ∙ ap (λ b. cond b content (map.get files other)) apart)
+    ] refl
+  where
+    there : (content : Option (List ℕ)) → map.get (with_file name content files) other ≡ cond (eq_by_cmp (slice_cmp nat_cmp) other name) content (map.get files other)
+    there None = get-remove nat_list_cmp_total files name other
+    there (Some bytes) = get-insert nat_list_cmp_total files name bytes other
+
+-- once files were written a name has the bytes of one of them, or what it had
+with_files-get : (writes : List Written) (files : Files) (name : List ℕ)
+    → (map.get (with_files writes files) name ≡ map.get files name)
+    ⊎ ((file : Written) × Contains writes file × (name ≡ file.name) × (map.get (with_files writes files) name ≡ Some file.bytes))
+with_files-get [] files name = inl refl
+with_files-get (file ∷ writes) files name =
+    elim (with_files-get writes (with_file file.name (Some file.bytes) files) name) [
+      | inr (later, among, same, has) ↦ inr (later, Contains-append_right (file ∷ []) writes later among, same, has)
+      | inl same ↦ elim (with_file-get file.name (Some file.bytes) files name) [
+        | inl (is, has) ↦ inr (file, (0, omega arith, refl), is, same ∙ has)
+        | inr before ↦ inl (same ∙ before)
+      ]
+    ]
+
+module _ (words : List (List ℕ)) (change : Change) (success : Success) (made : IsDone change.shelf_before.files words success) where
+  -- the first of the files were written
+  front_left : (status : ℕ) (front others : List Written) → success.writes ≡ front ++ others → AreWritten change.shelf_before change.shelf_after front → AreLeft words change status
+  front_left status front others in_order written =
+      left_by (IsLeft words change status) change.shelf_before.files change.shelf_after.files (with_files front) written
+      (λ held name. left held name (with_files-get front held name))
+    where
+      left : (held : Files) (name : List ℕ) → (map.get (with_files front held) name ≡ map.get held name)
+          ⊎ ((file : Written) × Contains front file × (name ≡ file.name) × (map.get (with_files front held) name ≡ Some file.bytes))
+          → IsLeft words change status name (map.get held name) (map.get (with_files front held) name)
+      left held name (inl same) = subst (IsLeft words change status name (map.get held name)) (sym same) as_before
+      left held name (inr (file, among, is, has)) =
+          subst (IsLeft words change status name (map.get held name)) (sym has)
+          (whole success file made (subst (λ files. Contains files file) (sym in_order) (Contains-append_left front others file among)) is)
+
+  -- the write of one of them failed
+  fault_left : IsWriteFault change success.writes → AreLeft words change 3
+  fault_left fault =
+      left_by (IsLeft words change 3) change.shelf_before.files change.shelf_after.files
+      (λ held. with_file fault.failed.name fault.content (with_files fault.front held)) fault.files
+      (λ held name. left held name (with_file-get fault.failed.name fault.content (with_files fault.front held) name) (with_files-get fault.front held name))
+    where
+      among : Contains success.writes fault.failed
+      among = subst (λ files. Contains files fault.failed) (sym fault.in_order)
+          (Contains-append_right fault.front (fault.failed ∷ fault.others) fault.failed (0, omega arith, refl))
+
+      left : (held : Files) (name : List ℕ)
+          → ((name ≡ fault.failed.name) × (map.get (with_file fault.failed.name fault.content (with_files fault.front held)) name ≡ fault.content))
+          ⊎ (map.get (with_file fault.failed.name fault.content (with_files fault.front held)) name ≡ map.get (with_files fault.front held) name)
+          → (map.get (with_files fault.front held) name ≡ map.get held name)
+          ⊎ ((file : Written) × Contains fault.front file × (name ≡ file.name) × (map.get (with_files fault.front held) name ≡ Some file.bytes))
+          → IsLeft words change 3 name (map.get held name) (map.get (with_file fault.failed.name fault.content (with_files fault.front held)) name)
+      left held name (inl (is, has)) front =
+          subst (IsLeft words change 3 name (map.get held name)) (sym has)
+          (unknown success fault.failed fault.content made among is refl (subst (λ n. IsPut change.sink_before change.sink_after (write_fault_line n)) (sym is) fault.line))
+      left held name (inr same) (inl before) = subst (IsLeft words change 3 name (map.get held name)) (sym (same ∙ before)) as_before
+      left held name (inr same) (inr (file, written, is, has)) =
+          subst (IsLeft words change 3 name (map.get held name)) (sym (same ∙ has))
+          (whole success file made (subst (λ files. Contains files file) (sym fault.in_order) (Contains-append_left fault.front (fault.failed ∷ fault.others) file written)) is)
+
+  success_leaves : (status : ℕ) → Finishes change success status → AreLeft words change status
+  success_leaves status (done written took) = front_left 0 success.writes [] (sym (append-nil success.writes)) written.written
+  success_leaves status (write_fault fault) = fault_left fault
+  success_leaves status (put_fault fault) = front_left 3 success.writes [] (sym (append-nil success.writes)) fault.written.written
+  success_leaves status (no_memory_in_write fault) = front_left 12 fault.front (fault.failed ∷ fault.others) fault.in_order fault.files
+  success_leaves status (no_memory_in_put fault) = front_left 12 success.writes [] (sym (append-nil success.writes)) fault.written.written
+
+unwritten_left : (words : List (List ℕ)) (change : Change) (status : ℕ) → IsUnwritten change → AreLeft words change status
+unwritten_left words change status unwritten =
+    left_same (IsLeft words change status) change.shelf_before.files change.shelf_after.files unwritten.same_files (λ name content. as_before)
+
+pub Ends-left : (words : List (List ℕ)) (change : Change) (status : ℕ) → Ends words change status → AreLeft words change status
+Ends-left words change status (finished {success = success} {status = s} made finishes) = success_leaves words change success made s finishes
+Ends-left words change status (refused {status = s} is unwritten put) = unwritten_left words change s unwritten
+Ends-left words change status (read_fault reading name reads named may rose unwritten put) = unwritten_left words change 2 unwritten
+Ends-left words change status (no_memory unwritten put) = unwritten_left words change 12 unwritten
 
 -- ---- completeness
 

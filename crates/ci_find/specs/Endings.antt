@@ -1,5 +1,6 @@
 -- How a call of the program ends: its status, what the sink took, and the files of the shelf.
-use Rattle.std.specs.Prelude.{◌≡◌, ◌≢◌, ℕ, ◌≤◌, ◌⊎◌, Bool, IsTrue, List, [], ◌∷◌, ◌++◌, Option, take}
+use Rattle.std.specs.Prelude.{◌≡◌, ◌≢◌, ℕ, ◌≤◌, ◌⊎◌, Bool, IsTrue, List, [], ◌∷◌, ◌++◌, Option, Some, IfSome, Contains, take}
+use Rattle.std.specs.FinMap as map
 use Rattle.std.specs.Option.{option_map}
 use Rattle.ci_io.specs.Outcomes.{Files, Rises, ShelfState, SinkState, with_file}
 use Rattle.ci_words.specs.Words.{Reading, ReadsAs, HasNoReading}
@@ -184,6 +185,31 @@ pub record HasNoFault (change : Change) : Type 0 where
   pub reads : ¬ Rises change.shelf_before.read_faults change.shelf_after.read_faults
   pub writes : ¬ Rises change.shelf_before.write_faults change.shelf_after.write_faults
   pub puts : ¬ Rises change.sink_before.faults change.sink_after.faults
+
+-- What a call of this status leaves of the file of a name: it is as before; or the success that is due writes it, and it
+-- holds just that; or its write failed, and nothing is said of it, but the status is 3 and the fault line names it.
+pub data IsLeft (words : List (List ℕ)) (change : Change) (status : ℕ) (name : List ℕ) (before : Option (List ℕ)) :
+    Option (List ℕ) → Type 0 where
+  as_before : IsLeft words change status name before before
+  whole :
+      (success : Success) (file : Written) → IsDone change.shelf_before.files words success →
+      Contains success.writes file →
+      name ≡ file.name →
+      IsLeft words change status name before (Some file.bytes)
+  unknown :
+      (success : Success) (file : Written) (content : Option (List ℕ)) →
+      IsDone change.shelf_before.files words success →
+      Contains success.writes file →
+      name ≡ file.name →
+      status ≡ 3 →
+      IsPut change.sink_before change.sink_after (write_fault_line name) →
+      IsLeft words change status name before content
+
+-- what a call of this status leaves of each file, where the shelf tells its files
+abbrev pub AreLeft : List (List ℕ) → Change → ℕ → Type 0
+AreLeft words change status =
+    IfSome change.shelf_before.files (λ held. IfSome change.shelf_after.files (λ left. (name : List ℕ)
+    → IsLeft words change status name (map.get held name) (map.get left name)))
 
 -- What the sink took of a call of this status above 0: a front of the text of the success that is due, which is empty
 -- unless the status is 3, and then the status's fault line. `between` is the sink before the put of that line.

@@ -3,7 +3,7 @@
 
 ghost use Rattle.std.specs.Prelude.{◌≡◌, ◌≢◌, ◌⊎◌, ℕ, List, [], ◌∷◌, Some, IfSome, Contains, map};
 ghost use Rattle.std.specs.String.{string_bytes};
-ghost use Rattle.ci_find.specs.Endings.{IsDue, changed, Ends, IsAnswered, HasNoRefusal, HasNoFault, HasPrinted};
+ghost use Rattle.ci_find.specs.Endings.{IsDue, changed, Ends, IsAnswered, HasNoRefusal, HasNoFault, AreLeft, HasPrinted};
 
 use ci_io::{Shelf, Sink};
 use commands::make;
@@ -65,6 +65,10 @@ pub fn run<F: Shelf, O: Sink>(alloc: Global, words: &Vec<String>, shelf: &mut F,
     ensures statuses { Contains (0 ∷ 1 ∷ 2 ∷ 3 ∷ 4 ∷ 5 ∷ 6 ∷ 7 ∷ 12 ∷ 13 ∷ []) result }
     // A refusal changes no file.
     ensures files_stay { result ≢ 0 → result ≢ 3 → result ≢ 12 → (F.state shelf.new).files ≡ (F.state shelf.old).files }
+    // No file changes but those that the command writes, and these by a success or a write that failed.
+    ensures left { AreLeft (map string_bytes words.now.items)
+        (changed F.read_may_fail F.write_may_fail (F.state shelf.old) (F.state shelf.new) (O.state out.old) (O.state out.new))
+        result }
     // Where nothing is refused and nothing fails, the call succeeds, or memory runs out.
     ensures complete { HasNoRefusal (F.state shelf.old).files (map string_bytes words.now.items)
         → HasNoFault

@@ -1,7 +1,7 @@
 -- A call ends with the success that is due or with a refusal.
 use Rattle.std.proofs.Common.{refl}
 use Rattle.ci_find.specs.Endings.{changed, finished}
-use Rattle.ci_find.proofs.Kept.{Ends-files_stay, Ends-complete, Ends-printed}
+use Rattle.ci_find.proofs.Kept.{Ends-files_stay, Ends-left, Ends-complete, Ends-printed}
 use Rattle.ci_find.proofs.Runs.{Ends-refused, Ends-status, Answers-due}
 use Rattle.ci_find.proofs.Writes.{Finishes-earlier}
 use Rattle.ci_find.proofs.run.Goals as goal
@@ -19,6 +19,9 @@ returns-in-Ok-clause-statuses g c = Ends-status _ _ _ (returns-in-Ok-clause-ends
 
 pub returns-in-Ok-clause-files_stay : goal.returns-in-Ok-clause-files_stay
 returns-in-Ok-clause-files_stay g c = Ends-files_stay _ _ _ (returns-in-Ok-clause-ends g c)
+
+pub returns-in-Ok-clause-left : goal.returns-in-Ok-clause-left
+returns-in-Ok-clause-left g c = Ends-left _ _ _ (returns-in-Ok-clause-ends g c)
 
 pub returns-in-Ok-clause-complete : goal.returns-in-Ok-clause-complete
 returns-in-Ok-clause-complete g c = Ends-complete _ _ _ (returns-in-Ok-clause-ends g c)
@@ -38,6 +41,9 @@ returns-in-Err-clause-statuses g c = Ends-status _ _ _ (returns-in-Err-clause-en
 
 pub returns-in-Err-clause-files_stay : goal.returns-in-Err-clause-files_stay
 returns-in-Err-clause-files_stay g c = Ends-files_stay _ _ _ (returns-in-Err-clause-ends g c)
+
+pub returns-in-Err-clause-left : goal.returns-in-Err-clause-left
+returns-in-Err-clause-left g c = Ends-left _ _ _ (returns-in-Err-clause-ends g c)
 
 pub returns-in-Err-clause-complete : goal.returns-in-Err-clause-complete
 returns-in-Err-clause-complete g c = Ends-complete _ _ _ (returns-in-Err-clause-ends g c)
