@@ -1,8 +1,10 @@
 -- Trees of logs in a region.
-use Rattle.std.specs.Prelude.{◌≡◌, ℕ, List, [], ◌∷◌, ◌++◌, Some}
+use Rattle.std.specs.Prelude.{◌≡◌, List, [], ◌∷◌}
 use Rattle.std.specs.Ordering.{nat_cmp}
 use Rattle.std.specs.FinMap as map
 use Rattle.ci_region.specs.BoundedMap.{BoundedMap}
+use Rattle.ci_region.specs.Trees.{Place, TreeKind, AreTreesIn}
+use Rattle.ci_region.specs.Trees as trees
 use Rattle.ci_log.specs.declared.log.Item.{Item}
 use Rattle.ci_log.specs.declared.log.Item.TheVariants.{B}
 use Rattle.ci_log.specs.declared.flattening.Child.{Child}
@@ -14,14 +16,22 @@ use Rattle.ci_log.specs.Trees.{IsLeaf}
 abbrev pub Slots : Type 0
 Slots = map.FinMap nat_cmp LogNode
 
--- The tree of a child: its items in preorder, and what the slots hold besides. Each slot that it reaches is live, and is
--- reached once, since it is taken out there.
-pub data IsTreeIn : Slots → Child → List Item → Slots → Type 0 where
-  at_leaf : {slots : Slots} {item : Item} → IsLeaf item → IsTreeIn slots (Leaf item) (item ∷ []) slots
-  at_inner : {slots between rest : Slots} {slot : ℕ} {node : LogNode} {taken left_out : List Item}
-      → map.get slots slot ≡ Some node
-      → IsTreeIn (map.remove slots slot) node.left_out left_out between → IsTreeIn between node.taken taken rest
-      → IsTreeIn slots (Inner slot) (B ∷ (taken ++ left_out)) rest
+abbrev pub place : Child → Place Item
+place (Leaf item) = trees.Leaf item
+place (Inner slot) = trees.Inner slot
+
+-- a branch has two children, that where the next node is taken in and that where it is left out
+abbrev pub log_tree : TreeKind LogNode Child Item
+log_tree = record {
+  children = λ (node : LogNode). node.taken ∷ node.left_out ∷ [];
+  place = place;
+  IsLeaf = IsLeaf;
+  branch = B;
+}
+
+-- the tree of a child: its items in preorder, and what the slots hold besides
+abbrev pub IsTreeIn : Slots → Child → List Item → Slots → Type 0
+IsTreeIn slots child items rest = AreTreesIn log_tree slots (child ∷ []) items rest
 
 -- the tree of the child lies in the region
 abbrev pub LiesIn : BoundedMap LogNode → Child → Type 0

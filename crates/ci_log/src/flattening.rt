@@ -1,8 +1,7 @@
 //! Trees of logs in a region, and their items in preorder.
-ghost use Rattle.std.specs.Prelude.{◌≡◌, ◌<◌, ◌^◌, IfOk, OnOk};
+ghost use Rattle.std.specs.Prelude.{◌≡◌, ◌<◌, ◌^◌, IfOk};
 ghost use Rattle.ci_region.specs.BoundedMap.{used};
 ghost use Rattle.ci_log.specs.RegionTrees.{LiesIn, StandsFor};
-ghost use Rattle.ci_log.specs.Listed.{FitsIn, IsListed};
 
 use crate::log::{Item, Log};
 use ci_region::{Region, Slot};
@@ -36,31 +35,21 @@ pub fn flatten(alloc: Global, region: &Region<LogNode>, root: Child) -> Result<L
     ensures { IfOk result (StandsFor region.now root) }
 {
     let mut items = Vec::new(alloc);
-    push_items(region, root, region.used(), &mut items)?;
-    Ok(Log::new(items))
-}
-
-/// Appends the items of the tree of a child, which reaches at most so many slots.
-fn push_items(
-    region: &Region<LogNode>,
-    child: Child,
-    most: u32,
-    items: &mut Vec<Item>,
-) -> Result<(), AllocError>
-    requires { FitsIn region.now child most }
-    ensures { OnOk result (IsListed region.now child items.old.items items.new.items) }
-{
-    match child {
-        Child::Leaf(item) => {
-            items.push(item)?;
-            Ok(())
-        }
-        Child::Inner(slot) => {
-            items.push(Item::B)?;
-            let node = *region.get(slot);
-            push_items(region, node.taken, most - 1, items)?;
-            push_items(region, node.left_out, most - 1, items)?;
-            Ok(())
+    // The children whose trees are to be listed yet, the next one last.
+    let mut waiting = Vec::new(alloc);
+    waiting.push(root)?;
+    while let Some(child) = waiting.pop() {
+        match child {
+            Child::Leaf(item) => {
+                items.push(item)?;
+            }
+            Child::Inner(slot) => {
+                let node = region.get(slot);
+                items.push(Item::B)?;
+                waiting.push(node.left_out)?;
+                waiting.push(node.taken)?;
+            }
         }
     }
+    Ok(Log::new(items))
 }

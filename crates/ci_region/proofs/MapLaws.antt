@@ -43,6 +43,15 @@ module _ {T : Type 0} (m : map.FinMap nat_cmp T) (slot : ℕ) where
         | inr apart ↦ others q apart ∙ sym (get-remove_other q apart)
       ])
 
+  -- what the others hold, all do
+  pub kept_without : (other : ℕ) (value : T) → map.get (map.remove m slot) other ≡ Some value
+      → map.get m other ≡ Some value
+  kept_without other value here = elim (cases_eq other slot) [
+    | inl same ↦ absurd (true≢false (sym (ap is_some here) ∙ ap (λ k. is_some (map.get (map.remove m slot) k)) same
+        ∙ ap is_some get-remove_same))
+    | inr apart ↦ sym (get-remove_other other apart) ∙ here
+  ]
+
   -- a live slot isn't one that is free
   pub live_differs : (other : ℕ) → IsSome (map.get m slot) → map.get m other ≡ None → slot ≢ other
   live_differs other live free same =
@@ -66,6 +75,9 @@ module _ {T : Type 0} (m : map.FinMap nat_cmp T) (slot : ℕ) where
   -- one slot fewer is live after a value is given
   pub len-give : IsSome (map.get m slot) → map.len (map.remove m slot) + 1 ≡ map.len m
   len-give live = let some = has_one live in grind (arith, len-remove, nat_cmp_total)
+
+  pub fewer_without : (value : T) → map.get m slot ≡ Some value → map.len (map.remove m slot) + 1 ≡ map.len m
+  fewer_without value here = len-give (ap is_some here)
 
 module _ {T : Type 0} (m : map.FinMap nat_cmp T) (slot : ℕ) where
   -- a take that is given back leaves the map as it was

@@ -9,7 +9,7 @@ use Rattle.ci_cut.specs.FlowGraph.{FlowGraph, IsFlowGraph}
 use Rattle.ci_cut.specs.Best.{IsBest, HasNoCut}
 use Rattle.ci_log.specs.declared.flattening.Child.{Child}
 use Rattle.ci_log.specs.declared.flattening.LogNode.{LogNode}
-use Rattle.ci_log.proofs.RegionTreeLaws.{rest_is_kept}
+use Rattle.ci_region.proofs.TreeLaws.{rest_is_kept}
 use Rattle.ci_check.specs.declared.choices.Choices.{Choices}
 use Rattle.ci_check.specs.Prefixes.{eligible_nodes}
 use Rattle.ci_check.specs.Need.{HasOpen, NeedExceeds, continuations}

@@ -1,23 +1,17 @@
 -- Trees in a region, as they are given back and as they grow.
-use Rattle.std.proofs.Common.{◌≡◌, ℕ, ◌+◌, ◌<◌, ◌≤◌, inl, inr, List, ◌∷◌, ◌++◌, Some, None, ap, refl, sym, ◌∙◌, subst, arith}
+use Rattle.std.proofs.Common.{◌≡◌, ℕ, ◌+◌, ◌<◌, ◌≤◌, inl, inr, List, ◌∷◌, ◌++◌, Some, None, ap, sym, ◌∙◌, subst, arith}
 use Rattle.std.proofs.lemmas.Bool.{cases_eq}
 use Rattle.std.specs.FinMap as map
 use Rattle.ci_region.specs.BoundedMap.{BoundedMap, used, with_value, without}
-use Rattle.ci_region.proofs.MapLaws.{given_back, get-insert_same, len-take}
+use Rattle.ci_region.proofs.MapLaws.{given_back, get-insert_same, len-take, fewer_without}
 use Rattle.ci_log.specs.declared.log.Item.{Item}
 use Rattle.ci_log.specs.declared.log.Item.TheVariants.{B}
 use Rattle.ci_log.specs.declared.flattening.Child.{Child}
-use Rattle.ci_log.specs.declared.flattening.Child.TheVariants.{Leaf, Inner}
+use Rattle.ci_log.specs.declared.flattening.Child.TheVariants.{Inner}
 use Rattle.ci_log.specs.declared.flattening.LogNode.{LogNode}
-use Rattle.ci_log.specs.RegionTrees.{Slots, IsTreeIn, at_leaf, at_inner}
-use Rattle.ci_log.proofs.RegionTreeLaws.{Branches, branches, fewer_without}
+use Rattle.ci_log.specs.RegionTrees.{Slots, IsTreeIn}
+use Rattle.ci_log.proofs.RegionTreeLaws.{Branches, branches, at_inner}
 use Rattle.ci_search.specs.Branches.{AreTreesOf}
-
--- a leaf takes no slot
-pub rest_of_leaf : {slots rest : Slots} {child : Child} {items : List Item} → IsTreeIn slots child items rest → (item : Item)
-    → child ≡ Leaf item → slots ≡ rest
-rest_of_leaf (at_leaf is) item same = refl
-rest_of_leaf (at_inner here out_tree in_tree) item same = absurd (cc)
 
 -- the trees below a slot, once its value is given
 module _ (before after : BoundedMap LogNode) (rest : Slots) (child : Child) (items : List Item) (tree : IsTreeIn before.values child items rest)

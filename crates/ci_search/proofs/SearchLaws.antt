@@ -8,7 +8,7 @@ use Rattle.ci_log.specs.declared.log.Item.TheVariants.{B, F}
 use Rattle.ci_log.specs.declared.flattening.Child.{Child}
 use Rattle.ci_log.specs.declared.flattening.Child.TheVariants.{Leaf}
 use Rattle.ci_log.specs.declared.flattening.LogNode.{LogNode}
-use Rattle.ci_log.specs.RegionTrees.{at_leaf}
+use Rattle.ci_log.proofs.RegionTreeLaws.{at_leaf}
 use Rattle.ci_check.specs.declared.choices.Choices.{Choices}
 use Rattle.ci_check.specs.declared.rules.Best.{Best}
 use Rattle.ci_check.specs.Prefixes.{Prefix, eligible_nodes, is_next}

@@ -1,7 +1,8 @@
 use Rattle.std.proofs.Common.{◌∙◌, ap, arith}
 use Rattle.ci_region.specs.BoundedMap.{used}
-use Rattle.ci_log.proofs.RegionTreeLaws.{rest_is_fewer}
-use Rattle.ci_search.proofs.BranchLaws.{rest_of_leaf, below, fewer_given, first_left}
+use Rattle.ci_region.proofs.TreeLaws.{rest_is_fewer}
+use Rattle.ci_log.proofs.RegionTreeLaws.{rest_of_leaf}
+use Rattle.ci_search.proofs.BranchLaws.{below, fewer_given, first_left}
 use Rattle.ci_search.proofs.trees.+give_back.Goals as goal
 
 pub give_back-requires : goal.give_back-requires
