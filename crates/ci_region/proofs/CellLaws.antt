@@ -9,7 +9,7 @@ use Rattle.std.proofs.lemmas.List.Sums.{sum_by-set, sum_by_push}
 use Rattle.std.specs.FinMap as map
 use Rattle.ci_region.specs.BoundedMap.{BoundedMap, IsLive, used, with_value, without}
 use Rattle.ci_region.specs.Cells.{values_in, AreCells, IsSound}
-use Rattle.ci_region.proofs.ValueLaws.{get-values_in, len-values_in, values-set, values-set_none, values-push}
+use Rattle.ci_region.proofs.ValueLaws.{get-values_in, len-values_in, values-nothing, values-set, values-set_none, values-push}
 
 module _ {T : Type 0} (cells : List (Option T)) (number : ℕ) where
   -- the count of values after a write
@@ -125,8 +125,8 @@ module _ {T : Type 0} (cells : List (Option T)) (free : List ℕ) (number : ℕ)
   before_end : (place : ℕ) → place < length free → get_or (free ++ number ∷ []) place 0 ≡ get_or free place 0
   before_end place below = get_or_append_left free (number ∷ []) 0 place below
 
-  pub AreCells-vacate : AreCells (set cells number None) (free ++ number ∷ [])
-  AreCells-vacate =
+  vacated : AreCells (set cells number None) (free ++ number ∷ [])
+  vacated =
       let longer = length_push free number in
       let same_length = length-set {A = Option T} cells number None in
       record {
@@ -151,6 +151,10 @@ module _ {T : Type 0} (cells : List (Option T)) (free : List ℕ) (number : ℕ)
         counted = omega (arith, are.counted, count_less);
       }
 
+  pub AreCells-vacate : (freed : ℕ) → freed ≡ number → AreCells (set cells number None) (free ++ freed ∷ [])
+  AreCells-vacate freed same =
+      subst (λ (n : ℕ). AreCells (set cells number None) (free ++ n ∷ [])) (sym same) vacated
+
 -- a region keeps its cells where as many of them are there as before
 pub IsSound-changed : {T : Type 0} (cells after : List (Option T)) (free left : List ℕ)
     (capacity room_for_cells room_for_free : ℕ)
@@ -170,6 +174,12 @@ IsSound-changed cells after free left capacity room_for_cells room_for_free are 
 
 abbrev pub region_of : {T : Type 0} → List (Option T) → ℕ → BoundedMap T
 region_of cells capacity = record { values = values_in cells; capacity = capacity }
+
+-- without a cell it holds nothing
+pub emptied : {T : Type 0} (cells : List (Option T)) (capacity n : ℕ) → cells ≡ [] → capacity ≡ n
+    → region_of cells capacity ≡ record { values = map.empty; capacity = n }
+emptied cells capacity n none same =
+    λ i. record { values = (ap values_in none ∙ values-nothing) i; capacity = same i }
 
 -- the cell of a live slot
 pub record IsLiveCell {T : Type 0} (cells : List (Option T)) (number : ℕ) (content : Option T) : Type 0 where
@@ -199,18 +209,6 @@ module _ {T : Type 0} (cells : List (Option T)) (capacity number slot : ℕ) (re
         live = filled;
         read = λ cell is_read. held ∙ sym (get_or_read_under cells number (length cells) cell None is_read inside refl);
       }
-
-  pub live_inside : IsLive region slot → number < length cells
-  live_inside live = (live_cell live).within
-
-  -- what is read at a live slot's cell is what the slot holds
-  pub live_read : (cell : Option T) → IsLive region slot → cell ≡ get_or cells number cell
-      → map.get region.values slot ≡ cell
-  live_read cell live is_read = (live_cell live).read cell is_read
-
-  -- and so is a value
-  pub live_is_some : (cell : Option T) → IsLive region slot → cell ≡ get_or cells number cell → IsSome cell
-  live_is_some cell live is_read = subst IsSome (live_read cell live is_read) live
 
   pub region-set : (value : T) → number < length cells
       → region_of (set cells number (Some value)) capacity ≡ with_value region slot value

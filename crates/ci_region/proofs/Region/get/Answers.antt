@@ -1,14 +1,17 @@
-use Rattle.std.proofs.Common.{is_some, true≢false, sym, ap, ◌∙◌, arith}
-use Rattle.ci_region.proofs.CellLaws.{live_inside, live_is_some, live_read}
+use Rattle.std.proofs.Common.{arith}
+use Rattle.ci_region.proofs.CellLaws.{live_cell}
 use Rattle.ci_region.proofs.Region.get.Goals as goal
 
 pub index-requires : goal.index-requires
-index-requires g c = omega (arith, live_inside _ _ _ _ _ c.self.view_is c.slot.view_is c.requires)
+index-requires g c =
+    let cell = live_cell _ _ _ _ _ c.self.view_is c.slot.view_is c.requires in omega (arith, cell.within)
 
 pub unreachable-requires : goal.unreachable-requires
 unreachable-requires g c =
-    let some = live_is_some _ _ _ _ _ c.self.view_is c.slot.view_is _ c.requires c.index.ensures in
-    true≢false (sym some ∙ ap is_some c.in-None.is)
+    let cell = live_cell _ _ _ _ _ c.self.view_is c.slot.view_is c.requires in
+    grind (arith, c.requires, cell.read, c.index.ensures, c.in-None.is)
 
 pub returns : goal.returns
-returns g c = live_read _ _ _ _ _ c.self.view_is c.slot.view_is _ c.requires c.index.ensures ∙ c.in-Some.is
+returns g c =
+    let cell = live_cell _ _ _ _ _ c.self.view_is c.slot.view_is c.requires in
+    grind (arith, cell.read, c.index.ensures, c.in-Some.is)

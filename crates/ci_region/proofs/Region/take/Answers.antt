@@ -20,7 +20,7 @@ pub returns-in-Some-clause-holds : goal.returns-in-Some-clause-holds
 returns-in-Some-clause-holds g c =
     let inside = c.self.inside.cells.items in
     let last = last_is_free inside _ _ (rw c.in-Some.ensures.items at c.self.invariant.cells_are) in
-    rw c.replace.ensures.after (region-set inside _ _ _ _ c.self.view_is refl c.args.value last.0)
+    rw c.replace.ensures.after (region-set inside _ _ _ _ c.self.view_is (omega arith) c.args.value last.0)
 
 pub returns-in-Some-clause-live : goal.returns-in-Some-clause-live
 returns-in-Some-clause-live g c =

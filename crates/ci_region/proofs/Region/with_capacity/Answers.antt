@@ -1,10 +1,6 @@
-use Rattle.std.proofs.Common.{ap, ◌∙◌}
-use Rattle.ci_region.specs.Cells.{values_in}
-use Rattle.ci_region.proofs.ValueLaws.{values-nothing}
+use Rattle.std.proofs.Common.{arith}
+use Rattle.ci_region.proofs.CellLaws.{emptied}
 use Rattle.ci_region.proofs.Region.with_capacity.Goals as goal
 
 pub returns : goal.returns
-returns g c = λ i. record {
-  values = (ap values_in c.in_ok-cells.ensures.items ∙ values-nothing) i;
-  capacity = c.args.n;
-}
+returns g c = emptied _ _ _ c.in_ok-cells.ensures.items (omega arith)
