@@ -1,8 +1,11 @@
-//! Laws of log books. Nothing happens when they run.
+//! Laws of log books, and of trees in a region. Nothing happens when they run.
 ghost use Rattle.std.specs.Prelude.{◌≡◌, ℕ, ◌≤◌, List, length, ◌⊎◌};
 ghost use Rattle.ci_log.specs.Books.{Book, Spells};
 ghost use Rattle.ci_log.specs.Faults.{HasFault};
 ghost use Rattle.ci_log.specs.declared.faults.LogFault.{LogFault};
+ghost use Rattle.ci_log.specs.declared.flattening.Child.{Child};
+ghost use Rattle.ci_log.specs.declared.log.Item.{Item};
+ghost use Rattle.ci_log.specs.RegionTrees.{Slots, IsTreeIn};
 
 /// A text spells one book at most.
 pub fn a_text_has_one_book()
@@ -29,4 +32,10 @@ pub fn a_text_has_one_fault()
 pub fn a_text_has_a_book_or_a_fault()
     ensures { (text : List ℕ) → length text ≤ 268435456
         → ((book : Book) × Spells text book) ⊎ ((fault : LogFault) × HasFault text fault) }
+{}
+
+/// The tree of a child has one list of items, by what the slots hold.
+pub fn a_tree_has_one_list_of_items()
+    ensures { (slots rest other : Slots) (child : Child) (items others : List Item)
+        → IsTreeIn slots child items rest → IsTreeIn slots child others other → items ≡ others }
 {}

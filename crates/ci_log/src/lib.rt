@@ -26,7 +26,7 @@ pub use faults::LogFault;
 pub use flattening::{Child, LogNode, flatten};
 pub use laws::{
     a_book_has_one_text, a_text_has_a_book_or_a_fault, a_text_has_one_book, a_text_has_one_fault,
-    a_text_with_a_book_has_no_fault,
+    a_text_with_a_book_has_no_fault, a_tree_has_one_list_of_items,
 };
 pub use log::{Item, Log};
 pub use reading::read;
