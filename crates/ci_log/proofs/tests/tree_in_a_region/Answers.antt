@@ -5,7 +5,8 @@ use Rattle.ci_region.proofs.MapLaws.{given_back}
 use Rattle.ci_log.specs.declared.log.Item.TheVariants.{B, C, F}
 use Rattle.ci_log.specs.declared.flattening.Child.TheVariants.{Inner}
 use Rattle.ci_log.specs.declared.flattening.LogNode.{LogNode}
-use Rattle.ci_log.specs.RegionTrees.{Slots, IsTreeIn, at_leaf, at_inner}
+use Rattle.ci_log.specs.RegionTrees.{Slots, IsTreeIn}
+use Rattle.ci_log.proofs.RegionTreeLaws.{at_leaf, at_inner}
 use Rattle.ci_log.proofs.tests.tree_in_a_region.Goals as goal
 
 -- without the second slot the region is what it was before it was taken
