@@ -126,15 +126,15 @@ module _ (graph : FlowGraph) (flows : IsFlowGraph graph) (limits : Limits) where
         ]
 
   -- an accepted log implies that the cut is best, or that there is none
-  pub accepted_is_best : (best : Given) (items : List Item) → IsTree items → IsAccepted graph limits best items → MatchOption best (HasNoCut graph limits) (λ cut. IsBest graph limits (set.contains cut))
-  accepted_is_best None items tree accepted =
-      λ cut fits. none_more cut (no_better None accepted.good cut fits tree [] (accepted.right tree) (completes_none graph cut fits.eligible))
+  pub accepted_is_best : (best : Given) (items : List Item) → IsAccepted graph limits best items → MatchOption best (HasNoCut graph limits) (λ cut. IsBest graph limits (set.contains cut))
+  accepted_is_best None items accepted =
+      λ cut fits. none_more cut (no_better None accepted.good cut fits accepted.tree [] accepted.right (completes_none graph cut fits.eligible))
     where
       none_more : (cut : ℕ → Bool) → IsNoBetter graph None cut → gain graph cut ≤ℤ pos 0
       none_more cut (inl less) = omega (arith, ints)
       none_more cut (inr (same, _)) = omega (arith, ints)
-  accepted_is_best (Some best) items tree accepted = record {
+  accepted_is_best (Some best) items accepted = record {
     fits = accepted.good.0;
     positive = accepted.good.1;
-    best = λ other fits. no_better (Some best) accepted.good other fits tree [] (accepted.right tree) (completes_none graph other fits.eligible);
+    best = λ other fits. no_better (Some best) accepted.good other fits accepted.tree [] accepted.right (completes_none graph other fits.eligible);
   }

@@ -40,6 +40,11 @@ pub data HasOpen (graph : FlowGraph) (limits : Limits) : ℕ → List Prefix →
   passed : {n : ℕ} {prefix : Prefix} {rest : List Prefix} → HasOpen graph limits n rest →
       HasOpen graph limits n (prefix ∷ rest)
 
--- the need of the graph, which is the number of the open prefixes that leave a node undecided, is greater than this
+-- the need of the graph: so many of the prefixes that leave a node undecided are open, and no more
+pub record IsNeed (graph : FlowGraph) (limits : Limits) (need : ℕ) : Type 0 where
+  pub at_least : HasOpen graph limits need (unfinished_prefixes graph)
+  pub no_more : (n : ℕ) → HasOpen graph limits n (unfinished_prefixes graph) → n ≤ need
+
+-- the need of the graph is greater than this
 abbrev pub NeedExceeds : FlowGraph → Limits → ℕ → Type 0
 NeedExceeds graph limits budget = HasOpen graph limits (suc budget) (unfinished_prefixes graph)

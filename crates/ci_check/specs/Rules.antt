@@ -89,10 +89,11 @@ stations (branch in_tree out_tree) prefix =
 abbrev pub IsRightAt : FlowGraph → Limits → Given → Station → Type 0
 IsRightAt graph limits best station = IsRight graph limits best station.prefix station.item
 
--- the log is accepted for the best cut, or for none
+-- the log is accepted for the best cut, or for none: it is a tree, and each of its items is right
 pub record IsAccepted (graph : FlowGraph) (limits : Limits) (best : Given) (items : List Item) : Type 0 where
   pub good : IsGood graph limits best
-  pub right : (tree : IsTree items) → AllByRecursion (IsRightAt graph limits best) (stations tree [])
+  pub tree : IsTree items
+  pub right : AllByRecursion (IsRightAt graph limits best) (stations tree [])
 
 -- this station is the first that isn't right, behind so many that are
 pub record IsFirstWrongIn (graph : FlowGraph) (limits : Limits) (best : Given) (all : List Station)
@@ -111,4 +112,4 @@ abbrev pub IsFirstWrong : FlowGraph → Limits → Given → List Item → Wrong
 IsFirstWrong graph limits best items wrong =
     ((¬ IsGood graph limits best) × (wrong ≡ record { item = 0; reason = 7 }))
     ⊎ (IsGood graph limits best
-    × ((tree : IsTree items) → IsFirstWrongIn graph limits best (stations tree []) wrong.item wrong.reason))
+    × ((tree : IsTree items) × IsFirstWrongIn graph limits best (stations tree []) wrong.item wrong.reason))

@@ -1,9 +1,8 @@
 -- What a search answers once it has passed all sets.
-use Rattle.std.proofs.Common.{◌≡◌, ℕ, suc, ◌↔◌, inl, [], Option, Some, None, MatchOption, refl, sym, ap, subst, arith, pos}
+use Rattle.std.proofs.Common.{◌≡◌, ℕ, suc, ◌-◌, ◌↔◌, inl, [], Option, Some, None, MatchOption, refl, sym, ap, subst, arith, pos}
 use Rattle.std.specs.FinMap as map
 use Rattle.std.specs.FinSet as set
-use Rattle.std.specs.List.{AllByRecursion}
-use Rattle.ci_region.specs.BoundedMap.{BoundedMap}
+use Rattle.ci_region.specs.BoundedMap.{BoundedMap, used}
 use Rattle.ci_cut.specs.declared.graph.Limits.{Limits}
 use Rattle.ci_cut.specs.FlowGraph.{FlowGraph, IsFlowGraph}
 use Rattle.ci_cut.specs.Best.{IsBest, HasNoCut}
@@ -12,10 +11,9 @@ use Rattle.ci_log.specs.declared.flattening.LogNode.{LogNode}
 use Rattle.ci_region.proofs.TreeLaws.{rest_is_kept}
 use Rattle.ci_check.specs.declared.choices.Choices.{Choices}
 use Rattle.ci_check.specs.Prefixes.{eligible_nodes}
-use Rattle.ci_check.specs.Need.{HasOpen, NeedExceeds, continuations}
-use Rattle.ci_check.specs.Rules.{Given, IsRightAt}
+use Rattle.ci_check.specs.Need.{HasOpen, IsNeed, NeedExceeds, continuations}
+use Rattle.ci_check.specs.Rules.{Given}
 use Rattle.ci_check.specs.Standing.{Stands, IsMeasured}
-use Rattle.ci_check.proofs.OneTree.{one_reading}
 use Rattle.ci_check.proofs.Acceptance.{accepted_is_best}
 use Rattle.ci_check.proofs.NeedLaws.{reached_none}
 use Rattle.ci_search.specs.declared.searching.Searched.{Searched}
@@ -37,7 +35,8 @@ module _ (graph : FlowGraph) (flows : IsFlowGraph graph) (limits : Limits) where
       tree = is.tree;
       accepted = record {
         good = is.logged.measured.good;
-        right = λ tree. subst (AllByRecursion (IsRightAt graph limits searched.best.cut)) (one_reading is.items is.logged.tree tree []) (is.logged.right searched.best.cut (inl refl));
+        tree = is.logged.tree;
+        right = is.logged.right searched.best.cut (inl refl);
       };
     }
 
@@ -75,7 +74,7 @@ module _ (graph : FlowGraph) (flows : IsFlowGraph graph) (limits : Limits) where
     unfolding log_of
     optimal_is None budget is = tt
     optimal_is (Some searched) budget is =
-        by_cut searched.best.cut (accepted_is_best graph flows limits searched.best.cut is.items is.logged.tree (log_of searched is).accepted)
+        by_cut searched.best.cut (accepted_is_best graph flows limits searched.best.cut is.items (log_of searched is).accepted)
       where
         by_cut : (cut : Given) → MatchOption cut (HasNoCut graph limits) (λ cut. IsBest graph limits (set.contains cut)) → IsOptimal graph limits (found_at cut searched.root)
         by_cut None best = best
@@ -92,3 +91,15 @@ module _ (graph : FlowGraph) (flows : IsFlowGraph graph) (limits : Limits) where
         → after.capacity ≡ before.capacity
     capacity_is None (same, found) = ap (λ (m : BoundedMap LogNode). m.capacity) same
     capacity_is (Some searched) is = is.same_capacity
+
+    pub slots_are : (searched : Option Searched) (budget : ℕ)
+        → MatchOption searched (IsSpentAt graph limits [] before after) (IsSearched graph limits [] (record { cut = None; gain = pos 0 }) before after)
+        → ¬ IsSpent (answer_of searched budget) → IsNeed graph limits (used after - used before)
+    slots_are None budget (same, found) not_spent = absurd (not_spent tt)
+    slots_are (Some searched) budget is not_spent =
+        let count : is.walked.count ≡ used after - used before = omega (arith, is.walked.is_open) in
+        subst (IsNeed graph limits) count (record {
+          at_least = subst (λ (n : ℕ). HasOpen graph limits is.walked.count (continuations n [])) all_undecided is.walked.found;
+          no_more = λ n has.
+              is.walked.all (omega (arith, is.within, is.same_capacity)) n (subst (λ (m : ℕ). HasOpen graph limits n (continuations m [])) (sym all_undecided) has);
+        })

@@ -1,9 +1,9 @@
 //! The search.
-ghost use Rattle.std.specs.Prelude.{◌≡◌, ◌↔◌, ℕ, ◌≤◌, ◌^◌, MatchOption, Some};
+ghost use Rattle.std.specs.Prelude.{◌≡◌, ◌↔◌, ℕ, ◌≤◌, ◌-◌, ◌^◌, MatchOption, Some};
 ghost use Rattle.std.specs.FinMap as map;
 ghost use Rattle.ci_region.specs.BoundedMap.{used};
 ghost use Rattle.ci_check.specs.Prefixes.{Prefix, eligible_nodes};
-ghost use Rattle.ci_check.specs.Need.{NeedExceeds};
+ghost use Rattle.ci_check.specs.Need.{IsNeed, NeedExceeds};
 ghost use Rattle.ci_check.specs.Standing.{IsMeasured};
 ghost use Rattle.ci_log.specs.declared.flattening.LogNode.{LogNode};
 ghost use Rattle.ci_search.specs.Answered.{free, IsAnswer, IsSpent, IsOptimal};
@@ -43,7 +43,8 @@ pub enum Found {
 /// Searches for the best cut, and writes a log into the region.
 ///
 /// Slots that were live hold what they held, and the others that are live then are those of the tree. After `Spent`
-/// there are none of these. As many free slots as a graph has sets of eligible nodes are always enough.
+/// there are none of these. As many free slots as a graph has sets of eligible nodes are always enough. A tree takes one
+/// slot for each open prefix that leaves a node undecided, and no more.
 pub fn search(graph: &Graph, limits: &Limits, region: &mut Region<LogNode>) -> Found
     ensures answer { IsAnswer graph.now limits.now region.old region.new result }
     ensures spent { IsSpent result ↔ NeedExceeds graph.now limits.now (free region.old) }
@@ -52,6 +53,7 @@ pub fn search(graph: &Graph, limits: &Limits, region: &mut Region<LogNode>) -> F
     ensures kept { (slot : ℕ) (node : LogNode) → map.get region.old.values slot ≡ Some node
         → map.get region.new.values slot ≡ Some node }
     ensures capacity { region.new.capacity ≡ region.old.capacity }
+    ensures slots { ¬ IsSpent result → IsNeed graph.now limits.now (used region.new - used region.old) }
 {
     let budget = region.capacity() - region.used();
     let none = Best { cut: None, gain: 0 };

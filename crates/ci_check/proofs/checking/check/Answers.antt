@@ -19,24 +19,26 @@ pub returns-in_err-check_tree-clause-accepted : goal.returns-in_err-check_tree-c
 returns-in_err-check_tree-clause-accepted c =
     let p = err_from_is_err_and c.from_residual.result c.from_residual.ensures.1 in (
       rw p.1 (λ e. absurd (cc)),
-      λ accepted. absurd (not_all c.args.graph.now c.args.limits.now c.args.best (stations c.items.ensures.log.is_tree []) _ _ (wrong_of c c.items.ensures.log.is_tree) (accepted.right c.items.ensures.log.is_tree)),
+      λ accepted. absurd (not_all c.args.graph.now c.args.limits.now c.args.best (stations accepted.tree []) _ _ (wrong_of c accepted.tree) accepted.right),
     )
 
 pub returns-in_err-check_tree-clause-wrong : goal.returns-in_err-check_tree-clause-wrong
 returns-in_err-check_tree-clause-wrong c =
     let p = err_from_is_err_and c.from_residual.result c.from_residual.ensures.1 in
-    rw (p.1, p.2) (inr (subst (IsGood c.args.graph.now c.args.limits.now) c.in-Some.ensures.0 c.in-Some.ensures.1.good, wrong_of c))
+    rw (p.1, p.2) (inr (subst (IsGood c.args.graph.now c.args.limits.now) c.in-Some.ensures.0 c.in-Some.ensures.1.good, (c.items.ensures.log.is_tree, wrong_of c c.items.ensures.log.is_tree)))
 
 accepted_of : (c : goal.In_ok-check_tree) → IsAccepted c.args.graph.now c.args.limits.now c.args.best c.args.log.now
-accepted_of c = record {
-  good = subst (IsGood c.args.graph.now c.args.limits.now) c.in-Some.ensures.0 c.in-Some.ensures.1.good;
-  right = λ tree.
-      let judged = c.in_ok-check_tree.ensures [] c.args.log.now [] tree c.none.ensures (c.items.ensures.items ∙ sym (append-nil c.args.log.now)) in
-      subst (λ (best : Given). AllByRecursion (IsRightAt c.args.graph.now c.args.limits.now best) (stations tree [])) c.in-Some.ensures.0 judged.0;
-}
+accepted_of c =
+    let tree = c.items.ensures.log.is_tree in
+    let judged = c.in_ok-check_tree.ensures [] c.args.log.now [] tree c.none.ensures (c.items.ensures.items ∙ sym (append-nil c.args.log.now)) in
+    record {
+      good = subst (IsGood c.args.graph.now c.args.limits.now) c.in-Some.ensures.0 c.in-Some.ensures.1.good;
+      tree = tree;
+      right = subst (λ (best : Given). AllByRecursion (IsRightAt c.args.graph.now c.args.limits.now best) (stations tree [])) c.in-Some.ensures.0 judged.0;
+    }
 
 pub returns-clause-accepted : goal.returns-clause-accepted
 returns-clause-accepted c = (λ _. accepted_of c, λ _. refl)
 
 pub returns-clause-best : goal.returns-clause-best
-returns-clause-best c = accepted_is_best c.args.graph.now c.none.ensures.kept c.args.limits.now c.args.best c.args.log.now c.items.ensures.log.is_tree (accepted_of c)
+returns-clause-best c = accepted_is_best c.args.graph.now c.none.ensures.kept c.args.limits.now c.args.best c.args.log.now (accepted_of c)

@@ -5,7 +5,7 @@ use Rattle.ci_search.specs.Answered.{free, IsAnswer, IsSpent, IsOptimal}
 use Rattle.ci_search.specs.Searched.{IsSpentAt}
 use Rattle.ci_search.specs.Trees.{IsSearched}
 use Rattle.ci_search.proofs.EnoughLaws.{enough}
-use Rattle.ci_search.proofs.AnswerLaws.{none_ready, answer_is, spent_is, optimal_is, kept_is, capacity_is}
+use Rattle.ci_search.proofs.AnswerLaws.{none_ready, answer_is, spent_is, optimal_is, kept_is, capacity_is, slots_are}
 use Rattle.ci_search.proofs.searching.search.Goals as goal
 
 pub search_from-searched-requires-clause-ready : goal.search_from-searched-requires-clause-ready
@@ -39,3 +39,8 @@ returns-clause-kept c = kept_is c.args.graph.now c.none.ensures.kept c.args.limi
 
 pub returns-clause-capacity : goal.returns-clause-capacity
 returns-clause-capacity c = capacity_is c.args.graph.now c.none.ensures.kept c.args.limits.now c.args.region.now c.search_from-searched.new.region c.search_from-searched.result (ended c)
+
+pub returns-clause-slots : goal.returns-clause-slots
+returns-clause-slots c not_spent =
+    slots_are c.args.graph.now c.none.ensures.kept c.args.limits.now c.args.region.now c.search_from-searched.new.region c.search_from-searched.result _ (ended c)
+    (subst (λ (found : Found). ¬ IsSpent found) c.answer_of.ensures not_spent)
