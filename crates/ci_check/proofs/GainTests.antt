@@ -2,9 +2,7 @@
 use Rattle.std.proofs.Common.{◌≡◌, Bool, true, false, ◌⊎◌, ◌↔◌, inl, inr, IsTrue, sym, ap, ◌∙◌, true≢false, arith, ℤ, ◌<ℤ◌, of_z, to_z, w64, SFits}
 use lib.Signed.{lt_z}
 use Rattle.std.proofs.lemmas.Int.{ints, to_z-of_z}
-
-pub compare_gains : (a b : ℤ) → (a <ℤ b) ⊎ ((a ≡ b) ⊎ (b <ℤ a))
-compare_gains a b = grind (arith, ints)
+use Rattle.ci_cut.proofs.NeedLaws.{compare_gains}
 
 -- equal words are of equal integers
 pub of_z_same : (a b : ℤ) → SFits w64 a → SFits w64 b → of_z w64 a ≡ of_z w64 b → a ≡ b

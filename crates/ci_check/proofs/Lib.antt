@@ -1,11 +1,7 @@
-pub mod Counts
-pub mod PrefixLaws
 pub mod StandingLaws
-pub mod Extensions
-pub mod Bounds
 pub mod SetOrder
 pub mod Acceptance
 pub mod GainTests
 pub mod TreeWalk
-pub mod NeedLaws
 pub mod OneTree
+pub mod WalkedLaws

@@ -3,7 +3,7 @@ use Rattle.std.proofs.Common.{◌≡◌, List, [], ◌∷◌, ◌++◌, true, fa
 use Rattle.ci_log.specs.declared.log.Item.{Item}
 use Rattle.ci_log.specs.declared.log.Item.TheVariants.{B}
 use Rattle.ci_log.specs.Trees.{IsLeaf, IsTree, leaf, branch}
-use Rattle.ci_check.specs.Prefixes.{Prefix}
+use Rattle.ci_cut.specs.Prefixes.{Prefix}
 use Rattle.ci_check.specs.Rules.{stations}
 
 -- two trees at the front of one list have the same stations, and the same items behind them

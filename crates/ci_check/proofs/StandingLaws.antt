@@ -8,10 +8,10 @@ use Rattle.ci_word.proofs.NumberLaws.{contains-insert_nat, contains-remove_nat}
 use Rattle.ci_cut.specs.FlowGraph.{FlowGraph, IsFlowGraph, AreNodes}
 use Rattle.ci_cut.specs.Gain.{saved_by}
 use Rattle.ci_check.specs.declared.choices.Choices.{Choices}
-use Rattle.ci_check.specs.Prefixes.{Prefix, is_eligible, eligible_nodes, is_next, is_decided, taken, left_out, possible, bound, IsBefore}
+use Rattle.ci_cut.specs.Prefixes.{Prefix, is_eligible, eligible_nodes, is_next, is_decided, taken, left_out, possible, bound, IsBefore}
 use Rattle.ci_check.specs.Standing.{Stands, IsStanding, IsNextBelow, ComesBeforeFrom}
-use Rattle.ci_check.proofs.Counts.{count_below-rises, count_below-one, count_below-none, count_below-more}
-use Rattle.ci_check.proofs.PrefixLaws.{same_test, eligible_below, next_parts, next_from, next_unique, is_decided-more, is_decided-none, decided_parts, in_or_out, possible_parts, not_both}
+use Rattle.ci_cut.proofs.Counts.{count_below-rises, count_below-one, count_below-skip, count_below-more}
+use Rattle.ci_cut.proofs.PrefixLaws.{same_test, eligible_below, next_parts, next_from, next_unique, is_decided-more, is_decided-none, decided_parts, in_or_out, possible_parts, not_both}
 
 -- the next node is the one number at which the test passes
 next_is : (graph : FlowGraph) (prefix : Prefix) (node : ℕ) → IsTrue (is_next graph prefix node) → (k : ℕ) → nat_eq k node ≡ is_next graph prefix k
@@ -202,7 +202,7 @@ module _ (graph : FlowGraph) (place k j : ℕ) (last : k ≡ suc j) (from : k �
   }
 
   pub not_here : is_eligible graph j ≡ false → count_below j (is_eligible graph) ≡ count_below place (is_eligible graph)
-  not_here ineligible = sym (count_below-none (is_eligible graph) j ineligible) ∙ ap (λ n. count_below n (is_eligible graph)) (sym last) ∙ same
+  not_here ineligible = sym (count_below-skip (is_eligible graph) j ineligible) ∙ ap (λ n. count_below n (is_eligible graph)) (sym last) ∙ same
 
 pub standing_nodes : (graph : FlowGraph) (choices : Choices) → IsStanding graph choices → AreNodes graph choices.taken
 standing_nodes graph choices (prefix, stands) = taken_are_nodes graph prefix choices stands

@@ -9,7 +9,7 @@ use Rattle.ci_log.specs.declared.log.Item.{Item}
 use Rattle.ci_log.specs.declared.log.Item.TheVariants.{B}
 use Rattle.ci_log.specs.Trees.{IsLeaf, IsTree, leaf, branch}
 use Rattle.ci_check.specs.declared.checking.Wrong.{Wrong}
-use Rattle.ci_check.specs.Prefixes.{Prefix, is_eligible, eligible_nodes}
+use Rattle.ci_cut.specs.Prefixes.{Prefix, is_eligible, eligible_nodes}
 use Rattle.ci_check.specs.Rules.{Given, IsRight, reason_of, Station, stations, IsRightAt, IsFirstWrongIn}
 use Rattle.ci_check.specs.Standing.{IsTreeAt, IsJudged, IsBranchOn}
 use Rattle.ci_check.proofs.Acceptance.{all_right, all_both}

@@ -1,5 +1,3 @@
-pub mod Prefixes
-pub mod Need
 pub mod Rules
 pub mod Standing
 pub mod Walked

@@ -13,7 +13,7 @@ use Rattle.ci_log.specs.declared.log.Item.{Item}
 use Rattle.ci_log.specs.declared.log.Item.TheVariants.{B, O, C, I, G, F}
 use Rattle.ci_log.specs.Trees.{IsTree, leaf, branch}
 use Rattle.ci_check.specs.declared.checking.Wrong.{Wrong}
-use Rattle.ci_check.specs.Prefixes.{Prefix, eligible_nodes, taken, settled_inputs, bound, IsBefore}
+use Rattle.ci_cut.specs.Prefixes.{Prefix, eligible_nodes, taken, settled_inputs, bound, IsBefore}
 
 -- ---- the best cut that is given, or none
 

@@ -13,7 +13,7 @@ use Rattle.ci_check.specs.declared.choices.Choices.{Choices}
 use Rattle.ci_check.specs.declared.rules.Best.{Best}
 use Rattle.ci_check.specs.declared.checking.Wrong.{Wrong}
 use Rattle.ci_check.specs.Rules.{Given, best_gain, IsGood, Station, IsRightAt, IsFirstWrongIn}
-use Rattle.ci_check.specs.Prefixes.{Prefix, is_eligible, eligible_nodes, taken, possible}
+use Rattle.ci_cut.specs.Prefixes.{Prefix, is_eligible, eligible_nodes, taken, possible}
 
 -- the eligible nodes from a place on are decided by this prefix
 pub record Stands (graph : FlowGraph) (prefix : Prefix) (choices : Choices) : Type 0 where

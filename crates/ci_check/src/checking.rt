@@ -4,7 +4,7 @@ ghost use Rattle.std.specs.FinSet as set;
 ghost use Rattle.ci_cut.specs.Best.{IsBest, HasNoCut};
 ghost use Rattle.ci_log.specs.declared.log.Item.{Item};
 ghost use Rattle.ci_log.specs.Trees.{IsTree};
-ghost use Rattle.ci_check.specs.Prefixes.{Prefix};
+ghost use Rattle.ci_cut.specs.Prefixes.{Prefix};
 ghost use Rattle.ci_check.specs.Rules.{stations, IsAccepted, IsFirstWrong};
 ghost use Rattle.ci_check.specs.Standing.{Stands, IsStanding, IsMeasured, IsTreeAt, IsJudged, IsBranchOn};
 

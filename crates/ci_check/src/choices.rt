@@ -2,7 +2,7 @@
 ghost use Rattle.std.specs.Prelude.{◌≡◌, ℕ, suc, ◌<◌, ◌≤◌, true, false, [], ◌∷◌, length, MatchOption, IsTrue};
 ghost use Rattle.ci_word.specs.Numbers.{count_below};
 ghost use Rattle.ci_cut.specs.FlowGraph.{FlowGraph};
-ghost use Rattle.ci_check.specs.Prefixes.{Prefix, is_eligible, is_next};
+ghost use Rattle.ci_cut.specs.Prefixes.{Prefix, is_eligible, is_next};
 ghost use Rattle.ci_check.specs.Standing.{Stands, IsNextBelow};
 
 use ci_cut::Graph;

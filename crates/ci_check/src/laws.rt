@@ -2,7 +2,7 @@
 ghost use Rattle.std.specs.Prelude.{◌≡◌, List};
 ghost use Rattle.ci_log.specs.declared.log.Item.{Item};
 ghost use Rattle.ci_log.specs.Trees.{IsTree};
-ghost use Rattle.ci_check.specs.Prefixes.{Prefix};
+ghost use Rattle.ci_cut.specs.Prefixes.{Prefix};
 ghost use Rattle.ci_check.specs.Rules.{stations};
 
 /// A list of items is a tree in one way: each item stands at one prefix.

@@ -7,8 +7,8 @@
 //!
 //! What a search keeps of a prefix is told as the checker tells it: `Choices`, `Best` and `is_right` serve both.
 //!
-//! The definitions in `specs` say what a prefix is and what bounds the sets that go on from it (`Prefixes`), how many
-//! prefixes are open (`Need`), and when a log is accepted (`Rules`).
+//! The definitions of `ci_cut` say what a prefix is and what bounds the sets that go on from it (`Prefixes`), and how
+//! many prefixes are open (`Need`); those in `specs` say when a log is accepted (`Rules`).
 #![tactic(auto)]
 
 pub use checking::{Wrong, check};

@@ -2,10 +2,11 @@
 ghost use Rattle.std.specs.Prelude.{◌≡◌, ◌↔◌, ℕ, ◌+◌, ◌^◌, ◌<◌, ◌≤◌, length, IsTrue};
 ghost use Rattle.std.specs.FinSet as set;
 ghost use Rattle.ci_cut.specs.FlowGraph.{AreNodes};
-ghost use Rattle.ci_check.specs.Prefixes.{Prefix, eligible_nodes};
-ghost use Rattle.ci_check.specs.Need.{IsOpen, NeedExceeds};
+ghost use Rattle.ci_cut.specs.Prefixes.{Prefix, eligible_nodes};
+ghost use Rattle.ci_cut.specs.Need.{IsOpen, NeedExceeds};
 ghost use Rattle.ci_check.specs.Standing.{Stands, IsStanding};
-ghost use Rattle.ci_check.specs.Walked.{IsBounded, IsReachedBefore, IsReachedWith, IsWalked};
+ghost use Rattle.ci_cut.specs.Reached.{IsBounded, IsReachedBefore, IsReachedWith};
+ghost use Rattle.ci_check.specs.Walked.{IsWalked};
 
 use crate::choices::Choices;
 use crate::rules::{bound, settled_inputs};

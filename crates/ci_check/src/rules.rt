@@ -2,7 +2,7 @@
 ghost use Rattle.std.specs.Prelude.{◌≡◌, ◌↔◌, MatchOption, IsTrue};
 ghost use Rattle.std.specs.FinSet as set;
 ghost use Rattle.ci_cut.specs.FlowGraph.{AreNodes};
-ghost use Rattle.ci_check.specs.Prefixes as terms;
+ghost use Rattle.ci_cut.specs.Prefixes as terms;
 ghost use Rattle.ci_check.specs.Rules.{IsGood, IsAfterBest, IsBeforeBest, IsBetter, IsRight, GainsTooLittle, reason_of};
 ghost use Rattle.ci_check.specs.Standing.{Stands, IsStanding, IsMeasured};
 

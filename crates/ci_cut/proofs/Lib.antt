@@ -1,11 +1,17 @@
+pub mod Bounds
 pub mod Chains
+pub mod Counts
+pub mod Extensions
 pub mod GainArithmetic
 pub mod Gains
 pub mod GraphLaws
 pub mod GreatestAt
+pub mod ListCountLaws
 pub mod LongestChains
+pub mod NeedLaws
 pub mod NodeLaws
 pub mod PortLaws
+pub mod PrefixLaws
 pub mod SavedCycles
 pub mod SetLaws
 pub mod SourceSetLaws

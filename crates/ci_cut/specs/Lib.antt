@@ -5,6 +5,10 @@ pub mod Ports
 pub mod Hardware
 pub mod Gain
 pub mod Best
+pub mod ListCounts
+pub mod Prefixes
+pub mod Need
 pub mod SourceSets
 pub mod ChainDelays
 pub mod Tried
+pub mod Reached

@@ -16,7 +16,7 @@ use Rattle.ci_cut.specs.declared.graph.Limits.{Limits}
 use Rattle.ci_cut.specs.FlowGraph.{FlowGraph}
 use Rattle.ci_cut.specs.Gain.{gain}
 use Rattle.ci_cut.specs.Best.{IsBest, HasNoCut}
-use Rattle.ci_check.specs.Need.{NeedExceeds}
+use Rattle.ci_cut.specs.Need.{NeedExceeds}
 
 abbrev pub usage_line : List ℕ
 usage_line = line (codes "fault 1 usage")

@@ -10,12 +10,13 @@ use Rattle.ci_log.specs.declared.flattening.Child.{Child}
 use Rattle.ci_log.specs.declared.flattening.LogNode.{LogNode}
 use Rattle.ci_region.proofs.TreeLaws.{rest_is_kept}
 use Rattle.ci_check.specs.declared.choices.Choices.{Choices}
-use Rattle.ci_check.specs.Prefixes.{eligible_nodes}
-use Rattle.ci_check.specs.Need.{HasOpen, IsNeed, NeedExceeds, continuations}
+use Rattle.ci_cut.specs.Prefixes.{eligible_nodes}
+use Rattle.ci_cut.specs.ListCounts.{AtLeast}
+use Rattle.ci_cut.specs.Need.{IsOpen, IsNeed, NeedExceeds, continuations}
 use Rattle.ci_check.specs.Rules.{Given}
 use Rattle.ci_check.specs.Standing.{Stands, IsMeasured}
 use Rattle.ci_check.proofs.Acceptance.{accepted_is_best}
-use Rattle.ci_check.proofs.NeedLaws.{reached_none}
+use Rattle.ci_cut.proofs.NeedLaws.{reached_none}
 use Rattle.ci_search.specs.declared.searching.Searched.{Searched}
 use Rattle.ci_search.specs.Answered.{free, HasLog, IsAnswer, IsSpent, IsOptimal}
 use Rattle.ci_search.specs.Searched.{undecided, IsReady, IsSpentAt}
@@ -60,11 +61,11 @@ module _ (graph : FlowGraph) (flows : IsFlowGraph graph) (limits : Limits) where
     pub spent_is : (searched : Option Searched) (budget : ℕ)
         → MatchOption searched (IsSpentAt graph limits [] before after) (IsSearched graph limits [] (record { cut = None; gain = pos 0 }) before after)
         → IsSpent (answer_of searched budget) ↔ NeedExceeds graph limits (free before)
-    spent_is None budget (same, found) = (λ _. subst (λ (n : ℕ). HasOpen graph limits (suc (free before)) (continuations n [])) all_undecided found, λ _. tt)
+    spent_is None budget (same, found) = (λ _. subst (λ (n : ℕ). AtLeast (IsOpen graph limits) (suc (free before)) (continuations n [])) all_undecided found, λ _. tt)
     spent_is (Some searched) budget is = (
       λ spent. absurd (not_spent searched.best.cut searched.root spent),
       λ needed.
-          let fewer = is.walked.all (omega (arith, is.within, is.same_capacity)) (suc (free before)) (subst (λ (n : ℕ). HasOpen graph limits (suc (free before)) (continuations n [])) (sym all_undecided) needed) in
+          let fewer = is.walked.all (omega (arith, is.within, is.same_capacity)) (suc (free before)) (subst (λ (n : ℕ). AtLeast (IsOpen graph limits) (suc (free before)) (continuations n [])) (sym all_undecided) needed) in
           absurd (omega (arith, fewer, is.walked.is_open, is.within, is.same_capacity)),
     )
 
@@ -99,7 +100,7 @@ module _ (graph : FlowGraph) (flows : IsFlowGraph graph) (limits : Limits) where
     slots_are (Some searched) budget is not_spent =
         let count : is.walked.count ≡ used after - used before = omega (arith, is.walked.is_open) in
         subst (IsNeed graph limits) count (record {
-          at_least = subst (λ (n : ℕ). HasOpen graph limits is.walked.count (continuations n [])) all_undecided is.walked.found;
+          at_least = subst (λ (n : ℕ). AtLeast (IsOpen graph limits) is.walked.count (continuations n [])) all_undecided is.walked.found;
           no_more = λ n has.
-              is.walked.all (omega (arith, is.within, is.same_capacity)) n (subst (λ (m : ℕ). HasOpen graph limits n (continuations m [])) (sym all_undecided) has);
+              is.walked.all (omega (arith, is.within, is.same_capacity)) n (subst (λ (m : ℕ). AtLeast (IsOpen graph limits) n (continuations m [])) (sym all_undecided) has);
         })

@@ -12,15 +12,15 @@ use Rattle.ci_log.specs.declared.log.Item.{Item}
 use Rattle.ci_log.specs.declared.log.Item.TheVariants.{B, O, C, I, G, F}
 use Rattle.ci_log.specs.Trees.{IsLeaf, leaf, branch}
 use Rattle.ci_check.specs.declared.rules.Best.{Best}
-use Rattle.ci_check.specs.Prefixes.{Prefix, eligible_nodes, is_next, taken, bound}
-use Rattle.ci_check.specs.Need.{IsOpen}
+use Rattle.ci_cut.specs.Prefixes.{Prefix, eligible_nodes, is_next, taken, bound}
+use Rattle.ci_cut.specs.Need.{IsOpen}
 use Rattle.ci_check.specs.Rules.{Given, best_gain, IsGood, IsAfterBest, IsBeforeBest, IsBetter, IsRight, stations, IsRightAt}
 use Rattle.ci_check.specs.Standing.{IsMeasured}
-use Rattle.ci_check.specs.Walked.{Completes, IsReachedBefore, IsReachedWith}
-use Rattle.ci_check.proofs.PrefixLaws.{completes_earlier, taken_completes}
-use Rattle.ci_check.proofs.Bounds.{before_more, before_in, before_out, before_by_next}
-use Rattle.ci_check.proofs.GainTests.{compare_gains}
-use Rattle.ci_check.proofs.NeedLaws.{open_by_bound, bound_of_open}
+use Rattle.ci_cut.specs.Reached.{Completes, IsReachedBefore, IsReachedWith}
+use Rattle.ci_cut.proofs.PrefixLaws.{completes_earlier, taken_completes}
+use Rattle.ci_cut.proofs.Bounds.{before_more, before_in, before_out, before_by_next}
+use Rattle.ci_cut.proofs.NeedLaws.{compare_gains}
+use Rattle.ci_cut.proofs.NeedLaws.{open_by_bound, bound_of_open}
 use Rattle.ci_check.proofs.Acceptance.{all_both, before_completions}
 use Rattle.ci_search.specs.Searched.{IsBar, IsClosing, IsBetterOf, IsLater, IsPassed, IsLogged}
 

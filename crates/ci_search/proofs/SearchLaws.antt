@@ -11,13 +11,16 @@ use Rattle.ci_log.specs.declared.flattening.LogNode.{LogNode}
 use Rattle.ci_log.proofs.RegionTreeLaws.{at_leaf}
 use Rattle.ci_check.specs.declared.choices.Choices.{Choices}
 use Rattle.ci_check.specs.declared.rules.Best.{Best}
-use Rattle.ci_check.specs.Prefixes.{Prefix, eligible_nodes, is_next}
-use Rattle.ci_check.specs.Need.{IsOpen, HasOpen, counted, passed, continuations}
+use Rattle.ci_cut.specs.Prefixes.{Prefix, eligible_nodes, is_next}
+use Rattle.ci_cut.specs.ListCounts.{AtLeast, counted, passed}
+use Rattle.ci_cut.specs.Need.{IsOpen, continuations}
 use Rattle.ci_check.specs.Rules.{IsRight}
 use Rattle.ci_check.specs.Standing.{Stands, IsMeasured}
 use Rattle.ci_check.specs.Walked.{IsWalked}
 use Rattle.ci_check.proofs.StandingLaws.{same_taken}
-use Rattle.ci_check.proofs.NeedLaws.{open_left, open_both, open_fewer, reached_whole, reached_in, reached_between, walked_whole, walked_closed, walked_both, continuations-more}
+use Rattle.ci_cut.proofs.ListCountLaws.{AtLeast-left, AtLeast-both, AtLeast-fewer}
+use Rattle.ci_cut.proofs.NeedLaws.{reached_whole, reached_in, reached_between, continuations-more}
+use Rattle.ci_check.proofs.WalkedLaws.{walked_whole, walked_closed, walked_both}
 use Rattle.ci_search.specs.declared.searching.Searched.{Searched}
 use Rattle.ci_search.specs.Answered.{free}
 use Rattle.ci_search.specs.Searched.{undecided, IsReady, IsBar, IsBetterOf, IsSpentAt}
@@ -83,12 +86,12 @@ module _ (graph : FlowGraph) (limits : Limits) (prefix : Prefix) (choices : Choi
     one_less : undecided graph prefix ≡ suc (undecided graph (true ∷ prefix))
     one_less = omega arith
 
-    more_open : (n : ℕ) → HasOpen graph limits n (prefix ∷ (continuations (undecided graph (true ∷ prefix)) (true ∷ prefix) ++ continuations (undecided graph (false ∷ prefix)) (false ∷ prefix)))
-        → HasOpen graph limits n (continuations (undecided graph prefix) prefix)
-    more_open n = subst (HasOpen graph limits n) (sym (continuations-more (undecided graph prefix) (undecided graph (true ∷ prefix)) prefix one_less))
+    more_open : (n : ℕ) → AtLeast (IsOpen graph limits) n (prefix ∷ (continuations (undecided graph (true ∷ prefix)) (true ∷ prefix) ++ continuations (undecided graph (false ∷ prefix)) (false ∷ prefix)))
+        → AtLeast (IsOpen graph limits) n (continuations (undecided graph prefix) prefix)
+    more_open n = subst (AtLeast (IsOpen graph limits) n) (sym (continuations-more (undecided graph prefix) (undecided graph (true ∷ prefix)) prefix one_less))
 
     pub spent_in : (after : BoundedMap LogNode) → IsSpentAt graph limits (true ∷ prefix) region after → IsSpentAt graph limits prefix region after
-    spent_in after (same, found) = (same, more_open _ (passed (open_left graph limits found (continuations (undecided graph (false ∷ prefix)) (false ∷ prefix)))))
+    spent_in after (same, found) = (same, more_open _ (passed (AtLeast-left (IsOpen graph limits) found (continuations (undecided graph (false ∷ prefix)) (false ∷ prefix)))))
 
     module _ (between : BoundedMap LogNode) (in_found : Searched) (first : IsSearched graph limits (true ∷ prefix) best region between in_found) where
       pub ready_out : (without_node : Choices) → Stands graph (false ∷ prefix) without_node → IsReady graph limits without_node in_found.best (false ∷ prefix)
@@ -108,7 +111,7 @@ module _ (graph : FlowGraph) (limits : Limits) (prefix : Prefix) (choices : Choi
       pub spent_out : (after last : BoundedMap LogNode) → IsSpentAt graph limits (false ∷ prefix) between after → last ≡ region → IsSpentAt graph limits prefix region last
       spent_out after last (same, found) back = (
         back,
-        more_open _ (passed (open_fewer graph limits (open_both graph limits (continuations (undecided graph (false ∷ prefix)) (false ∷ prefix)) first.walked.found found)
+        more_open _ (passed (AtLeast-fewer (IsOpen graph limits) (AtLeast-both (IsOpen graph limits) (continuations (undecided graph (false ∷ prefix)) (false ∷ prefix)) first.walked.found found)
             (suc (free region)) (omega (arith, first.walked.is_open, first.same_capacity)))),
       )
 
@@ -125,7 +128,7 @@ module _ (graph : FlowGraph) (limits : Limits) (prefix : Prefix) (choices : Choi
         pub spent_here : IsOpen graph limits prefix → used after ≡ after.capacity → (last : BoundedMap LogNode) → last ≡ region → IsSpentAt graph limits prefix region last
         spent_here is_open full last back = (
           back,
-          more_open _ (open_fewer graph limits (counted is_open (open_both graph limits (continuations (undecided graph (false ∷ prefix)) (false ∷ prefix)) first.walked.found second.walked.found))
+          more_open _ (AtLeast-fewer (IsOpen graph limits) (counted is_open (AtLeast-both (IsOpen graph limits) (continuations (undecided graph (false ∷ prefix)) (false ∷ prefix)) first.walked.found second.walked.found))
               (suc (free region)) (omega (arith, first.walked.is_open, second.walked.is_open, first.same_capacity, second.same_capacity))),
         )
 

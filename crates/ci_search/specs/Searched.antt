@@ -13,11 +13,12 @@ use Rattle.ci_log.specs.declared.flattening.LogNode.{LogNode}
 use Rattle.ci_log.specs.Trees.{IsTree}
 use Rattle.ci_check.specs.declared.choices.Choices.{Choices}
 use Rattle.ci_check.specs.declared.rules.Best.{Best}
-use Rattle.ci_check.specs.Prefixes.{Prefix, eligible_nodes, IsBefore}
-use Rattle.ci_check.specs.Need.{HasOpen, continuations}
+use Rattle.ci_cut.specs.Prefixes.{Prefix, eligible_nodes, IsBefore}
+use Rattle.ci_cut.specs.ListCounts.{AtLeast}
+use Rattle.ci_cut.specs.Need.{IsOpen, continuations}
 use Rattle.ci_check.specs.Rules.{Given, best_gain, IsAfterBest, IsRight, stations, IsRightAt}
 use Rattle.ci_check.specs.Standing.{Stands, IsMeasured}
-use Rattle.ci_check.specs.Walked.{Completes, IsReachedBefore}
+use Rattle.ci_cut.specs.Reached.{Completes, IsReachedBefore}
 use Rattle.ci_search.specs.Answered.{free}
 
 -- how many nodes are undecided
@@ -79,4 +80,4 @@ pub record IsLogged (graph : FlowGraph) (limits : Limits) (prefix : Prefix) (bef
 -- more prefixes are open from this one on than slots were free
 abbrev pub IsSpentAt : FlowGraph → Limits → Prefix → BoundedMap LogNode → BoundedMap LogNode → Type 0
 IsSpentAt graph limits prefix before after =
-    (after ≡ before) × HasOpen graph limits (suc (free before)) (continuations (undecided graph prefix) prefix)
+    (after ≡ before) × AtLeast (IsOpen graph limits) (suc (free before)) (continuations (undecided graph prefix) prefix)

@@ -8,7 +8,7 @@ use Rattle.ci_log.specs.declared.flattening.Child.{Child}
 use Rattle.ci_log.specs.declared.flattening.LogNode.{LogNode}
 use Rattle.ci_log.specs.RegionTrees.{IsTreeIn}
 use Rattle.ci_check.specs.declared.rules.Best.{Best}
-use Rattle.ci_check.specs.Prefixes.{Prefix}
+use Rattle.ci_cut.specs.Prefixes.{Prefix}
 use Rattle.ci_check.specs.Rules.{Given}
 use Rattle.ci_check.specs.Walked.{IsWalked}
 use Rattle.ci_search.specs.declared.searching.Searched.{Searched}

@@ -2,7 +2,7 @@
 ghost use Rattle.std.specs.Prelude.{◌≡◌, ℕ};
 ghost use Rattle.std.specs.FinSet as set;
 ghost use Rattle.ci_cut.specs.FlowGraph.{AreNodes};
-ghost use Rattle.ci_check.specs.Prefixes.{Prefix};
+ghost use Rattle.ci_cut.specs.Prefixes.{Prefix};
 ghost use Rattle.ci_check.specs.Standing.{Stands, IsStanding, IsMeasured};
 ghost use Rattle.ci_search.specs.Searched.{IsClosing, IsBetterOf};
 

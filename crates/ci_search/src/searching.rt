@@ -2,8 +2,8 @@
 ghost use Rattle.std.specs.Prelude.{◌≡◌, ◌↔◌, ℕ, ◌≤◌, ◌-◌, ◌^◌, MatchOption, Some};
 ghost use Rattle.std.specs.FinMap as map;
 ghost use Rattle.ci_region.specs.BoundedMap.{used};
-ghost use Rattle.ci_check.specs.Prefixes.{Prefix, eligible_nodes};
-ghost use Rattle.ci_check.specs.Need.{IsNeed, NeedExceeds};
+ghost use Rattle.ci_cut.specs.Prefixes.{Prefix, eligible_nodes};
+ghost use Rattle.ci_cut.specs.Need.{IsNeed, NeedExceeds};
 ghost use Rattle.ci_check.specs.Standing.{IsMeasured};
 ghost use Rattle.ci_log.specs.declared.flattening.LogNode.{LogNode};
 ghost use Rattle.ci_search.specs.Answered.{free, IsAnswer, IsSpent, IsOptimal};

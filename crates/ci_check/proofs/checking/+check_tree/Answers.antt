@@ -4,7 +4,7 @@ use Rattle.std.proofs.lemmas.Result.{err_from_is_err_and}
 use Rattle.ci_log.specs.declared.log.Item.{Item}
 use Rattle.ci_log.specs.declared.log.Item.TheVariants.{B}
 use Rattle.ci_log.specs.Trees.{IsTree}
-use Rattle.ci_check.specs.Prefixes.{Prefix, is_next}
+use Rattle.ci_cut.specs.Prefixes.{Prefix, is_next}
 use Rattle.ci_check.specs.Rules.{IsRight}
 use Rattle.ci_check.specs.Standing.{Stands}
 use Rattle.ci_check.proofs.StandingLaws.{next_from_below, all_decided}

@@ -4,11 +4,13 @@ use Rattle.std.proofs.lemmas.Bool.Decides.{not_from_Decides}
 use Rattle.ci_cut.specs.declared.graph.Limits.{Limits}
 use Rattle.ci_cut.specs.FlowGraph.{FlowGraph}
 use Rattle.ci_check.specs.declared.choices.Choices.{Choices}
-use Rattle.ci_check.specs.Prefixes.{Prefix, eligible_nodes}
+use Rattle.ci_cut.specs.Prefixes.{Prefix, eligible_nodes}
 use Rattle.ci_check.specs.Standing.{Stands, IsNextBelow}
-use Rattle.ci_check.specs.Walked.{IsReachedBefore, IsReachedBehind, IsReachedWith, IsWalked}
+use Rattle.ci_cut.specs.Reached.{IsReachedBefore, IsReachedBehind, IsReachedWith}
+use Rattle.ci_check.specs.Walked.{IsWalked}
 use Rattle.ci_check.proofs.StandingLaws.{standing_nodes, same_taken, all_decided, next_from_below, some_undecided}
-use Rattle.ci_check.proofs.NeedLaws.{reached_whole, reached_in, reached_between, walked_whole, walked_closed, walked_here, walked_first, walked_both}
+use Rattle.ci_cut.proofs.NeedLaws.{reached_whole, reached_in, reached_between}
+use Rattle.ci_check.proofs.WalkedLaws.{walked_whole, walked_closed, walked_here, walked_first, walked_both}
 use Rattle.ci_check.proofs.need.+walk.Goals as goal
 use Rattle.ci_check.proofs.need.+walk.Goals.{After-walk-with_node}
 

@@ -1,6 +1,6 @@
 use Rattle.std.proofs.Common.{rules, w64, SFits, ◌<ℤ◌, sym, ◌∙◌, true≢false, subst}
 use Rattle.ci_check.proofs.GainTests.{less_by_test, test_of_less}
-use Rattle.ci_check.proofs.NeedLaws.{open_by_bound, bound_of_open}
+use Rattle.ci_cut.proofs.NeedLaws.{open_by_bound, bound_of_open}
 use Rattle.ci_check.proofs.need.is_open.Goals as goal
 
 pub returns-then-is_bounded : goal.returns-then-is_bounded

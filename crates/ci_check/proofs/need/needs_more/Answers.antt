@@ -1,7 +1,9 @@
 use Rattle.std.proofs.Common.{suc, [], inl, inr, arith, ltb-true, lt-ltb}
 use Rattle.std.proofs.lemmas.Bool.{cases_lt}
-use Rattle.ci_check.specs.Prefixes.{eligible_nodes}
-use Rattle.ci_check.proofs.NeedLaws.{open_fewer, reached_none}
+use Rattle.ci_cut.specs.Prefixes.{eligible_nodes}
+use Rattle.ci_cut.specs.Need.{IsOpen}
+use Rattle.ci_cut.proofs.ListCountLaws.{AtLeast-fewer}
+use Rattle.ci_cut.proofs.NeedLaws.{reached_none}
 use Rattle.ci_check.proofs.need.needs_more.Goals as goal
 
 pub returns : goal.returns
@@ -9,7 +11,7 @@ returns c =
     let graph = c.args.graph.now in
     let limits = c.args.limits.now in
     let walked = c.walk-all.ensures [] (eligible_nodes graph) c.none.ensures (omega arith) (reached_none graph limits) in (
-      λ e. open_fewer graph limits walked.found (suc c.args.budget) (omega (arith, ltb-true _ _ e, walked.is_open, c.from.ensures, c.from-2.ensures)),
+      λ e. AtLeast-fewer (IsOpen graph limits) walked.found (suc c.args.budget) (omega (arith, ltb-true _ _ e, walked.is_open, c.from.ensures, c.from-2.ensures)),
       λ needed. elim (cases_lt c.from-2.result c.walk-all.result.open) [
         | inl over ↦ lt-ltb _ _ over
         | inr within ↦ absurd (omega (arith, walked.all (omega (arith, within, c.from.ensures, c.from-2.ensures)) (suc c.args.budget) needed, walked.is_open, within, c.from.ensures, c.from-2.ensures))

@@ -1,7 +1,7 @@
 use Rattle.std.proofs.Common.{◌≡◌, ℕ, Bool, true, false, Option, None, Some, MatchOption, is_some, not, IsTrue, ◌↔◌, refl, sym, ap, ◌∙◌, subst, arith, true≢false}
 use Rattle.std.proofs.lemmas.Bool.{ltb-true, lt-ltb}
 use Rattle.ci_cut.specs.Ports.{outputs}
-use Rattle.ci_check.specs.Prefixes.{taken}
+use Rattle.ci_cut.specs.Prefixes.{taken}
 use Rattle.ci_check.specs.Rules.{IsBetter}
 use Rattle.ci_check.proofs.StandingLaws.{standing_nodes, same_taken, all_decided}
 use Rattle.ci_check.proofs.rules.is_right.Goals as goal

@@ -2,7 +2,7 @@ use Rattle.std.proofs.Common.{ℕ, ◌<◌, true, false, ◌∷◌, length, IsTr
 use Rattle.ci_region.specs.BoundedMap.{BoundedMap}
 use Rattle.ci_log.specs.declared.flattening.LogNode.{LogNode}
 use Rattle.ci_log.specs.RegionTrees.{IsTreeIn}
-use Rattle.ci_check.specs.Prefixes.{Prefix, eligible_nodes, is_next}
+use Rattle.ci_cut.specs.Prefixes.{Prefix, eligible_nodes, is_next}
 use Rattle.ci_search.specs.Searched.{IsReady}
 use Rattle.ci_search.specs.Trees.{IsSearched}
 use Rattle.ci_check.proofs.StandingLaws.{taken_are_nodes, all_decided, next_from_below, some_undecided}

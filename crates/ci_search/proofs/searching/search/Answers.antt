@@ -1,5 +1,5 @@
 use Rattle.std.proofs.Common.{◌↔◌, [], None, MatchOption, pos, sym, subst, arith}
-use Rattle.ci_check.specs.Need.{NeedExceeds}
+use Rattle.ci_cut.specs.Need.{NeedExceeds}
 use Rattle.ci_search.specs.declared.searching.Found.{Found}
 use Rattle.ci_search.specs.Answered.{free, IsAnswer, IsSpent, IsOptimal}
 use Rattle.ci_search.specs.Searched.{IsSpentAt}

@@ -1,6 +1,6 @@
 use Rattle.std.proofs.Common.{◌≡◌, ◌≤◌}
 use Rattle.ci_word.specs.Numbers.{count_below}
-use Rattle.ci_check.specs.Prefixes.{is_eligible}
+use Rattle.ci_cut.specs.Prefixes.{is_eligible}
 use Rattle.ci_check.proofs.choices.Choices.next.Given as goal
 
 abbrev pub invariant-loop-k : goal.invariant-loop-k

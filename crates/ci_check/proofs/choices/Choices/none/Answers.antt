@@ -2,7 +2,7 @@ use Rattle.std.proofs.Common.{sym, ap, ◌∙◌, arith, length}
 use Rattle.std.specs.Ordering.{nat_cmp}
 use Rattle.std.specs.FinSet as set
 use Rattle.ci_cut.proofs.NodeLaws.{node_there}
-use Rattle.ci_check.specs.Prefixes.{is_eligible}
+use Rattle.ci_cut.specs.Prefixes.{is_eligible}
 use Rattle.ci_check.proofs.StandingLaws.{stands_none, none_below, eligible_here, ineligible_here, below_all}
 use Rattle.ci_check.proofs.choices.Choices.none.Goals as goal
 use Rattle.ci_check.proofs.choices.Choices.none.Goals.{then-node, else-node}

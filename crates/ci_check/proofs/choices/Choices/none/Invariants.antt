@@ -1,6 +1,6 @@
 use Rattle.std.proofs.Common.{◌≡◌, ℕ, ◌&&◌, nat_lt}
 use Rattle.std.specs.FinSet as set
-use Rattle.ci_check.specs.Prefixes.{is_eligible}
+use Rattle.ci_cut.specs.Prefixes.{is_eligible}
 use Rattle.ci_check.proofs.choices.Choices.none.Given as goal
 
 abbrev pub invariant-loop-k : goal.invariant-loop-k

@@ -10,7 +10,7 @@ use Rattle.ci_region.specs.BoundedMap.{BoundedMap}
 use Rattle.ci_cut.specs.declared.graph.Limits.{Limits}
 use Rattle.ci_cut.specs.FlowGraph.{FlowGraph}
 use Rattle.ci_log.specs.declared.flattening.LogNode.{LogNode}
-use Rattle.ci_check.specs.Need.{NeedExceeds}
+use Rattle.ci_cut.specs.Need.{NeedExceeds}
 use Rattle.ci_search.specs.Answered.{free}
 use Rattle.ci_find.specs.Lines.{IsBestLine, cut_is_best, cut_line, no_cut, no_cut_line, skipped, skipped_line}
 use Rattle.ci_find.proofs.commands.best.cut.best_cut_line.Goals as goal

@@ -5,7 +5,8 @@ use Rattle.ci_cut.specs.FlowGraph.{FlowGraph}
 use Rattle.ci_cut.specs.Walks.{IsConvex}
 use Rattle.ci_cut.specs.Ports.{outputs}
 use Rattle.ci_cut.specs.Gain.{Fits, gain}
-use Rattle.ci_check.specs.Prefixes.{Prefix, eligible_nodes, taken, settled_inputs, bound, IsBefore}
+use Rattle.ci_cut.specs.ListCounts.{AtLeast, AreJust}
+use Rattle.ci_cut.specs.Prefixes.{Prefix, eligible_nodes, taken, settled_inputs, bound, IsBefore}
 
 -- the bound is greater than the reached gain, the greatest among 0 and the gains of the sets that fit and come before
 pub record IsAboveReached (graph : FlowGraph) (limits : Limits) (prefix : Prefix) : Type 0 where
@@ -32,19 +33,10 @@ continuations (suc undecided) prefix =
 abbrev pub unfinished_prefixes : FlowGraph → List Prefix
 unfinished_prefixes graph = continuations (eligible_nodes graph) []
 
--- at least so many of the prefixes are open
-pub data HasOpen (graph : FlowGraph) (limits : Limits) : ℕ → List Prefix → Type 0 where
-  none : {prefixes : List Prefix} → HasOpen graph limits zero prefixes
-  counted : {n : ℕ} {prefix : Prefix} {rest : List Prefix} → IsOpen graph limits prefix → HasOpen graph limits n rest →
-      HasOpen graph limits (suc n) (prefix ∷ rest)
-  passed : {n : ℕ} {prefix : Prefix} {rest : List Prefix} → HasOpen graph limits n rest →
-      HasOpen graph limits n (prefix ∷ rest)
-
--- the need of the graph: so many of the prefixes that leave a node undecided are open, and no more
-pub record IsNeed (graph : FlowGraph) (limits : Limits) (need : ℕ) : Type 0 where
-  pub at_least : HasOpen graph limits need (unfinished_prefixes graph)
-  pub no_more : (n : ℕ) → HasOpen graph limits n (unfinished_prefixes graph) → n ≤ need
+-- the need of the graph: so many of them are open, and no more
+abbrev pub IsNeed : FlowGraph → Limits → ℕ → Type 0
+IsNeed graph limits need = AreJust (IsOpen graph limits) need (unfinished_prefixes graph)
 
 -- the need of the graph is greater than this
 abbrev pub NeedExceeds : FlowGraph → Limits → ℕ → Type 0
-NeedExceeds graph limits budget = HasOpen graph limits (suc budget) (unfinished_prefixes graph)
+NeedExceeds graph limits budget = AtLeast (IsOpen graph limits) (suc budget) (unfinished_prefixes graph)

@@ -15,7 +15,7 @@ use Rattle.ci_cut.specs.Gain.{saved_by, further_words_of, software}
 use Rattle.ci_cut.proofs.PortLaws.{inputs_from-mono}
 use Rattle.ci_cut.proofs.SavedCycles.{saved_cycles-antitone, saved_cycles-members}
 use Rattle.ci_cut.proofs.Chains.{delay_along-le, critical_path_delay-reached}
-use Rattle.ci_check.proofs.PrefixLaws.{Extends}
+use Rattle.ci_cut.proofs.PrefixLaws.{Extends}
 
 -- a walk leads to later nodes
 pub walk_rises : (graph : FlowGraph) → IsFlowGraph graph → {a b : ℕ} → Walk graph a b → a < b

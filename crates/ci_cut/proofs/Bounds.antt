@@ -4,11 +4,11 @@ use Rattle.std.proofs.lemmas.Int.{ints}
 use Rattle.ci_cut.specs.declared.graph.Limits.{Limits}
 use Rattle.ci_cut.specs.FlowGraph.{FlowGraph, IsFlowGraph, node_at}
 use Rattle.ci_cut.specs.Gain.{Fits, gain}
-use Rattle.ci_check.specs.Prefixes.{Prefix, is_eligible, is_next, taken, left_out, possible, bound, IsBefore}
-use Rattle.ci_check.specs.Need.{IsOpen}
-use Rattle.ci_check.specs.Walked.{Completes, IsBounded}
-use Rattle.ci_check.proofs.PrefixLaws.{same_test, eligible_below, possible_parts, possible_from, possible_earlier, decided_cases, decided_newest, decided_earlier, next_unique, next_below, above_next, not_both, completes_earlier, taken_completes, completion_extends}
-use Rattle.ci_check.proofs.Extensions.{convex_within, outputs_rise, settled_rise, saved_by_falls}
+use Rattle.ci_cut.specs.Prefixes.{Prefix, is_eligible, is_next, taken, left_out, possible, bound, IsBefore}
+use Rattle.ci_cut.specs.Need.{IsOpen}
+use Rattle.ci_cut.specs.Reached.{Completes, IsBounded}
+use Rattle.ci_cut.proofs.PrefixLaws.{same_test, eligible_below, possible_parts, possible_from, possible_earlier, decided_cases, decided_newest, decided_earlier, next_unique, next_below, above_next, not_both, completes_earlier, taken_completes, completion_extends}
+use Rattle.ci_cut.proofs.Extensions.{convex_within, outputs_rise, settled_rise, saved_by_falls}
 
 module _ (graph : FlowGraph) (flows : IsFlowGraph graph) (prefix : Prefix) where
   possible_nodes : (k : ℕ) → IsTrue (possible graph prefix k) → k < length graph.nodes
