@@ -1,5 +1,5 @@
 -- What the comparisons of gains tell.
-use Rattle.std.proofs.Common.{◌≡◌, Bool, true, false, ◌⊎◌, ◌↔◌, inl, inr, IsTrue, sym, ap, ◌∙◌, true≢false, arith, ℤ, ◌<ℤ◌, of_z, to_z, w64, SFits}
+use Rattle.std.proofs.Common.{◌≡◌, Bool, false, ◌⊎◌, ◌↔◌, inl, inr, IsTrue, sym, ap, ◌∙◌, true≢false, arith, ℤ, ◌<ℤ◌, of_z, to_z, w64, SFits}
 use lib.Signed.{lt_z}
 use Rattle.std.proofs.lemmas.Int.{ints, to_z-of_z}
 use Rattle.ci_cut.proofs.NeedLaws.{compare_gains}
@@ -7,13 +7,6 @@ use Rattle.ci_cut.proofs.NeedLaws.{compare_gains}
 -- equal words are of equal integers
 pub of_z_same : (a b : ℤ) → SFits w64 a → SFits w64 b → of_z w64 a ≡ of_z w64 b → a ≡ b
 of_z_same a b first second same = sym (to_z-of_z w64 a first) ∙ ap (to_z w64) same ∙ to_z-of_z w64 b second
-
--- less, by the test
-pub less_by_test : (a b : ℤ) → SFits w64 a → SFits w64 b → lt_z (to_z w64 (of_z w64 a)) (to_z w64 (of_z w64 b)) ≡ true → a <ℤ b
-less_by_test a b first second less = grind (arith, ints)
-
-pub test_of_less : (a b : ℤ) → SFits w64 a → SFits w64 b → a <ℤ b → lt_z (to_z w64 (of_z w64 a)) (to_z w64 (of_z w64 b)) ≡ true
-test_of_less a b first second less = grind (arith, ints)
 
 -- neither less nor equal
 pub above_by_tests : (a b : ℤ) → SFits w64 a → SFits w64 b → lt_z (to_z w64 (of_z w64 a)) (to_z w64 (of_z w64 b)) ≡ false → ¬ (of_z w64 a ≡ of_z w64 b) → {c d : ℤ} → a ≡ c → b ≡ d → d <ℤ c

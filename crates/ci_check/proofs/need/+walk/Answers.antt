@@ -31,7 +31,7 @@ returns-in_default t c prefix undecided stands left reached =
     let before = to_z w64 (of_z w64 c.args.before.reached) in
     let one = subst (λ (cut : ℕ → Bool). IsReachedWith graph limits cut before c.reached_with.result) (same_taken graph prefix c.args.choices.now stands) c.reached_with.ensures in
     let behind = reached_whole graph stands.kept limits prefix before whole c.reached_with.result (passed_on graph limits prefix c.args.before.reached gained reached) one in
-    walked_whole graph stands.kept limits c.args.budget prefix undecided (omega (arith, whole, left)) c.args.before _ refl (subst (IsReachedBehind graph limits prefix) (sym (to_z-of_z w64 _ after)) behind)
+    walked_whole graph stands.kept limits c.args.budget prefix undecided (omega (arith, whole, left)) c.args.before _ (omega arith) (subst (IsReachedBehind graph limits prefix) (sym (to_z-of_z w64 _ after)) behind)
 
 pub returns-then-not-is_open : goal.returns-then-not-is_open
 returns-then-not-is_open t c prefix undecided stands left reached =

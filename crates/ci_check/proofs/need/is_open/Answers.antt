@@ -1,5 +1,5 @@
-use Rattle.std.proofs.Common.{rules, w64, SFits, ◌<ℤ◌, sym, ◌∙◌, true≢false, subst}
-use Rattle.ci_check.proofs.GainTests.{less_by_test, test_of_less}
+use Rattle.std.proofs.Common.{arith, rules, w64, SFits, ◌<ℤ◌, sym, ◌∙◌, true≢false, subst}
+use Rattle.std.proofs.lemmas.Int.{ints}
 use Rattle.ci_cut.proofs.NeedLaws.{open_by_bound, bound_of_open}
 use Rattle.ci_check.proofs.need.is_open.Goals as goal
 
@@ -9,8 +9,12 @@ returns-then-is_bounded c prefix stands reached =
     let bounded : SFits w64 c.bound.result = search rules in
     let gained : SFits w64 c.args.reached = search rules in
     let is = c.bound.ensures prefix stands in (
-      λ e. open_by_bound graph stands.kept c.args.limits.now prefix c.args.reached reached ((c.is_bounded.ensures prefix stands).0 c.if-is_bounded.true) (subst (λ z. c.args.reached <ℤ z) is (less_by_test _ _ gained bounded e)),
-      λ is_open. test_of_less _ _ gained bounded (subst (λ z. c.args.reached <ℤ z) (sym is) (bound_of_open graph stands.kept c.args.limits.now prefix c.args.reached reached is_open)),
+      λ e.
+          let more : c.args.reached <ℤ c.bound.result = grind (arith, ints) in
+          open_by_bound graph stands.kept c.args.limits.now prefix c.args.reached reached ((c.is_bounded.ensures prefix stands).0 c.if-is_bounded.true) (subst (λ z. c.args.reached <ℤ z) is more),
+      λ is_open.
+          let more : c.args.reached <ℤ c.bound.result = subst (λ z. c.args.reached <ℤ z) (sym is) (bound_of_open graph stands.kept c.args.limits.now prefix c.args.reached reached is_open) in
+          grind (arith, ints),
     )
 
 pub returns-else-is_bounded : goal.returns-else-is_bounded
