@@ -44,7 +44,7 @@ pub enum Found {
 ///
 /// Slots that were live hold what they held, and the others that are live then are those of the tree. After `Spent`
 /// there are none of these. As many free slots as a graph has sets of eligible nodes are always enough. A tree takes
-/// one slot for each open prefix that leaves a node undecided, and no more.
+/// as many slots as there are open prefixes that leave a node undecided, and no more.
 pub fn search(graph: &Graph, limits: &Limits, region: &mut Region<LogNode>) -> Found
     ensures answer { IsAnswer graph.now limits.now region.old region.new result }
     ensures spent { IsSpent result ↔ NeedExceeds graph.now limits.now (free region.old) }
