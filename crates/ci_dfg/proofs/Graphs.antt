@@ -7,8 +7,7 @@ use Rattle.std.proofs.Common.{sym, ap, ◌∙◌, subst, inl, inr, add-one, true
 use Rattle.std.proofs.lemmas.Bool.{cases_lt, and_parts, ltb-true}
 use Rattle.std.proofs.lemmas.List.{length-map, get_or-map, map-append, get_or_past}
 use Rattle.ci_word.specs.Numbers.{numbers_below}
-use Rattle.ci_word.specs.Members.{contains-set_below}
-use Rattle.ci_word.proofs.NumberLaws.{numbers_below-zero, numbers_below-suc, length-all_below, get_or-all_below}
+use Rattle.ci_word.proofs.NumberLaws.{contains-set_below, numbers_below-zero, numbers_below-suc, length-all_below, get_or-all_below}
 use Rattle.ci_isa.specs.declared.instruction.Insn.{Insn}
 use Rattle.ci_isa.specs.Effects.{class_of}
 use Rattle.ci_lat.specs.Latencies.{Latencies, IsLatencyTable}

@@ -10,7 +10,7 @@ use Rattle.ci_log.specs.declared.book.Entry.{Entry}
 use Rattle.ci_log.specs.declared.book.Entry.TheVariants.{Best, Without, Spent, Take}
 use Rattle.ci_log.specs.declared.book.Finish.{Finish}
 use Rattle.ci_log.specs.declared.book.Finish.TheVariants.{Empty, Count}
-use Rattle.ci_text.specs.Members.{members_text}
+use Rattle.ci_word.specs.Members.{members_text}
 use Rattle.ci_log.specs.Books.{IsEntry, IsSearch, AreRounds, AreInOrder, Book, IsBook, entry_text, finish_text}
 use Rattle.ci_log.specs.Faults.{HasTree}
 use Rattle.ci_log.specs.declared.faults.Failure.{Failure}

@@ -9,7 +9,7 @@ use Rattle.std.proofs.lemmas.Bool.{eqb-true, cases_lt}
 use Rattle.std.proofs.lemmas.Bool.Decides.{nat_tests}
 use Rattle.ci_word.specs.Numbers.{numbers_below}
 use Rattle.ci_word.proofs.NumberLaws.{numbers_below-zero, numbers_below-suc, contains-insert_nat, same_numbers, list_any-numbers_below}
-use Rattle.ci_text.specs.Members.{members_text}
+use Rattle.ci_word.specs.Members.{members_text}
 use Rattle.ci_log.specs.Books.{IsCut}
 use Rattle.ci_log.specs.declared.faults.Failure.{Failure}
 use Rattle.ci_log.specs.declared.faults.Failure.TheVariants as failure

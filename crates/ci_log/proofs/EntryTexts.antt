@@ -16,7 +16,7 @@ use Rattle.ci_log.specs.declared.book.Finish.{Finish}
 use Rattle.ci_log.specs.declared.book.Finish.TheVariants.{Empty, Count}
 use Rattle.ci_log.specs.declared.tokens.Numbers.{Numbers}
 use Rattle.ci_log.specs.Trees.{leaf, letters}
-use Rattle.ci_text.specs.Members.{members_text}
+use Rattle.ci_word.specs.Members.{members_text}
 use Rattle.ci_log.specs.Books.{IsEntry, IsSearch, entry_text, finish_text}
 use Rattle.ci_log.specs.Faults.{HasTree}
 use Rattle.ci_log.specs.Reading.{Read, ◌>>=◌, begins_with, word, address, begins, closes, number, nodes, set_of, tree_line, best, without, budgets, spent, search_of, search, units, take, finish}

@@ -6,7 +6,7 @@ use Rattle.std.specs.Ordering.{nat_cmp}
 use Rattle.std.specs.FinSet as set
 use Rattle.ci_text.specs.Hex.{eight_hex_digits}
 use Rattle.ci_text.specs.Lines.{line}
-use Rattle.ci_text.specs.Members.{members_text}
+use Rattle.ci_word.specs.Members.{members_text}
 use Rattle.ci_log.specs.declared.book.Entry.{Entry}
 use Rattle.ci_log.specs.declared.book.Entry.TheVariants.{Best, Without, Spent, Take}
 use Rattle.ci_log.specs.declared.book.Finish.{Finish}

@@ -9,7 +9,8 @@ ghost use Rattle.ci_log.specs.Books.{Spells, entry_text};
 
 use crate::book::{Entry, Finish, LogBook};
 use crate::log::{Item, Log};
-use ci_text::{push_hex, push_members};
+use ci_text::push_hex;
+use ci_word::push_members;
 use std::alloc::{AllocError, Global};
 
 /// An item's letter.

@@ -1,3 +1,2 @@
 pub mod ByteLaws
 mod HexLaws
-pub mod MemberLaws

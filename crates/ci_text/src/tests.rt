@@ -1,8 +1,6 @@
 //! `add x5, x10, x11`, whose word is 00B502B3.
 use crate::bytes::{bytes_of_words, word_at};
 use crate::hex::{hex_text, push_hex};
-use crate::members::push_members;
-use ci_word::Row;
 use std::test::Fail;
 
 const WORD: u32 = 0x00B5_02B3;
@@ -39,18 +37,4 @@ fn words_of_bytes(rt: HostRuntime) {
     let bytes = [0xFF, 0xFF, 0xFF, 0xFF, 0xB3, 0x02, 0xB5, 0x00, 0x13];
     assert_eq!(rt; word_at(&BYTES, 0), WORD);
     assert_eq!(rt; word_at(&bytes, 1), WORD);
-}
-
-#[test]
-fn members_behind_a_text(rt: HostRuntime) -> Result<(), Fail> {
-    let mut text = String::from_str(rt.alloc(), "cut")?;
-    push_members(&mut text, &Row::empty())?;
-    assert_eq!(rt; text.as_str(), "cut");
-    let mut numbers = Row::empty();
-    numbers.insert(255);
-    numbers.insert(10);
-    numbers.insert(0);
-    push_members(&mut text, &numbers)?;
-    assert_eq!(rt; text.as_str(), "cut 0 10 255");
-    Ok(())
 }

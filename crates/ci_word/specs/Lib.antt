@@ -1,5 +1,6 @@
-pub mod Members
 pub mod Numbers
+pub mod Members
+pub mod SetLaws
 pub mod WordLaws
 pub mod Words
 pub mod Arithmetic

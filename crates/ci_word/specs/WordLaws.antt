@@ -6,7 +6,7 @@ use Rattle.std.proofs.Common.{refl, ap, ◌∙◌, inl, inr, arith, le_refl, pow
 use Rattle.std.proofs.lemmas.Bool.{lt-ltb, cases_lt, cond_both}
 use Rattle.std.proofs.lemmas.Nat.{div-mul-add, mod-mul-add}
 use Rattle.std.proofs.lemmas.Nat.Bits.{bit_at-lt, bit_at_cat_low, bit_at_cat_high, same_from_bits_below}
-use Rattle.ci_word.specs.Members.{contains-set_below}
+use Rattle.ci_word.specs.SetLaws.{contains-set_below}
 use Rattle.ci_word.specs.Words.{is_in, numbers_in, AreWords, number_of, words_of}
 
 -- ---- a number made of its bits

@@ -17,7 +17,8 @@ use ci_block::Block;
 use ci_elf::Image;
 use ci_io::Shelf;
 use ci_live::LiveSets;
-use ci_text::{hex_text, push_members};
+use ci_text::hex_text;
+use ci_word::push_members;
 use std::alloc::{AllocError, Global};
 
 /// Makes the lines of the blocks of the executable in the file. `named` are addresses that the user names as leaders.

@@ -6,8 +6,7 @@ ghost use Rattle.ci_cut.specs.FlowGraph.{AreNodes};
 ghost use Rattle.ci_find.specs.Lines.{cut_line, skipped_line};
 
 use ci_cut::{Graph, gain};
-use ci_text::push_members;
-use ci_word::Row;
+use ci_word::{Row, push_members};
 use std::alloc::{AllocError, Global};
 
 /// `cut`, the members in rising order, and the gain.

@@ -4,7 +4,7 @@ use Rattle.std.specs.List.{flat_map}
 use Rattle.std.specs.Fmt.{decimal}
 use Rattle.std.specs.FinSet as set
 use Rattle.ci_word.specs.Numbers.{numbers_below}
-use Rattle.ci_text.proofs.members.push_members.Given as goal
+use Rattle.ci_word.proofs.members.push_members.Given as goal
 
 abbrev pub invariant-loop-number : goal.invariant-loop-number
 invariant-loop-number l = string_bytes l.members ≡ flat_map (λ n. codes " " ++ decimal n) (numbers_below l.number (set.contains l.numbers))

@@ -3,9 +3,9 @@ ghost use Rattle.std.specs.Prelude.{◌≡◌, ◌++◌, [], if◌then◌else◌
 ghost use Rattle.std.specs.String.{string_bytes};
 ghost use Rattle.std.specs.Fmt.{decimal};
 ghost use Rattle.std.specs.FinSet as set;
-ghost use Rattle.ci_text.specs.Members.{members_text};
+ghost use Rattle.ci_word.specs.Members.{members_text};
 
-use ci_word::Row;
+use crate::row_set::Row;
 use std::alloc::AllocError;
 
 /// Appends the set's members in ascending order, each in decimal after a blank.
@@ -35,4 +35,24 @@ fn push_if_member(text: &mut String, number: u8, numbers: &Row) -> Result<(), Al
         write!(text, " {number}")?;
     }
     Ok(())
+}
+
+#[cfg(test)]
+mod tests {
+    use super::*;
+    use std::test::Fail;
+
+    #[test]
+    fn members_behind_a_text(rt: HostRuntime) -> Result<(), Fail> {
+        let mut text = String::from_str(rt.alloc(), "cut")?;
+        push_members(&mut text, &Row::empty())?;
+        assert_eq!(rt; text.as_str(), "cut");
+        let mut numbers = Row::empty();
+        numbers.insert(255);
+        numbers.insert(10);
+        numbers.insert(0);
+        push_members(&mut text, &numbers)?;
+        assert_eq!(rt; text.as_str(), "cut 0 10 255");
+        Ok(())
+    }
 }
