@@ -1,4 +1,4 @@
-pub mod BitLaws
+pub mod SetLaws
 pub mod ReachLaws
 pub mod LivenessLaws
 pub mod NumberedBlocks

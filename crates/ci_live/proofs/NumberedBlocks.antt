@@ -83,16 +83,16 @@ way_to leaders blocks same before ways are k after stands =
     subst (λ a. Leads ways k ↔ LeadsTo before.next a) (leader_at leaders blocks same k after stands)
     (are.leads k (omega (arith, many, stands.0)))
 
-module _ (leaders : List ℕ) (blocks : List Block) (leaders_are : leaders ≡ map (λ (block : Block). block.leader) blocks) (flows : List Flow) (are : AreFlows leaders blocks (length blocks) flows) (r : ℕ) (below : r < 32) where
+module _ (leaders : List ℕ) (blocks : List Block) (leaders_are : leaders ≡ map (λ (block : Block). block.leader) blocks) (flows : List Flow) (are : AreFlows leaders blocks (length blocks) flows) (r : ℕ) where
   pub live_from_reached : (k : ℕ) → IsReached flows r k → (block : Block) → Stands blocks k block → IsLive blocks block.leader r
   live_from_reached _ (here k within has) block (there, is) =
-      live_where_read blocks r block (k, there, is) (((are.each k block there is).first r below).0 has)
+      live_where_read blocks r block (k, there, is) (((are.each k block there is).first r).0 has)
   live_from_reached _ (further k j within leads unwritten reached) block (there, is) =
       let flow = are.each k block there is in
       let ahead = reached_below flows r j reached in
       let at = block_at blocks j block (omega (arith, are.many)) in
       live_where_passed blocks r block at.0.leader (k, there, is) ((way_to leaders blocks leaders_are block _ flow.ways j at.0 at.1).0 leads)
-      (λ w. unwritten ((flow.written r below).1 w))
+      (λ w. unwritten ((flow.written r).1 w))
       (live_from_reached j reached at.0 at.1)
 
   pub reached_from_live :
@@ -102,11 +102,11 @@ module _ (leaders : List ℕ) (blocks : List Block) (leaders_are : leaders ≡ m
       → (k : ℕ) → Stands blocks k (first_of passed last) → IsReached flows r k
   reached_from_live =
       live_from_steps blocks r (λ (block : Block). (k : ℕ) → Stands blocks k block → IsReached flows r k)
-      (λ block there read k (within, is). here k (omega (arith, are.many)) (((are.each k block within is).first r below).1 read))
+      (λ block there read k (within, is). here k (omega (arith, are.many)) (((are.each k block within is).first r).1 read))
       (λ block after there (j, after_within, after_is) follows unwritten reached k (within, is).
       let flow = are.each k block within is in
       further k j (omega (arith, are.many)) ((way_to leaders blocks leaders_are block _ flow.ways j after (after_within, after_is)).1 follows)
-      (λ has. unwritten ((flow.written r below).0 has))
+      (λ has. unwritten ((flow.written r).0 has))
       (reached j (after_within, after_is)))
 
   module _ (ascending : AreInOrder blocks) where

@@ -1,13 +1,18 @@
--- Blocks by their numbers: what each one reads and writes, as bits, and where it leads. For private contracts.
-use Rattle.std.specs.Prelude.{◌≡◌, ℕ, ◌<◌, ◌⊎◌, ◌↔◌, List, length, Some, None, IfSome, slice_index, slice_index_or}
+-- Blocks by their numbers: what each one reads and writes, and where it leads. For private contracts.
+use Rattle.std.specs.Prelude.{◌≡◌, ℕ, ◌<◌, ◌⊎◌, ◌↔◌, List, length, Some, None, IfSome, IsTrue, slice_index, slice_index_or}
+use Rattle.std.specs.Ordering.{nat_cmp}
+use Rattle.std.specs.FinSet as set
 use Rattle.ci_block.specs.declared.blocks.Block.{Block}
 use Rattle.ci_block.specs.declared.blocks.Next.{Next}
 use Rattle.ci_live.specs.declared.flow.Flow.{Flow}
 use Rattle.ci_live.specs.declared.flow.Ways.{Ways}
 use Rattle.ci_live.specs.declared.flow.Ways.TheVariants.{Named, Anywhere}
-use Rattle.ci_live.specs.Bits.{Has}
 use Rattle.ci_isa.specs.Sequences.{ReadFirst, Write}
 use Rattle.ci_live.specs.Liveness.{LeadsTo}
+
+-- register r is in the set
+abbrev pub Has : set.FinSet nat_cmp → ℕ → Type 0
+Has registers r = IsTrue (set.contains registers r)
 
 -- the block of this number is one of the ways on
 abbrev pub Leads : Ways → ℕ → Type 0
@@ -21,7 +26,7 @@ IsWithin count Anywhere = Unit {0}
 
 -- flow k, and past the last one one that does nothing
 abbrev pub flow_at : List Flow → ℕ → Flow
-flow_at flows k = slice_index_or flows k (record { first = 0; written = 0; ways = Named None None })
+flow_at flows k = slice_index_or flows k (record { first = set.empty; written = set.empty; ways = Named None None })
 
 -- each flow leads to some of them
 abbrev pub AreWithin : List Flow → Type 0
@@ -34,8 +39,8 @@ pub record AreWays (leaders : List ℕ) (next : Next) (ways : Ways) : Type 0 whe
 
 -- the flow of a block among those of these leaders
 pub record IsFlowOf (leaders : List ℕ) (block : Block) (flow : Flow) : Type 0 where
-  pub first : (r : ℕ) → r < 32 → Has flow.first r ↔ ReadFirst block.insns.items r
-  pub written : (r : ℕ) → r < 32 → Has flow.written r ↔ Write block.insns.items r
+  pub first : (r : ℕ) → Has flow.first r ↔ ReadFirst block.insns.items r
+  pub written : (r : ℕ) → Has flow.written r ↔ Write block.insns.items r
   pub ways : AreWays leaders block.next flow.ways
 
 -- the flows of the first blocks, in their order

@@ -1,6 +1,5 @@
 pub mod Sets
 pub mod Liveness
 pub mod Analyses
-pub mod Bits
 pub mod Flows
 pub mod Found

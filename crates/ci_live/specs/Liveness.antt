@@ -1,5 +1,5 @@
 -- Liveness: the registers whose value on entry to a block may still be read. Public contracts cite these definitions.
-use Rattle.std.specs.Prelude.{◌≡◌, ℕ, ◌<◌, ◌⊎◌, ◌↔◌, List, [], ◌∷◌, map, IsTrue}
+use Rattle.std.specs.Prelude.{◌≡◌, ℕ, ◌⊎◌, ◌↔◌, List, [], ◌∷◌, map, IsTrue}
 use Rattle.std.specs.FinSet as set
 use Rattle.std.specs.List.{All, Contains}
 use Rattle.ci_isa.specs.Sequences.{ReadFirst, Write}
@@ -57,12 +57,12 @@ pub record IsLiveAfter (blocks : List Block) (leader r : ℕ) : Type 0 where
 
 -- ---- live sets
 
--- These are the live sets of the blocks: they hold the registers, x0 to x31, that are live, and nothing else.
+-- These are the live sets of the blocks: they hold the registers that are live, and nothing else.
 pub record AreLiveSets (blocks : List Block) (sets : Sets) : Type 0 where
   pub leaders : map (λ block. block.leader) blocks ≡ sets.leaders
   pub at :
       (leader r : ℕ) → Contains sets.leaders leader
-      → IsTrue (set.contains (at_leader sets leader) r) ↔ ((r < 32) × IsLive blocks leader r)
+      → IsTrue (set.contains (at_leader sets leader) r) ↔ IsLive blocks leader r
   pub after :
       (leader r : ℕ) → Contains sets.leaders leader
-      → IsTrue (set.contains (after_block sets leader) r) ↔ ((r < 32) × IsLiveAfter blocks leader r)
+      → IsTrue (set.contains (after_block sets leader) r) ↔ IsLiveAfter blocks leader r

@@ -1,8 +1,8 @@
 -- Sets of registers at some leaders, as public contracts see them.
-use Rattle.std.specs.Prelude.{ℕ, ◌==◌, List, refl, slice_index_or}
+use Rattle.std.specs.Prelude.{◌≡◌, ℕ, ◌<◌, ◌==◌, List, length, refl, slice_index_or}
 use Rattle.std.specs.Coded.{Coded, code_by, coded×, coded_ℕ, coded_list}
 use Rattle.std.specs.FinSet as set
-use Rattle.std.specs.List.{position_or_len}
+use Rattle.std.specs.List.{AllPairs, position_or_len}
 use Rattle.std.specs.Ordering.{nat_cmp}
 
 -- Some leaders in ascending order, and by leader, in the same order, the registers at it and behind its block.
@@ -22,6 +22,12 @@ at_leader sets = set_of sets.leaders sets.before_blocks
 -- the registers after the block of a leader
 abbrev pub after_block : Sets → ℕ → set.FinSet nat_cmp
 after_block sets = set_of sets.leaders sets.behind_blocks
+
+-- for the model of `LiveSets` alone: for each leader there is one set at it and one behind its block
+pub record AreByLeader (leaders : List ℕ) (at after : List (set.FinSet nat_cmp)) : Type 0 where
+  pub ascending : AllPairs (λ a b. a < b) leaders
+  pub many_at : length at ≡ length leaders
+  pub many_after : length after ≡ length leaders
 
 -- how sets are stored, for proofs to tell them apart
 abbrev pub coded_sets : Coded Sets

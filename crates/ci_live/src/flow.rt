@@ -1,13 +1,12 @@
 //! What matters of a block for liveness: what it reads and writes, and where it leads.
 ghost use Rattle.std.specs.Prelude.{◌≡◌, ℕ, ◌<◌, ◌↔◌, length, map, slice_index, IfOk, MatchOption};
 ghost use Rattle.std.specs.List.{AllPairs, Contains};
-ghost use Rattle.ci_live.specs.Bits.{Has};
-ghost use Rattle.ci_live.specs.Flows.{AreFlows, AreWays};
 ghost use Rattle.ci_isa.specs.Sequences.{ReadFirst, Write};
+ghost use Rattle.ci_live.specs.Flows.{AreFlows, AreWays, Has};
 
-use crate::registers::Registers;
 use ci_block::{Block, Next};
 use ci_isa::{Insn, reads, writes};
+use ci_word::Row;
 use std::alloc::{AllocError, Global};
 
 /// The blocks that a block leads to, by their numbers.
@@ -23,9 +22,9 @@ pub(crate) enum Ways {
 #[derive(Clone, Copy)]
 pub(crate) struct Flow {
     /// The registers that it reads before it writes them.
-    pub(crate) first: Registers,
+    pub(crate) first: Row,
     /// The registers that it writes.
-    pub(crate) written: Registers,
+    pub(crate) written: Row,
     pub(crate) ways: Ways,
 }
 
@@ -54,18 +53,18 @@ fn ways_of(leaders: &[u32], next: Next) -> Ways
 }
 
 /// The registers that the instructions read before they write them, and those that they write.
-fn effects(insns: &[Insn]) -> (Registers, Registers)
-    ensures first { (r : ℕ) → r < 32 → Has result.0 r ↔ ReadFirst insns.now r }
-    ensures written { (r : ℕ) → r < 32 → Has result.1 r ↔ Write insns.now r }
+fn effects(insns: &[Insn]) -> (Row, Row)
+    ensures first { (r : ℕ) → Has result.0 r ↔ ReadFirst insns.now r }
+    ensures written { (r : ℕ) → Has result.1 r ↔ Write insns.now r }
 {
-    let mut first = Registers::empty();
-    let mut written = Registers::empty();
+    let mut first = Row::empty();
+    let mut written = Row::empty();
     for place in (0..insns.len()).rev() {
         let insn = &insns[place];
-        let operands = Registers::of_row(&reads(insn));
-        let results = Registers::of_row(&writes(insn));
-        first = operands.union(first.without(results));
-        written = results.union(written);
+        let operands = reads(insn);
+        let results = writes(insn);
+        first = operands.union(&first.difference(&results));
+        written = results.union(&written);
     }
     (first, written)
 }

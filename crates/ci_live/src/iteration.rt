@@ -2,58 +2,58 @@
 ghost use Rattle.std.specs.Prelude.{◌≡◌, ℕ, ◌<◌, ◌≤◌, length, IfOk, IfSome, OnOk};
 ghost use Rattle.std.specs.List.{All, Contains};
 ghost use Rattle.ci_live.specs.Flows.{AreWithin, IsWithin};
-ghost use Rattle.ci_live.specs.Found.{AreLooks, IsGrown, IsLook, IsSolution, IsSound};
-ghost use Rattle.ci_live.specs.Found.{on_way as what_is_on, on_ways, room};
+ghost use Rattle.ci_live.specs.Found.{AreLooks, IsLook, IsSolution, IsSound};
+ghost use Rattle.ci_live.specs.Found.{missing_at, on_way as what_is_on, on_ways, room};
 
 use crate::flow::{Flow, Ways};
 use crate::predecessors::Predecessors;
-use crate::registers::Registers;
+use ci_word::Row;
 use std::alloc::{AllocError, Global};
 
 /// The part of the live sets that was found so far.
 #[derive(Drop)]
 pub(crate) struct Found {
     /// What is live at each block.
-    pub(crate) live: Vec<Registers>,
+    pub(crate) live: Vec<Row>,
     /// What is live at some block.
-    pub(crate) any: Registers,
+    pub(crate) any: Row,
 }
 
 /// What was found on one way on.
-fn on_way(live: &[Registers], way: Option<usize>) -> Registers
+fn on_way(live: &[Row], way: Option<usize>) -> Row
     requires { IfSome way (λ k. k < length live.now) }
     ensures { result ≡ what_is_on live.now way }
 {
     match way {
         Some(number) => live[number],
-        None => Registers::empty(),
+        None => Row::empty(),
     }
 }
 
 impl Found {
     /// What was found behind a block with these ways on.
-    pub(crate) fn after(&self, ways: Ways) -> Registers
+    pub(crate) fn after(&self, ways: Ways) -> Row
         requires { IsWithin (length self.now.live.items) ways }
         ensures { result ≡ on_ways self.now.live.items self.now.any ways }
     {
         match ways {
             Ways::Named(first, second) => {
-                on_way(&self.live, first).union(on_way(&self.live, second))
+                on_way(&self.live, first).union(&on_way(&self.live, second))
             }
             Ways::Anywhere => self.any,
         }
     }
 
-    /// What is live at a block, as far as it can be told from what was found.
-    fn grown(&self, flows: &[Flow], number: usize) -> Registers
+    /// What is live at a block, as far as it can be told from what was found, and was not found there.
+    fn missing(&self, flows: &[Flow], number: usize) -> Row
         requires number { number < length flows.now }
         requires flows { AreWithin flows.now }
         requires many { length self.now.live.items ≡ length flows.now }
-        ensures { IsGrown flows.now self.now number result }
+        ensures { result ≡ missing_at flows.now self.now number }
     {
-        let flow = flows[number];
-        let passed = self.after(flow.ways).without(flow.written);
-        self.live[number].union(flow.first.union(passed))
+        let flow = &flows[number];
+        let passed = self.after(flow.ways).difference(&flow.written);
+        flow.first.union(&passed).difference(&self.live[number])
     }
 
     /// Looks at one block, and says whether something was found.
@@ -64,12 +64,12 @@ impl Found {
         ensures sound { IsSound flows.now self.new }
         ensures look { IsLook flows.now self.old self.new number result }
     {
-        let live = self.grown(flows, number);
-        if live == self.live[number] {
+        let missing = self.missing(flows, number);
+        if missing.count() == 0 {
             return false;
         }
-        self.live[number] = live;
-        self.any = self.any.union(live);
+        self.live[number] = self.live[number].union(&missing);
+        self.any = self.any.union(&missing);
         true
     }
 }
@@ -110,7 +110,7 @@ fn follow(
     ensures less { OnOk result (room found.new ≤ room found.old) }
 {
     let mut grown = first;
-    let mut seen = Registers::empty();
+    let mut seen = Row::empty();
     while !grown.is_empty() {
         let pending = predecessors.of_all(alloc, &grown, found.any != seen)?;
         seen = found.any;
@@ -136,8 +136,8 @@ fn nothing(alloc: Global, flows: &[Flow]) -> Result<Found, AllocError>
     ensures { IfOk result (IsSound flows.now) }
 {
     Ok(Found {
-        live: vec![in alloc; Registers::empty(); flows.len()]?,
-        any: Registers::empty(),
+        live: vec![in alloc; Row::empty(); flows.len()]?,
+        any: Row::empty(),
     })
 }
 

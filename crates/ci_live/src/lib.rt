@@ -13,6 +13,5 @@ mod flow;
 mod iteration;
 mod live_sets;
 mod predecessors;
-mod registers;
 #[cfg(test)]
 mod tests;

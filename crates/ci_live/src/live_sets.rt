@@ -1,15 +1,14 @@
 //! The live sets of blocks.
-ghost use Rattle.std.specs.Prelude.{◌≡◌, ℕ, ◌<◌, length, map, slice_index, IfOk};
+ghost use Rattle.std.specs.Prelude.{◌≡◌, ℕ, ◌<◌, length, map, IfOk};
 ghost use Rattle.std.specs.List.{Contains};
 ghost use Rattle.ci_block.specs.Blocks.{AreInOrder};
 ghost use Rattle.ci_live.specs.Flows.{AreWithin, flow_at};
-ghost use Rattle.ci_live.specs.Found.{IsSolution, on_ways};
+ghost use Rattle.ci_live.specs.Found.{IsSolution, live_at, on_ways};
 ghost use Rattle.ci_live.specs.Liveness.{AreLiveSets};
 ghost use Rattle.ci_live.specs.Sets.{after_block, at_leader};
 
 use crate::flow::{Flow, find, flows};
 use crate::iteration::{Found, solve};
-use crate::registers::Registers;
 use ci_block::{Block, Blocks};
 use ci_word::Row;
 use std::alloc::{AllocError, Global};
@@ -19,8 +18,8 @@ use std::marker::Model;
 #[derive(Drop)]
 pub struct LiveSets {
     leaders: Vec<u32>,
-    at: Vec<Registers>,
-    after: Vec<Registers>,
+    at: Vec<Row>,
+    after: Vec<Row>,
 }
 
 impl Model for LiveSets {
@@ -30,16 +29,15 @@ impl Model for LiveSets {
 
     ghost coded = { coded_sets };
 
-    ghost use Rattle.std.specs.Prelude.{map};
-    ghost use Rattle.ci_live.specs.Bits.{AreBits, registers_in};
-
     ghost view = { λ s. record {
       leaders = s.leaders.items;
-      before_blocks = map registers_in s.at.items;
-      behind_blocks = map registers_in s.after.items;
+      before_blocks = s.at.items;
+      behind_blocks = s.after.items;
     } };
 
-    ghost invariant = { λ s. AreBits s.leaders.items s.at.items s.after.items };
+    ghost use Rattle.ci_live.specs.Sets.{AreByLeader};
+
+    ghost invariant = { λ s. AreByLeader s.leaders.items s.at.items s.after.items };
 }
 
 impl LiveSets {
@@ -49,7 +47,7 @@ impl LiveSets {
         ensures { result ≡ at_leader self.now leader }
     {
         match find(&self.leaders, leader) {
-            Some(number) => self.at[number].row(),
+            Some(number) => self.at[number],
             None => unreachable!(),
         }
     }
@@ -60,7 +58,7 @@ impl LiveSets {
         ensures { result ≡ after_block self.now leader }
     {
         match find(&self.leaders, leader) {
-            Some(number) => self.after[number].row(),
+            Some(number) => self.after[number],
             None => unreachable!(),
         }
     }
@@ -78,12 +76,12 @@ fn leaders_of(alloc: Global, blocks: &[Block]) -> Result<Vec<u32>, AllocError>
 }
 
 /// What is live behind each block.
-fn sets_after(alloc: Global, flows: &[Flow], found: &Found) -> Result<Vec<Registers>, AllocError>
+fn sets_after(alloc: Global, flows: &[Flow], found: &Found) -> Result<Vec<Row>, AllocError>
     requires flows { AreWithin flows.now }
     requires found { IsSolution flows.now found.now }
     ensures many { IfOk result (λ after. length after.items ≡ length flows.now) }
     ensures each { IfOk result (λ after. (k : ℕ) → k < length flows.now
-        → slice_index after.items k ≡ on_ways found.now.live.items found.now.any (flow_at flows.now k).ways) }
+        → live_at after.items k ≡ on_ways found.now.live.items found.now.any (flow_at flows.now k).ways) }
 {
     let mut after = Vec::new(alloc);
     for flow in flows {

@@ -4,7 +4,7 @@ use Rattle.std.specs.Ordering.{nat_cmp}
 use Rattle.std.specs.Cmp.{nat_cmp_total, unsigned_tied}
 use Rattle.std.specs.FinSet as set
 use Rattle.std.proofs.Common.{refl, sym, ap, ◌∙◌, inl, inr, arith, lit<, zero-le, le_refl, lt-suc_self, add-zero, add-one, add-suc, add_assoc, get_or, append-nil, length-append, true≢false}
-use Rattle.std.proofs.lemmas.Bool.{le-ltb, lt-ltb, ltb-true, and_parts, and_from, cases_eq, cond_both, or_cases, or_left, or_right}
+use Rattle.std.proofs.lemmas.Bool.{le-ltb, lt-ltb, ltb-true, and_parts, and_from, cases_eq, cond_both, false_from_ne_true, or_cases, or_left, or_right}
 use Rattle.std.proofs.Math.ListN.{get_or-append}
 use Rattle.std.proofs.Math.Seq.{get_or-append_seam}
 use Rattle.std.proofs.lemmas.List.Elements.{Contains-append_cases, Contains-append_left, Contains-append_right}
@@ -195,6 +195,18 @@ count_below-add m (suc n) p =
     ap (λ x. count_below x p) (add-suc m n)
     ∙ ap (λ x. x + (if p (m + n) then 1 else 0)) (count_below-add m n p)
     ∙ add_assoc (count_below m p) (count_below n (λ k. p (m + k))) (if p (m + n) then 1 else 0)
+
+-- where no number passes both tests, those that pass one of them are as many as pass each
+pub count_below-or :
+    (n : ℕ) (p q : ℕ → Bool) → ((k : ℕ) → IsTrue (p k) → ¬ IsTrue (q k))
+    → count_below n (λ k. p k || q k) ≡ count_below n p + count_below n q
+unfolding count_below
+count_below-or zero p q apart = refl
+count_below-or (suc n) p q apart =
+    let rest = count_below-or n p q apart in
+    cond_both (p n) 1 0 (λ x. count_below n (λ k. p k || q k) + (if p n || q n then 1 else 0) ≡ count_below n p + x + (count_below n q + (if q n then 1 else 0)))
+    (λ e. let other = false_from_ne_true (q n) (apart n e) in rw (e, other) (omega arith))
+    (λ e. rw e (omega arith))
 
 pub sum_below-add : (m n : ℕ) (p : ℕ → Bool) (f : ℕ → ℕ) → sum_below (m + n) p f ≡ sum_below m p f + sum_below n (λ k. p (m + k)) (λ k. f (m + k))
 unfolding sum_below

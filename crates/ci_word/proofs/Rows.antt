@@ -1,5 +1,5 @@
 -- What each call does to the words, said of the set that they hold.
-use Rattle.std.proofs.Common.{◌≡◌, ◌≢◌, ℕ, zero, suc, ◌+◌, ◌*◌, ◌/◌, ◌%◌, ◌^◌, ◌<◌, ◌≤◌, ◌⊎◌, max, Bool, true, false, cond, not, ◌&&◌, ◌||◌, nat_eq, nat_lt, List, [], ◌∷◌, length, slice_index, IsTrue, ◌↔◌, bit_and, bit_or, count_ones, refl, sym, ap, ◌∙◌, inl, inr, arith, zero-add, add_comm, pow_pos, pow-suc, div-add-mod', lit<, w64, nat_cmp}
+use Rattle.std.proofs.Common.{◌≡◌, ◌≢◌, ℕ, zero, suc, ◌+◌, ◌-◌, ◌*◌, ◌/◌, ◌%◌, ◌^◌, ◌<◌, ◌≤◌, ◌⊎◌, max, min, Bool, true, false, cond, not, ◌&&◌, ◌||◌, nat_eq, nat_lt, List, [], ◌∷◌, length, slice_index, IsTrue, ◌↔◌, bit_and, bit_or, count_ones, refl, sym, ap, ◌∙◌, inl, inr, arith, zero-add, add_comm, pow_pos, pow-suc, div-add-mod', lit<, w64, nat_cmp}
 use Rattle.std.proofs.Math.ListN.{set as list_set, length-set}
 use Rattle.std.specs.Cmp.{nat_cmp_total}
 use Rattle.std.specs.FinSet as set
@@ -10,7 +10,7 @@ use Rattle.std.proofs.lemmas.Bool.Decides.{nat_tests}
 use Rattle.std.proofs.lemmas.Grind.{get_or-set_at}
 use Rattle.std.proofs.lemmas.List.{get_or-set_other}
 use Rattle.std.proofs.lemmas.Nat.{and_le_l, or_lt, le_or_l, le_or_r, mod_below, div_below, shr_split, ones_cat, ones-le}
-use Rattle.std.proofs.lemmas.Nat.Bits.{shr_and_one, bit_at-zero, bit_at-lt, bit_at_and, bit_at_or, bit_at_cat_low, bit_at_set_same, bit_at_set_other, bit_at_clear_same, bit_at_clear_other, bit_at-trailing_zeros}
+use Rattle.std.proofs.lemmas.Nat.Bits.{shr_and_one, bit_at-zero, bit_at-lt, bit_at_and, bit_at_or, bit_at_not, bit_at_cat_low, bit_at_set_same, bit_at_set_other, bit_at_clear_same, bit_at_clear_other, bit_at-trailing_zeros}
 use Rattle.std.specs.Cmp.Lexicographic.{pointwise}
 use Rattle.std.proofs.lemmas.Slice.Eq.{bytes_eq-Decides}
 use Rattle.ci_word.specs.Numbers.{count_below, Meets}
@@ -134,6 +134,21 @@ AreWords_four f below = (
   ],
 )
 
+-- a row whose bits are an operation on the bits of two rows holds the operation on their sets
+contains_combined :
+    (op : Bool → Bool → Bool) (a b : List ℕ) (f : ℕ → ℕ) → op false false ≡ false
+    → ((k i : ℕ) → i < 64 → nat_eq (bit_at (f k) i) 1 ≡ op (nat_eq (bit_at (slice_index a k) i) 1) (nat_eq (bit_at (slice_index b k) i) 1))
+    → (q : ℕ) → set.contains (numbers_in (four_words f)) q ≡ op (set.contains (numbers_in a) q) (set.contains (numbers_in b) q)
+contains_combined op a b f none bits q =
+    contains-numbers_in (four_words f) q ∙ each (cases_lt q 256)
+    ∙ (λ i. op (sym (contains-numbers_in a q) i) (sym (contains-numbers_in b q) i))
+  where
+    each : (q < 256) ⊎ (256 ≤ q) → (nat_lt q 256 && is_in (four_words f) q) ≡ op (nat_lt q 256 && is_in a q) (nat_lt q 256 && is_in b q)
+    each (inl below) =
+        rw (lt-ltb q 256 below)
+        (ap (λ word. nat_eq (bit_at word (q % 64)) 1) (four_at f (q / 64) (omega arith)) ∙ bits (q / 64) (q % 64) (omega arith))
+    each (inr past) = rw (le-ltb q 256 past) (sym none)
+
 -- the words of two rows, joined by `|`
 abbrev joined : List ℕ → List ℕ → ℕ → ℕ
 joined a b k = bit_or (slice_index a k) (slice_index b k)
@@ -144,33 +159,55 @@ AreWords_joined a b (_, in_a) (_, in_b) = AreWords_four (joined a b) (λ k. or_l
 bit_or_test : (x y : ℕ) → x < 2 → y < 2 → nat_eq (max x y) 1 ≡ (nat_eq x 1 || nat_eq y 1)
 bit_or_test x y p q = grind (arith, nat_tests)
 
-is_in_joined : (a b : List ℕ) (q : ℕ) → q < 256 → is_in (four_words (joined a b)) q ≡ (is_in a q || is_in b q)
-is_in_joined a b q below =
-    let x : ℕ = slice_index a (q / 64) in
-    let y : ℕ = slice_index b (q / 64) in
-    ap (λ word. nat_eq (bit_at word (q % 64)) 1) (four_at (joined a b) (q / 64) (omega arith))
-    ∙ ap (λ bit. nat_eq bit 1) (bit_at_or x y (q % 64))
-    ∙ bit_or_test (bit_at x (q % 64)) (bit_at y (q % 64)) (bit_at-lt x (q % 64)) (bit_at-lt y (q % 64))
-
-or_under : (u x y : Bool) → (u && (x || y)) ≡ ((u && x) || (u && y))
-or_under true x y = refl
-or_under false x y = refl
-
-contains_joined : (a b : List ℕ) (q : ℕ) → set.contains (numbers_in (four_words (joined a b))) q ≡ (set.contains (numbers_in a) q || set.contains (numbers_in b) q)
-contains_joined a b q =
-    contains-numbers_in (four_words (joined a b)) q ∙ each (cases_lt q 256) ∙ or_under (nat_lt q 256) (is_in a q) (is_in b q)
-    ∙ (λ i. sym (contains-numbers_in a q) i || sym (contains-numbers_in b q) i)
-  where
-    each : (q < 256) ⊎ (256 ≤ q) → (nat_lt q 256 && is_in (four_words (joined a b)) q) ≡ (nat_lt q 256 && (is_in a q || is_in b q))
-    each (inl below) = ap (λ b. nat_lt q 256 && b) (is_in_joined a b q below)
-    each (inr past) = rw (le-ltb q 256 past)
-
 -- the set of the joined words is the union
-pub numbers_in_joined : (a b : List ℕ) (s t : set.FinSet nat_cmp) → numbers_in a ≡ s → numbers_in b ≡ t → numbers_in (four_words (joined a b)) ≡ set.union s t
+pub numbers_in_joined :
+    (a b : List ℕ) (s t : set.FinSet nat_cmp) → numbers_in a ≡ s → numbers_in b ≡ t
+    → numbers_in (four_words (joined a b)) ≡ set.union s t
 numbers_in_joined a b s t is_s is_t =
     same_numbers _ _
-    (λ q. contains_joined a b q ∙ sym (set.contains-union nat_cmp_total (numbers_in a) (numbers_in b) q))
+    (λ q.
+    contains_combined (λ x y. x || y) a b (joined a b) refl joined_bits q
+    ∙ sym (set.contains-union nat_cmp_total (numbers_in a) (numbers_in b) q))
     ∙ (λ i. set.union (is_s i) (is_t i))
+  where
+    joined_bits :
+        (k i : ℕ) → i < 64
+        → nat_eq (bit_at (joined a b k) i) 1 ≡ (nat_eq (bit_at (slice_index a k) i) 1 || nat_eq (bit_at (slice_index b k) i) 1)
+    joined_bits k i below =
+        let x : ℕ = slice_index a k in
+        let y : ℕ = slice_index b k in
+        ap (λ bit. nat_eq bit 1) (bit_at_or x y i) ∙ bit_or_test (bit_at x i) (bit_at y i) (bit_at-lt x i) (bit_at-lt y i)
+
+-- the words of a row without the bits of another one
+abbrev left_over : List ℕ → List ℕ → ℕ → ℕ
+left_over a b k = bit_and (slice_index a k) (bit_not w64 (slice_index b k))
+
+pub AreWords_left_over : (a b : List ℕ) → AreWords a → AreWords (four_words (left_over a b))
+AreWords_left_over a b (_, in_a) =
+    AreWords_four (left_over a b) (λ k. let least = and_le_l (slice_index a k) (bit_not w64 (slice_index b k)) in omega (arith, least, in_a k))
+
+bit_and_not_test : (x y : ℕ) → x < 2 → y < 2 → nat_eq (min x (1 - y)) 1 ≡ (nat_eq x 1 && not (nat_eq y 1))
+bit_and_not_test x y p q = grind (arith, nat_tests)
+
+-- the set of what is left over is the difference
+pub numbers_in_left_over :
+    (a b : List ℕ) (s t : set.FinSet nat_cmp) → numbers_in a ≡ s → numbers_in b ≡ t → AreWords b
+    → numbers_in (four_words (left_over a b)) ≡ set.difference s t
+numbers_in_left_over a b s t is_s is_t (_, fits) =
+    same_numbers _ _
+    (λ q.
+    contains_combined (λ x y. x && not y) a b (left_over a b) refl bits_left q
+    ∙ sym (set.contains-difference nat_cmp_total (numbers_in a) (numbers_in b) q))
+    ∙ (λ i. set.difference (is_s i) (is_t i))
+  where
+    bits_left :
+        (k i : ℕ) → i < 64
+        → nat_eq (bit_at (left_over a b k) i) 1 ≡ (nat_eq (bit_at (slice_index a k) i) 1 && not (nat_eq (bit_at (slice_index b k) i) 1))
+    bits_left k i below =
+        let x : ℕ = slice_index a k in
+        let y : ℕ = slice_index b k in
+        ap (λ bit. nat_eq bit 1) (bit_at_and x (bit_not w64 y) i ∙ ap (λ bit. min (bit_at x i) bit) (bit_at_not w64 y i (fits k) below))
+        ∙ bit_and_not_test (bit_at x i) (bit_at y i) (bit_at-lt x i) (bit_at-lt y i)
 
 -- ---- a number in both rows
 

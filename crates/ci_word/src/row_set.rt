@@ -86,6 +86,20 @@ impl Row {
         }
     }
 
+    /// The numbers of this set that are not in the other one.
+    pub fn difference(&self, other: &Row) -> Row
+        ensures value { result ≡ set.difference self.now other.now }
+    {
+        Row {
+            words: [
+                self.words[0] & !other.words[0],
+                self.words[1] & !other.words[1],
+                self.words[2] & !other.words[2],
+                self.words[3] & !other.words[3],
+            ],
+        }
+    }
+
     /// Whether some number is in both sets.
     pub fn meets(&self, other: &Row) -> bool
         ensures value { IsTrue result ↔ Meets self.now other.now }

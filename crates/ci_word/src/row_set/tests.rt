@@ -46,6 +46,8 @@ fn joins_and_meets(rt: HostRuntime) {
     other.insert(255);
     assert!(rt; row.meets(&other));
     assert_eq!(rt; row.union(&other).count(), 8);
+    assert_eq!(rt; row.difference(&other).count(), 5);
+    assert_eq!(rt; other.difference(&row).count(), 2);
     assert!(rt; row.union(&row) == row);
     assert!(rt; row != other);
 }

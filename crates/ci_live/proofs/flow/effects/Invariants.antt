@@ -1,10 +1,10 @@
-use Rattle.std.proofs.Common.{ℕ, ◌<◌, ◌↔◌, drop}
-use Rattle.ci_live.specs.Bits.{Has}
+use Rattle.std.proofs.Common.{ℕ, ◌↔◌, drop}
 use Rattle.ci_isa.specs.Sequences.{ReadFirst, Write}
+use Rattle.ci_live.specs.Flows.{Has}
 use Rattle.ci_live.proofs.flow.effects.Given as goal
 
 abbrev pub invariant-loop-place : goal.invariant-loop-place
 invariant-loop-place l = record {
-  first : (r : ℕ) → r < 32 → Has l.first r ↔ ReadFirst (drop l.place l.insns) r;
-  written : (r : ℕ) → r < 32 → Has l.written r ↔ Write (drop l.place l.insns) r;
+  first : (r : ℕ) → Has l.first r ↔ ReadFirst (drop l.place l.insns) r;
+  written : (r : ℕ) → Has l.written r ↔ Write (drop l.place l.insns) r;
 }

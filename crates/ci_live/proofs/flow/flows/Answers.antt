@@ -1,8 +1,7 @@
 use Rattle.std.proofs.Common.{◌↔◌, List, ◌+◌, subst, sym}
 use Rattle.ci_live.specs.declared.flow.Flow.{Flow}
-use Rattle.ci_live.specs.Bits.{Has}
-use Rattle.ci_live.specs.Flows.{AreFlows}
 use Rattle.ci_isa.specs.Sequences.{ReadFirst, Write}
+use Rattle.ci_live.specs.Flows.{AreFlows, Has}
 use Rattle.ci_live.proofs.PushLaws.{flows_more}
 use Rattle.ci_live.proofs.flow.flows.Goals as goal
 
@@ -12,7 +11,7 @@ loop-block-preserved c =
     (flows_more c.args.leaders.now c.args.blocks.now c.loop-block.block-index c.loop-block.flows.items c.block-item.result _ c.loop-block-test.true
     (sym c.block-item.is) c.loop-block.invariant
     (record {
-      first = λ r below. subst (λ insns. Has c.effects-first.result.0 r ↔ ReadFirst insns r) c.deref.ensures.value (c.effects-first.ensures.first r below);
-      written = λ r below. subst (λ insns. Has c.effects-first.result.1 r ↔ Write insns r) c.deref.ensures.value (c.effects-first.ensures.written r below);
+      first = λ r. subst (λ insns. Has c.effects-first.result.0 r ↔ ReadFirst insns r) c.deref.ensures.value (c.effects-first.ensures.first r);
+      written = λ r. subst (λ insns. Has c.effects-first.result.1 r ↔ Write insns r) c.deref.ensures.value (c.effects-first.ensures.written r);
       ways = c.ways_of.ensures;
     }))

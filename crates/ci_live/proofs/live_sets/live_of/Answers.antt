@@ -1,7 +1,7 @@
-use Rattle.std.proofs.Common.{◌≡◌, ℕ, ◌<◌, List, length, subst, sym, ap, ◌∙◌, slice_index}
+use Rattle.std.proofs.Common.{◌≡◌, ℕ, ◌<◌, List, length, subst, sym, ap, ◌∙◌}
 use Rattle.ci_live.specs.declared.flow.Flow.{Flow}
 use Rattle.ci_live.specs.Flows.{AreFlows, AreWithin, flow_at}
-use Rattle.ci_live.specs.Found.{IsSolution, on_ways}
+use Rattle.ci_live.specs.Found.{IsSolution, live_at, on_ways}
 use Rattle.ci_live.proofs.LiveLaws.{are_live_sets, flows_within, leaders_ascend, leaders_many}
 use Rattle.ci_live.proofs.SearchLaws.{Ascend}
 use Rattle.ci_live.proofs.live_sets.live_of.Goals as goal
@@ -40,9 +40,8 @@ returns c =
     c.in_ok-leaders.ensures c.requires
     (subst (λ (leaders : List ℕ). AreFlows leaders c.args.blocks.now (length c.args.blocks.now) c.in_ok-flows.flows.items) c.deref.ensures.value c.in_ok-flows.ensures)
     (subst (λ (flows : List Flow). IsSolution flows c.in_ok-found.found) c.deref-2.ensures.value c.in_ok-found.ensures)
-    (c.in_ok-after.ensures.many ∙ ap (λ (xs : List Flow). length xs) c.deref-3.ensures.value)
     (subst
     (λ (flows : List Flow).
     (k : ℕ) → k < length flows
-    → slice_index c.in_ok-after.after.items k ≡ on_ways c.in_ok-found.found.live.items c.in_ok-found.found.any (flow_at flows k).ways)
+    → live_at c.in_ok-after.after.items k ≡ on_ways c.in_ok-found.found.live.items c.in_ok-found.found.any (flow_at flows k).ways)
     c.deref-3.ensures.value c.in_ok-after.ensures.each)

@@ -1,24 +1,38 @@
-use Rattle.std.proofs.Common.{refl, sym, ◌∙◌, arith}
-use Rattle.std.proofs.lemmas.Bool.{eqb-false, eqb-true}
-use Rattle.std.proofs.lemmas.Grind.{get_or_default_zero}
-use Rattle.ci_live.proofs.LookLaws.{found_right, less_room_found, nothing_to_find}
+use Rattle.std.proofs.Common.{◌≡◌, ◌-◌, ◌<◌, length, refl, sym, ap, ◌∙◌, subst, arith}
+use Rattle.std.specs.FinSet as set
+use Rattle.std.specs.List.{sum_by}
+use Rattle.std.proofs.Math.ListN.{set as list_set}
+use Rattle.std.proofs.lemmas.List.{get_or_default}
+use Rattle.ci_word.specs.Numbers.{count_below}
+use Rattle.ci_live.specs.Flows.{Has}
+use Rattle.ci_live.specs.Found.{live_at, missing_at, room}
+use Rattle.ci_live.proofs.LookLaws.{found_right, missing_apart}
+use Rattle.ci_live.proofs.SetLaws.{has_none, less_room}
 use Rattle.ci_live.proofs.iteration.Found.look.Goals as goal
 
-pub returns-then-eq-clause-look : goal.returns-then-eq-clause-look
-returns-then-eq-clause-look c = (
-  refl,
-  nothing_to_find c.args.flows.now c.args.self.now c.requires.sound c.args.number c.grown-live.result c.requires.number c.grown-live.ensures
-      (eqb-true _ _ (sym c.eq.ensures ∙ c.if-eq.true) ∙ c.index.ensures
-      ∙ get_or_default_zero c.args.self.now.live.items c.args.number _ (omega (arith, c.requires.sound.many))),
-)
+pub returns-then-count-eq0-clause-look : goal.returns-then-count-eq0-clause-look
+returns-then-count-eq0-clause-look c =
+    let empty = sym c.missing-missing.ensures ∙ set.empty_of_len c.missing-missing.result (sym c.count.ensures.value ∙ c.if-count-eq0.true) in
+    (refl, λ r has. has_none r (subst (λ s. Has s r) empty has))
 
 pub returns-clause-sound : goal.returns-clause-sound
 returns-clause-sound c =
-    found_right c.args.flows.now c.args.self.now c.requires.sound c.args.number c.grown-live.result c.requires.number c.grown-live.ensures
-    _ refl c.union-self.ensures.value
+    let live = c.args.self.now.live.items in
+    let n = c.args.number in
+    let before = c.index.ensures ∙ get_or_default live n _ set.empty (omega (arith, c.requires.sound.many)) in
+    found_right c.args.flows.now c.args.self.now c.requires.sound n c.requires.number _
+    (ap (λ s. list_set live n s) (c.union.ensures.value ∙ (λ i. set.union (before i) (c.missing-missing.ensures i))))
+    (c.union-self.ensures.value ∙ ap (λ s. set.union c.args.self.now.any s) c.missing-missing.ensures)
 
 pub returns-clause-look : goal.returns-clause-look
 returns-clause-look c =
-    less_room_found c.args.flows.now c.args.self.now c.requires.sound c.args.number c.grown-live.result c.requires.number c.grown-live.ensures
-    (λ same. eqb-false _ _ (sym c.eq.ensures ∙ c.if-eq.false)
-    (same ∙ sym (c.index.ensures ∙ get_or_default_zero c.args.self.now.live.items c.args.number _ (omega (arith, c.requires.sound.many)))))
+    let live = c.args.self.now.live.items in
+    let n = c.args.number in
+    let within : n < length live = omega (arith, c.requires.sound.many) in
+    let before : c.index.result.now ≡ live_at live n = c.index.ensures ∙ get_or_default live n _ set.empty within in
+    let missing = c.missing-missing.ensures in
+    let some : 0 < count_below 256 (set.contains (missing_at c.args.flows.now c.args.self.now n)) =
+    subst (λ s. 0 < count_below 256 (set.contains s)) missing (omega (arith, c.count.ensures.counted, c.if-count-eq0.false)) in
+    subst (λ s. sum_by (λ live. 256 - count_below 256 (set.contains live)) (list_set live n s) < room c.args.self.now)
+    (sym (c.union.ensures.value ∙ (λ i. set.union (before i) (missing i))))
+    (less_room live n _ within (missing_apart c.args.flows.now c.args.self.now c.requires.sound n c.requires.number) some)
