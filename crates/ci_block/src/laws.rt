@@ -1,5 +1,5 @@
 //! What holds of all files, as contracts of functions without effect.
-ghost use Rattle.ci_block.specs.Laws.{BlockIsOne, BlocksAreOne};
+ghost use Rattle.ci_block.specs.Laws.{BlockIsOne, BlocksAreOne, WaysAreLeaders, WordBehindIsLeader};
 ghost use Rattle.ci_block.specs.Leaders.{ListingIsOne};
 
 /// The definition of the listed leaders determines them.
@@ -11,4 +11,11 @@ pub fn leaders_are_determined()
 pub fn blocks_are_determined()
     ensures block { BlockIsOne }
     ensures blocks { BlocksAreOne }
+{}
+
+/// Where a block leads by a branch, a jump or its end is a leader, if that is a word of the text, and so is the word
+/// behind it.
+pub fn ways_lead_to_leaders()
+    ensures ways { WaysAreLeaders }
+    ensures behind { WordBehindIsLeader }
 {}

@@ -8,3 +8,6 @@ pub mod LooksLaws
 pub mod EffectLaws
 pub mod PushLaws
 pub mod LiveLaws
+pub mod NeededLaws
+mod OneAnalysis
+mod RegisterLaws

@@ -35,7 +35,7 @@ pub leaders_many :
 leaders_many leaders blocks same = ap length same ∙ length-map blocks (λ (b : Block). b.leader)
 
 -- a list with a number has a block
-block_of : (blocks : List Block) (k : ℕ) → k < length blocks → Block
+pub block_of : (blocks : List Block) (k : ℕ) → k < length blocks → Block
 block_of [] k within = let h : ⊥ = omega arith in absurd h
 block_of (block ∷ blocks) k within = block
 

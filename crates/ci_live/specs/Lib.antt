@@ -3,3 +3,4 @@ pub mod Liveness
 pub mod Analyses
 pub mod Flows
 pub mod Found
+pub mod Laws

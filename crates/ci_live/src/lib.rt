@@ -11,6 +11,7 @@ pub use live_sets::{LiveSets, live};
 mod analysis;
 mod flow;
 mod iteration;
+pub mod laws;
 mod live_sets;
 mod predecessors;
 #[cfg(test)]
