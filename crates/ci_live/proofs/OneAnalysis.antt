@@ -1,6 +1,5 @@
 -- What blocks say determines their live sets.
-use Rattle.std.proofs.Common.{◌≡◌, ℕ, ◌<◌, List, length, map, get_or, Bool, true, false, IsTrue, nat_cmp, refl, sym, ap, ◌∙◌, subst, arith}
-use Rattle.std.specs.FinSet as set
+use Rattle.std.proofs.Common.{◌≡◌, ℕ, ◌<◌, List, length, map, get_or, Bool, true, false, IsTrue, refl, sym, ap, ◌∙◌, subst, arith}
 use Rattle.std.specs.List.{Contains}
 use Rattle.std.proofs.lemmas.List.{get_or_default, get_or-map, length-map}
 use Rattle.ci_word.proofs.NumberLaws.{same_numbers}
@@ -10,9 +9,8 @@ use Rattle.ci_block.specs.Blocks.{AreBlocks}
 use Rattle.ci_block.specs.Laws.{BlockContents, contents_of}
 use Rattle.ci_block.proofs.OneBlock.{blocks_are_one}
 use Rattle.ci_block.proofs.OneListing.{listing_is_one}
-use Rattle.ci_live.specs.Laws.{AgreeAt, AnalysisIsOne, LiveSetsAreOne}
-use Rattle.ci_live.specs.Liveness.{AreLiveSets, IsLive, IsLiveAfter, LeadsTo}
-use Rattle.ci_live.specs.Sets.{Sets}
+use Rattle.ci_live.specs.Laws.{AnalysisIsOne, LiveSetsAreOne}
+use Rattle.ci_live.specs.Liveness.{IsLive, IsLiveAfter, LeadsTo}
 use Rattle.ci_live.proofs.LiveLaws.{block_of}
 use Rattle.ci_live.proofs.LivenessLaws.{live_from_steps, live_where_read}
 use Rattle.ci_live.proofs.NeededLaws.{has_sets}
@@ -99,13 +97,13 @@ live_sets_are_one left right of_left of_right leader same l r listed =
     let also : Contains of_right.leaders leader =
     subst (λ n. Contains of_right.leaders n) (sym o.leader ∙ led) (has_sets right of_right r o.other o.there) in (
       same_numbers _ _
-      (λ k.
-      same_test _ _ (λ h. (r.at leader k also).1 (live_there left right same k leader ((l.at leader k listed).0 h)))
-      (λ h. (l.at leader k listed).1 (live_there right left (sym same) k leader ((r.at leader k also).0 h)))),
+          (λ k.
+          same_test _ _ (λ h. (r.at leader k also).1 (live_there left right same k leader ((l.at leader k listed).0 h)))
+          (λ h. (l.at leader k listed).1 (live_there right left (sym same) k leader ((r.at leader k also).0 h)))),
       same_numbers _ _
-      (λ k.
-      same_test _ _ (λ h. (r.after leader k also).1 (live_after_there left right same k leader ((l.after leader k listed).0 h)))
-      (λ h. (l.after leader k listed).1 (live_after_there right left (sym same) k leader ((r.after leader k also).0 h)))),
+          (λ k.
+          same_test _ _ (λ h. (r.after leader k also).1 (live_after_there left right same k leader ((l.after leader k listed).0 h)))
+          (λ h. (l.after leader k listed).1 (live_after_there right left (sym same) k leader ((r.after leader k also).0 h)))),
     )
 
 pub analysis_is_one : AnalysisIsOne

@@ -1,16 +1,14 @@
 -- What is read and live in a file is a register.
-use Rattle.std.proofs.Common.{◌≡◌, ℕ, ◌+◌, ◌*◌, ◌<◌, ◌⊎◌, inl, inr, Bool, true, false, ◌&&◌, ◌||◌, not, nat_eq, List, [], ◌∷◌, ◌++◌, length, get_or, IsTrue, nat_cmp, refl, sym, ap, ◌∙◌, subst, arith}
+use Rattle.std.proofs.Common.{◌≡◌, ℕ, ◌+◌, ◌*◌, ◌<◌, inl, inr, true, List, [], ◌∷◌, refl, sym, ◌∙◌, subst, arith}
 use Rattle.std.specs.Prelude.{◌==◌, ⊤}
-use Rattle.std.specs.FinSet as set
 use Rattle.std.specs.List.{Contains, list_any}
 use Rattle.std.proofs.lemmas.Bool.{and_parts, eqb-true, or_cases}
-use Rattle.std.proofs.Math.Seq.{get_or-append_seam}
 use Rattle.std.proofs.lemmas.List.Elements.{Contains-append_right}
 use Rattle.ci_isa.specs.declared.instruction.Insn.{Insn}
 use Rattle.ci_isa.specs.declared.instruction.Insn.TheVariants.{Alu, AluImm, Lui, Auipc, Jal, Jalr, Branch, Load, Store, Fence, Ecall, Ebreak, Unit, Cread, Illegal}
-use Rattle.ci_isa.specs.Effects.{is_kept, operands, registers_read}
+use Rattle.ci_isa.specs.Effects.{is_kept, operands}
 use Rattle.ci_isa.specs.FieldBounds.{FieldsFit}
-use Rattle.ci_isa.specs.Sequences.{IsReadBy, ReadFirst}
+use Rattle.ci_isa.specs.Sequences.{IsReadBy}
 use Rattle.ci_isa.specs.Table.{IsInsnAt}
 use Rattle.ci_isa.proofs.Only.{plain_well_formed}
 use Rattle.ci_isa.proofs.Registers.{reads_register_is}

@@ -8,7 +8,8 @@ pub fn live_is_what_blocks_need()
     ensures successor { LiveAtSuccessor }
 {}
 
-/// The blocks determine the live sets, and so do a file, the known targets of JALR and the addresses that the user names.
+/// The blocks determine the live sets, and so do a file, the known targets of JALR and the addresses that the user
+/// names.
 pub fn live_sets_are_determined()
     ensures blocks { LiveSetsAreOne }
     ensures file { AnalysisIsOne }

@@ -204,7 +204,8 @@ unfolding count_below
 count_below-or zero p q apart = refl
 count_below-or (suc n) p q apart =
     let rest = count_below-or n p q apart in
-    cond_both (p n) 1 0 (λ x. count_below n (λ k. p k || q k) + (if p n || q n then 1 else 0) ≡ count_below n p + x + (count_below n q + (if q n then 1 else 0)))
+    cond_both (p n) 1 0
+    (λ x. count_below n (λ k. p k || q k) + (if p n || q n then 1 else 0) ≡ count_below n p + x + (count_below n q + (if q n then 1 else 0)))
     (λ e. let other = false_from_ne_true (q n) (apart n e) in rw (e, other) (omega arith))
     (λ e. rw e (omega arith))
 

@@ -13,8 +13,14 @@ pub loop-place-init : goal.loop-place-init
 loop-place-init c =
     let none : drop (length c.args.insns.now) c.args.insns.now ≡ [] = drop-length c.args.insns.now in
     record {
-      first = λ r. (λ has. absurd (has_none r (subst (λ s. Has s r) c.empty-first.ensures has)), λ f. absurd (nothing_read r (subst (λ xs. ReadFirst xs r) none f)));
-      written = λ r. (λ has. absurd (has_none r (subst (λ s. Has s r) c.empty-written.ensures has)), λ w. absurd (nothing_written r (subst (λ xs. Write xs r) none w)));
+      first = λ r. (
+        λ has. absurd (has_none r (subst (λ s. Has s r) c.empty-first.ensures has)),
+        λ f. absurd (nothing_read r (subst (λ xs. ReadFirst xs r) none f)),
+      );
+      written = λ r. (
+        λ has. absurd (has_none r (subst (λ s. Has s r) c.empty-written.ensures has)),
+        λ w. absurd (nothing_written r (subst (λ xs. Write xs r) none w)),
+      );
     }
 
 pub loop-place-preserved : goal.loop-place-preserved
@@ -27,7 +33,8 @@ loop-place-preserved c =
       first =
           λ r.
           subst (λ s. Has s r ↔ ReadFirst (drop k insns) r)
-          (sym (c.union-first.ensures.value ∙ (λ i. set.union (c.reads-operands.ensures i) (c.difference.ensures.value i)) ∙ ap (λ t. set.union (registers_read insn) (set.difference c.loop-place.first t)) c.writes-results.ensures))
+          (sym (c.union-first.ensures.value ∙ (λ i. set.union (c.reads-operands.ensures i) (c.difference.ensures.value i))
+          ∙ ap (λ t. set.union (registers_read insn) (set.difference c.loop-place.first t)) c.writes-results.ensures))
           (read_before insns k insn (omega arith) c.index-insns-place.is r c.loop-place.first
           (subst (λ n. Has c.loop-place.first r ↔ ReadFirst (drop n insns) r) (sym next) (c.loop-place.invariant.first r)));
       written =
