@@ -1,18 +1,16 @@
 -- Reading a frame gives back what went in.
-use Rattle.std.proofs.Common.{◌≡◌, ◌≢◌, ℕ, ◌+◌, ◌-◌, ◌*◌, ◌<◌, ◌≤◌, nat_lt, true, false, cond, List, [], ◌∷◌, ◌++◌, length, get_or, refl, sym, ◌∙◌, ap, subst, arith}
+use Rattle.std.proofs.Common.{◌≡◌, ℕ, ◌+◌, ◌-◌, ◌*◌, ◌<◌, ◌≤◌, nat_lt, true, false, cond, List, [], ◌∷◌, ◌++◌, length, get_or, refl, sym, ◌∙◌, ap, arith}
 use Rattle.std.specs.List.Sorted.{IsPermutation}
 use Rattle.std.proofs.lemmas.List.Sorted.{Contains-permutation, length_permutation}
 use Rattle.std.proofs.lemmas.Bool.Decides.{nat_tests}
-use Rattle.ci_elf.specs.declared.faults.ElfFault.{ElfFault}
-use Rattle.ci_elf.specs.declared.faults.ElfFault.TheVariants.{NoMemory}
 use Rattle.ci_elf.specs.declared.segments.Segment.{Segment}
 use Rattle.ci_elf.specs.declared.ranges.Range.{Range}
 use Rattle.ci_elf.specs.Fields.{field, e_flags, e_phentsize, e_shentsize}
 use Rattle.ci_elf.specs.Executables.{Executable, has_in_file, place_of}
-use Rattle.ci_elf.specs.Rules.{Rule, Holds, KeepsRules, BreaksFirst, rules, file_header_rules, kind_rules}
+use Rattle.ci_elf.specs.Rules.{KeepsRules, rules, file_header_rules, kind_rules}
 use Rattle.ci_elf.specs.Frames.{frame_of, text_address, values_address}
 use Rattle.ci_elf.specs.FrameImages.{FitFrame, FramesAreRead, FramesKeepRules, HoldsWords, framed_segments, text_range, text_segment, values_segment, values_offset, AreWords}
-use Rattle.ci_elf.proofs.BrokenLaws.{kept_back}
+use Rattle.ci_elf.proofs.OneAnswer.{none_broken, only_memory}
 use Rattle.ci_elf.proofs.WordLaws.{StandAt}
 use Rattle.ci_elf.proofs.FrameHeaderLaws.{frame_headers, text_stands, constants_stand, values_stand}
 use Rattle.ci_elf.proofs.FrameMeaningLaws.{segments_are, symbols_are, ranges_are}
@@ -36,18 +34,6 @@ module _ (text constants values : List ℕ) (fits : FitFrame text constants valu
   frame_kept =
       rules_kept frame (length text) (length constants) (length values) (frame_headers text constants values fits)
       kind_kept
-
--- none is broken first where all are kept
-none_broken :
-    (bytes : List ℕ) (list : List Rule) (fault : ElfFault) → KeepsRules bytes list → ¬ BreaksFirst bytes list fault
-none_broken bytes list fault all broken =
-    let first = broken.1 in
-    let kept : KeepsRules bytes (first.before ++ broken.0 ∷ first.after) = subst (KeepsRules bytes) first.split all in
-    first.broken ((kept_back (Holds bytes) first.before (broken.0 ∷ first.after) kept).0)
-
-only_memory : (fault : ElfFault) → ¬ (fault ≢ NoMemory) → fault ≡ NoMemory
-only_memory NoMemory other = refl
-only_memory fault other = absurd (other (λ e. cc))
 
 pub frames_keep_rules : FramesKeepRules
 frames_keep_rules text constants values fits fault failed =

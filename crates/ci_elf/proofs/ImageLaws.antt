@@ -32,7 +32,7 @@ loaded_to s address h = ltb-true address (s.address + s.file_size) (both (nat_le
 pub contains_tail : (t : Segment) (ts : List Segment) (s : Segment) → Contains ts s → Contains (t ∷ ts) s
 contains_tail t ts s c = (suc c.0, omega (arith, c.1), c.2)
 
-contained_later : (t : Segment) (ts : List Segment) (s : Segment) (k : ℕ) → k < length (t ∷ ts) → get_or (t ∷ ts) k s ≡ s → t ≢ s → Contains ts s
+pub contained_later : (t : Segment) (ts : List Segment) (s : Segment) (k : ℕ) → k < length (t ∷ ts) → get_or (t ∷ ts) k s ≡ s → t ≢ s → Contains ts s
 contained_later t ts s zero h e other = absurd (other e)
 contained_later t ts s (suc k) h e other = (k, omega arith, e)
 
@@ -88,7 +88,7 @@ module _ (image : Executable) (formed : IsWellFormed image) where
   layout_of = record { filled = formed.filled; one = one }
 
   -- what loads a byte is one segment
-  only_loader : (address : ℕ) (s : Segment) → Contains image.segments s → IsTrue (has_in_file s address) → (t : Segment) → Contains image.segments t → IsTrue (has_in_file t address) → t ≡ s
+  pub only_loader : (address : ℕ) (s : Segment) → Contains image.segments s → IsTrue (has_in_file s address) → (t : Segment) → Contains image.segments t → IsTrue (has_in_file t address) → t ≡ s
   only_loader address s c loads t d others = elim (cases_lt s.address t.address) [
     | inl l ↦ sym (one s t c d (omega arith) (omega (arith, loaded_to s address loads, loaded_from t address others, formed.filled s c)))
     | inr l ↦ one t s d c l (omega (arith, loaded_to t address others, loaded_from s address loads, formed.filled t d))

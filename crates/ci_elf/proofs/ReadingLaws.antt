@@ -62,14 +62,17 @@ module _ (bytes : List ℕ) where
       let p = err_from_is_err_and result err in
       rw (p.1, p.2) (λ real. subst (λ l. BreaksFirst bytes l fault) stages (b real))
 
+  -- a range of the text is that of a section
+  pub range_among :
+      (ranges : List Range) → IsPermutation (ranges_of bytes) ranges → (range : Range) → Contains ranges range
+      → (n : ℕ) × (n < e_shnum bytes) × (has_words bytes n ≡ true) × (range ≡ range_of bytes n)
+  unfolding ranges_of
+  range_among ranges moved range c =
+      contained_those (has_words bytes) (range_of bytes) (e_shnum bytes) range
+      (Contains-permutation ranges (ranges_of bytes) range (IsPermutation-sym (ranges_of bytes) ranges moved) c)
+
   module _ (placed : KeepsRules bytes (segment_rules bytes)) (memory : KeepsRules bytes (memory_rules bytes)) (sections : KeepsRules bytes (section_rules bytes))
       (ranges : List Range) (moved : IsPermutation (ranges_of bytes) ranges) where
-    range_among : (range : Range) → Contains ranges range → (n : ℕ) × (n < e_shnum bytes) × (has_words bytes n ≡ true) × (range ≡ range_of bytes n)
-    unfolding ranges_of
-    range_among range c =
-        contained_those (has_words bytes) (range_of bytes) (e_shnum bytes) range
-        (Contains-permutation ranges (ranges_of bytes) range (IsPermutation-sym (ranges_of bytes) ranges moved) c)
-
     file_part : (k : ℕ) → k < e_phnum bytes → is_loadable bytes k ≡ true → LiesIn bytes (p_offset bytes k) (p_filesz bytes k)
     file_part k h is = (kept_at (Holds bytes) (e_phnum bytes) k (λ n. NamesNoInterpreter n ∷ HasFilePart n ∷ IsPlaced n ∷ []) h placed).1.0 is
 
@@ -92,7 +95,7 @@ module _ (bytes : List ℕ) where
     range_loaded : (range : Range) → Contains ranges range → (s : Segment) × Contains (segments_of bytes) s × LoadsRange bytes s range
     unfolding segments_of
     range_loaded range c =
-        let r = range_among range c in
+        let r = range_among ranges moved range c in
         let words = words_some bytes placed sections memory r.0 r.2 in
         let l = loaded_at bytes placed sections r.0 r.1 words.0 in
         let by = l.1 in
@@ -116,8 +119,8 @@ module _ (bytes : List ℕ) where
         → IsWellFormed (record { bytes = bytes; entry = e_entry bytes; segments = segments_of bytes; ranges = ranges; symbols = symbols })
     well_formed_from symbols bounded ascending entry = record {
       ascending = ascending;
-      aligned = λ range c. let r = range_among range c in rw r.3 (omega arith);
-      worded = λ range c. let r = range_among range c in rw r.3 ((words_some bytes placed sections memory r.0 r.2).1);
+      aligned = λ range c. let r = range_among ranges moved range c in rw r.3 (omega arith);
+      worded = λ range c. let r = range_among ranges moved range c in rw r.3 ((words_some bytes placed sections memory r.0 r.2).1);
       loaded = range_loaded;
       in_file = λ s c. (segment_fits s c).in_file;
       filled = λ s c. (segment_fits s c).fits.filled;

@@ -11,7 +11,7 @@ length_words [] = refl
 length_words (n ∷ numbers) = omega (arith, length_words numbers)
 
 -- bytes in front move the places on
-from_behind :
+pub from_behind :
     (front rest : List ℕ) (place n : ℕ)
     → little_from (length front + place) n (front ++ rest) ≡ little_from place n rest
 from_behind front rest place zero = refl

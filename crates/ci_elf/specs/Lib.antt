@@ -11,3 +11,4 @@ pub mod SymbolChecks
 pub mod Frames
 pub mod FrameImages
 pub mod Laws
+pub mod TextChanges

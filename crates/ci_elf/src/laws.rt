@@ -1,6 +1,7 @@
 //! What holds of all files and frames, as contracts of functions without effect.
 ghost use Rattle.ci_elf.specs.FrameImages.{FramesAreRead, FramesKeepRules};
-ghost use Rattle.ci_elf.specs.Laws.{ImageIsOne};
+ghost use Rattle.ci_elf.specs.Laws.{AnswerIsOne, ImageIsOne};
+ghost use Rattle.ci_elf.specs.TextChanges.{NoneWritten, OneMoreWritten, OtherWordsStay, TextIsLoadedOnce, TextMayChange, WordIsRead};
 
 /// Reading what `frame` makes gives back what went in: the entry, the segments, and the words of the
 /// text, of the constants and of the values at their addresses.
@@ -11,5 +12,17 @@ pub fn frames_are_read()
 
 /// The bytes of a file determine its image.
 pub fn image_is_determined()
-    ensures { ImageIsOne }
+    ensures image { ImageIsOne }
+    ensures answer { AnswerIsOne }
+{}
+
+/// A file of which words of the text are written over keeps all rules, and means what it did, with
+/// the new bytes; and a byte of a word of the text is loaded to the text alone.
+pub fn text_may_change()
+    ensures change { TextMayChange }
+    ensures none { NoneWritten }
+    ensures one_more { OneMoreWritten }
+    ensures once { TextIsLoadedOnce }
+    ensures written { WordIsRead }
+    ensures others { OtherWordsStay }
 {}
