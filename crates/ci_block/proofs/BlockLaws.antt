@@ -13,7 +13,8 @@ use Rattle.ci_block.specs.Leaders.{AreLeaders, behind_terminator}
 use Rattle.ci_block.specs.Marking.{range_at}
 use Rattle.ci_block.specs.Stretches.{AreBlocksOf, AreInsns, EndsStretch, IsBlockOf, IsRangeEnd, IsStretch}
 use Rattle.ci_block.specs.Text.{EndsAt, StandsAt}
-use Rattle.ci_block.proofs.RangeLaws.{held_below, nowhere, range_there, text_at}
+use Rattle.ci_elf.proofs.WordPlaceLaws.{nowhere}
+use Rattle.ci_block.proofs.RangeLaws.{held_below, range_there, text_at}
 
 -- ---- where a stretch ends
 

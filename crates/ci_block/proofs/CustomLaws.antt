@@ -6,7 +6,8 @@ use Rattle.ci_elf.specs.declared.ranges.Range.{Range}
 use Rattle.ci_elf.specs.Executables.{Executable, IsTextWord, IsWellFormed}
 use Rattle.ci_block.specs.Marking.{range_at}
 use Rattle.ci_block.specs.Text.{word_at}
-use Rattle.ci_block.proofs.RangeLaws.{apart, holder, nowhere, text_below_top, text_ranges, word_of_range}
+use Rattle.ci_elf.proofs.WordPlaceLaws.{nowhere}
+use Rattle.ci_block.proofs.RangeLaws.{apart, holder, text_below_top, text_ranges, word_of_range}
 use Rattle.ci_block.specs.CustomSearch.{HasNoCustomWordBefore, IsFirstCustomWordIn}
 use Rattle.ci_block.specs.CustomWords.{HasNoCustomWord, IsFirstCustomWord}
 

@@ -18,11 +18,11 @@ use Rattle.ci_block.proofs.SourceLaws.{meeting_from, meeting_met}
 
 -- the marked words are those of the text with this property
 pub record AreMarked (ranges : List Range) (P : ℕ → Type 0) (marks : Marks) : Type 0 where
-  pub ranges_of : marks.places.ranges.items ≡ ranges
+  pub ranges_of : marks.places ≡ ranges
   pub sound : (a : ℕ) → IsMarked marks a → P a
   pub complete : (a : ℕ) → IsTextWord ranges a → P a → IsMarked marks a
 
-pub none_marked : (ranges : List Range) (marks : Marks) → marks.places.ranges.items ≡ ranges → ((a : ℕ) → ¬ IsMarked marks a)
+pub none_marked : (ranges : List Range) (marks : Marks) → marks.places ≡ ranges → ((a : ℕ) → ¬ IsMarked marks a)
     → AreMarked ranges (λ _. ⊥) marks
 none_marked ranges marks same none = record { ranges_of = same; sound = none; complete = λ a text p. absurd p }
 

@@ -1,6 +1,5 @@
 pub mod RangeLaws
 pub mod CustomLaws
-pub mod PlaceLaws
 pub mod MarkLaws
 pub mod ListingLaws
 pub mod InsnLaws

@@ -14,7 +14,8 @@ use Rattle.ci_block.specs.Loading.{IsFromDataWords, IsFromSegments, end_word, fi
 use Rattle.ci_block.specs.Marking.{AreTextRanges}
 use Rattle.ci_block.specs.Sources.{IsFromData}
 use Rattle.ci_block.specs.Text.{IsDataWord, IsLoadedWord}
-use Rattle.ci_block.proofs.RangeLaws.{holder, nowhere, text_at}
+use Rattle.ci_elf.proofs.WordPlaceLaws.{nowhere}
+use Rattle.ci_block.proofs.RangeLaws.{holder, text_at}
 
 abbrev nothing : Segment
 nothing = record { address = 0; memory_size = 0; offset = 0; file_size = 0 }

@@ -1,81 +1,52 @@
 -- Marks by places: what a flag says of a word.
-use Rattle.std.proofs.Common.{◌≡◌, ℕ, ◌+◌, ◌*◌, ◌<◌, ◌⊎◌, inl, inr, List, [], ◌∷◌, ◌++◌, length, take, get_or, true, false, refl, sym, ◌∙◌, ap, subst, arith}
+use Rattle.std.proofs.Common.{Some, None, ◌≡◌, ℕ, ◌+◌, ◌<◌, ◌⊎◌, inl, inr, List, [], ◌∷◌, ◌++◌, length, take, get_or, true, false, refl, sym, ◌∙◌, ap, subst, arith}
 use Rattle.std.specs.Prelude.{slice_set}
 use Rattle.std.specs.List.{Contains}
-use Rattle.std.proofs.lemmas.Bool.{cases_lt, cases_eq}
+use Rattle.std.proofs.lemmas.Bool.{cases_eq}
 use Rattle.std.proofs.lemmas.List.{get_or-set_same, get_or-set_other, take_more}
 use Rattle.std.proofs.lemmas.List.Elements.{Contains-append_left, Contains-push, Contains-push_cases}
-use Rattle.ci_elf.specs.Executables.{HoldsAddress, IsTextWord}
-use Rattle.ci_block.specs.declared.places.Places.{Places}
+use Rattle.ci_elf.specs.Executables.{IsTextWord}
+use Rattle.ci_elf.specs.WordPlaces.{word_place}
+use Rattle.ci_elf.proofs.WordPlaceLaws.{no_text_word, one_word, word_below}
 use Rattle.ci_block.specs.declared.marks.Marks.{Marks}
-use Rattle.ci_block.specs.Marking.{range_at, ArePlaces}
-use Rattle.ci_block.specs.Places.{IsPlace}
 use Rattle.ci_block.specs.Marks.{Adds, IsMarked}
-use Rattle.ci_block.proofs.RangeLaws.{held_at, one_range}
 
-module _ (places : Places) where
-  -- a place by its range and its word in it
-  pub placed : (i word : ℕ) → word < (range_at places.ranges.items i).words
-      → IsPlace places ((range_at places.ranges.items i).start + 4 * word) (get_or places.firsts.items i 0 + word)
-  placed i word h = record { index = i; word = word; within = h; stands = refl; behind_first = refl }
+same_number : (a b : ℕ) → Some a ≡ Some b → a ≡ b
+same_number a b is = cc
 
-  held : (a p : ℕ) (h : IsPlace places a p) → HoldsAddress places.ranges.items a h.index
-  held a p h = held_at places.ranges.items a h.index (omega (arith, h.stands)) (omega (arith, h.stands, h.within))
-
-  module _ (laid : ArePlaces places.ranges.items places.firsts.items places.count) where
-    -- a word has one place
-    pub one_place : (a p q : ℕ) → IsPlace places a p → IsPlace places a q → p ≡ q
-    one_place a p q h l =
-        let same : h.index ≡ l.index = one_range places.ranges.items laid.text a h.index l.index (held a p h) (held a q l) in
-        let start = ap (λ i. (range_at places.ranges.items i).start) same in
-        let first = ap (λ i. get_or places.firsts.items i 0) same in
-        omega (arith, h.stands, l.stands, h.behind_first, l.behind_first, start, first)
-
-    -- a place is that of one word
-    pub one_word : (a b p : ℕ) → IsPlace places a p → IsPlace places b p → a ≡ b
-    one_word a b p h l =
-        let within_h = (held a p h).within in
-        let within_l = (held b p l).within in
-        elim (cases_lt h.index l.index) [
-          | inl m ↦ absurd (omega (arith, h.behind_first, h.within, l.behind_first, laid.apart h.index l.index m within_l))
-          | inr m ↦ elim (cases_lt l.index h.index) [
-            | inl o ↦ absurd (omega (arith, l.behind_first, l.within, h.behind_first, laid.apart l.index h.index o within_h))
-            | inr o ↦
-                let same : h.index ≡ l.index = omega arith in
-                let start = ap (λ i. (range_at places.ranges.items i).start) same in
-                let first = ap (λ i. get_or places.firsts.items i 0) same in
-                omega (arith, h.stands, l.stands, h.behind_first, l.behind_first, start, first)
-          ]
-        ]
-
-    pub place_within : (a p : ℕ) → IsPlace places a p → p < places.count
-    place_within a p h =
-        let within = (held a p h).within in
-        omega (arith, h.behind_first, h.within, laid.within h.index within)
-
-module _ (marks : Marks) (a p : ℕ) (there : IsPlace marks.places a p) where
+module _ (marks : Marks) (a p : ℕ) (there : word_place marks.places a ≡ Some p) where
   pub marked_by_flag : get_or marks.flags.items p false ≡ true → IsMarked marks a
   marked_by_flag set = record { place = p; there = there; set = set }
 
-  pub flag_of_marked : ArePlaces marks.places.ranges.items marks.places.firsts.items marks.places.count
-      → IsMarked marks a → get_or marks.flags.items p false ≡ true
-  flag_of_marked laid m =
-      let same = one_place marks.places laid a m.place p m.there there in
-      subst (λ q. get_or marks.flags.items q false ≡ true) same m.set
+  pub flag_of_marked : IsMarked marks a → get_or marks.flags.items p false ≡ true
+  flag_of_marked m = subst (λ q. get_or marks.flags.items q false ≡ true) (same_number m.place p (sym m.there ∙ there)) m.set
+
+-- what is no word is not marked, and is not to be marked
+module _ (marks : Marks) (address : ℕ) (none : word_place marks.places address ≡ None) where
+  pub not_marked : ¬ IsMarked marks address
+  not_marked m = let e = sym none ∙ m.there in cc
+
+  pub nothing_marked : Adds marks marks (λ a. address ≡ a)
+  nothing_marked = record {
+    ranges = refl;
+    kept = λ a m. m;
+    added = λ a text e. absurd (no_text_word marks.places address none (subst (IsTextWord marks.places) (sym e) text));
+    only = λ a m. inl m;
+  }
 
 -- ---- one word more
 
-module _ (old new : Marks) (address place : ℕ) (same : new.places ≡ old.places) (there : IsPlace old.places address place)
+module _ (old new : Marks) (address place : ℕ) (same : new.places ≡ old.places) (there : word_place old.places address ≡ Some place)
     (written : new.flags.items ≡ slice_set old.flags.items place true) where
   within : place < length old.flags.items
-  within = omega (arith, old.whole, place_within old.places old.places.laid_out address place there)
+  within = omega (arith, old.whole, word_below old.places address place there)
 
   pub word_marked : Adds old new (λ a. address ≡ a)
   word_marked = record {
-    ranges = ap (λ p. p.ranges.items) same;
+    ranges = same;
     kept = λ a m. record {
       place = m.place;
-      there = subst (λ p. IsPlace p a m.place) (sym same) m.there;
+      there = ap (λ rs. word_place rs a) same ∙ m.there;
       set = rw written (elim (cases_eq m.place place) [
         | inl e ↦ rw e (get_or-set_same old.flags.items place true false within)
         | inr e ↦ get_or-set_other old.flags.items place m.place true false e ∙ m.set
@@ -83,13 +54,13 @@ module _ (old new : Marks) (address place : ℕ) (same : new.places ≡ old.plac
     };
     added = λ a text e. record {
       place = place;
-      there = subst (λ p. IsPlace p a place) (sym same) (subst (λ x. IsPlace old.places x place) e there);
+      there = ap (λ rs. word_place rs a) same ∙ ap (word_place old.places) (sym e) ∙ there;
       set = rw written (get_or-set_same old.flags.items place true false within);
     };
     only = λ a m.
-        let before = subst (λ p. IsPlace p a m.place) same m.there in
+        let before : word_place old.places a ≡ Some m.place = ap (λ rs. word_place rs a) (sym same) ∙ m.there in
         elim (cases_eq m.place place) [
-          | inl e ↦ inr (one_word old.places old.places.laid_out address a place there (subst (IsPlace old.places a) e before))
+          | inl e ↦ inr (one_word old.places address a place there (before ∙ ap Some e))
           | inr e ↦ inl (record {
             place = m.place;
             there = before;

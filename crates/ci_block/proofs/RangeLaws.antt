@@ -5,11 +5,9 @@ use Rattle.std.proofs.lemmas.Bool.{cases_lt}
 use Rattle.std.proofs.lemmas.List.{get_or_default, get_or_past}
 use Rattle.ci_elf.specs.declared.ranges.Range.{Range}
 use Rattle.ci_elf.specs.Executables.{Executable, HoldsAddress, InText, IsTextWord, IsWellFormed, end_of}
-use Rattle.ci_elf.proofs.RangeLaws.{text_held}
+use Rattle.ci_elf.proofs.WordPlaceLaws.{nowhere}
+use Rattle.ci_elf.proofs.RangeLaws.{range_holding, text_held}
 use Rattle.ci_block.specs.Marking.{range_at, AreTextRanges}
-
-abbrev pub nowhere : Range
-nowhere = record { start = 0; words = 0 }
 
 -- a range that has an address is one of the list
 pub held_below : (ranges : List Range) (address i : ℕ) → address < end_of (range_at ranges i) → i < length ranges
@@ -42,7 +40,8 @@ text_at ranges address i from to = text_held ranges address i (held_at ranges ad
 
 -- text lies in a range
 pub holder : (ranges : List Range) (address : ℕ) → InText ranges address → (i : ℕ) × HoldsAddress ranges address i
-holder ranges address h =
+holder ranges address text =
+    let h = range_holding ranges address text in
     let is : range_at ranges h.0 ≡ h.1 = get_or_default ranges h.0 nowhere h.1 h.2 ∙ h.3 in
     (h.0, held_at ranges address h.0 (rw is h.4.0) (rw is h.4.1))
 

@@ -9,7 +9,8 @@ use Rattle.ci_block.specs.Marking.{range_at, AreTextRanges}
 use Rattle.ci_block.specs.Sources.{IsFromMeeting, IsFromRanges, IsFromText, IsFromWords, Leads, Meets}
 use Rattle.ci_block.specs.Text.{StandsAt}
 use Rattle.ci_block.proofs.InsnLaws.{stands_alone}
-use Rattle.ci_block.proofs.RangeLaws.{apart, holder, nowhere, number_of, range_there}
+use Rattle.ci_elf.proofs.WordPlaceLaws.{nowhere}
+use Rattle.ci_block.proofs.RangeLaws.{apart, holder, number_of, range_there}
 
 module _ (image : Executable) (start : ℕ) where
   module _ (count : ℕ) (insn : Insn) (stands : StandsAt image (start + 4 * count) insn) (a : ℕ) where

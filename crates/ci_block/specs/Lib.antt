@@ -3,7 +3,6 @@ pub mod CustomWords
 pub mod Leaders
 pub mod Blocks
 pub mod Marking
-pub mod Places
 pub mod Marks
 pub mod Sources
 pub mod Loading

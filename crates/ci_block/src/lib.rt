@@ -18,7 +18,6 @@ mod data;
 pub mod laws;
 mod listing;
 mod marks;
-mod places;
 #[cfg(test)]
 mod tests;
 mod text;

@@ -30,9 +30,9 @@ fn is_full(last: Option<u32>, word: u32) -> bool
 /// Whether word `word` of range `index` is a leader, where the last leader before it in the range is word
 /// `last`, if there is one.
 fn is_leader(marks: &Marks, index: usize, last: Option<u32>, word: u32) -> bool
-    requires within { word < (range_at marks.now.places.ranges.items index).words }
+    requires within { word < (range_at marks.now.places index).words }
     requires last { IfSome last (λ last. last < word) }
-    ensures { IsLeaderTest (IsMarked marks.now ((range_at marks.now.places.ranges.items index).start + 4 * word))
+    ensures { IsLeaderTest (IsMarked marks.now ((range_at marks.now.places index).start + 4 * word))
         (IsFullBefore last word) result }
 {
     marks.is_marked(index, word) || is_full(last, word)
@@ -40,13 +40,13 @@ fn is_leader(marks: &Marks, index: usize, last: Option<u32>, word: u32) -> bool
 
 /// Lists the leaders of a range behind those of the ranges before it.
 fn list_range(marks: &Marks, index: usize, addresses: &mut Vec<u32>) -> Result<(), AllocError>
-    requires within { index < length marks.now.places.ranges.items }
-    requires before { IsListedBelow marks.now.places.ranges.items (IsMarked marks.now)
-        (range_at marks.now.places.ranges.items index).start addresses.old.items }
-    ensures { OnOk result (IsListedBelow marks.now.places.ranges.items (IsMarked marks.now)
-        (end_of (range_at marks.now.places.ranges.items index)) addresses.new.items) }
+    requires within { index < length marks.now.places }
+    requires before { IsListedBelow marks.now.places (IsMarked marks.now)
+        (range_at marks.now.places index).start addresses.old.items }
+    ensures { OnOk result (IsListedBelow marks.now.places (IsMarked marks.now)
+        (end_of (range_at marks.now.places index)) addresses.new.items) }
 {
-    let range = marks.places.range(index);
+    let range = marks.range(index);
     let mut last = None;
     for word in 0..range.words {
         if is_leader(marks, index, last, word) {
@@ -59,11 +59,11 @@ fn list_range(marks: &Marks, index: usize, addresses: &mut Vec<u32>) -> Result<(
 
 /// The marked words and those behind full blocks.
 fn listed(alloc: Global, marks: &Marks) -> Result<Vec<u32>, AllocError>
-    ensures { IfOk result (λ addresses. IsListedBelow marks.now.places.ranges.items (IsMarked marks.now) 0xffff0000
+    ensures { IfOk result (λ addresses. IsListedBelow marks.now.places (IsMarked marks.now) 0xffff0000
         addresses.items) }
 {
     let mut addresses = Vec::new(alloc);
-    for index in 0..marks.places.ranges.len() {
+    for index in 0..marks.places.ranges().len() {
         list_range(marks, index, &mut addresses)?;
     }
     Ok(addresses)

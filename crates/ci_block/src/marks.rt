@@ -1,8 +1,9 @@
 //! Marks on words of the text.
 ghost use Rattle.std.specs.Prelude.{◌≡◌, length};
+ghost use Rattle.ci_elf.specs.WordPlaces.{word_count};
+ghost use Rattle.ci_block.specs.Marking.{AreTextRanges};
 
-use crate::places::Places;
-use ci_elf::Range;
+use ci_elf::{Places, Range};
 use std::alloc::{AllocError, Global};
 
 /// Which words of the text are marked.
@@ -11,7 +12,8 @@ pub(crate) struct Marks {
     pub(crate) places: Places,
     /// One flag for each place.
     pub(crate) flags: Vec<bool>,
-    ghost whole: { length flags.items ≡ places.count },
+    ghost whole: { length flags.items ≡ word_count places },
+    ghost text: { AreTextRanges places },
 }
 
 impl Marks {
@@ -24,11 +26,11 @@ impl Marks {
     /// No marks yet on the words of these ranges.
     pub(crate) fn new(alloc: Global, text: &[Range]) -> Result<Marks, AllocError>
         requires { AreTextRanges text.now }
-        ensures text { IfOk result (λ marks. marks.places.ranges.items ≡ text.now) }
+        ensures text { IfOk result (λ marks. marks.places ≡ text.now) }
         ensures none { IfOk result (λ marks. (address : ℕ) → ¬ IsMarked marks address) }
     {
         let places = Places::new(alloc, text)?;
-        let flags = vec![in alloc; false; places.count]?;
+        let flags = vec![in alloc; false; places.len()]?;
         Ok(Marks { places, flags })
     }
 
@@ -59,11 +61,24 @@ impl Marks {
         }
     }
 
+    /// Range `index` of the text.
+    pub(crate) fn range(&self, index: usize) -> Range
+        requires { index < length self.now.places }
+        ensures { result ≡ range_at self.now.places index }
+    {
+        self.places.ranges()[index]
+    }
+
     /// Whether word `word` of range `index` is marked.
     pub(crate) fn is_marked(&self, index: usize, word: u32) -> bool
-        requires { word < (range_at self.now.places.ranges.items index).words }
-        ensures { IsTrue result ↔ IsMarked self.now ((range_at self.now.places.ranges.items index).start + 4 * word) }
+        requires { word < (range_at self.now.places index).words }
+        ensures { IsTrue result ↔ IsMarked self.now ((range_at self.now.places index).start + 4 * word) }
     {
-        self.flags[self.places.at(index, word)]
+        let mut index = index;
+        let address = self.range(index).start + 4 * word;
+        match self.places.near(&mut index, address) {
+            Some(place) => self.flags[place],
+            None => false,
+        }
     }
 }

@@ -6,6 +6,7 @@ use Rattle.ci_elf.specs.declared.ranges.Range.{Range}
 use Rattle.ci_elf.specs.Fields.{e_phnum, e_shnum, is_symbol_table, is_text}
 use Rattle.ci_elf.specs.Broken.{each_below}
 use Rattle.ci_elf.specs.Rules.{Rule, NamesNoInterpreter, HasFilePart, IsPlaced, MemoryIsApart, MemoryIsBounded, HasSymbols, TextIsLoaded, TextIsAlone, TextIsUnshared, TextIsBounded, EntryIsText, Holds, KeepsRules, rules, file_header_rules, kind_rules, table_rules, segment_rules, memory_rules, section_rules, sharing_rules}
+use Rattle.ci_elf.proofs.RangeLaws.{text_from}
 use Rattle.ci_elf.proofs.BrokenLaws.{kept_each}
 use Rattle.ci_elf.proofs.CheckLaws.{keeps_append}
 use Rattle.ci_elf.proofs.ReadingLaws.{kept_stages}
@@ -136,7 +137,7 @@ module _ (bytes : List ℕ) (t c v : ℕ) (h : HasFrameHeaders bytes t c v) wher
   entry_is_text =
       let range : Range = record { start = 0x10074; words = t } in
       rw (ranges_are bytes t c v h, h.entry)
-      (refl, (0, range, lit< tt, refl, (omega arith, omega (arith, h.some_text))))
+      (refl, text_from (range ∷ []) 0x10074 (0, range, lit< tt, refl, (omega arith, omega (arith, h.some_text))))
 
   -- the rules behind those of the file header and of the kind of file
   pub rules_kept : KeepsRules bytes (file_header_rules ++ kind_rules) → KeepsRules bytes (rules bytes)

@@ -16,6 +16,7 @@ use Rattle.ci_elf.specs.Checks.{IsLastBefore}
 use Rattle.ci_elf.specs.SectionChecks.{AreLaidOut}
 use Rattle.ci_elf.specs.Executables.{Executable, IsLoaded, IsTextWord, IsWellFormed, ShareNoMemory, with_word, has_in_file, place_of}
 use Rattle.ci_elf.specs.Places.{IsSound, IsLoadedFrom}
+use Rattle.ci_elf.proofs.RangeLaws.{range_holding}
 use Rattle.ci_elf.proofs.SegmentLaws.{both}
 use Rattle.ci_elf.proofs.RangeLaws.{left_of}
 
@@ -97,7 +98,8 @@ module _ (image : Executable) (formed : IsWellFormed image) where
   -- a segment loads each word of the text, which lies in the file
   pub word_loader : (address : ℕ) → IsTextWord image.ranges address
       → (s : Segment) × Contains image.segments s × IsTrue (has_in_file s address) × (s.offset + (address - s.address) + 4 ≤ length image.bytes)
-  word_loader address (aligned, held) =
+  word_loader address (aligned, text) =
+      let held = range_holding image.ranges address text in
       let range = held.1 in
       let c : Contains image.ranges range = (held.0, held.2, held.3) in
       let l = formed.loaded range c in

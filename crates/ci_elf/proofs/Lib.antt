@@ -22,9 +22,11 @@ pub mod FrameRuleLaws
 pub mod FrameImageLaws
 pub mod OneOrder
 pub mod OneImage
+pub mod WordPlaceLaws
 pub mod OneAnswer
 pub mod SameFields
 pub mod TextPlaceLaws
 pub mod SameHeaders
 pub mod TextChangeLaws
 pub mod PatchLaws
+pub mod Rows

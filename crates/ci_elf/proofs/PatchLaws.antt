@@ -12,6 +12,7 @@ use Rattle.ci_elf.specs.Fields.{field, p_filesz, p_offset, p_vaddr, sh_addr, sh_
 use Rattle.ci_elf.specs.Rules.{Apart, IsReadAs, Within}
 use Rattle.ci_elf.specs.TextChanges.{NoneWritten, OneMoreWritten, OtherWordsStay, TextIsLoadedOnce, WordIsRead}
 use Rattle.ci_elf.proofs.ImageLaws.{length_with_word, only_loader, place_found, word_loader}
+use Rattle.ci_elf.proofs.RangeLaws.{range_holding, text_from}
 use Rattle.ci_elf.proofs.SameFields.{field_same}
 use Rattle.ci_elf.proofs.SectionLaws.{segment_among}
 use Rattle.ci_elf.proofs.WordLaws.{from_behind}
@@ -82,8 +83,10 @@ one_more_written file bytes address word whole change text =
 byte_of_word :
     (file : Executable) → IsWellFormed file → (address byte : ℕ) → IsTextWord file.ranges address → Within address 4 byte
     → InText file.ranges byte
-byte_of_word file whole address byte (aligned, held) within =
-    let start = whole.aligned held.1 (held.0, held.2, held.3) in (
+byte_of_word file whole address byte (aligned, text) within =
+    let held = range_holding file.ranges address text in
+    let start = whole.aligned held.1 (held.0, held.2, held.3) in
+    text_from file.ranges byte (
       held.0,
       held.1,
       held.2,

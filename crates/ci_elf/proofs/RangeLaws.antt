@@ -1,18 +1,20 @@
 -- The ranges of the text: below the top of memory, apart from each other, and in which of them an address lies.
 use Rattle.std.proofs.Common.{◌≡◌, ℕ, suc, zero, ◌+◌, ◌-◌, ◌*◌, ◌/◌, ◌<◌, ◌≤◌, ◌⊎◌, inl, inr, Bool, true, false, cond, ◌&&◌, nat_lt, List, [], ◌∷◌, ◌++◌, length, get_or, refl, sym, ◌∙◌, ap, subst, arith}
 use Rattle.std.specs.Prelude.{IsTrue}
-use Rattle.std.specs.List.{AllPairs}
+use Rattle.std.specs.List.{AllPairs, Any}
+use Rattle.std.proofs.lemmas.Bool.Decides.{nat_tests}
+use Rattle.std.proofs.lemmas.List.Folds.{Any-from_list_any, list_any-from_Any}
 use Rattle.std.specs.List.Sorted.{IsNonDecreasingBy, IsPermutation}
 use Rattle.std.proofs.lemmas.Bool.{cases_lt}
 use Rattle.std.proofs.lemmas.List.{get_or_default, append-nil}
 use Rattle.std.proofs.lemmas.List.Elements.{Contains-get_or}
 use Rattle.std.proofs.lemmas.List.Quantifiers.{all_pairs_push}
-use Rattle.std.proofs.lemmas.List.Sorted.{Contains-permutation, IsPermutation-sym}
+use Rattle.std.proofs.lemmas.List.Sorted.{Contains-permutation, IsPermutation-sym, list_any-IsPermutation}
 use borrow.Author.Tests.{ltb-true}
 use Rattle.ci_elf.specs.declared.ranges.Range.{Range}
 use Rattle.ci_elf.specs.Fields.{e_phnum, e_shnum, is_text, is_loadable, sh_addr, sh_offset, sh_size, p_vaddr, p_memsz}
 use Rattle.ci_elf.specs.Broken.{each_below, those_below}
-use Rattle.ci_elf.specs.Executables.{range_of, has_words, ranges_of, end_of, HoldsAddress, InText, IsAscending}
+use Rattle.ci_elf.specs.Executables.{range_of, has_words, ranges_of, end_of, has_byte, HoldsAddress, InText, IsAscending}
 use Rattle.ci_elf.specs.Rules.{NamesNoInterpreter, HasFilePart, IsPlaced, HasSymbols, TextIsLoaded, TextIsAlone, Holds, FitsMemory, IsLoadedBy, IsAlone, KeepsRules, segment_rules, memory_rules, section_rules}
 use Rattle.ci_elf.proofs.BrokenLaws.{kept_at, contained_those}
 use Rattle.ci_elf.proofs.PairLaws.{pairs_permuted}
@@ -136,11 +138,31 @@ module _ (bytes : List ℕ) (placed : KeepsRules bytes (segment_rules bytes)) (s
 
 -- ---- in which range an address lies
 
+abbrev HasByte : ℕ → Range → Type 0
+HasByte address range = (range.start ≤ address) × (address < end_of range)
+
+pub has_bounds : (range : Range) (address : ℕ) → has_byte range address ≡ true → HasByte address range
+has_bounds range address h = (grind (arith, nat_tests), grind (arith, nat_tests))
+
+-- text lies in a range
+pub range_holding : (ranges : List Range) (address : ℕ) → InText ranges address → Any (HasByte address) ranges
+range_holding ranges address text =
+    let h = Any-from_list_any (λ range. has_byte range address) ranges text in
+    (h.0, h.1, h.2, h.3, has_bounds h.1 address h.4)
+
+-- and what a range has is text
+pub text_from : (ranges : List Range) (address : ℕ) → Any (HasByte address) ranges → InText ranges address
+text_from ranges address h =
+    list_any-from_Any (λ range. has_byte range address) ranges
+    (h.0, h.1, h.2, h.3, let from = h.4.0 in let to = h.4.1 in grind (arith, nat_tests))
+
 module _ (ranges : List Range) (sorted : IsAscending ranges) (address after : ℕ)
     (before : (k : ℕ) (d : Range) → k < after → (get_or ranges k d).start ≤ address)
     (behind : (k : ℕ) (d : Range) → after ≤ k → k < length ranges → address < (get_or ranges k d).start) where
   pub none_held : after ≡ 0 → ¬ InText ranges address
-  none_held none h = omega (arith, rw h.3 at (behind h.0 h.1 (omega arith) h.2), h.4.0)
+  none_held none text =
+      let h = range_holding ranges address text in
+      omega (arith, rw h.3 at (behind h.0 h.1 (omega arith) h.2), h.4.0)
 
   module _ (some : 0 < after) (within : after ≤ length ranges) where
     pub held : (d : Range) → address < end_of (get_or ranges (after - 1) d) → HoldsAddress ranges address (after - 1)
@@ -151,23 +173,25 @@ module _ (ranges : List Range) (sorted : IsAscending ranges) (address after : �
     }
 
     pub not_held : (d : Range) → end_of (get_or ranges (after - 1) d) ≤ address → ¬ InText ranges address
-    not_held d past h = elim (cases_lt h.0 after) [
-      | inl l ↦ elim (cases_lt h.0 (after - 1)) [
-        | inl m ↦
-            let apart = sorted h.0 (after - 1) h.1 m (omega arith) in
-            omega (arith, rw h.3 at apart, before (after - 1) h.1 (omega arith), h.4.1)
-        | inr m ↦
-            let last : h.0 ≡ after - 1 = omega arith in
-            let here : get_or ranges (after - 1) d ≡ h.1 =
-            get_or_default ranges (after - 1) d h.1 (omega arith) ∙ ap (λ k. get_or ranges k h.1) (sym last) ∙ h.3 in
-            omega (arith, rw here at past, h.4.1)
-      ]
-      | inr l ↦ omega (arith, rw h.3 at (behind h.0 h.1 l h.2), h.4.0)
-    ]
+    not_held d past text =
+        let h = range_holding ranges address text in
+        elim (cases_lt h.0 after) [
+          | inl l ↦ elim (cases_lt h.0 (after - 1)) [
+            | inl m ↦
+                let apart = sorted h.0 (after - 1) h.1 m (omega arith) in
+                omega (arith, rw h.3 at apart, before (after - 1) h.1 (omega arith), h.4.1)
+            | inr m ↦
+                let last : h.0 ≡ after - 1 = omega arith in
+                let here : get_or ranges (after - 1) d ≡ h.1 =
+                get_or_default ranges (after - 1) d h.1 (omega arith) ∙ ap (λ k. get_or ranges k h.1) (sym last) ∙ h.3 in
+                omega (arith, rw here at past, h.4.1)
+          ]
+          | inr l ↦ omega (arith, rw h.3 at (behind h.0 h.1 l h.2), h.4.0)
+        ]
 
 -- an address that a range has is text
 pub text_held : (ranges : List Range) (address i : ℕ) → HoldsAddress ranges address i → InText ranges address
-text_held ranges address i h = (
+text_held ranges address i h = text_from ranges address (
   i,
   get_or ranges i (record { start = 0; words = 0 }),
   h.within,
@@ -177,9 +201,7 @@ text_held ranges address i h = (
 
 -- text is text in any order
 pub text_permuted : (xs ys : List Range) (address : ℕ) → IsPermutation xs ys → InText xs address → InText ys address
-text_permuted xs ys address moved h =
-    let stands = Contains-permutation xs ys h.1 moved (h.0, h.2, h.3) in
-    (stands.0, h.1, stands.1, stands.2, h.4)
+text_permuted xs ys address moved h = sym (list_any-IsPermutation (λ range. has_byte range address) xs ys moved) ∙ h
 
 pub starts_rise : (ranges : List Range) → IsAscending ranges → IsNonDecreasingBy (λ r. r.start) ranges
 starts_rise ranges sorted i j d h l = elim (cases_lt i j) [

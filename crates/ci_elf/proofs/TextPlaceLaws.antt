@@ -10,7 +10,7 @@ use Rattle.ci_elf.specs.Rules.{Rule, Holds, IsLoadedBy, KeepsRules, MemoryIsBoun
 use Rattle.ci_elf.specs.TextChanges.{IsTextPlace}
 use Rattle.ci_elf.proofs.BrokenLaws.{those_contain, kept_at, kept_front, kept_back}
 use Rattle.ci_elf.proofs.ImageLaws.{loads_between, place_found, only_loader}
-use Rattle.ci_elf.proofs.RangeLaws.{loaded_at, words_some}
+use Rattle.ci_elf.proofs.RangeLaws.{loaded_at, range_holding, words_some}
 use Rattle.ci_elf.proofs.ReadingLaws.{header_stage, last_stage, range_among, well_formed_from}
 
 module _ (bytes : List ℕ) (kept : KeepsRules bytes (rules bytes)) where
@@ -95,7 +95,8 @@ module _ (bytes : List ℕ) (kept : KeepsRules bytes (rules bytes)) where
       pub behind : (segment_of bytes k).address ≤ address
 
     pub word_of : (address : ℕ) → IsTextWord file.ranges address → (n k : ℕ) × IsWordOf address n k
-    word_of address (aligned, held) =
+    word_of address (aligned, text) =
+        let held = range_holding file.ranges address text in
         let range = held.1 in
         let r = range_among bytes file.ranges is.same_ranges range (held.0, held.2, held.3) in
         let words = words_some bytes segments_kept sections_kept memory_kept r.0 r.2 in

@@ -1,6 +1,6 @@
 -- What an executable file means: its segments, its text and its symbols.
 use Rattle.std.specs.Prelude.{◌≡◌, ℕ, ◌+◌, ◌-◌, ◌*◌, ◌/◌, ◌%◌, ◌<◌, ◌≤◌, ◌⊎◌, ◌&&◌, Bool, if◌then◌else◌, List, [], ◌∷◌, ◌++◌, length, take, drop, nat_lt, nat_le, slice_index, slice_index_or, IsTrue}
-use Rattle.std.specs.List.{AllPairs, Any, Contains, sum_by}
+use Rattle.std.specs.List.{AllPairs, Contains, list_any, sum_by}
 use Rattle.std.specs.List.Sorted.{IsPermutation}
 use Rattle.ci_elf.specs.declared.segments.Segment.{Segment}
 use Rattle.ci_elf.specs.declared.ranges.Range.{Range}
@@ -67,9 +67,16 @@ ranges_of bytes = those_below (e_shnum bytes) (has_words bytes) (range_of bytes)
 abbrev pub end_of : Range → ℕ
 end_of range = range.start + 4 * range.words
 
+-- the byte at the address is one of the range's
+abbrev pub has_byte : Range → ℕ → Bool
+has_byte range address = nat_le range.start address && nat_lt address (end_of range)
+
 -- the byte at the address is text
+abbrev pub in_text : List Range → ℕ → Bool
+in_text ranges address = list_any (λ range. has_byte range address) ranges
+
 abbrev pub InText : List Range → ℕ → Type 0
-InText ranges address = Any (λ range. (range.start ≤ address) × (address < end_of range)) ranges
+InText ranges address = IsTrue (in_text ranges address)
 
 -- a whole word of the text begins at the address
 abbrev pub IsTextWord : List Range → ℕ → Type 0

@@ -1,8 +1,9 @@
--- What is known of ranges of text while they are read, for private contracts.
-use Rattle.std.specs.Prelude.{ℕ, ◌+◌, ◌-◌, ◌*◌, ◌/◌, List, Option, Some, None, if◌then◌else◌}
+-- What is known of ranges of text while they are read, and what is kept of them, for private contracts.
+use Rattle.std.specs.Prelude.{◌≡◌, ◌<◌, ◌^◌, length, take, slice_index, ℕ, ◌+◌, ◌-◌, ◌*◌, ◌/◌, List, Option, Some, None, if◌then◌else◌}
 use Rattle.ci_elf.specs.declared.ranges.Range.{Range}
 use Rattle.ci_elf.specs.declared.sections.Section.{Section}
-use Rattle.ci_elf.specs.Executables.{has_words, range_of}
+use Rattle.ci_elf.specs.Executables.{IsAscending, has_words, range_of}
+use Rattle.ci_elf.specs.WordPlaces.{word_count}
 
 -- the whole words at multiples of four in a section
 abbrev pub words_of : Section → Range
@@ -14,3 +15,11 @@ words_of section = record {
 -- the range of section n, where it has words
 abbrev pub range_at : List ℕ → ℕ → Option Range
 range_at bytes n = if has_words bytes n then Some (range_of bytes n) else None
+
+-- the places of the first words of the ranges, and how many words there are
+pub record AreFirstPlaces (ranges : List Range) (firsts : List ℕ) (count : ℕ) : Type 0 where
+  pub ascending : IsAscending ranges
+  pub many : length firsts ≡ length ranges
+  pub first : (k : ℕ) → k < length ranges → slice_index firsts k ≡ word_count (take k ranges)
+  pub all : count ≡ word_count ranges
+  pub fits : count < 2 ^ 64

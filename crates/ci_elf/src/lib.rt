@@ -11,6 +11,7 @@
 pub use faults::ElfFault;
 pub use frames::frame;
 pub use image::Image;
+pub use places::Places;
 pub use ranges::{Range, range_with};
 pub use reading::read;
 pub use segments::Segment;
@@ -24,6 +25,7 @@ mod image;
 pub mod laws;
 mod memory;
 mod parts;
+mod places;
 mod ranges;
 mod reading;
 mod sections;

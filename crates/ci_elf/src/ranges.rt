@@ -21,6 +21,17 @@ pub struct Range {
     pub words: u32,
 }
 
+impl Range {
+    ghost use Rattle.ci_elf.specs.Executables.{has_byte};
+
+    /// Whether the byte at the address is one of the range's.
+    fn has_byte(&self, address: u32) -> bool
+        ensures { result ≡ has_byte self.now address }
+    {
+        self.start <= address && (address - self.start) / 4 < self.words
+    }
+}
+
 /// The most words that a text may have.
 const MOST_WORDS: u64 = 262_144;
 
@@ -101,6 +112,17 @@ pub fn range_with(ranges: &[Range], address: u32) -> Option<usize>
     } else {
         None
     }
+}
+
+/// The same, where range `last` is tried first.
+pub(crate) fn range_near(ranges: &[Range], last: usize, address: u32) -> Option<usize>
+    requires { IsAscending ranges.now }
+    ensures { MatchOption result (¬ (InText ranges.now address)) (HoldsAddress ranges.now address) }
+{
+    if last < ranges.len() && ranges[last].has_byte(address) {
+        return Some(last);
+    }
+    range_with(ranges, address)
 }
 
 /// That the entry is a multiple of four in text.

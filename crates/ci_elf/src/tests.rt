@@ -1,7 +1,7 @@
 //! Files, and what they read as.
 ghost use Rattle.std.specs.Prelude.{◌≡◌, ◌+◌, ◌<◌, ◌≤◌, length, vec_len};
 
-use crate::{ElfFault, Image, Range, Segment, frame, range_with, read};
+use crate::{ElfFault, Image, Places, Range, Segment, frame, range_with, read};
 use byteorder::{ByteOrder, LittleEndian};
 use std::alloc::{AllocError, Global};
 use std::process::Abort;
@@ -340,6 +340,23 @@ fn a_word_is_patched(rt: HostRuntime) -> Result<(), Fail> {
     let mut expected = Vec::from_slice(rt.alloc(), &bytes)?;
     change(&rt, &mut expected, &[(120, 0x0010_0073)]);
     assert_eq!(rt; image.bytes(), expected.as_slice());
+    Ok(())
+}
+
+#[test]
+fn words_have_places(rt: HostRuntime) -> Result<(), Fail> {
+    let bytes = frame(rt.alloc(), &[0x13, 0x73], &[], &[])?;
+    let image = image_of(&rt, rt.alloc(), &bytes)?;
+    let places = Places::new(rt.alloc(), image.ranges())?;
+    assert_eq!(rt; places.ranges(), image.ranges());
+    assert_eq!(rt; places.len(), 2);
+    assert!(rt; places.in_text(0x1_007b) && !places.in_text(0x1_007c));
+    let mut last = 7;
+    let near = places.near(&mut last, 0x1_0078);
+    assert_eq!(rt; near, Some(1));
+    assert_eq!(rt; last, 0);
+    let between = places.of(0x1_007a);
+    assert_eq!(rt; between, None);
     Ok(())
 }
 

@@ -12,7 +12,7 @@ use Rattle.ci_machine.specs.Steps.{Meaning, IsPlain, word_at, execute, step}
 use Rattle.ci_machine.proofs.Meanings.{plain_exists}
 use Rattle.ci_emu.specs.declared.steps.Outcome.{Outcome}
 use Rattle.ci_emu.specs.Fetched.{IsOnlyAt, IsFetched, IsPlainInsn}
-use Rattle.ci_emu.specs.Places.{word_place}
+use Rattle.ci_elf.specs.WordPlaces.{word_place}
 use Rattle.ci_emu.proofs.CountLaws.{no_word}
 use Rattle.ci_emu.specs.Steps.{LeadsTo, IsPlainStep, IsReached}
 

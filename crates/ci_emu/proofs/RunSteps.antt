@@ -3,6 +3,7 @@ use Rattle.std.proofs.Common.{◌≡◌, ℕ, ◌+◌, ◌-◌, ◌<◌, ◌≤�
 use Rattle.std.specs.Prelude.{◌==◌, ◌&&◌, OnErr, OnOk, IfOk}
 use Rattle.std.specs.declared.result.Result.{Result}
 use Rattle.ci_word.proofs.NumberLaws.{count_below-le}
+use Rattle.ci_elf.specs.Executables.{IsTextWord}
 use Rattle.ci_machine.specs.declared.ends.End.{End}
 use Rattle.ci_machine.specs.Outcomes.{Reached, at_start, continued}
 use Rattle.ci_machine.specs.Programs.{Program, State}
@@ -15,7 +16,7 @@ use Rattle.ci_emu.specs.declared.steps.Outcome.{Outcome}
 use Rattle.ci_emu.specs.declared.steps.Outcome.TheVariants.{Ended}
 use Rattle.ci_emu.specs.declared.tally.Tally.{Tally}
 use Rattle.ci_emu.specs.Counting.{IsCounted, IsStepCounted, IsToldBy}
-use Rattle.ci_emu.specs.Profiles.{count_at, IsTextWord, IsProfileOf}
+use Rattle.ci_emu.specs.Profiles.{count_at, IsProfileOf}
 use Rattle.ci_emu.specs.Steps.{end_of, IsPlainStep, IsReached}
 use Rattle.ci_emu.proofs.RunCounts.{one_more, nothing_more, no_steps_more, all_made, made_with_last, profile_of}
 
@@ -50,6 +51,13 @@ module _ (program : Program) (start : State) (i : ℕ) (now : State)
     within = omega arith;
     there = λ meaning plain. sym (ap (λ (r : Reached State). r.state) (stepped_to next outcome stepped meaning plain));
   }
+
+  -- all steps were made, and none ended
+  pub whole_state : (n : ℕ) → i ≡ n → {A E : Type 0} (result : Result A E)
+      → OnOk result ((meaning : Meaning) → IsPlain meaning → now ≡ (after meaning program n start).state)
+  whole_state n all (Ok value) = λ meaning plain.
+      subst (λ k. now ≡ (after meaning program k start).state) all (sym (ap (λ (r : Reached State). r.state) (reached meaning plain)))
+  whole_state n all (Err e) = tt
 
   module _ (latencies : Latencies) (old new : Tally) (next : State) (outcome : Outcome) (stepped : IsPlainStep program now next outcome)
       (counted : (meaning : Meaning) → IsPlain meaning → IsCounted meaning program latencies start i old)
@@ -105,7 +113,7 @@ module _ (program : Program) (start : State) (i : ℕ) (now : State)
   module _ (latencies : Latencies) (tally : Tally)
       (counted : (meaning : Meaning) → IsPlain meaning → IsCounted meaning program latencies start i tally) where
     -- a count has room for one step more
-    pub has_room : i < 2 ^ 32 → (address : ℕ) → IsTextWord program address → count_at tally.counts address < 2 ^ 32
+    pub has_room : i < 2 ^ 32 → (address : ℕ) → IsTextWord program.text address → count_at tally.counts address < 2 ^ 32
     has_room below address word =
         let few : count_at tally.counts address ≤ i = subst (λ (k : ℕ). k ≤ i)
         (sym ((counted plain_exists.0 plain_exists.1).entries address word))

@@ -5,6 +5,7 @@ use Rattle.std.specs.Option.{option_map}
 use Rattle.std.specs.Ordering.{nat_cmp}
 use Rattle.std.specs.BTreeSet.{BTreeSet, contains, IsEmpty}
 use Rattle.ci_isa.specs.declared.instruction.Insn.{Insn}
+use Rattle.ci_elf.specs.Executables.{IsTextWord}
 use Rattle.ci_isa.specs.declared.instruction.Insn.TheVariants.{Jalr}
 use Rattle.ci_machine.specs.declared.ends.End.{End}
 use Rattle.ci_machine.specs.Programs.{Program, State}
@@ -14,7 +15,7 @@ use Rattle.ci_emu.specs.declared.steps.Outcome.{Outcome}
 use Rattle.ci_emu.specs.declared.steps.Outcome.TheVariants.{Next}
 use Rattle.ci_emu.specs.declared.profile.Profile.{Profile}
 use Rattle.ci_emu.specs.declared.tally.Tally.{Tally}
-use Rattle.ci_emu.specs.Profiles.{count_at, entries_in, targets_in, IsTextWord, IsTarget, IsTouch}
+use Rattle.ci_emu.specs.Profiles.{count_at, entries_in, targets_in, IsTarget, IsTouch}
 
 -- the address is one of the targets
 abbrev pub Led : BTreeSet ℕ → ℕ → Type 0
@@ -53,7 +54,7 @@ module _ (meaning : Meaning) (program : Program) (latencies : Latencies) where
     pub cost : tally.cost ≡ cost meaning program latencies n state
     pub touched : IsTouch meaning program n state tally.touched
     pub entries :
-        (address : ℕ) → IsTextWord program address
+        (address : ℕ) → IsTextWord program.text address
         → count_at tally.counts address ≡ entries meaning program n state address
     pub targets : (address : ℕ) → Led tally.targets address ↔ IsTarget meaning program n state address
 
@@ -62,7 +63,7 @@ module _ (meaning : Meaning) (program : Program) (latencies : Latencies) where
     pub cost : new.cost ≡ old.cost + step_cost meaning program latencies state
     pub touched : new.touched ≡ first_touch old.touched state.pc (touched meaning program state)
     pub entries :
-        (address : ℕ) → IsTextWord program address
+        (address : ℕ) → IsTextWord program.text address
         → count_at new.counts address ≡ count_at old.counts address + (if state.pc == address then 1 else 0)
     pub targets :
         (address : ℕ)

@@ -1,21 +1,27 @@
 -- What a run is counted by.
-use Rattle.std.specs.Prelude.{◌≡◌, ℕ, ◌%◌, ◌<◌, ◌↔◌, true, List, Option, Some, None}
+use Rattle.std.specs.Prelude.{◌≡◌, ℕ, ◌<◌, ◌↔◌, true, List, Option, Some, None, slice_index}
 use Rattle.std.specs.List.{AllPairs, Contains}
+use Rattle.ci_elf.specs.Executables.{IsTextWord}
+use Rattle.ci_elf.specs.WordPlaces.{word_place}
 use Rattle.ci_lat.specs.Latencies.{Latencies as Table, latency_of}
-use Rattle.ci_machine.specs.Programs.{Program, State, in_text}
+use Rattle.ci_machine.specs.Programs.{Program, State}
 use Rattle.ci_machine.specs.Steps.{Meaning}
 use Rattle.ci_machine.specs.Runs.{Latencies, after, before_step, is_made, steps_made, cost, entries, jalr_target, LeavesTextFor, IsFirstTouch}
 use Rattle.ci_emu.specs.declared.counts.Counts.{Counts}
 use Rattle.ci_emu.specs.declared.profile.Profile.{Profile}
-use Rattle.ci_emu.specs.Places.{word_place, at_place}
 
 -- the latencies of a table; a plain machine has no units
 abbrev pub latencies_of : Table → Latencies
 latencies_of table = record { of_class = latency_of table; pad = table.pad; read = table.read; of_unit = λ _. 0 }
 
+-- what stands in a list at a place, and 0 where there is none
+abbrev pub at_place : List ℕ → Option ℕ → ℕ
+at_place counts None = 0
+at_place counts (Some place) = slice_index counts place
+
 -- how many steps were counted for the word at an address
 unfoldable pub count_at : Counts → ℕ → ℕ
-count_at counts address = at_place counts.by_place.items (word_place counts.ranges.items address)
+count_at counts address = at_place counts.by_place.items (word_place counts.places address)
 
 -- how many steps the profile has for the word at an address
 unfoldable pub entries_in : Profile → ℕ → ℕ
@@ -24,11 +30,6 @@ entries_in profile address = count_at profile.counts address
 -- where JALR led, by the profile
 unfoldable pub targets_in : Profile → List ℕ
 targets_in profile = profile.targets.items
-
--- a multiple of four in the text
-pub record IsTextWord (program : Program) (address : ℕ) : Type 0 where
-  pub aligned : address % 4 ≡ 0
-  pub text : in_text program address ≡ true
 
 module _ (meaning : Meaning) (program : Program) (n : ℕ) (state : State) where
   -- a JALR of the n steps leads to the address
@@ -50,7 +51,7 @@ module _ (meaning : Meaning) (program : Program) (n : ℕ) (state : State) where
     pub end : profile.end ≡ (after meaning program n state).end
     pub touched : IsTouch profile.touched
     pub entries :
-        (address : ℕ) → IsTextWord program address
+        (address : ℕ) → IsTextWord program.text address
         → entries_in profile address ≡ entries meaning program n state address
     pub ascending : AllPairs (λ a b. a < b) (targets_in profile)
     pub targets : (address : ℕ) → Contains (targets_in profile) address ↔ IsTarget address

@@ -8,7 +8,8 @@ ghost use Rattle.ci_machine.specs.Runs.{after, latency};
 ghost use Rattle.ci_machine.specs.States.{program_of, state_of};
 ghost use Rattle.ci_machine.specs.Steps.{Meaning, IsPlain, moved};
 ghost use Rattle.ci_emu.specs.Counting.{first_touch, target_of, IsStepCounted, Led};
-ghost use Rattle.ci_emu.specs.Profiles.{count_at, latencies_of, IsTextWord};
+ghost use Rattle.ci_elf.specs.Executables.{IsTextWord};
+ghost use Rattle.ci_emu.specs.Profiles.{count_at, latencies_of};
 ghost use Rattle.ci_emu.specs.Fetched.{IsFetched, IsPlainInsn};
 ghost use Rattle.ci_emu.specs.Steps.{IsPlainStep, IsReached};
 
@@ -34,14 +35,18 @@ pub(crate) struct Tally {
     pub(crate) targets: BTreeSet<u32>,
     /// The words that were decoded before.
     lines: Lines,
+    /// The number of the range of text from which the last step was fetched.
+    last: usize,
 }
 
 impl Tally {
+    ghost use Rattle.ci_elf.specs.Executables.{IsAscending};
     ghost use Rattle.ci_emu.specs.Counting.{IsFresh, IsToldBy};
 
     /// Nothing yet.
     pub(crate) fn new(alloc: Global, text: &[Range]) -> Result<Tally, AllocError>
-        ensures text { IfOk result (λ tally. tally.counts.ranges.items ≡ text.now) }
+        requires { IsAscending text.now }
+        ensures text { IfOk result (λ tally. tally.counts.places ≡ text.now) }
         ensures fresh { IfOk result IsFresh }
     {
         let counts = Counts::new(alloc, text)?;
@@ -52,6 +57,7 @@ impl Tally {
             touched: None,
             targets: BTreeSet::new(alloc),
             lines,
+            last: 0,
         })
     }
 
@@ -142,17 +148,17 @@ fn note(targets: &mut BTreeSet<u32>, target: u32) -> Result<(), AllocError>
 }
 
 /// Counts the step that begins at the pc, and gives the line of its instruction, if it fetches one.
-fn enter(counts: &mut Counts, lines: &mut Lines, state: &State) -> Option<Line>
-    requires text { counts.old.ranges.items ≡ (program_of state.now).text }
-    requires room { IsTextWord (program_of state.now) (state_of state.now).pc
+fn enter(counts: &mut Counts, lines: &mut Lines, last: &mut usize, state: &State) -> Option<Line>
+    requires text { counts.old.places ≡ (program_of state.now).text }
+    requires room { IsTextWord (program_of state.now).text (state_of state.now).pc
         → count_at counts.old (state_of state.now).pc < 2 ^ 32 }
     ensures fetched { IsFetched (program_of state.now) (state_of state.now) (option_map (λ line. line.insn) result) }
     ensures plain { IfSome result (λ line. IsPlainInsn line.insn) }
-    ensures text { counts.new.ranges.items ≡ counts.old.ranges.items }
-    ensures counted { (address : ℕ) → IsTextWord (program_of state.now) address → count_at counts.new address
+    ensures text { counts.new.places ≡ counts.old.places }
+    ensures counted { (address : ℕ) → IsTextWord (program_of state.now).text address → count_at counts.new address
         ≡ count_at counts.old address + (if (state_of state.now).pc == address then 1 else 0) }
 {
-    match counts.place(state.pc()) {
+    match counts.place(last, state.pc()) {
         Some(place) => {
             counts.add(place);
             let word = fetch_word(state)?;
@@ -171,8 +177,8 @@ pub(crate) fn counted_step(
     table: &Table,
     tally: &mut Tally,
 ) -> Result<Outcome, AllocError>
-    requires text { tally.old.counts.ranges.items ≡ (program_of state.old).text }
-    requires room { IsTextWord (program_of state.old) (state_of state.old).pc
+    requires text { tally.old.counts.places ≡ (program_of state.old).text }
+    requires room { IsTextWord (program_of state.old).text (state_of state.old).pc
         → count_at tally.old.counts (state_of state.old).pc < 2 ^ 32 }
     requires cheap { tally.old.cost < 2 ^ 63 }
     ensures stepped { IfOk result (IsPlainStep (program_of state.old) (state_of state.old) (state_of state.new)) }
@@ -182,9 +188,9 @@ pub(crate) fn counted_step(
     ensures cost { tally.new.cost ≤ tally.old.cost + 1000 }
     ensures refused { OnErr result (IsReached (program_of state.old) (state_of state.old) 1 (state_of state.new)) }
     ensures program { program_of state.new ≡ program_of state.old }
-    ensures text { tally.new.counts.ranges.items ≡ tally.old.counts.ranges.items }
+    ensures text { tally.new.counts.places ≡ tally.old.counts.places }
 {
-    let Some(line) = enter(&mut tally.counts, &mut tally.lines, state) else {
+    let Some(line) = enter(&mut tally.counts, &mut tally.lines, &mut tally.last, state) else {
         return Ok(Outcome::Ended(End::Fetch(state.pc())));
     };
     tally.cost += u64::from(latency(table, &line));

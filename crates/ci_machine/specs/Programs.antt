@@ -1,9 +1,9 @@
 -- A program, where it lies in memory, and the state in which its run opens.
 use Rattle.std.specs.Prelude.{ℕ, ◌+◌, ◌-◌, ◌*◌, ◌/◌, Bool, ◌==◌, ◌&&◌, nat_le, nat_lt, max, if◌then◌else◌, List, [], ◌∷◌, map, Option, Some, None, slice_index}
-use Rattle.std.specs.List.{list_any}
 use Rattle.ci_elf.specs.declared.ranges.Range.{Range}
 use Rattle.ci_elf.specs.declared.segments.Segment.{Segment}
 use Rattle.ci_elf.specs.Executables.{Executable}
+use Rattle.ci_elf.specs.Executables as elf
 use Rattle.ci_machine.specs.Cores.{Core}
 
 -- where a segment lies in memory
@@ -29,7 +29,7 @@ lies_in start end address = nat_le start address && nat_lt address end
 
 -- the byte at the address is text
 abbrev pub in_text : Program → ℕ → Bool
-in_text program address = list_any (λ range. lies_in range.start (range.start + 4 * range.words) address) program.text
+in_text program address = elf.in_text program.text address
 
 -- ---- memory
 

@@ -31,7 +31,7 @@ state_of machine = record { pc = machine.pc; core = core_of machine }
 -- the program that it runs
 unfoldable pub program_of : Machine → Program
 program_of machine =
-    record { segments = segments_in (places machine.memory.parts.items); text = machine.text.items }
+    record { segments = segments_in (places machine.memory.parts.items); text = machine.text }
 
 -- the end that an environment call comes to, if any
 abbrev pub end_of : Call → Option End

@@ -17,5 +17,4 @@ mod start;
 mod state;
 #[cfg(test)]
 mod tests;
-mod text;
 mod touches;

@@ -9,7 +9,7 @@ ghost use Rattle.ci_machine.specs.Loading.{AreOpening, IsInFile, IsLoaded};
 use crate::memory::{Memory, STACK_END, STACK_START, resize};
 use crate::parts::Part;
 use crate::state::{REGISTERS, State};
-use ci_elf::{Image, Segment};
+use ci_elf::{Image, Places, Segment};
 use std::alloc::{AllocError, Global};
 
 /// The number of the stack pointer, x2.
@@ -129,7 +129,7 @@ impl State {
             pc: image.entry(),
             registers,
             memory: opening_memory(alloc, image)?,
-            text: Vec::from_slice(alloc, image.ranges())?,
+            text: Places::new(alloc, image.ranges())?,
             input: Vec::from_slice(alloc, input)?,
             read: 0,
             output: Vec::new(alloc),

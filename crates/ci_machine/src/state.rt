@@ -4,8 +4,7 @@
 ghost use Rattle.std.specs.Prelude.{◌≡◌, ℕ, ◌≤◌, length, slice_index};
 
 use crate::memory::Memory;
-use crate::text::in_ranges;
-use ci_elf::Range;
+use ci_elf::{Places, Range};
 use ci_isa::{Reg, Width};
 
 /// A byte of an access is not mapped.
@@ -32,7 +31,7 @@ pub struct State {
     /// x0 to x31, and the hidden register. x0 stays 0.
     pub(crate) registers: [u32; REGISTERS],
     pub(crate) memory: Memory,
-    pub(crate) text: Vec<Range>,
+    pub(crate) text: Places,
     pub(crate) input: Vec<u8>,
     /// How many bytes of the input were read.
     pub(crate) read: usize,
@@ -45,6 +44,7 @@ impl State {
     ghost use Rattle.std.specs.Prelude.{◌==◌, ◌&&◌, is_ok, is_some};
     ghost use Rattle.std.specs.Option.{option_map};
     ghost use Rattle.std.specs.Result.{result_ok};
+    ghost use Rattle.ci_elf.specs.Executables.{IsAscending};
     ghost use Rattle.ci_machine.specs.Accesses.{number_of_bytes};
     ghost use Rattle.ci_machine.specs.Cores.{register, with_register, first_hidden};
     ghost use Rattle.ci_machine.specs.Programs.{in_text};
@@ -109,16 +109,17 @@ impl State {
 
     /// The ranges of the text.
     pub fn text(&self) -> &[Range]
-        ensures { result.now ≡ (program_of self.now).text }
+        ensures value { result.now ≡ (program_of self.now).text }
+        ensures ascending { IsAscending result.now }
     {
-        &self.text
+        self.text.ranges()
     }
 
     /// Whether the byte at the address is text.
     pub fn in_text(&self, address: u32) -> bool
         ensures { result ≡ in_text (program_of self.now) address }
     {
-        in_ranges(&self.text, address)
+        self.text.in_text(address)
     }
 
     /// The number of the bytes at the address, the lowest first, where all are mapped. Addresses wrap

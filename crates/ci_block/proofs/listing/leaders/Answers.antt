@@ -9,6 +9,6 @@ pub returns : goal.returns
 returns c =
     let marks = c.in_ok-marks.marks in
     let marked = c.in_ok-marks.ensures in
-    are_listed c.args.image.now c.args.targets.now c.args.given.now (subst AreTextRanges marked.ranges marks.places.laid_out.text) marks marked
+    are_listed c.args.image.now c.args.targets.now c.args.given.now (subst AreTextRanges marked.ranges marks.text) marks marked
     c.in_ok-listed.field-0.items
     (subst (λ rs. IsListedBelow rs (IsMarked marks) 0xffff0000 c.in_ok-listed.field-0.items) marked.ranges c.in_ok-listed.ensures)

@@ -3,4 +3,4 @@ use Rattle.ci_block.proofs.ListingLaws.{AreListedBefore}
 use Rattle.ci_block.proofs.listing.listed.Given as goal
 
 abbrev pub invariant-loop-index : goal.invariant-loop-index
-invariant-loop-index l = AreListedBefore l.marks.places.ranges.items (IsMarked l.marks) l.index l.addresses.items
+invariant-loop-index l = AreListedBefore l.marks.places (IsMarked l.marks) l.index l.addresses.items

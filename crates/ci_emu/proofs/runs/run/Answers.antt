@@ -2,17 +2,18 @@ use Rattle.std.proofs.Common.{ℕ, ◌≤◌, sym, subst, ◌∙◌, refl, arith
 use Rattle.ci_machine.specs.States.{program_of, state_of}
 use Rattle.ci_machine.specs.Steps.{Meaning, IsPlain}
 use Rattle.ci_emu.specs.Counting.{IsStepCounted}
-use Rattle.ci_emu.specs.Profiles.{latencies_of, IsTextWord}
+use Rattle.ci_elf.specs.Executables.{IsTextWord}
+use Rattle.ci_emu.specs.Profiles.{latencies_of}
 use Rattle.ci_emu.specs.Steps.{IsPlainStep, IsReached}
 use Rattle.ci_emu.proofs.RunCounts.{none_counted}
-use Rattle.ci_emu.proofs.RunSteps.{on_error, stepped_to, reached_more, reached_next, counted_more, ended_profile, ended_state, has_room, whole_profile}
+use Rattle.ci_emu.proofs.RunSteps.{on_error, stepped_to, reached_more, reached_next, counted_more, ended_profile, ended_state, has_room, whole_profile, whole_state}
 use Rattle.ci_emu.proofs.runs.run.Goals as goal
 use Rattle.ci_emu.proofs.runs.run.Goals.{In_ok-end}
 
 pub loop-i-init : goal.loop-i-init
 loop-i-init c = record {
   program = refl;
-  text = c.in_ok-tally.ensures.text ∙ c.text.ensures;
+  text = c.in_ok-tally.ensures.text ∙ c.text.ensures.value;
   cost = subst (λ (n : ℕ). n ≤ 0) (sym c.in_ok-tally.ensures.fresh.cost) (omega arith);
   reached = λ meaning plain. refl;
   counted = λ meaning plain.
@@ -35,7 +36,7 @@ pub counted_step-requires-clause-room : goal.counted_step-requires-clause-room
 counted_step-requires-clause-room c = λ word.
     has_room (program_of c.args.state.now) (state_of c.args.state.now) c.loop-i.i (state_of c.loop-i.state) c.loop-i.invariant.reached
     (latencies_of c.args.table.now) c.loop-i.tally c.loop-i.invariant.counted (omega arith) _
-    (subst (λ p. IsTextWord p (state_of c.loop-i.state).pc) c.loop-i.invariant.program word)
+    (subst (λ p. IsTextWord p.text (state_of c.loop-i.state).pc) c.loop-i.invariant.program word)
 
 pub loop-i-preserved : goal.loop-i-preserved
 loop-i-preserved c =
@@ -75,6 +76,11 @@ pub returns-in-Ended-clause-refused : goal.returns-in-Ended-clause-refused
 returns-in-Ended-clause-refused c =
     on_error _ (reached_next (program_of c.args.state.now) (state_of c.args.state.now) c.loop-i.i (state_of c.loop-i.state)
     c.loop-i.invariant.reached c.args.n _ c.in_ok-end.field-0 c.loop-i-test.true (stepped (goal.at.returns-in-Ended-clause-refused c).In_ok-end))
+
+pub returns-clause-state : goal.returns-clause-state
+returns-clause-state c =
+    whole_state (program_of c.args.state.now) (state_of c.args.state.now) c.loop-i.i (state_of c.loop-i.state) c.loop-i.invariant.reached c.args.n
+    (omega arith) _
 
 pub returns-clause-profile : goal.returns-clause-profile
 returns-clause-profile c =

@@ -11,7 +11,7 @@ use Rattle.ci_emu.proofs.runs.run.Given as goal
 abbrev pub invariant-loop-i : goal.invariant-loop-i
 invariant-loop-i l = record {
   program : program_of l.state ≡ program_of l.fn.state;
-  text : l.tally.counts.ranges.items ≡ (program_of l.fn.state).text;
+  text : l.tally.counts.places ≡ (program_of l.fn.state).text;
   cost : l.tally.cost ≤ 1000 * l.i;
   reached : (meaning : Meaning) → IsPlain meaning → after meaning (program_of l.fn.state) l.i (state_of l.fn.state) ≡ at_start (state_of l.state);
   counted : (meaning : Meaning) → IsPlain meaning

@@ -1,9 +1,10 @@
 -- The pc has a place where it is a word of the text.
 use Rattle.std.proofs.Common.{◌≡◌, ◌<◌, ◌^◌, ◌%◌, ℕ, None, Some, eq-eqb, ap, sym, subst, ◌∙◌}
 use Rattle.ci_machine.specs.States.{program_of, state_of}
-use Rattle.ci_emu.specs.Places.{word_place}
-use Rattle.ci_emu.specs.Profiles.{IsTextWord}
-use Rattle.ci_emu.proofs.CountLaws.{place_at, text_word, entered, not_entered, count_here}
+use Rattle.ci_elf.specs.Executables.{IsTextWord}
+use Rattle.ci_elf.specs.WordPlaces.{word_place}
+use Rattle.ci_elf.proofs.WordPlaceLaws.{text_word}
+use Rattle.ci_emu.proofs.CountLaws.{place_at, entered, not_entered, count_here}
 use Rattle.ci_emu.proofs.Fetching.{fetched_is, nothing_fetched, plain_at}
 use Rattle.ci_emu.proofs.tally.enter.Goals as goal
 use Rattle.ci_emu.proofs.tally.enter.Goals.{In-Some, In-None}
@@ -11,7 +12,7 @@ use Rattle.ci_emu.proofs.tally.enter.Goals.{In-Some, In-None}
 here : (c : In-Some) → word_place (program_of c.args.state.now).text (state_of c.args.state.now).pc ≡ Some c.in-Some.place
 here c = place_at (program_of c.args.state.now) c.args.counts.now c.requires.text _ _ _ c.pc.ensures c.in-Some.ensures.value
 
-word : (c : In-Some) → IsTextWord (program_of c.args.state.now) (state_of c.args.state.now).pc
+word : (c : In-Some) → IsTextWord (program_of c.args.state.now).text (state_of c.args.state.now).pc
 word c = text_word _ _ _ (here c)
 
 nowhere : (c : In-None) → word_place (program_of c.args.state.now).text (state_of c.args.state.now).pc ≡ None
@@ -26,7 +27,7 @@ pub returns-in_ok-word-in-Some-clause-fetched : goal.returns-in_ok-word-in-Some-
 returns-in_ok-word-in-Some-clause-fetched c =
     let state = state_of c.args.state.now in
     let at = word (goal.at.returns-in_ok-word-in-Some-clause-fetched c).In-Some in
-    fetched_is (program_of c.args.state.now) state c.line.result.word c.line.result.insn (eq-eqb (state.pc % 4) 0 at.aligned) at.text
+    fetched_is (program_of c.args.state.now) state c.line.result.word c.line.result.insn (eq-eqb (state.pc % 4) 0 at.0) at.1
     (sym c.fetch_word.ensures ∙ c.in_ok-word-in-Some.was ∙ ap Some (sym c.line.ensures)) c.line.result.decoded
 
 pub returns-in_ok-word-in-Some-clause-plain : goal.returns-in_ok-word-in-Some-clause-plain
@@ -35,12 +36,12 @@ returns-in_ok-word-in-Some-clause-plain c = plain_at c.line.result.word c.line.r
 pub returns-in_ok-word-in-Some-clause-counted : goal.returns-in_ok-word-in-Some-clause-counted
 returns-in_ok-word-in-Some-clause-counted c =
     entered (program_of c.args.state.now) c.args.counts.now c.requires.text _ _ _
-    (here (goal.at.returns-in_ok-word-in-Some-clause-counted c).In-Some) c.in-Some.ensures.within c.add.ensures.ranges c.add.ensures.counted
+    (here (goal.at.returns-in_ok-word-in-Some-clause-counted c).In-Some) c.in-Some.ensures.within c.add.ensures.places c.add.ensures.counted
 
 pub returns-in_err-word-in-Some-clause-counted : goal.returns-in_err-word-in-Some-clause-counted
 returns-in_err-word-in-Some-clause-counted c =
     entered (program_of c.args.state.now) c.args.counts.now c.requires.text _ _ _
-    (here (goal.at.returns-in_err-word-in-Some-clause-counted c).In-Some) c.in-Some.ensures.within c.add.ensures.ranges c.add.ensures.counted
+    (here (goal.at.returns-in_err-word-in-Some-clause-counted c).In-Some) c.in-Some.ensures.within c.add.ensures.places c.add.ensures.counted
 
 pub returns-in-None-clause-fetched : goal.returns-in-None-clause-fetched
 returns-in-None-clause-fetched c = nothing_fetched (program_of c.args.state.now) (state_of c.args.state.now) (nowhere c)

@@ -13,7 +13,7 @@ pub returns-clause-state : goal.returns-clause-state
 unfolding program_of state_of core_of
 returns-clause-state c =
     let old = c.args.self.now in
-    let text = old.text.items in
+    let text = old.text in
     elim c.if-may_end_at.branch [
       | then-may_end_at+in_ok-set_heap_end w ↦
           let after = w.in_ok-set_heap_end.ensures in

@@ -1,5 +1,6 @@
-use Rattle.std.proofs.Common.{◌≡◌, ℕ, zero, suc, false, ◌∷◌, cond, get_or, replicate, refl, sym, ◌∙◌, nat_eq, arith}
+use Rattle.std.proofs.Common.{◌≡◌, ℕ, zero, suc, false, ◌∷◌, cond, get_or, replicate, refl, sym, subst, ◌∙◌, nat_eq, arith}
 use Rattle.std.proofs.lemmas.Bool.Decides.{nat_tests}
+use Rattle.ci_elf.specs.Executables.{IsAscending}
 use Rattle.ci_machine.specs.States.{state_of, core_of}
 use Rattle.ci_machine.proofs.PartLaws.{passed}
 use Rattle.ci_machine.proofs.state.State.start.Goals as goal
@@ -28,7 +29,10 @@ returns-clause-state c = λ k. record {
     registers = λ r. registers_at 0x7ffffff0 r k;
     memory = c.in_ok-opening_memory.ensures.bytes k;
     heap_end = c.in_ok-opening_memory.ensures.heap k;
-    input = c.in_ok-from_slice-2.ensures.items k;
-    output = c.new.ensures.items k;
+    input = c.in_ok-from_slice.ensures.items k;
+    output = c.new-2.ensures.items k;
   };
 }
+
+pub new-requires : goal.new-requires
+new-requires c = subst IsAscending (sym c.ranges-2.ensures.value) c.ranges-2.ensures.well_formed.ascending
