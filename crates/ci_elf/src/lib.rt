@@ -3,9 +3,10 @@
 //!
 //! The rules that a file keeps, in the order in which they are tested, stand in `specs/Rules.antt`,
 //! over the fields of `specs/Fields.antt`; what a file means stands in `specs/Executables.antt`, the
-//! smallest file with some text in `specs/Frames.antt`, and what reading it gives in
-//! `specs/FrameImages.antt`. The functions of `laws` have no effect: their contracts say what holds
-//! of all files and of all such smallest files, and `specs/Laws.antt` has the law on all files.
+//! places of the words of its text in `specs/WordPlaces.antt`, the smallest file with some text in
+//! `specs/Frames.antt`, and what reading it gives in `specs/FrameImages.antt`. The functions of `laws`
+//! have no effect: their contracts say what holds of all files and of all such smallest files, by
+//! `specs/Laws.antt`, and by `specs/TextChanges.antt` where words of the text are written over.
 #![tactic(auto)]
 
 pub use faults::ElfFault;
