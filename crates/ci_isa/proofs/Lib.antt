@@ -4,6 +4,7 @@ pub mod Found
 pub mod Only
 pub mod Registers
 pub mod Rows
+pub mod SequenceLaws
 pub mod TableLaws
 pub mod WellFormed
 pub mod Writers

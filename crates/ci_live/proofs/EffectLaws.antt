@@ -7,7 +7,7 @@ use Rattle.ci_isa.specs.Effects.{registers_read, registers_written}
 use Rattle.ci_live.specs.Flows.{Has}
 use Rattle.ci_isa.specs.Sequences.{ReadFirst, Write}
 use Rattle.ci_live.proofs.SetLaws.{has_difference, has_union}
-use Rattle.ci_live.proofs.LivenessLaws.{read_first_cons, write_cons}
+use Rattle.ci_isa.proofs.SequenceLaws.{read_first_cons, write_cons}
 
 -- the instructions from place k on are that one and those behind it
 split_at : (insns : List Insn) (k : ℕ) (insn : Insn) → k < length insns → insn ≡ get_or insns k insn → drop k insns ≡ insn ∷ drop (k + 1) insns
@@ -42,13 +42,3 @@ module _ (insns : List Insn) (k : ℕ) (insn : Insn) (within : k < length insns)
               | inr (unwritten, h) ↦ inr (passed.1 (later.1 h, unwritten))
             ]),
       )
-
-pub nothing_written : (r : ℕ) → ¬ Write [] r
-nothing_written r w = let h = w.there.1 in omega arith
-
-pub nothing_read : (r : ℕ) → ¬ ReadFirst [] r
-nothing_read r f = none f.before f.split
-  where
-    none : (before : List Insn) → [] ≡ (before ++ f.reader ∷ f.after) → ⊥
-    none [] split = cc
-    none (x ∷ before) split = cc

@@ -6,7 +6,8 @@ use Rattle.ci_isa.specs.Effects.{registers_read}
 use Rattle.ci_isa.specs.Sequences.{ReadFirst, Write}
 use Rattle.ci_live.specs.Flows.{Has}
 use Rattle.ci_live.proofs.SetLaws.{has_none}
-use Rattle.ci_live.proofs.EffectLaws.{nothing_read, nothing_written, read_before, written_before}
+use Rattle.ci_isa.proofs.SequenceLaws.{nothing_read, nothing_written}
+use Rattle.ci_live.proofs.EffectLaws.{read_before, written_before}
 use Rattle.ci_live.proofs.flow.effects.Goals as goal
 
 pub loop-place-init : goal.loop-place-init
