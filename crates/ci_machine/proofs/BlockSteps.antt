@@ -23,17 +23,19 @@ use Rattle.ci_machine.proofs.Effects.{keeps, AgreeAt, same_bytes}
 -- ---- the first step of a run
 
 module _ (meaning : Meaning) (program : Program) where
-  first_goes_on : (n : ℕ) (state next : State) → step meaning program state ≡ Next next → after meaning program (suc n) state ≡ after meaning program n next
+  pub first_goes_on : (n : ℕ) (state next : State) → step meaning program state ≡ Next next → after meaning program (suc n) state ≡ after meaning program n next
   first_goes_on zero state next same = ap (reached state) same
   first_goes_on (suc n) state next same = ap (continued (step meaning program)) (first_goes_on n state next same)
 
-  first_ends : (n : ℕ) (state : State) (e : End) → step meaning program state ≡ Ended e → after meaning program (suc n) state ≡ record { state = state; end = Some e }
+  pub first_ends : (n : ℕ) (state : State) (e : End) → step meaning program state ≡ Ended e
+      → after meaning program (suc n) state ≡ record { state = state; end = Some e }
   first_ends zero state e same = ap (reached state) same
   first_ends (suc n) state e same = ap (continued (step meaning program)) (first_ends n state e same)
 
 -- ---- the text stays
 
-not_stored : (text : ℕ → Bool) (places bytes : List ℕ) (memory : ℕ → Option ℕ) (a : ℕ) → list_any text places ≡ false → text a ≡ true → with_bytes memory places bytes a ≡ memory a
+pub not_stored : (text : ℕ → Bool) (places bytes : List ℕ) (memory : ℕ → Option ℕ) (a : ℕ) → list_any text places ≡ false → text a ≡ true
+    → with_bytes memory places bytes a ≡ memory a
 not_stored text [] bytes memory a clear is = refl
 not_stored text (place ∷ places) [] memory a clear is = refl
 not_stored text (place ∷ places) (byte ∷ bytes) memory a clear is =
@@ -49,7 +51,7 @@ not_stored text (place ∷ places) (byte ∷ bytes) memory a clear is =
     other true never same = absurd (never refl)
     other false never same = same
 
-text_stays : (text : ℕ → Bool) (units : Units) (insn : Insn) (core : Core) (a : ℕ) → LeavesText text insn core → text a ≡ true
+pub text_stays : (text : ℕ → Bool) (units : Units) (insn : Insn) (core : Core) (a : ℕ) → LeavesText text insn core → text a ≡ true
     → (acted units insn core).state.memory a ≡ core.memory a
 text_stays text units (Store width rs1 rs2 offset) core a clear is = after_store (bytes_at core.memory (accessed (Store width rs1 rs2 offset) core))
   where
@@ -63,7 +65,7 @@ text_agrees program left right [] same all = tt
 text_agrees program left right (place ∷ places) same all =
     (same place (both_first (in_text program place) _ all), text_agrees program left right places same (both_second (in_text program place) _ all))
 
-same_insn : (meaning : Meaning) (program : Program) (left right : ℕ → Option ℕ) (address : ℕ) → HaveSameText program left right
+pub same_insn : (meaning : Meaning) (program : Program) (left right : ℕ → Option ℕ) (address : ℕ) → HaveSameText program left right
     → list_all (in_text program) (addresses 4 address) ≡ true → insn_in meaning program left address ≡ insn_in meaning program right address
 same_insn meaning program left right address same all =
     ap (λ bytes. if (address % 4 == 0) && in_text program address then option_map meaning.insn (option_map number_of_bytes bytes) else None)
@@ -71,12 +73,20 @@ same_insn meaning program left right address same all =
 
 -- ---- steps
 
-over : (units : Units) (insns : List Insn) (core : Core) (e : End) → act_all units insns (record { state = core; end = Some e }) ≡ record { state = core; end = Some e }
+pub over : (units : Units) (insns : List Insn) (core : Core) (e : End)
+    → act_all units insns (record { state = core; end = Some e }) ≡ record { state = core; end = Some e }
 over units [] core e = refl
 over units (insn ∷ insns) core e = over units insns core e
 
+pub control_step : (meaning : Meaning) (program : Program) (state : State) (insn : Insn) → fetched meaning program state ≡ Some insn → ends_block insn ≡ true
+    → step meaning program state ≡ control program insn state.pc state.core
+control_step meaning program state insn found ends =
+    ap (stepped meaning.units program state) found
+    ∙ ap (λ test. if test then control program insn state.pc state.core else then_onward state.pc (act meaning.units insn state.core)) ends
+
 module _ (meaning : Meaning) (program : Program) (memory : ℕ → Option ℕ) where
-  acts_there : (insn : Insn) (state : State) → insn_in meaning program memory state.pc ≡ Some insn → list_all (in_text program) (addresses 4 state.pc) ≡ true
+  pub acts_there : (insn : Insn) (state : State) → insn_in meaning program memory state.pc ≡ Some insn
+      → list_all (in_text program) (addresses 4 state.pc) ≡ true
       → HaveSameText program memory state.core.memory → ends_block insn ≡ false
       → step meaning program state ≡ then_onward state.pc (act meaning.units insn state.core)
   acts_there insn state there all same acts =

@@ -73,7 +73,7 @@ module _ (text more : ℕ → Bool) (left right : State) where
 
 -- ---- bytes that a call moves
 
-same_mapped : (left right : ℕ → Option ℕ) (places : List ℕ) → ((a : ℕ) → is_some (left a) ≡ is_some (right a))
+pub same_mapped : (left right : ℕ → Option ℕ) (places : List ℕ) → ((a : ℕ) → is_some (left a) ≡ is_some (right a))
     → is_some (bytes_at left places) ≡ is_some (bytes_at right places)
 same_mapped left right [] same = refl
 same_mapped left right (place ∷ places) same =
@@ -85,7 +85,7 @@ same_mapped left right (place ∷ places) same =
     both (Some byte) (Some bytes) = refl
 
 module _ (text : ℕ → Bool) (left right : Core) (outside : AgreeOutside text left right) (mapped_left : IsMapped text left.memory) (mapped_right : IsMapped text right.memory) where
-  mapped_alike : (a : ℕ) → is_some (left.memory a) ≡ is_some (right.memory a)
+  pub mapped_alike : (a : ℕ) → is_some (left.memory a) ≡ is_some (right.memory a)
   mapped_alike a = by_test (text a) (λ is. mapped_left a is ∙ sym (mapped_right a is)) (λ none. ap is_some (outside.memory a none))
 
   same_range : (a n : ℕ) → (is_some (range_at left.memory a n) ≡ true → list_any text (addresses n a) ≡ false) → range_at left.memory a n ≡ range_at right.memory a n

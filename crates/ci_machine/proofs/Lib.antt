@@ -1,12 +1,18 @@
 pub mod TestLaws
+pub mod LeavingLists
 pub mod RegisterLaws
 pub mod Effects
 pub mod Blocks
 pub mod Meanings
+pub mod NeededLaws
 pub mod RunLaws
+pub mod WordLaws
+pub mod TextLaws
 pub mod BlockSteps
 pub mod ControlFrame
+pub mod MovedBytes
 pub mod Rows
+mod LawRows
 pub mod PartLaws
 pub mod AccessLaws
 pub mod PartReads
@@ -15,3 +21,10 @@ pub mod HeapLaws
 pub mod HeapFacts
 pub mod CallLaws
 pub mod StartLaws
+pub mod TextTests
+pub mod OpeningLaws
+pub mod SameRuns
+pub mod JoinLaws
+pub mod StepLists
+pub mod TextChanges
+pub mod EndLaws

@@ -25,7 +25,7 @@ use Rattle.ci_machine.specs.Steps.{Meaning, control, step, touched}
 use Rattle.ci_machine.specs.Runs.{Latencies, jalr_target, after, cost, steps_made, entries}
 
 -- x5 has 100, x6 has 80000010, x7 has 4, the hidden register has 9, and the two bytes at 100 are mapped
-core : Core
+unfoldable pub core : Core
 core = record {
   registers = λ r. if r == 5 then 0x100 else if r == 6 then 0x80000010 else if r == 7 then 4 else if r == first_hidden then 9 else 0;
   memory = λ a. if a == 0x100 then Some 0x80 else if a == 0x101 then Some 0xff else None;
@@ -34,7 +34,7 @@ core = record {
   output = [];
 }
 
-units : Units
+unfoldable pub units : Units
 units = record { further = further; results = results }
   where
     -- unit 4 takes x7 too, and gives its value alone
@@ -171,12 +171,12 @@ unknown_call = refl
 
 -- ---- a run
 
-plain : Meaning
+unfoldable pub plain : Meaning
 unfolding jump_row branch_row load_row store_row immediate_row shift_row constant_row operation_row fence_row environment_row plain_row
 plain = record { insn = λ word. unwrap_or (plain_row word) (Illegal word); units = units }
 
 -- addi x10, x0, 7; addi x17, x0, 93; addi x0, x0, 0; ecall
-file : Executable
+unfoldable pub file : Executable
 file = record {
   bytes = 0x13 ∷ 0x05 ∷ 0x70 ∷ 0x00 ∷ 0x93 ∷ 0x08 ∷ 0xd0 ∷ 0x05 ∷ 0x13 ∷ 0x00 ∷ 0x00 ∷ 0x00 ∷ 0x73 ∷ 0x00 ∷ 0x00 ∷ 0x00 ∷ [];
   entry = 0x1000;
@@ -207,7 +207,7 @@ run_accounts = (refl, refl, refl)
 
 -- ---- a program of thirty words, with calls through a table, loads of constants and a word of output
 
-sample_file : Executable
+unfoldable pub sample_file : Executable
 sample_file = record {
   bytes = flat_map (bytes_of_number 4) (
       0x00020437 ∷ 0x00400493 ∷ 0x00000913 ∷ 0x00042283 ∷ 0x00090513 ∷ 0x000280e7 ∷ 0x00050913 ∷ 0x00440413 ∷ 0xfff48493 ∷ 0xfe0494e3
@@ -222,10 +222,10 @@ sample_file = record {
   symbols = [];
 }
 
-sample : Program
+unfoldable pub sample : Program
 sample = loaded_program sample_file
 
-usual : Latencies
+unfoldable pub usual : Latencies
 usual = record { of_class = by_class; pad = 0; read = 1; of_unit = λ _. 1 }
   where
     by_class : Class → ℕ
@@ -262,7 +262,7 @@ sample_target = refl
 -- ---- touches
 
 -- lw x5, 0(x2): from FFE on two of its bytes are not mapped, and two are text
-reader_file : Executable
+unfoldable pub reader_file : Executable
 reader_file = record {
   bytes = 0x83 ∷ 0x22 ∷ 0x01 ∷ 0x00 ∷ [];
   entry = 0x1000;
@@ -271,10 +271,10 @@ reader_file = record {
   symbols = [];
 }
 
-reader : Program
+unfoldable pub reader : Program
 reader = loaded_program reader_file
 
-reading : ℕ → State
+unfoldable pub reading : ℕ → State
 reading address = at_pc 0x1000 (with_register (opening reader_file []).core 2 address)
 
 -- a load touches the text also where it ends

@@ -4,9 +4,9 @@ use Rattle.std.specs.List.{list_all}
 use Rattle.ci_isa.specs.declared.instruction.Insn.{Insn}
 use Rattle.ci_machine.specs.Cores.{Core}
 use Rattle.ci_machine.specs.Accesses.{addresses}
-use Rattle.ci_machine.specs.Outcomes.{Reached}
+use Rattle.ci_machine.specs.Outcomes.{Reached, at_start}
 use Rattle.ci_machine.specs.Programs.{Program, State, in_text, heap_start, loaded_size}
-use Rattle.ci_machine.specs.Agreement.{AreRelated}
+use Rattle.ci_machine.specs.Agreement.{act_all, AreRelated, AreActions, AllLeaveText}
 use Rattle.ci_machine.specs.Steps.{Meaning, insn_in, following}
 
 -- The instructions stand one behind the other from an address on, each in four bytes of text.
@@ -31,7 +31,24 @@ pub record IsRunOf (insns : List Insn) (address : ℕ) (steps : Reached State) (
   pub end : steps.end ≡ actions.end
   pub pc : actions.end ≡ None → steps.state.pc ≡ behind insns address
 
+-- A run goes through a list of actions: they stand at its pc, as in this memory with the same text, and it comes to no
+-- end in them and leaves the text alone.
+pub record GoesThrough
+    (meaning : Meaning) (program : Program) (memory : ℕ → Option ℕ) (insns : List Insn) (state : State)
+    : Type 0 where
+  pub stand : StandAt meaning program memory state.pc insns
+  pub same : HaveSameText program memory state.core.memory
+  pub acts : AreActions insns
+  pub clear : AllLeaveText meaning.units (in_text program) insns (at_start state.core)
+  pub on : (act_all meaning.units insns (at_start state.core)).end ≡ None
+
 -- ---- states that agree
+
+-- what no action changes: heap end, input left and output
+pub record HaveSameStreams (left right : Core) : Type 0 where
+  pub heap_end : left.heap_end ≡ right.heap_end
+  pub input : left.input ≡ right.input
+  pub output : left.output ≡ right.output
 
 -- what is compared of a run of steps, but for the pc
 abbrev pub cores : Reached State → Reached Core

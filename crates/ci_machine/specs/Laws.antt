@@ -1,17 +1,17 @@
--- What holds of all instructions, blocks and runs.
-use Rattle.std.specs.Prelude.{◌≡◌, ℕ, ◌+◌, ◌<◌, Bool, true, false, ◌||◌, List, length, Option, None}
+-- What holds of all instructions and lists of instructions.
+use Rattle.std.specs.Prelude.{◌≡◌, ℕ, ◌<◌, Bool, true, false, ◌||◌, ◌⊎◌, ◌↔◌, List}
 use Rattle.std.specs.FinSet as set
 use Rattle.ci_isa.specs.declared.instruction.Insn.{Insn}
 use Rattle.ci_isa.specs.Effects.{ends_block, registers_read, registers_written}
+use Rattle.ci_isa.specs.Sequences.{ReadFirst, Write}
 use Rattle.ci_machine.specs.Cores.{Core}
 use Rattle.std.specs.List.{list_any}
-use Rattle.ci_machine.specs.Outcomes.{at_start, reached, Reached}
+use Rattle.ci_machine.specs.Outcomes.{reached, Reached}
 use Rattle.ci_machine.specs.Actions.{Units, TakeHidden, acted}
 use Rattle.ci_machine.specs.Agreement.{reads, writes, act_all, AgreeOutside, AgreeOn, AreRelated, LeavesText, AreActions, AllLeaveText, needed}
-use Rattle.ci_machine.specs.Programs.{Program, State, at_pc, in_text}
-use Rattle.ci_machine.specs.Steps.{Meaning, IsPlain, control, moved}
-use Rattle.ci_machine.specs.Runs.{Latencies, after, cost}
-use Rattle.ci_machine.specs.Blocks.{StandAt, HaveSameText, IsRunOf, AreRelatedAt, HaveSameLayout, IsMapped}
+use Rattle.ci_machine.specs.Programs.{Program, at_pc}
+use Rattle.ci_machine.specs.Steps.{control, moved}
+use Rattle.ci_machine.specs.Blocks.{AreRelatedAt, HaveSameLayout, HaveSameStreams, IsMapped}
 
 -- ---- instructions
 
@@ -23,7 +23,8 @@ Frame =
     → LeavesText text insn left
     → AreRelated text (λ r. set r || writes insn r) (acted units insn left) (acted units insn right)
 
--- The same for an instruction that ends a block, in two programs of one layout.
+-- The same for an instruction that ends a block, in two programs of one layout. Nor does it touch the text from the
+-- second core.
 abbrev pub ControlFrame : Type 0
 ControlFrame =
     (text set : ℕ → Bool) (units : Units) (old new : Program) → HaveSameLayout old new
@@ -34,6 +35,7 @@ ControlFrame =
     → AreRelatedAt text (λ r. set r || writes insn r)
     (reached (at_pc pc left) (control old insn pc left))
     (reached (at_pc pc right) (control new insn pc right))
+    × (list_any text (moved insn right) ≡ false)
 
 -- ---- lists of instructions
 
@@ -44,51 +46,19 @@ ListFrame =
     → AreActions insns → AreRelated text (needed units insns set) left right → AllLeaveText units text insns left
     → AreRelated text set (act_all units insns left) (act_all units insns right)
 
--- ---- runs
+-- And they touch the same text by it.
+abbrev pub ListLeaves : Type 0
+ListLeaves =
+    (text set : ℕ → Bool) (units : Units) (insns : List Insn) (left right : Reached Core)
+    → AreActions insns → AreRelated text (needed units insns set) left right → AllLeaveText units text insns left
+    → AllLeaveText units text insns right
 
--- as many steps more from where the first ones came
-abbrev pub RunsJoin : Type 0
-RunsJoin =
-    (meaning : Meaning) (program : Program) (m n : ℕ) (state : State)
-    → (after meaning program m state).end ≡ None
-    → after meaning program (m + n) state ≡ after meaning program n (after meaning program m state).state
+-- No action moves the heap's end, reads from the input or puts any output.
+abbrev pub ListsKeepStreams : Type 0
+ListsKeepStreams =
+    (units : Units) (insns : List Insn) (run : Reached Core) → HaveSameStreams run.state (act_all units insns run).state
 
--- a run that is over stays as it is
-abbrev pub EndsStay : Type 0
-EndsStay =
-    (meaning : Meaning) (program : Program) (m n : ℕ) (state : State)
-    → ¬ ((after meaning program m state).end ≡ None)
-    → after meaning program (m + n) state ≡ after meaning program m state
-
--- Steps through actions that stand in the text do what the list does, as long as it leaves the text alone. The memory
--- in which the actions stand may be that of another moment, with the same text.
-abbrev pub BlockSteps : Type 0
-BlockSteps =
-    (meaning : Meaning) (program : Program) (memory : ℕ → Option ℕ) (insns : List Insn) (state : State)
-    → StandAt meaning program memory state.pc insns → HaveSameText program memory state.core.memory
-    → AreActions insns → AllLeaveText meaning.units (in_text program) insns (at_start state.core)
-    → IsRunOf insns state.pc
-    (after meaning program (length insns) state)
-    (act_all meaning.units insns (at_start state.core))
-
--- ---- meanings
-
--- there is a plain meaning
-abbrev pub PlainExists : Type 0
-PlainExists = (meaning : Meaning) × IsPlain meaning
-
--- all plain machines make the same runs
-abbrev pub PlainIsOne : Type 0
-PlainIsOne =
-    (left right : Meaning) → IsPlain left → IsPlain right → (program : Program) (n : ℕ) (state : State)
-    → after left program n state ≡ after right program n state
-
--- and at the same cost
-abbrev pub PlainCostsOne : Type 0
-PlainCostsOne =
-    (left right : Meaning) → IsPlain left → IsPlain right
-    → (program : Program) (latencies : Latencies) (n : ℕ) (state : State)
-    → cost left program latencies n state ≡ cost right program latencies n state
+-- ---- registers
 
 -- the registers that are read and written, but for the hidden ones, are the sets of the instruction
 abbrev pub RegistersRead : Type 0
@@ -98,3 +68,10 @@ RegistersRead =
 
 abbrev pub RegistersWritten : Type 0
 RegistersWritten = (insn : Insn) (r : ℕ) → r < 32 → writes insn r ≡ set.contains (registers_written insn) r
+
+-- What a list needs for a set is what it reads before it writes it, and what is in the set and not written.
+abbrev pub NeededIsReadFirst : Type 0
+NeededIsReadFirst =
+    (units : Units) → TakeHidden units
+    → (insns : List Insn) (set : ℕ → Bool) (r : ℕ) → r < 32
+    → needed units insns set r ≡ true ↔ (ReadFirst insns r ⊎ ((set r ≡ true) × ¬ Write insns r))

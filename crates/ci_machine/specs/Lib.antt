@@ -8,7 +8,14 @@ pub mod Steps
 pub mod Runs
 pub mod Agreement
 pub mod Blocks
+pub mod Words
+pub mod Texts
+pub mod Meanings
 pub mod Laws
+pub mod RunLaws
+pub mod StateLaws
+pub mod FileLaws
+pub mod MeaningLaws
 pub mod Parts
 pub mod States
 pub mod Loading

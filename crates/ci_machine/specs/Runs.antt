@@ -1,10 +1,11 @@
 -- Runs of steps, and what is counted over them.
-use Rattle.std.specs.Prelude.{◌≡◌, ℕ, zero, suc, ◌<◌, Bool, ◌==◌, ◌&&◌, true, is_none, if◌then◌else◌, Option, Some, None}
+use Rattle.std.specs.Prelude.{◌≡◌, ℕ, zero, suc, ◌<◌, ◌≤◌, Bool, ◌==◌, ◌&&◌, true, is_none, if◌then◌else◌, Option, Some, None}
 use Rattle.ci_word.specs.declared.arithmetic.Class.{Class}
 use Rattle.ci_word.specs.Numbers.{count_below, sum_below}
 use Rattle.ci_isa.specs.declared.instruction.Insn.{Insn}
 use Rattle.ci_isa.specs.declared.instruction.Insn.TheVariants.{AluImm, Jalr, Unit, Cread, Illegal}
 use Rattle.ci_isa.specs.Effects.{class_of, is_no_op}
+use Rattle.ci_machine.specs.declared.ends.End.{End}
 use Rattle.ci_machine.specs.Outcomes.{Outcome, Next, Ended, Reached, continued, at_start}
 use Rattle.ci_machine.specs.Programs.{Program, State, in_text}
 use Rattle.ci_machine.specs.Steps.{Meaning, fetched, step, touched}
@@ -29,6 +30,15 @@ module _ (meaning : Meaning) (program : Program) where
   abbrev pub after : ℕ → State → Reached State
   after zero state = at_start state
   after (suc n) state = continued (step meaning program) (after n state)
+
+  -- The run met this end at one of its first n steps, and stays as it was there.
+  pub record MetEnd (state : State) (n : ℕ) (end : End) : Type 0 where
+    pub place : ℕ
+    pub some : 0 < place
+    pub within : place ≤ n
+    pub there : (after place state).end ≡ Some end
+    pub stays : after n state ≡ after place state
+    pub on : (d : ℕ) → d < place → (after d state).end ≡ None
 
   -- ---- over the steps of a run: step i begins at the state that i steps reach, and is made where these met no end
 

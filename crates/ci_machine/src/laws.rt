@@ -1,6 +1,13 @@
-//! What holds of all instructions, lists of instructions and runs.
-ghost use Rattle.ci_machine.specs.Laws.{Frame, ControlFrame, ListFrame, RunsJoin, EndsStay, BlockSteps};
-ghost use Rattle.ci_machine.specs.Laws.{PlainExists, PlainIsOne, PlainCostsOne, RegistersRead, RegistersWritten};
+//! What holds of all instructions, lists of instructions and runs, and of the runs of all files.
+ghost use Rattle.ci_machine.specs.FileLaws.{OpensWithFileWords, FileInsnsStay, FileInsnsStand, OpensAlike};
+ghost use Rattle.ci_machine.specs.Laws.{Frame, ControlFrame, ListFrame, ListLeaves, ListsKeepStreams};
+ghost use Rattle.ci_machine.specs.Laws.{RegistersRead, RegistersWritten, NeededIsReadFirst};
+ghost use Rattle.ci_machine.specs.MeaningLaws.{MeaningsAgree, WordMeaningsAgree, FileMeaningsAgree, PlainExists, PlainIsOne};
+ghost use Rattle.ci_machine.specs.MeaningLaws.{UnitsUnused, UnitsUnusedByLists, UnitsLeaveText};
+ghost use Rattle.ci_machine.specs.RunLaws.{RunsJoin, EndsStay, RunsEndAt, NoEndBefore, CountsJoin, CountsStay};
+ghost use Rattle.ci_machine.specs.RunLaws.{BlockSteps, ListsLeaveText, StepsLeaveText, BlockCosts, ControlSteps};
+ghost use Rattle.ci_machine.specs.StateLaws.{WordsStayByLists, WordsStayByControl, WordsStay, OpensInWords, PlainGivesWords};
+ghost use Rattle.ci_machine.specs.StateLaws.{TextStays, OpensWithText};
 
 /// What an instruction does depends on the registers that it reads and the bytes that it moves, and on nothing else.
 pub fn frame()
@@ -12,31 +19,83 @@ pub fn control_frame()
     ensures { ControlFrame }
 {}
 
-/// What a list of instructions does depends on the registers that it needs.
+/// What a list of instructions does, and which text it touches, depends on the registers that it needs.
 pub fn list_frame()
-    ensures { ListFrame }
+    ensures related { ListFrame }
+    ensures leaves { ListLeaves }
+    ensures streams { ListsKeepStreams }
+{}
+
+/// The registers that instructions read and write are those of their sets, and what a list needs is what it reads first.
+pub fn register_sets()
+    ensures read { RegistersRead }
+    ensures written { RegistersWritten }
+    ensures needed { NeededIsReadFirst }
 {}
 
 /// Runs go on where others came to, and do not go on after an end.
 pub fn runs_join()
     ensures join { RunsJoin }
     ensures stay { EndsStay }
+    ensures place { RunsEndAt }
+    ensures before { NoEndBefore }
 {}
 
-/// The steps through a list of instructions in the text do what the list does.
+/// What is counted over some steps and over those behind them.
+pub fn counts_join()
+    ensures joined { CountsJoin }
+    ensures over { CountsStay }
+{}
+
+/// The steps through a list of instructions in the text do what the list does, touch the text where it does, and cost
+/// what it does.
 pub fn block_steps()
-    ensures { BlockSteps }
+    ensures run { BlockSteps }
+    ensures list { ListsLeaveText }
+    ensures steps { StepsLeaveText }
+    ensures cost { BlockCosts }
+    ensures control { ControlSteps }
+{}
+
+/// Registers hold words, and memory, input and output hold bytes, from the opening state on.
+pub fn words_stay()
+    ensures lists { WordsStayByLists }
+    ensures control { WordsStayByControl }
+    ensures runs { WordsStay }
+    ensures opening { OpensInWords }
+    ensures plain { PlainGivesWords }
+{}
+
+/// The text stays as long as no step touches it, from the opening state on.
+pub fn text_stays()
+    ensures runs { TextStays }
+    ensures opening { OpensWithText }
+{}
+
+/// The text in memory is the file's, and another file's memory differs in text alone where its bytes do.
+pub fn file_text()
+    ensures words { OpensWithFileWords }
+    ensures instructions { FileInsnsStay }
+    ensures lists { FileInsnsStand }
+    ensures outside { OpensAlike }
+{}
+
+/// Meanings that read alike what is fetched make one run.
+pub fn one_run()
+    ensures steps { MeaningsAgree }
+    ensures words { WordMeaningsAgree }
+    ensures files { FileMeaningsAgree }
 {}
 
 /// The plain machine is one, and so is the cost of its runs, whatever its meaning says of units.
 pub fn plain_meaning()
     ensures exists { PlainExists }
     ensures one { PlainIsOne }
-    ensures cost { PlainCostsOne }
 {}
 
-/// The registers that an instruction reads and writes are those of its sets, and hidden ones.
-pub fn register_sets()
-    ensures read { RegistersRead }
-    ensures written { RegistersWritten }
+/// Units matter to unit words alone.
+pub fn units_unused()
+    ensures instructions { UnitsUnused }
+    ensures lists { UnitsUnusedByLists }
+    ensures text { UnitsLeaveText }
 {}

@@ -1,4 +1,5 @@
-use Rattle.ci_machine.proofs.Meanings.{plain_exists, plain_is_one, plain_costs_one}
+use Rattle.ci_machine.proofs.Meanings.{plain_exists}
+use Rattle.ci_machine.proofs.SameRuns.{plain_is_one}
 use Rattle.ci_machine.proofs.laws.plain_meaning.Goals as goal
 
 pub returns-clause-exists : goal.returns-clause-exists
@@ -6,6 +7,3 @@ returns-clause-exists c = plain_exists
 
 pub returns-clause-one : goal.returns-clause-one
 returns-clause-one c = plain_is_one
-
-pub returns-clause-cost : goal.returns-clause-cost
-returns-clause-cost c = plain_costs_one

@@ -1,4 +1,5 @@
 use Rattle.ci_machine.proofs.Meanings.{registers_read_are, registers_written_are}
+use Rattle.ci_machine.proofs.NeededLaws.{needed_is}
 use Rattle.ci_machine.proofs.laws.register_sets.Goals as goal
 
 pub returns-clause-read : goal.returns-clause-read
@@ -6,3 +7,6 @@ returns-clause-read c = registers_read_are
 
 pub returns-clause-written : goal.returns-clause-written
 returns-clause-written c = registers_written_are
+
+pub returns-clause-needed : goal.returns-clause-needed
+returns-clause-needed c = needed_is

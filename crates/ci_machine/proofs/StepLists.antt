@@ -1,0 +1,181 @@
+-- Steps through instructions that stand in the text, and the list of these: what they touch, and what they cost.
+use Rattle.std.proofs.Common.{◌≡◌, ℕ, zero, suc, ◌+◌, refl, ap, sym, subst, ◌∙◌, arith, List, [], ◌∷◌, length, Option, Some, None, find}
+use Rattle.std.specs.Prelude.{Bool, true, false, is_none}
+use Rattle.std.specs.List.{list_all, sum_by}
+use Rattle.std.proofs.lemmas.List.Sums.{sum_by-cons}
+use Rattle.ci_word.proofs.NumberLaws.{sum_below-first, sum_below-zero, sum_below-same}
+use Rattle.ci_isa.specs.declared.instruction.Insn.{Insn}
+use Rattle.ci_isa.specs.Effects.{ends_block}
+use Rattle.ci_machine.specs.declared.ends.End.{End}
+use Rattle.ci_machine.specs.Cores.{Core}
+use Rattle.ci_machine.specs.Accesses.{addresses}
+use Rattle.ci_machine.specs.Outcomes.{Outcome, Next, Ended, reached, at_start}
+use Rattle.ci_machine.specs.Actions.{Units, act, acted, accessed}
+use Rattle.ci_machine.specs.Agreement.{act_all, AreActions, LeavesText, AllLeaveText}
+use Rattle.ci_machine.specs.Programs.{Program, State, at_pc, in_text}
+use Rattle.ci_machine.specs.Steps.{Meaning, insn_in, fetched, following, then_onward, step, moved, touched}
+use Rattle.ci_machine.specs.Runs.{Latencies, latency, before_step, is_made, step_cost, cost, LeavesTextFor}
+use Rattle.ci_machine.specs.Blocks.{StandAt, HaveSameText, GoesThrough}
+use Rattle.ci_machine.proofs.TestLaws.{neither_first, neither_second}
+use Rattle.ci_machine.proofs.BlockSteps.{first_goes_on, first_ends, same_insn, acts_there, text_stays, over}
+use Rattle.ci_machine.proofs.TextLaws.{none_found, find_none, same_moved}
+
+-- ---- the first step and the others
+
+module _ (meaning : Meaning) (program : Program) where
+  leaving_rest : (n : ℕ) (state next : State) → step meaning program state ≡ Next next → LeavesTextFor meaning program (suc n) state
+      → LeavesTextFor meaning program n next
+  leaving_rest n state next same clear i lt made =
+      let went = first_goes_on meaning program i state next same in
+      subst (λ run. touched meaning program run.state ≡ None) went (clear (suc i) (omega arith) (ap (λ run. is_none run.end) went ∙ made))
+
+  leaving_more : (n : ℕ) (state next : State) → step meaning program state ≡ Next next → touched meaning program state ≡ None
+      → LeavesTextFor meaning program n next → LeavesTextFor meaning program (suc n) state
+  leaving_more n state next same first rest zero lt made = first
+  leaving_more n state next same first rest (suc i) lt made =
+      let went = first_goes_on meaning program i state next same in
+      subst (λ run. touched meaning program run.state ≡ None) (sym went) (rest i (omega arith) (sym (ap (λ run. is_none run.end) went) ∙ made))
+
+  leaving_ended : (n : ℕ) (state : State) (e : End) → step meaning program state ≡ Ended e → touched meaning program state ≡ None
+      → LeavesTextFor meaning program (suc n) state
+  leaving_ended n state e same first zero lt made = first
+  leaving_ended n state e same first (suc i) lt made =
+      let never : false ≡ true = sym (ap (λ run. is_none run.end) (first_ends meaning program i state e same)) ∙ made in cc
+
+  cost_more : (latencies : Latencies) (n : ℕ) (state next : State) → step meaning program state ≡ Next next
+      → cost meaning program latencies (suc n) state ≡ step_cost meaning program latencies state + cost meaning program latencies n next
+  cost_more latencies n state next same =
+      sum_below-first n (is_made meaning program state) (λ i. step_cost meaning program latencies (before_step meaning program state i))
+      ∙ ap (λ rest. step_cost meaning program latencies state + rest)
+      (sum_below-same n _ _ _ _ (λ i lt. ap (λ run. is_none run.end) (first_goes_on meaning program i state next same))
+      (λ i lt made. ap (λ run. step_cost meaning program latencies run.state) (first_goes_on meaning program i state next same)))
+
+-- ---- lists
+
+over_leaves : (units : Units) (text : ℕ → Bool) (insns : List Insn) (core : Core) (e : End)
+    → AllLeaveText units text insns (record { state = core; end = Some e })
+over_leaves units text [] core e = tt
+over_leaves units text (insn ∷ insns) core e = (λ on. cc, over_leaves units text insns core e)
+
+module _ (meaning : Meaning) (program : Program) (memory : ℕ → Option ℕ) where
+  -- the instruction that stands there is fetched
+  fetched_there : (insn : Insn) (state : State) → insn_in meaning program memory state.pc ≡ Some insn → list_all (in_text program) (addresses 4 state.pc) ≡ true
+      → HaveSameText program memory state.core.memory → fetched meaning program state ≡ Some insn
+  fetched_there insn state there all same = sym (same_insn meaning program memory state.core.memory state.pc same all) ∙ there
+
+  touched_is : (insn : Insn) (state : State) → fetched meaning program state ≡ Some insn → ends_block insn ≡ false
+      → touched meaning program state ≡ find (in_text program) (accessed insn state.core)
+  touched_is insn state found acts =
+      ap (λ (f : Option Insn). elim f as (λ _. Option ℕ) [ None ↦ None | Some other ↦ find (in_text program) (moved other state.core) ]) found
+      ∙ ap (find (in_text program)) (same_moved insn state.core acts)
+
+  step_cost_is : (latencies : Latencies) (insn : Insn) (state : State) → fetched meaning program state ≡ Some insn
+      → step_cost meaning program latencies state ≡ latency latencies insn
+  step_cost_is latencies insn state found = ap (λ (f : Option Insn). elim f as (λ _. ℕ) [ None ↦ 0 | Some other ↦ latency latencies other ]) found
+
+  -- text stays over an action that leaves it alone
+  kept_text : (insn : Insn) (state : State) (core : Core) → act meaning.units insn state.core ≡ Next core → LeavesText (in_text program) insn state.core
+      → HaveSameText program memory state.core.memory → HaveSameText program memory core.memory
+  kept_text insn state core is clear same a text =
+      same a text ∙ sym (text_stays (in_text program) meaning.units insn state.core a clear text) ∙ ap (λ o. (reached state.core o).state.memory a) is
+
+  -- steps that leave the text alone are those of a list that does
+  pub leaving_list : (insns : List Insn) (state : State) → StandAt meaning program memory state.pc insns → HaveSameText program memory state.core.memory
+      → AreActions insns → LeavesTextFor meaning program (length insns) state → AllLeaveText meaning.units (in_text program) insns (at_start state.core)
+  leaving_list [] state stand same acts clear = tt
+  leaving_list (insn ∷ insns) state (there, all, stand) same acts clear =
+      let acting = neither_first (ends_block insn) _ acts in
+      let found = fetched_there insn state there all same in
+      let first : LeavesText (in_text program) insn state.core =
+      none_found (in_text program) (accessed insn state.core) (sym (touched_is insn state found acting) ∙ clear 0 (omega arith) refl) in (
+        λ on. first,
+        by_outcome (act meaning.units insn state.core) refl first
+            (acts_there meaning program memory insn state there all same acting) (λ next. leaving_list insns next),
+      )
+    where
+      by_outcome : (o : Outcome Core) → act meaning.units insn state.core ≡ o → LeavesText (in_text program) insn state.core
+          → step meaning program state ≡ then_onward state.pc (act meaning.units insn state.core)
+          → ((next : State) → StandAt meaning program memory next.pc insns → HaveSameText program memory next.core.memory → AreActions insns
+          → LeavesTextFor meaning program (length insns) next → AllLeaveText meaning.units (in_text program) insns (at_start next.core))
+          → AllLeaveText meaning.units (in_text program) insns (acted meaning.units insn state.core)
+      by_outcome (Ended e) is first made more =
+          subst (λ o. AllLeaveText meaning.units (in_text program) insns (reached state.core o)) (sym is)
+          (over_leaves meaning.units (in_text program) insns state.core e)
+      by_outcome (Next core) is first made more =
+          let next : State = at_pc (following state.pc) core in
+          let went : step meaning program state ≡ Next next = made ∙ ap (then_onward state.pc) is in
+          subst (λ o. AllLeaveText meaning.units (in_text program) insns (reached state.core o)) (sym is)
+          (more next stand (kept_text insn state core is first same) (neither_second (ends_block insn) _ acts)
+          (leaving_rest meaning program (length insns) state next went clear))
+
+  -- and back
+  pub leaving_steps : (insns : List Insn) (state : State) → StandAt meaning program memory state.pc insns → HaveSameText program memory state.core.memory
+      → AreActions insns → AllLeaveText meaning.units (in_text program) insns (at_start state.core) → LeavesTextFor meaning program (length insns) state
+  leaving_steps [] state stand same acts clear = λ i lt made. absurd (omega arith)
+  leaving_steps (insn ∷ insns) state (there, all, stand) same acts clear =
+      let acting = neither_first (ends_block insn) _ acts in
+      let found = fetched_there insn state there all same in
+      let first : touched meaning program state ≡ None =
+      touched_is insn state found acting ∙ find_none (in_text program) (accessed insn state.core) (clear.0 refl) in
+      by_outcome (act meaning.units insn state.core) refl first
+      (acts_there meaning program memory insn state there all same acting) (λ next. leaving_steps insns next)
+    where
+      by_outcome : (o : Outcome Core) → act meaning.units insn state.core ≡ o → touched meaning program state ≡ None
+          → step meaning program state ≡ then_onward state.pc (act meaning.units insn state.core)
+          → ((next : State) → StandAt meaning program memory next.pc insns → HaveSameText program memory next.core.memory → AreActions insns
+          → AllLeaveText meaning.units (in_text program) insns (at_start next.core) → LeavesTextFor meaning program (length insns) next)
+          → LeavesTextFor meaning program (suc (length insns)) state
+      by_outcome (Ended e) is first made more = leaving_ended meaning program (length insns) state e (made ∙ ap (then_onward state.pc) is) first
+      by_outcome (Next core) is first made more =
+          let next : State = at_pc (following state.pc) core in
+          let went : step meaning program state ≡ Next next = made ∙ ap (then_onward state.pc) is in
+          leaving_more meaning program (length insns) state next went first
+          (more next stand (kept_text insn state core is (clear.0 refl) same) (neither_second (ends_block insn) _ acts)
+          (subst (λ o. AllLeaveText meaning.units (in_text program) insns (reached state.core o)) is clear.1))
+
+  -- ---- a list that is passed
+
+  -- the first instruction acts, and the run goes through the others from the core that it reaches
+  record IsPassed (insn : Insn) (insns : List Insn) (state : State) : Type 0 where
+    core : Core
+    found : fetched meaning program state ≡ Some insn
+    went : step meaning program state ≡ Next (at_pc (following state.pc) core)
+    rest : GoesThrough meaning program memory insns (at_pc (following state.pc) core)
+
+  passed : (insn : Insn) (insns : List Insn) (state : State) → GoesThrough meaning program memory (insn ∷ insns) state
+      → IsPassed insn insns state
+  passed insn insns state through =
+      by_outcome (act meaning.units insn state.core) refl
+      (acts_there meaning program memory insn state stand.0 stand.1 through.same (neither_first (ends_block insn) _ through.acts))
+    where
+      stand : StandAt meaning program memory state.pc (insn ∷ insns)
+      stand = through.stand
+
+      by_outcome : (o : Outcome Core) → act meaning.units insn state.core ≡ o
+          → step meaning program state ≡ then_onward state.pc (act meaning.units insn state.core) → IsPassed insn insns state
+      by_outcome (Ended e) is made =
+          let stopped : act_all meaning.units insns (acted meaning.units insn state.core) ≡ record { state = state.core; end = Some e } =
+          ap (λ o. act_all meaning.units insns (reached state.core o)) is ∙ over meaning.units insns state.core e in
+          absurd (let never : Some e ≡ None = sym (ap (λ run. run.end) stopped) ∙ through.on in cc)
+      by_outcome (Next core) is made = record {
+        core = core;
+        found = fetched_there insn state stand.0 stand.1 through.same;
+        went = made ∙ ap (then_onward state.pc) is;
+        rest = record {
+          stand = stand.2;
+          same = kept_text insn state core is (through.clear.0 refl) through.same;
+          acts = neither_second (ends_block insn) _ through.acts;
+          clear = subst (λ o. AllLeaveText meaning.units (in_text program) insns (reached state.core o)) is through.clear.1;
+          on = subst (λ o. (act_all meaning.units insns (reached state.core o)).end ≡ None) is through.on;
+        };
+      }
+
+  pub block_costs : (latencies : Latencies) (insns : List Insn) (state : State) → GoesThrough meaning program memory insns state
+      → cost meaning program latencies (length insns) state ≡ sum_by (latency latencies) insns
+  block_costs latencies [] state through =
+      sum_below-zero (is_made meaning program state) (λ i. step_cost meaning program latencies (before_step meaning program state i))
+  block_costs latencies (insn ∷ insns) state through =
+      let p = passed insn insns state through in
+      cost_more meaning program latencies (length insns) state (at_pc (following state.pc) p.core) p.went
+      ∙ (λ i. step_cost_is latencies insn state p.found i + block_costs latencies insns (at_pc (following state.pc) p.core) p.rest i)
+      ∙ sym (sum_by-cons (latency latencies) insn insns)
