@@ -1,21 +1,22 @@
 -- What the laws say, computed on the programs of the other rows.
 use Rattle.std.proofs.Common.{◌≡◌, ◌<◌, ℕ, refl, sym, ap, ◌∙◌, arith, List, [], ◌∷◌, Option, Some, None, pos, is_some}
 use Rattle.std.specs.Prelude.{Bool, true, false, not, ◌&&◌, ◌||◌, ◌==◌, if◌then◌else◌}
-use Rattle.std.specs.List.{sum_by}
+use Rattle.std.specs.List.{list_any, sum_by}
 use Rattle.ci_word.specs.declared.arithmetic.Op.TheVariants.{Add}
 use Rattle.ci_word.specs.Numbers.{count_below, sum_below, some_below}
 use Rattle.ci_word.proofs.NumberLaws.{some_below_iff}
 use Rattle.ci_isa.specs.declared.instruction.LoadKind.TheVariants as kinds
 use Rattle.ci_isa.specs.declared.instruction.Insn.{Insn}
-use Rattle.ci_isa.specs.declared.instruction.Insn.TheVariants.{Alu, AluImm, Lui, Load, Unit}
+use Rattle.ci_isa.specs.declared.instruction.Insn.TheVariants.{Alu, AluImm, Lui, Load, Ecall, Unit}
 use Rattle.ci_elf.specs.Executables.{Executable, place_of}
 use Rattle.ci_elf.specs.Fields.{field}
-use Rattle.ci_machine.specs.Cores.{register}
+use Rattle.ci_machine.specs.declared.ends.End.TheVariants as ends
+use Rattle.ci_machine.specs.Cores.{Core, register, with_register}
 use Rattle.ci_machine.specs.Outcomes.{at_start}
 use Rattle.ci_machine.specs.Actions.{acted}
 use Rattle.ci_machine.specs.Agreement.{AllLeaveText, needed}
-use Rattle.ci_machine.specs.Programs.{Program, State, in_text, opening}
-use Rattle.ci_machine.specs.Steps.{Meaning, word_at, touched}
+use Rattle.ci_machine.specs.Programs.{Program, State, at_pc, in_text, loaded_program, opening}
+use Rattle.ci_machine.specs.Steps.{Meaning, word_at, moved, touched}
 use Rattle.ci_machine.specs.Runs.{latency, after, before_step, is_made, jalr_target, cost, entries, steps_made, IsTame}
 use Rattle.ci_machine.specs.Blocks.{behind}
 use Rattle.ci_machine.specs.Texts.{text_word}
@@ -37,6 +38,18 @@ text_stays : (word_at (after plain sample 61 (opening sample_file [])).state.cor
 unfolding plain sample sample_file units field place_of
 text_stays = (refl, refl)
 
+-- sw x0, 0(x2), from a state in which x2 has the word's own address: text that is touched may change
+writer_file : Executable
+writer_file = record reader_file { bytes = 0x23 ∷ 0x20 ∷ 0x01 ∷ 0x00 ∷ [] }
+
+writing_at : ℕ → State
+writing_at address = at_pc 0x1000 (with_register (opening writer_file []).core 2 address)
+
+text_changes : (word_at (after plain (loaded_program writer_file) 1 (writing_at 0x1000)).state.core.memory 0x1000 ≡ Some 0)
+    × (touched plain (loaded_program writer_file) (writing_at 0x1000) ≡ Some 0x1000)
+unfolding plain writer_file reader_file units writing_at
+text_changes = (refl, refl)
+
 -- with another second word the memory is another one in these four bytes
 patched_file : Executable
 patched_file = record file {
@@ -47,6 +60,16 @@ opens_alike : ((opening patched_file []).core.memory 0x1006 ≡ Some 0xe0) × ((
     × ((opening patched_file []).core.memory 0x1010 ≡ (opening file []).core.memory 0x1010)
 unfolding patched_file file
 opens_alike = (refl, refl, refl)
+
+-- a write of two bytes of text touches it, and one of three bytes of which one isn't mapped moves none
+calls : ℕ → Core
+calls n = record (opening reader_file []).core {
+  registers = λ r. if r == 17 then 64 else if r == 10 then 1 else if r == 11 then 0x1002 else if r == 12 then n else 0;
+}
+
+call_touches : (list_any (in_text reader) (moved Ecall (calls 2)) ≡ true) × (list_any (in_text reader) (moved Ecall (calls 3)) ≡ false)
+unfolding calls reader reader_file
+call_touches = (refl, refl)
 
 -- ---- lists of instructions
 
@@ -71,6 +94,13 @@ five_steps :
     × (sum_by (latency usual) first_five ≡ 6)
 unfolding first_five plain sample sample_file units usual sum_below
 five_steps = (refl, refl, refl)
+
+-- the sample's run goes on up to its last step, and stays there
+ends_at : ((after plain sample 60 (opening sample_file [])).end ≡ None)
+    × ((after plain sample 61 (opening sample_file [])).end ≡ Some (ends.Exit 0))
+    × ((after plain sample 70 (opening sample_file [])).state.pc ≡ (after plain sample 60 (opening sample_file [])).state.pc)
+unfolding plain sample sample_file units
+ends_at = (refl, refl, refl)
 
 -- ---- counts
 

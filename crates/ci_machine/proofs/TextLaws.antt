@@ -51,18 +51,18 @@ same_moved insn core acts = refl
 -- ---- one step
 
 -- the text of a core stays behind what leads to another, and so does where its heap begins
-record Keeps (program : Program) (core later : Core) : Type 0 where
+record KeepsText (program : Program) (core later : Core) : Type 0 where
   same : HaveSameText program core.memory later.memory
   heap : heap_start program ≤ later.heap_end
 
 module _ (program : Program) (core : Core) (text : HasText program core) where
-  as_it_was : (rd value : ℕ) → Keeps program core (with_register core rd value)
+  as_it_was : (rd value : ℕ) → KeepsText program core (with_register core rd value)
   as_it_was rd value = record { same = λ a is. refl; heap = text.heap }
 
-  unchanged : Keeps program core core
+  unchanged : KeepsText program core core
   unchanged = record { same = λ a is. refl; heap = text.heap }
 
-  acted_keeps : (units : Units) (insn : Insn) → list_any (in_text program) (accessed insn core) ≡ false → Keeps program core (acted units insn core).state
+  acted_keeps : (units : Units) (insn : Insn) → list_any (in_text program) (accessed insn core) ≡ false → KeepsText program core (acted units insn core).state
   acted_keeps units insn clear = record {
     same = λ a is. sym (text_stays (in_text program) units insn core a clear is);
     heap = subst (λ (end : ℕ). heap_start program ≤ end) (sym (keeps units insn core).heap_end) text.heap;
@@ -70,11 +70,11 @@ module _ (program : Program) (core : Core) (text : HasText program core) where
 
   -- ---- calls
 
-  read_keeps : ((register core 10 == 0) ≡ true → list_any (in_text program) (moved_range core (read_length core)) ≡ false) → Keeps program core (read_call core)
+  read_keeps : ((register core 10 == 0) ≡ true → list_any (in_text program) (moved_range core (read_length core)) ≡ false) → KeepsText program core (read_call core)
   read_keeps clear = tested (register core 10 == 0) clear
     where
       into : (found : Option (List ℕ)) → range_at core.memory (register core 11) (read_length core) ≡ found
-          → list_any (in_text program) (moved_range core (read_length core)) ≡ false → Keeps program core (read_into core found)
+          → list_any (in_text program) (moved_range core (read_length core)) ≡ false → KeepsText program core (read_into core found)
       into None is clear = as_it_was 10 bad_address
       into (Some bytes) is clear = record {
         same = λ a there.
@@ -84,19 +84,19 @@ module _ (program : Program) (core : Core) (text : HasText program core) where
       }
 
       tested : (test : Bool) → (test ≡ true → list_any (in_text program) (moved_range core (read_length core)) ≡ false)
-          → Keeps program core (if test then read_into core (range_at core.memory (register core 11) (read_length core)) else answering core bad_file)
+          → KeepsText program core (if test then read_into core (range_at core.memory (register core 11) (read_length core)) else answering core bad_file)
       tested true clear = into _ refl (clear refl)
       tested false clear = as_it_was 10 bad_file
 
-  write_keeps : Keeps program core (write_call core)
+  write_keeps : KeepsText program core (write_call core)
   write_keeps = tested (is_output (register core 10))
     where
-      from : (found : Option (List ℕ)) → Keeps program core (written_from core found)
+      from : (found : Option (List ℕ)) → KeepsText program core (written_from core found)
       from None = as_it_was 10 bad_address
       from (Some bytes) = record { same = λ a is. refl; heap = text.heap }
 
       tested : (test : Bool)
-          → Keeps program core (if test then written_from core (range_at core.memory (register core 11) (register core 12)) else answering core bad_file)
+          → KeepsText program core (if test then written_from core (range_at core.memory (register core 11) (register core 12)) else answering core bad_file)
       tested true = from _
       tested false = as_it_was 10 bad_file
 
@@ -108,10 +108,10 @@ module _ (program : Program) (core : Core) (text : HasText program core) where
       let first : nat_le (heap_start program) end ≡ true = both_first _ _ (both_first _ _ (both_first _ _ may)) in
       grind (arith, nat_tests)
 
-  heap_keeps : Keeps program core (heap_call program core)
+  heap_keeps : KeepsText program core (heap_call program core)
   heap_keeps = tested (may_end_at program (register core 10)) refl
     where
-      ended : (end : ℕ) → heap_start program ≤ end → Keeps program core (with_heap_end core end)
+      ended : (end : ℕ) → heap_start program ≤ end → KeepsText program core (with_heap_end core end)
       ended end above = record { same = λ a is. stays a (text.below a is); heap = above }
         where
           stays : (a : ℕ) → a < heap_start program → core.memory a ≡ (with_heap_end core end).memory a
@@ -121,11 +121,11 @@ module _ (program : Program) (core : Core) (text : HasText program core) where
               λ i. if sym old i then Some 0 else if sym new i then None else core.memory a
 
       tested : (may : Bool) → may_end_at program (register core 10) ≡ may
-          → Keeps program core (let next = if may then with_heap_end core (register core 10) else core in answering next next.heap_end)
+          → KeepsText program core (let next = if may then with_heap_end core (register core 10) else core in answering next next.heap_end)
       tested true is = let kept = ended (register core 10) (may_start (register core 10) is) in record { same = kept.same; heap = kept.heap }
       tested false is = as_it_was 10 core.heap_end
 
-  called_keeps : list_any (in_text program) (moved_by_call core) ≡ false → Keeps program core (reached core (call program core)).state
+  called_keeps : list_any (in_text program) (moved_by_call core) ≡ false → KeepsText program core (reached core (call program core)).state
   called_keeps clear =
       tested (register core 17 == 63) (register core 17 == 64) (register core 17 == 93) (register core 17 == 214) clear
     where
@@ -138,7 +138,7 @@ module _ (program : Program) (core : Core) (text : HasText program core) where
       tested : (read write exit heap : Bool)
           → list_any (in_text program) (if read && (register core 10 == 0) then moved_range core (read_length core)
           else if (register core 17 == 64) && is_output (register core 10) then moved_range core (register core 12) else []) ≡ false
-          → Keeps program core (reached core (if read then Next (read_call core) else if write then Next (write_call core)
+          → KeepsText program core (reached core (if read then Next (read_call core) else if write then Next (write_call core)
           else if exit then Ended (ends.Exit (register core 10)) else if heap then Next (heap_call program core) else Next (answering core no_such_call))).state
       tested true write exit heap clear = read_keeps (reading (register core 10 == 0) clear)
       tested false true exit heap clear = write_keeps
@@ -147,22 +147,22 @@ module _ (program : Program) (core : Core) (text : HasText program core) where
       tested false false false false clear = as_it_was 10 no_such_call
 
 module _ (program : Program) (state : State) (text : HasText program state.core) where
-  then_keeps : (outcome : Outcome Core) → Keeps program state.core (reached state.core outcome).state
-      → Keeps program state.core (reached state (then_onward state.pc outcome)).state.core
+  then_keeps : (outcome : Outcome Core) → KeepsText program state.core (reached state.core outcome).state
+      → KeepsText program state.core (reached state (then_onward state.pc outcome)).state.core
   then_keeps (Next core) kept = kept
   then_keeps (Ended end) kept = unchanged program state.core text
 
-  directed_keeps : (target rd value : ℕ) → Keeps program state.core (reached state (directed target (with_register state.core rd value))).state.core
+  directed_keeps : (target rd value : ℕ) → KeepsText program state.core (reached state (directed target (with_register state.core rd value))).state.core
   directed_keeps target rd value = tested (target % 4 == 0)
     where
       tested : (test : Bool)
-          → Keeps program state.core
+          → KeepsText program state.core
           (reached state (if test then Next (at_pc target (with_register state.core rd value)) else Ended (ends.Misaligned target))).state.core
       tested true = as_it_was program state.core text rd value
       tested false = unchanged program state.core text
 
   control_keeps : (insn : Insn) → list_any (in_text program) (moved insn state.core) ≡ false
-      → Keeps program state.core (reached state (control program insn state.pc state.core)).state.core
+      → KeepsText program state.core (reached state (control program insn state.pc state.core)).state.core
   control_keeps (Auipc rd upper) clear = as_it_was program state.core text rd _
   control_keeps (Jal rd offset) clear = directed_keeps _ rd _
   control_keeps (Jalr rd rs1 offset) clear = directed_keeps _ rd _
@@ -171,7 +171,7 @@ module _ (program : Program) (state : State) (text : HasText program state.core)
     where
       tested : (taken aligned : Bool)
           → (let target = operation Add state.pc (word_of offset) in
-          Keeps program state.core
+          KeepsText program state.core
           (reached state
           (if taken then (if aligned then Next (at_pc target state.core) else Ended (ends.Misaligned target)) else onward state.pc state.core)).state.core)
       tested true true = unchanged program state.core text
@@ -183,11 +183,11 @@ module _ (program : Program) (state : State) (text : HasText program state.core)
   control_keeps insn clear = unchanged program state.core text
 
   executed_keeps : (units : Units) (insn : Insn) → list_any (in_text program) (moved insn state.core) ≡ false
-      → Keeps program state.core (reached state (execute units program insn state)).state.core
+      → KeepsText program state.core (reached state (execute units program insn state)).state.core
   executed_keeps units insn clear = tested (ends_block insn) refl
     where
       tested : (test : Bool) → ends_block insn ≡ test
-          → Keeps program state.core
+          → KeepsText program state.core
           (reached state (if test then control program insn state.pc state.core else then_onward state.pc (act units insn state.core))).state.core
       tested true is = control_keeps insn clear
       tested false is =
@@ -196,15 +196,15 @@ module _ (program : Program) (state : State) (text : HasText program state.core)
 
 module _ (meaning : Meaning) (program : Program) where
   step_keeps : (state : State) → HasText program state.core → touched meaning program state ≡ None
-      → Keeps program state.core (reached state (step meaning program state)).state.core
+      → KeepsText program state.core (reached state (step meaning program state)).state.core
   step_keeps state text clear = by_fetch (fetched meaning program state) clear
     where
       by_fetch : (found : Option Insn) → elim found as (λ _. Option ℕ) [ None ↦ None | Some insn ↦ find (in_text program) (moved insn state.core) ] ≡ None
-          → Keeps program state.core (reached state (stepped meaning.units program state found)).state.core
+          → KeepsText program state.core (reached state (stepped meaning.units program state found)).state.core
       by_fetch None clear = unchanged program state.core text
       by_fetch (Some insn) clear = executed_keeps program state text meaning.units insn (none_found (in_text program) (moved insn state.core) clear)
 
-  kept_text : (first core later : Core) → HasTextOf program first core → Keeps program core later → HasTextOf program first later
+  kept_text : (first core later : Core) → HasTextOf program first core → KeepsText program core later → HasTextOf program first later
   kept_text first core later had kept = record {
     same = λ a is. had.same a is ∙ kept.same a is;
     text = record {
