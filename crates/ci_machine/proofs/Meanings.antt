@@ -1,5 +1,5 @@
--- There is a plain meaning; and which registers an instruction reads and writes as sets.
-use Rattle.std.proofs.Common.{◌≡◌, ◌^◌, ◌<◌, refl, ◌∙◌, arith, inl, inr, List, [], ◌∷◌, Option, Some, None}
+-- There is a plain meaning, which tables agree on words; and which registers an instruction reads and writes as sets.
+use Rattle.std.proofs.Common.{◌≡◌, ◌↔◌, ◌^◌, ◌<◌, refl, ◌∙◌, arith, inl, inr, List, [], ◌∷◌, Option, Some, None}
 use Rattle.std.specs.Prelude.{ℕ, false, nat_lt, if◌then◌else◌, IfSome}
 use Rattle.std.specs.FinSet as set
 use Rattle.std.specs.Option.{unwrap_or}
@@ -7,7 +7,8 @@ use Rattle.std.proofs.lemmas.Bool.{cases_lt, lt-ltb, le-ltb}
 use Rattle.std.proofs.lemmas.Bool.Decides.{nat_tests}
 use Rattle.ci_isa.specs.declared.instruction.Insn.{Insn}
 use Rattle.ci_isa.specs.declared.instruction.Insn.TheVariants.{Unit, Cread, Illegal}
-use Rattle.ci_isa.specs.Table.{Reads, IsInsnAt}
+use Rattle.ci_isa.specs.Fields.{HasCustomOpcode}
+use Rattle.ci_isa.specs.Table.{Reads, ReadsX, IsInsnAt}
 use Rattle.ci_isa.specs.Decoding.{plain_row}
 use Rattle.ci_isa.specs.Effects.{registers_read, registers_written, is_among}
 use Rattle.ci_isa.proofs.Found.{plain_reads}
@@ -38,6 +39,13 @@ stands word = elim (cases_lt word (2 ^ 32)) [
 
 pub plain_exists : (meaning : Meaning) × IsPlain meaning
 plain_exists = (record { insn = plain_insn; units = record { further = λ number. []; results = λ number values. [] } }, stands)
+
+-- ---- tables
+
+pub tables_agree : (word : ℕ) (insn : Insn) → ¬ HasCustomOpcode word → ReadsX word insn ↔ Reads word insn
+tables_agree word (Unit number rd rs1 rs2 rs3) none = (λ reads. absurd (none (inl reads.1.0)), λ reads. absurd reads.1)
+tables_agree word (Cread rd) none = (λ reads. absurd (none (inr reads.1.0)), λ reads. absurd reads.1)
+tables_agree word insn none = (λ reads. reads, λ reads. reads)
 
 -- ---- sets of registers
 

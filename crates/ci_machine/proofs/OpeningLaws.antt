@@ -1,5 +1,5 @@
 -- The text in the memory in which a run opens.
-use Rattle.std.proofs.Common.{◌≡◌, ◌≢◌, ℕ, zero, suc, ◌+◌, ◌-◌, ◌*◌, ◌%◌, ◌^◌, ◌<◌, ◌≤◌, inl, inr, refl, ap, sym, subst, ◌∙◌, arith, List, [], ◌∷◌, map, Some, None, is_some}
+use Rattle.std.proofs.Common.{◌≡◌, ℕ, zero, suc, ◌+◌, ◌-◌, ◌*◌, ◌%◌, ◌^◌, ◌<◌, ◌≤◌, inl, inr, refl, ap, sym, subst, ◌∙◌, arith, List, [], ◌∷◌, map, Some, None, is_some}
 use Rattle.std.specs.Prelude.{Bool, true, false, ◌==◌, ◌&&◌, max, if◌then◌else◌, IsTrue, slice_index, slice_index_or}
 use Rattle.std.specs.List.{list_all, Contains}
 use Rattle.std.specs.Option.{option_map}
@@ -8,7 +8,7 @@ use Rattle.std.proofs.lemmas.Bool.Decides.{nat_tests}
 use Rattle.ci_elf.specs.declared.segments.Segment.{Segment}
 use Rattle.ci_elf.specs.Fields.{field}
 use Rattle.ci_elf.specs.Executables.{Executable, InText, IsTextWord, IsWellFormed, has_in_file, place_of, end_of}
-use Rattle.ci_elf.proofs.ImageLaws.{loaded_from, loaded_to, loads_between, contains_tail, place_found, layout_of}
+use Rattle.ci_elf.proofs.ImageLaws.{contained_later, loaded_from, loaded_to, loads_between, contains_tail, place_found, layout_of}
 use Rattle.ci_machine.specs.Accesses.{addresses, bytes_at, number_of_bytes}
 use Rattle.ci_machine.specs.Parts.{bytes_from}
 use Rattle.ci_machine.specs.Programs.{extent_of, greatest_end, heap_start, in_text, lies_in, loaded_byte, loaded_memory, loaded_program, opening}
@@ -31,10 +31,6 @@ module _ (bytes : List ℕ) (address : ℕ) (t : Segment) (loads : IsTrue (has_i
   abbrev within : Segment → Bool
   within u = lies_in u.address (u.address + u.memory_size) address
 
-  contained_later : (u : Segment) (us : List Segment) → Contains (u ∷ us) t → u ≢ t → Contains us t
-  contained_later u us (zero, lt, is) other = absurd (other is)
-  contained_later u us (suc k, lt, is) other = (k, omega arith, is)
-
   loaded_there : loaded_byte bytes t (address - t.address) ≡ slice_index bytes (t.offset + (address - t.address))
   loaded_there =
       let low = loaded_from t address loads in
@@ -50,7 +46,7 @@ module _ (bytes : List ℕ) (address : ℕ) (t : Segment) (loads : IsTrue (has_i
       ∙ ap (λ s. Some (loaded_byte bytes s (address - s.address))) (only u (0, omega arith, refl) is) ∙ ap Some loaded_there)
       (λ none. ap (λ b. if b then Some (loaded_byte bytes u (address - u.address)) else loaded_memory bytes us address) none
       ∙ loaded_by us inside (λ s d. only s (contains_tail u us s d))
-      (contained_later u us c (λ same. let never : true ≡ false = sym inside ∙ ap within (sym same) ∙ none in cc)))
+      (contained_later u us t c.0 c.1 c.2 (λ same. let never : true ≡ false = sym inside ∙ ap within (sym same) ∙ none in cc)))
 
 module _ (file : Executable) (formed : IsWellFormed file) where
   inside : (t : Segment) → Contains file.segments t → (address : ℕ) → IsTrue (has_in_file t address)
@@ -105,6 +101,12 @@ module _ (file : Executable) (formed : IsWellFormed file) where
 
   -- ---- words of text
 
+  -- a range that has the first byte of a word has all of it
+  word_end : (address : ℕ) (text : IsTextWord file.ranges address) → address + 4 ≤ end_of (holder file.ranges address text.1).range
+  word_end address text =
+      let h = holder file.ranges address text.1 in
+      omega (arith, text.0, formed.aligned h.range h.there, h.from, h.to)
+
   number_from : (n i : ℕ) (bytes : List ℕ) → number_of_bytes (bytes_from n bytes i) ≡ field n i bytes
   unfolding field
   number_from zero i bytes = refl
@@ -119,7 +121,7 @@ module _ (file : Executable) (formed : IsWellFormed file) where
       let l = formed.loaded h.range h.there in
       let loads = l.2 in
       let t = l.0 in
-      let whole : address + 4 ≤ end_of h.range = omega (arith, aligned, formed.aligned h.range h.there, h.from, h.to) in
+      let whole = word_end address (aligned, held) in
       let low : t.address ≤ address = omega (arith, loads.from, h.from) in
       let there = λ (k : ℕ) (lt : k < 4). loads_between t (address + k) (omega arith) (omega (arith, whole, loads.to)) in
       let place = place_is t l.1 address (loads_between t address low (omega (arith, whole, loads.to))) in
@@ -134,7 +136,7 @@ module _ (file : Executable) (formed : IsWellFormed file) where
   pub whole_words : (address : ℕ) → IsTextWord file.ranges address → list_all (in_text (loaded_program file)) (addresses 4 address) ≡ true
   whole_words address (aligned, held) =
       let h = holder file.ranges address held in
-      let whole : address + 4 ≤ end_of h.range = omega (arith, aligned, formed.aligned h.range h.there, h.from, h.to) in
+      let whole = word_end address (aligned, held) in
       let top = text_top file formed address held in
       let here = λ (a : ℕ) (from : address ≤ a) (to : a < address + 4).
       text_within file.ranges (a % 2 ^ 32) h.range h.there (omega (arith, h.from, top)) (omega (arith, whole, top)) in

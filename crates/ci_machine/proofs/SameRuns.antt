@@ -128,21 +128,24 @@ module _ (left right : Meaning) (program : Program) where
         targets_alike left right program (before_step left program state i) _ (alike i lt made).fetches refl
         ∙ ap (λ run. jalr_target right program run.state) (first_runs i (omega arith))
 
+    made_too : (i : ℕ) → i < n → is_made right program state i ≡ true → is_made left program state i ≡ true
+    made_too i lt made = ap (λ run. is_none run.end) (first_runs i (omega arith)) ∙ made
+
+    leaves_too : LeavesTextFor left program n state → LeavesTextFor right program n state
+    leaves_too clear i lt made = sym (same_touched i lt (made_too i lt made)) ∙ clear i lt (made_too i lt made)
+
     pub one_run : AreOneRun left right program n state
     one_run = record {
       runs = first_runs;
-      costs = λ latencies. sum_below-same n _ _ _ _ (λ i lt. ap (λ run. is_none run.end) (first_runs i (omega arith))) (same_cost latencies);
-      entered = λ address. count_below-same n _ _ (λ i lt. ap (λ run. is_none run.end && run.state.pc == address) (first_runs i (omega arith)));
-      leaves_text = λ clear i lt made.
-          let made_left = ap (λ run. is_none run.end) (first_runs i (omega arith)) ∙ made in
-          sym (same_touched i lt made_left) ∙ clear i lt made_left;
+      costs = λ latencies.
+          sum_below-same n _ _ _ _ (λ i lt. ap (λ run. is_none run.end) (first_runs i (omega arith))) (same_cost latencies);
+      entered = λ address.
+          count_below-same n _ _ (λ i lt. ap (λ run. is_none run.end && run.state.pc == address) (first_runs i (omega arith)));
+      leaves_text = leaves_too;
       tame = λ is_listed tame. record {
-        leaves_text = λ i lt made.
-            let made_left = ap (λ run. is_none run.end) (first_runs i (omega arith)) ∙ made in
-            sym (same_touched i lt made_left) ∙ tame.leaves_text i lt made_left;
+        leaves_text = leaves_too tame.leaves_text;
         listed = λ i target lt made led there.
-            let made_left = ap (λ run. is_none run.end) (first_runs i (omega arith)) ∙ made in
-            tame.listed i target lt made_left (same_target i lt made_left ∙ led) there;
+            let too = made_too i lt made in tame.listed i target lt too (same_target i lt too ∙ led) there;
       };
     }
 

@@ -70,7 +70,8 @@ module _ (program : Program) (core : Core) (text : HasText program core) where
 
   -- ---- calls
 
-  read_keeps : ((register core 10 == 0) ≡ true → list_any (in_text program) (moved_range core (read_length core)) ≡ false) → KeepsText program core (read_call core)
+  read_keeps : ((register core 10 == 0) ≡ true → list_any (in_text program) (moved_range core (read_length core)) ≡ false)
+      → KeepsText program core (read_call core)
   read_keeps clear = tested (register core 10 == 0) clear
     where
       into : (found : Option (List ℕ)) → range_at core.memory (register core 11) (read_length core) ≡ found

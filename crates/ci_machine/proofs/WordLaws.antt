@@ -22,6 +22,7 @@ use Rattle.ci_machine.specs.Accesses.{addresses, joined, bytes_at, with_bytes, n
 use Rattle.ci_machine.specs.Outcomes.{Outcome, Next, Ended, Reached, reached, continued, from_end}
 use Rattle.ci_machine.specs.Agreement.{act_all}
 use Rattle.ci_machine.specs.Actions.{Units, act, acted, address_from, loaded, stored}
+use Rattle.ci_elf.specs.FrameImages.{AreWords}
 use Rattle.ci_elf.specs.Executables.{Executable, InText, IsWellFormed}
 use Rattle.ci_elf.specs.declared.segments.Segment.{Segment}
 use Rattle.ci_isa.specs.Table.{IsInsnAt}
@@ -31,7 +32,7 @@ use Rattle.ci_machine.specs.Programs.{Program, State, at_pc, lies_in, stack_star
 use Rattle.ci_machine.specs.Calls.{bad_file, bad_address, no_such_call, answering, range_at, read_length, read_into, read_call, written_from, is_output, write_call, may_end_at, with_heap_end, heap_call, call}
 use Rattle.ci_machine.specs.Steps.{Meaning, IsPlain, word_at, fetched, following, onward, directed, is_taken, even, then_onward, control, execute, stepped, step}
 use Rattle.ci_machine.specs.Runs.{after}
-use Rattle.ci_machine.specs.Words.{IsWord, AreWords, AreBytes, MapsBytes, HoldsWords, IsOfWords, MakesWords, GivesWords}
+use Rattle.ci_machine.specs.Words.{IsWord, AreBytes, MapsBytes, HoldsWords, IsOfWords, MakesWords, GivesWords}
 use Rattle.ci_machine.proofs.StartLaws.{segments_end}
 use Rattle.ci_machine.proofs.TestLaws.{by_test}
 use Rattle.ci_machine.proofs.TextTests.{holder}

@@ -1,7 +1,9 @@
 -- What meanings have to do with the runs that they make.
-use Rattle.std.specs.Prelude.{◌≡◌, ℕ, Bool, false, List}
+use Rattle.std.specs.Prelude.{◌≡◌, ◌↔◌, ℕ, Bool, false, List}
 use Rattle.std.specs.List.{list_any}
 use Rattle.ci_isa.specs.declared.instruction.Insn.{Insn}
+use Rattle.ci_isa.specs.Fields.{HasCustomOpcode}
+use Rattle.ci_isa.specs.Table.{Reads, ReadsX}
 use Rattle.ci_isa.specs.Effects.{is_unit}
 use Rattle.ci_elf.specs.Executables.{Executable, IsWellFormed}
 use Rattle.ci_machine.specs.Cores.{Core}
@@ -46,6 +48,10 @@ abbrev pub PlainIsOne : Type 0
 PlainIsOne =
     (left right : Meaning) → IsPlain left → IsPlain right → (program : Program) (n : ℕ) (state : State)
     → AreOneRun left right program n state
+
+-- The extended table has the plain row of a word without a custom opcode, or none where that has none.
+abbrev pub TablesAgree : Type 0
+TablesAgree = (word : ℕ) (insn : Insn) → ¬ HasCustomOpcode word → ReadsX word insn ↔ Reads word insn
 
 -- ---- units
 

@@ -2,6 +2,7 @@
 use Rattle.std.specs.Prelude.{◌≡◌, ℕ, ◌+◌, ◌<◌, ◌^◌, ⊤, List, length, slice_index, Option, Some}
 use Rattle.ci_isa.specs.declared.instruction.Insn.{Insn}
 use Rattle.ci_isa.specs.declared.instruction.Insn.TheVariants.{Lui, Unit}
+use Rattle.ci_elf.specs.FrameImages.{AreWords}
 use Rattle.ci_machine.specs.Cores.{Core, register}
 use Rattle.ci_machine.specs.Actions.{Units}
 use Rattle.ci_machine.specs.Programs.{State}
@@ -10,9 +11,6 @@ use Rattle.ci_machine.specs.Steps.{Meaning}
 -- a number of 32 bits
 abbrev pub IsWord : ℕ → Type 0
 IsWord n = n < 2 ^ 32
-
-abbrev pub AreWords : List ℕ → Type 0
-AreWords values = (k : ℕ) → IsWord (slice_index values k)
 
 -- numbers of 8 bits
 abbrev pub AreBytes : List ℕ → Type 0

@@ -2,7 +2,7 @@
 ghost use Rattle.ci_machine.specs.FileLaws.{OpensWithFileWords, FileInsnsStay, FileInsnsStand, OpensAlike};
 ghost use Rattle.ci_machine.specs.Laws.{Frame, ControlFrame, ListFrame, ListLeaves, ListsKeepStreams};
 ghost use Rattle.ci_machine.specs.Laws.{RegistersRead, RegistersWritten, NeededIsReadFirst};
-ghost use Rattle.ci_machine.specs.MeaningLaws.{MeaningsAgree, WordMeaningsAgree, FileMeaningsAgree, PlainExists, PlainIsOne};
+ghost use Rattle.ci_machine.specs.MeaningLaws.{MeaningsAgree, WordMeaningsAgree, FileMeaningsAgree, PlainExists, PlainIsOne, TablesAgree};
 ghost use Rattle.ci_machine.specs.MeaningLaws.{UnitsUnused, UnitsUnusedByLists, UnitsLeaveText};
 ghost use Rattle.ci_machine.specs.RunLaws.{RunsJoin, EndsStay, RunsEndAt, NoEndBefore, CountsJoin, CountsStay};
 ghost use Rattle.ci_machine.specs.RunLaws.{BlockSteps, ListsLeaveText, StepsLeaveText, BlockCosts, ControlSteps};
@@ -48,7 +48,7 @@ pub fn counts_join()
 {}
 
 /// The steps through a list of instructions in the text do what the list does, touch the text where it does, and cost
-/// what it does.
+/// what it does; the step of an instruction that ends a block is its control.
 pub fn block_steps()
     ensures run { BlockSteps }
     ensures list { ListsLeaveText }
@@ -87,10 +87,12 @@ pub fn one_run()
     ensures files { FileMeaningsAgree }
 {}
 
-/// The plain machine is one, and so is the cost of its runs, whatever its meaning says of units.
+/// The plain machine is one, and so is the cost of its runs, whatever its meaning says of units; and the extended table
+/// reads words without a custom opcode as the plain one does.
 pub fn plain_meaning()
     ensures exists { PlainExists }
     ensures one { PlainIsOne }
+    ensures tables { TablesAgree }
 {}
 
 /// Units matter to unit words alone.
