@@ -7,6 +7,7 @@ use Rattle.ci_machine.specs.Accesses.{addresses, joined, bytes_at, with_bytes, n
 use Rattle.ci_machine.specs.Programs.{lies_in}
 use Rattle.ci_machine.specs.Parts.{bytes_from, overwritten}
 use Rattle.ci_machine.proofs.PartLaws.{lies_in-bounds, bounds-lies_in, taken, passed}
+use Rattle.ci_machine.proofs.TestLaws.{some_is}
 
 -- ---- addresses
 
@@ -34,17 +35,11 @@ both_some None bytes h = absurd (let e : false ≡ true = h in cc)
 both_some (Some byte) None h = absurd (let e : false ≡ true = h in cc)
 both_some (Some byte) (Some bytes) h = (refl, refl)
 
-from_some : {a b : List ℕ} → Some a ≡ Some b → a ≡ b
-from_some e = cc
-
-plain_some : {a b : ℕ} → Some a ≡ Some b → a ≡ b
-plain_some e = cc
-
 split : (byte : Option ℕ) (bytes : Option (List ℕ)) (all : List ℕ) → joined byte bytes ≡ Some all
     → (x : ℕ) × ((xs : List ℕ) × ((byte ≡ Some x) × ((bytes ≡ Some xs) × (all ≡ x ∷ xs))))
 split None bytes all h = absurd (let e : None ≡ Some all = h in cc)
 split (Some byte) None all h = absurd (let e : None ≡ Some all = h in cc)
-split (Some byte) (Some bytes) all h = (byte, (bytes, (refl, (refl, sym (from_some h)))))
+split (Some byte) (Some bytes) all h = (byte, (bytes, (refl, (refl, sym (some_is h)))))
 
 module _ (memory : ℕ → Option ℕ) where
   -- bytes that stand in a list from an index on
@@ -77,7 +72,7 @@ module _ (memory : ℕ → Option ℕ) where
   pushed : (n a : ℕ) (bytes : List ℕ) (byte : ℕ) → bytes_at memory (addresses n a) ≡ Some bytes
       → memory ((a + n) % 2 ^ 32) ≡ Some byte → bytes_at memory (addresses (suc n) a) ≡ Some (bytes ++ byte ∷ [])
   pushed zero a bytes byte h b =
-      let none : bytes ≡ [] = from_some (sym h) in
+      let none : bytes ≡ [] = some_is (sym h) in
       let first : memory (a % 2 ^ 32) ≡ Some byte = ap (λ (c : ℕ). memory (c % 2 ^ 32)) (omega arith) ∙ b in
       let P : List ℕ → Type 0 = λ bs. joined (memory (a % 2 ^ 32)) (Some []) ≡ Some (bs ++ byte ∷ []) in
       subst P (sym none) (λ k. joined (first k) (Some []))
@@ -125,7 +120,7 @@ joined_number : (byte : Option ℕ) (bytes : Option (List ℕ)) (low high : ℕ)
 joined_number None bytes low high h k = absurd (let e : None ≡ Some low = h in cc)
 joined_number (Some byte) None low high h k = absurd (let e : None ≡ Some high = k in cc)
 joined_number (Some byte) (Some bytes) low high h k =
-    let e : byte ≡ low = plain_some h in let f : number_of_bytes bytes ≡ high = plain_some k in
+    let e : byte ≡ low = some_is h in let f : number_of_bytes bytes ≡ high = some_is k in
     λ i. Some (e i + 256 * f i)
 
 joined_nothing : (byte : Option ℕ) (bytes : Option (List ℕ)) → option_map number_of_bytes bytes ≡ None

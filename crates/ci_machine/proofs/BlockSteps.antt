@@ -94,6 +94,13 @@ module _ (meaning : Meaning) (program : Program) (memory : ℕ → Option ℕ) w
       ap (stepped meaning.units program state) now
       ∙ ap (λ ends. if ends then control program insn state.pc state.core else then_onward state.pc (act meaning.units insn state.core)) acts
 
+  -- text stays over an action that leaves it alone
+  pub kept_text : (insn : Insn) (state : State) (core : Core) → act meaning.units insn state.core ≡ Next core
+      → LeavesText (in_text program) insn state.core
+      → HaveSameText program memory state.core.memory → HaveSameText program memory core.memory
+  kept_text insn state core is clear same a text =
+      same a text ∙ sym (text_stays (in_text program) meaning.units insn state.core a clear text) ∙ ap (λ o. (reached state.core o).state.memory a) is
+
   pub block_steps : (insns : List Insn) (state : State) → StandAt meaning program memory state.pc insns → HaveSameText program memory state.core.memory
       → AreActions insns → AllLeaveText meaning.units (in_text program) insns (at_start state.core)
       → IsRunOf insns state.pc (after meaning program (length insns) state) (act_all meaning.units insns (at_start state.core))
@@ -118,6 +125,6 @@ module _ (meaning : Meaning) (program : Program) (memory : ℕ → Option ℕ) w
           let went = first_goes_on meaning program (length insns) state next (made ∙ ap (then_onward state.pc) is) in
           let run : act_all meaning.units (insn ∷ insns) (at_start state.core) ≡ act_all meaning.units insns (at_start core) =
           ap (λ o. act_all meaning.units insns (reached state.core o)) is in
-          let kept = λ (a : ℕ) (text : in_text program a ≡ true). same a text ∙ sym (text_stays (in_text program) meaning.units insn state.core a (clear.0 refl) text) ∙ ap (λ o. (reached state.core o).state.memory a) is in
+          let kept = kept_text insn state core is (clear.0 refl) same in
           let rest = more next stand kept (neither_second (ends_block insn) _ acts) (rw is at clear.1) in
           rw (went, run) (record { core = rest.core; end = rest.end; pc = rest.pc })

@@ -24,12 +24,9 @@ use Rattle.ci_machine.specs.Meanings.{GiveSame, StepAlike, GiveSameOfWords, RunA
 use Rattle.ci_machine.specs.Texts.{text_word}
 use Rattle.ci_machine.specs.Words.{HoldsWords, IsOfWords, GivesWords}
 use Rattle.ci_machine.proofs.WordLaws.{words_stay, values_words}
-use Rattle.ci_machine.proofs.TestLaws.{by_test, both_first, both_second, neither_first, neither_second}
+use Rattle.ci_machine.proofs.TestLaws.{by_test, both_first, both_second, neither_first, neither_second, some_is}
 use Rattle.ci_machine.proofs.TextTests.{text_found}
 use Rattle.ci_machine.proofs.OpeningLaws.{later_insn}
-
-some_is : {a b : Insn} → Some a ≡ Some b → a ≡ b
-some_is e = cc
 
 -- ---- instructions
 

@@ -1,5 +1,5 @@
 -- Steps through instructions that stand in the text, and the list of these: what they touch, and what they cost.
-use Rattle.std.proofs.Common.{◌≡◌, ℕ, zero, suc, ◌+◌, refl, ap, sym, subst, ◌∙◌, arith, List, [], ◌∷◌, length, Option, Some, None, find}
+use Rattle.std.proofs.Common.{◌≡◌, ◌↔◌, ℕ, zero, suc, ◌+◌, refl, ap, sym, subst, ◌∙◌, arith, List, [], ◌∷◌, length, Option, Some, None, find}
 use Rattle.std.specs.Prelude.{Bool, true, false, is_none}
 use Rattle.std.specs.List.{list_all, sum_by}
 use Rattle.std.proofs.lemmas.List.Sums.{sum_by-cons}
@@ -17,7 +17,7 @@ use Rattle.ci_machine.specs.Steps.{Meaning, insn_in, fetched, following, then_on
 use Rattle.ci_machine.specs.Runs.{Latencies, latency, before_step, is_made, step_cost, cost, LeavesTextFor}
 use Rattle.ci_machine.specs.Blocks.{StandAt, HaveSameText, GoesThrough}
 use Rattle.ci_machine.proofs.TestLaws.{neither_first, neither_second}
-use Rattle.ci_machine.proofs.BlockSteps.{first_goes_on, first_ends, same_insn, acts_there, text_stays, over}
+use Rattle.ci_machine.proofs.BlockSteps.{first_goes_on, first_ends, same_insn, acts_there, kept_text, over}
 use Rattle.ci_machine.proofs.TextLaws.{none_found, find_none, same_moved}
 
 -- ---- the first step and the others
@@ -73,65 +73,55 @@ module _ (meaning : Meaning) (program : Program) (memory : ℕ → Option ℕ) w
       → step_cost meaning program latencies state ≡ latency latencies insn
   step_cost_is latencies insn state found = ap (λ (f : Option Insn). elim f as (λ _. ℕ) [ None ↦ 0 | Some other ↦ latency latencies other ]) found
 
-  -- text stays over an action that leaves it alone
-  kept_text : (insn : Insn) (state : State) (core : Core) → act meaning.units insn state.core ≡ Next core → LeavesText (in_text program) insn state.core
-      → HaveSameText program memory state.core.memory → HaveSameText program memory core.memory
-  kept_text insn state core is clear same a text =
-      same a text ∙ sym (text_stays (in_text program) meaning.units insn state.core a clear text) ∙ ap (λ o. (reached state.core o).state.memory a) is
-
-  -- steps that leave the text alone are those of a list that does
-  pub leaving_list : (insns : List Insn) (state : State) → StandAt meaning program memory state.pc insns → HaveSameText program memory state.core.memory
-      → AreActions insns → LeavesTextFor meaning program (length insns) state → AllLeaveText meaning.units (in_text program) insns (at_start state.core)
-  leaving_list [] state stand same acts clear = tt
-  leaving_list (insn ∷ insns) state (there, all, stand) same acts clear =
+  -- steps leave the text alone where the list does
+  pub leaving_alike : (insns : List Insn) (state : State) → StandAt meaning program memory state.pc insns
+      → HaveSameText program memory state.core.memory → AreActions insns
+      → LeavesTextFor meaning program (length insns) state ↔ AllLeaveText meaning.units (in_text program) insns (at_start state.core)
+  leaving_alike [] state stand same acts = (λ clear. tt, λ all i lt made. absurd (omega arith))
+  leaving_alike (insn ∷ insns) state (there, all, stand) same acts =
       let acting = neither_first (ends_block insn) _ acts in
-      let found = fetched_there insn state there all same in
-      let first : LeavesText (in_text program) insn state.core =
-      none_found (in_text program) (accessed insn state.core) (sym (touched_is insn state found acting) ∙ clear 0 (omega arith) refl) in (
-        λ on. first,
-        by_outcome (act meaning.units insn state.core) refl first
-            (acts_there meaning program memory insn state there all same acting) (λ next. leaving_list insns next),
-      )
+      by_outcome (act meaning.units insn state.core) refl (touched_is insn state (fetched_there insn state there all same) acting)
+      (acts_there meaning program memory insn state there all same acting) (λ next. leaving_alike insns next)
     where
-      by_outcome : (o : Outcome Core) → act meaning.units insn state.core ≡ o → LeavesText (in_text program) insn state.core
+      by_outcome : (o : Outcome Core) → act meaning.units insn state.core ≡ o
+          → touched meaning program state ≡ find (in_text program) (accessed insn state.core)
           → step meaning program state ≡ then_onward state.pc (act meaning.units insn state.core)
           → ((next : State) → StandAt meaning program memory next.pc insns → HaveSameText program memory next.core.memory → AreActions insns
-          → LeavesTextFor meaning program (length insns) next → AllLeaveText meaning.units (in_text program) insns (at_start next.core))
-          → AllLeaveText meaning.units (in_text program) insns (acted meaning.units insn state.core)
-      by_outcome (Ended e) is first made more =
-          subst (λ o. AllLeaveText meaning.units (in_text program) insns (reached state.core o)) (sym is)
-          (over_leaves meaning.units (in_text program) insns state.core e)
-      by_outcome (Next core) is first made more =
-          let next : State = at_pc (following state.pc) core in
-          let went : step meaning program state ≡ Next next = made ∙ ap (then_onward state.pc) is in
-          subst (λ o. AllLeaveText meaning.units (in_text program) insns (reached state.core o)) (sym is)
-          (more next stand (kept_text insn state core is first same) (neither_second (ends_block insn) _ acts)
-          (leaving_rest meaning program (length insns) state next went clear))
-
-  -- and back
-  pub leaving_steps : (insns : List Insn) (state : State) → StandAt meaning program memory state.pc insns → HaveSameText program memory state.core.memory
-      → AreActions insns → AllLeaveText meaning.units (in_text program) insns (at_start state.core) → LeavesTextFor meaning program (length insns) state
-  leaving_steps [] state stand same acts clear = λ i lt made. absurd (omega arith)
-  leaving_steps (insn ∷ insns) state (there, all, stand) same acts clear =
-      let acting = neither_first (ends_block insn) _ acts in
-      let found = fetched_there insn state there all same in
-      let first : touched meaning program state ≡ None =
-      touched_is insn state found acting ∙ find_none (in_text program) (accessed insn state.core) (clear.0 refl) in
-      by_outcome (act meaning.units insn state.core) refl first
-      (acts_there meaning program memory insn state there all same acting) (λ next. leaving_steps insns next)
-    where
-      by_outcome : (o : Outcome Core) → act meaning.units insn state.core ≡ o → touched meaning program state ≡ None
-          → step meaning program state ≡ then_onward state.pc (act meaning.units insn state.core)
-          → ((next : State) → StandAt meaning program memory next.pc insns → HaveSameText program memory next.core.memory → AreActions insns
-          → AllLeaveText meaning.units (in_text program) insns (at_start next.core) → LeavesTextFor meaning program (length insns) next)
+          → LeavesTextFor meaning program (length insns) next ↔ AllLeaveText meaning.units (in_text program) insns (at_start next.core))
           → LeavesTextFor meaning program (suc (length insns)) state
-      by_outcome (Ended e) is first made more = leaving_ended meaning program (length insns) state e (made ∙ ap (then_onward state.pc) is) first
-      by_outcome (Next core) is first made more =
-          let next : State = at_pc (following state.pc) core in
-          let went : step meaning program state ≡ Next next = made ∙ ap (then_onward state.pc) is in
-          leaving_more meaning program (length insns) state next went first
-          (more next stand (kept_text insn state core is (clear.0 refl) same) (neither_second (ends_block insn) _ acts)
-          (subst (λ o. AllLeaveText meaning.units (in_text program) insns (reached state.core o)) is clear.1))
+          ↔ AllLeaveText meaning.units (in_text program) (insn ∷ insns) (at_start state.core)
+      by_outcome (Ended e) is touches made more = (
+        λ clear. (
+          λ on. none_found (in_text program) (accessed insn state.core) (sym touches ∙ clear 0 (omega arith) refl),
+          subst (λ o. AllLeaveText meaning.units (in_text program) insns (reached state.core o)) (sym is)
+              (over_leaves meaning.units (in_text program) insns state.core e),
+        ),
+        λ list.
+            leaving_ended meaning program (length insns) state e (made ∙ ap (then_onward state.pc) is)
+            (touches ∙ find_none (in_text program) (accessed insn state.core) (list.0 refl)),
+      )
+      by_outcome (Next core) is touches made more = (
+        λ clear.
+            let first = none_found (in_text program) (accessed insn state.core) (sym touches ∙ clear 0 (omega arith) refl) in (
+              λ on. first,
+              subst (λ o. AllLeaveText meaning.units (in_text program) insns (reached state.core o)) (sym is)
+                  ((rest first).0 (leaving_rest meaning program (length insns) state (at_pc (following state.pc) core) went clear)),
+            ),
+        λ list.
+            leaving_more meaning program (length insns) state (at_pc (following state.pc) core) went
+            (touches ∙ find_none (in_text program) (accessed insn state.core) (list.0 refl))
+            ((rest (list.0 refl)).1 (subst (λ o. AllLeaveText meaning.units (in_text program) insns (reached state.core o)) is list.1)),
+      )
+        where
+          went : step meaning program state ≡ Next (at_pc (following state.pc) core)
+          went = made ∙ ap (then_onward state.pc) is
+
+          rest : LeavesText (in_text program) insn state.core
+              → LeavesTextFor meaning program (length insns) (at_pc (following state.pc) core)
+              ↔ AllLeaveText meaning.units (in_text program) insns (at_start core)
+          rest first =
+              more (at_pc (following state.pc) core) stand (kept_text meaning program memory insn state core is first same)
+              (neither_second (ends_block insn) _ acts)
 
   -- ---- a list that is passed
 
@@ -163,7 +153,7 @@ module _ (meaning : Meaning) (program : Program) (memory : ℕ → Option ℕ) w
         went = made ∙ ap (then_onward state.pc) is;
         rest = record {
           stand = stand.2;
-          same = kept_text insn state core is (through.clear.0 refl) through.same;
+          same = kept_text meaning program memory insn state core is (through.clear.0 refl) through.same;
           acts = neither_second (ends_block insn) _ through.acts;
           clear = subst (λ o. AllLeaveText meaning.units (in_text program) insns (reached state.core o)) is through.clear.1;
           on = subst (λ o. (act_all meaning.units insns (reached state.core o)).end ≡ None) is through.on;

@@ -31,3 +31,6 @@ or_second p q is none = grind arith
 
 pub either_second : (p q : Bool) → q ≡ true → (p || q) ≡ true
 either_second p q is = grind arith
+
+pub some_is : {A : Type 0} {a b : A} → Some a ≡ Some b → a ≡ b
+some_is e = cc

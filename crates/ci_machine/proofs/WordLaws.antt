@@ -34,7 +34,7 @@ use Rattle.ci_machine.specs.Steps.{Meaning, IsPlain, word_at, fetched, following
 use Rattle.ci_machine.specs.Runs.{after}
 use Rattle.ci_machine.specs.Words.{IsWord, AreBytes, MapsBytes, HoldsWords, IsOfWords, MakesWords, GivesWords}
 use Rattle.ci_machine.proofs.StartLaws.{segments_end}
-use Rattle.ci_machine.proofs.TestLaws.{by_test}
+use Rattle.ci_machine.proofs.TestLaws.{by_test, some_is}
 use Rattle.ci_machine.proofs.TextTests.{holder}
 use Rattle.ci_machine.proofs.RegisterLaws.{register_kept, register_written}
 
@@ -96,9 +96,6 @@ bytes_append (x ∷ xs) ys one other (suc k) = bytes_append xs ys (bytes_tail x 
 bytes_of_number_are : (n value : ℕ) → AreBytes (bytes_of_number n value)
 bytes_of_number_are zero value = no_bytes
 bytes_of_number_are (suc n) value = bytes_cons (value % 256) _ (mod_below value 256 (lit< tt)) (bytes_of_number_are n (value / 256))
-
-some_is : {A : Type 0} {a b : A} → Some a ≡ Some b → a ≡ b
-some_is e = cc
 
 both_there : (byte : Option ℕ) (rest : Option (List ℕ)) (bytes : List ℕ) → joined byte rest ≡ Some bytes
     → ((b : ℕ) → byte ≡ Some b → b < 256) → ((bs : List ℕ) → rest ≡ Some bs → AreBytes bs) → AreBytes bytes

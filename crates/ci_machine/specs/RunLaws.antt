@@ -100,21 +100,13 @@ BlockSteps =
     (after meaning program (length insns) state)
     (act_all meaning.units insns (at_start state.core))
 
--- As many of its steps leave the text alone as the list does, up to an end.
-abbrev pub ListsLeaveText : Type 0
-ListsLeaveText =
+-- As many steps leave the text alone just where the list does.
+abbrev pub BlockLeaves : Type 0
+BlockLeaves =
     (meaning : Meaning) (program : Program) (memory : ℕ → Option ℕ) (insns : List Insn) (state : State)
-    → StandAt meaning program memory state.pc insns → HaveSameText program memory state.core.memory
-    → AreActions insns → LeavesTextFor meaning program (length insns) state
-    → AllLeaveText meaning.units (in_text program) insns (at_start state.core)
-
--- And back.
-abbrev pub StepsLeaveText : Type 0
-StepsLeaveText =
-    (meaning : Meaning) (program : Program) (memory : ℕ → Option ℕ) (insns : List Insn) (state : State)
-    → StandAt meaning program memory state.pc insns → HaveSameText program memory state.core.memory
-    → AreActions insns → AllLeaveText meaning.units (in_text program) insns (at_start state.core)
+    → StandAt meaning program memory state.pc insns → HaveSameText program memory state.core.memory → AreActions insns
     → LeavesTextFor meaning program (length insns) state
+    ↔ AllLeaveText meaning.units (in_text program) insns (at_start state.core)
 
 -- Going through a list costs what its instructions do.
 abbrev pub BlockCosts : Type 0

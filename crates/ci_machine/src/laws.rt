@@ -5,7 +5,7 @@ ghost use Rattle.ci_machine.specs.Laws.{RegistersRead, RegistersWritten, NeededI
 ghost use Rattle.ci_machine.specs.MeaningLaws.{MeaningsAgree, WordMeaningsAgree, FileMeaningsAgree, PlainExists, PlainIsOne, TablesAgree};
 ghost use Rattle.ci_machine.specs.MeaningLaws.{UnitsUnused, UnitsUnusedByLists, UnitsLeaveText};
 ghost use Rattle.ci_machine.specs.RunLaws.{RunsJoin, EndsStay, RunsEndAt, NoEndBefore, CountsJoin, CountsStay};
-ghost use Rattle.ci_machine.specs.RunLaws.{BlockSteps, ListsLeaveText, StepsLeaveText, BlockCosts, ControlSteps};
+ghost use Rattle.ci_machine.specs.RunLaws.{BlockSteps, BlockLeaves, BlockCosts, ControlSteps};
 ghost use Rattle.ci_machine.specs.StateLaws.{WordsStayByLists, WordsStayByControl, WordsStay, OpensInWords, PlainGivesWords};
 ghost use Rattle.ci_machine.specs.StateLaws.{TextStays, OpensWithText};
 
@@ -51,8 +51,7 @@ pub fn counts_join()
 /// what it does; the step of an instruction that ends a block is its control.
 pub fn block_steps()
     ensures run { BlockSteps }
-    ensures list { ListsLeaveText }
-    ensures steps { StepsLeaveText }
+    ensures touches { BlockLeaves }
     ensures cost { BlockCosts }
     ensures control { ControlSteps }
 {}

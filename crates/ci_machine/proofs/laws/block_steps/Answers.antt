@@ -5,11 +5,8 @@ use Rattle.ci_machine.proofs.laws.block_steps.Goals as goal
 pub returns-clause-run : goal.returns-clause-run
 returns-clause-run c = block_steps
 
-pub returns-clause-list : goal.returns-clause-list
-returns-clause-list c = laws.leaving_list
-
-pub returns-clause-steps : goal.returns-clause-steps
-returns-clause-steps c = laws.leaving_steps
+pub returns-clause-touches : goal.returns-clause-touches
+returns-clause-touches c = laws.leaving_alike
 
 pub returns-clause-cost : goal.returns-clause-cost
 returns-clause-cost c = λ meaning program memory insns state through latencies.
