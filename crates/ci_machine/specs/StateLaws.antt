@@ -46,14 +46,14 @@ PlainGivesWords = (meaning : Meaning) → IsPlain meaning → GivesWords meaning
 
 -- ---- text
 
--- While no step touches the text it stays, and the heap ends no lower than it starts.
+-- While no step touches the text, a run that has its text keeps it, byte by byte.
 abbrev pub TextStays : Type 0
 TextStays =
     (meaning : Meaning) (program : Program) (n : ℕ) (state : State) → HasText program state.core
     → LeavesTextFor meaning program n state
     → HasTextOf program state.core (after meaning program n state).state.core
 
--- So it does from where the run of a file opens.
+-- The run of a file opens with its text.
 abbrev pub OpensWithText : Type 0
 OpensWithText =
     (file : Executable) (input : List ℕ) → IsWellFormed file → HasText (loaded_program file) (opening file input).core

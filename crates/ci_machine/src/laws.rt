@@ -2,12 +2,13 @@
 ghost use Rattle.ci_machine.specs.FileLaws.{OpensWithFileWords, FileInsnsStay, FileInsnsStand, OpensAlike};
 ghost use Rattle.ci_machine.specs.Laws.{Frame, ControlFrame, ListFrame, ListLeaves, ListsKeepStreams};
 ghost use Rattle.ci_machine.specs.Laws.{RegistersRead, RegistersWritten, NeededIsReadFirst};
-ghost use Rattle.ci_machine.specs.MeaningLaws.{MeaningsAgree, WordMeaningsAgree, FileMeaningsAgree, PlainExists, PlainIsOne, TablesAgree};
+ghost use Rattle.ci_machine.specs.MeaningLaws.{MeaningsAgree, WordMeaningsAgree, FileMeaningsAgree};
+ghost use Rattle.ci_machine.specs.MeaningLaws.{PlainExists, PlainIsOne, TablesAgree};
 ghost use Rattle.ci_machine.specs.MeaningLaws.{UnitsUnused, UnitsUnusedByLists, UnitsLeaveText};
 ghost use Rattle.ci_machine.specs.RunLaws.{RunsJoin, EndsStay, RunsEndAt, NoEndBefore, CountsJoin, CountsStay};
 ghost use Rattle.ci_machine.specs.RunLaws.{BlockSteps, BlockLeaves, BlockCosts, ControlSteps};
-ghost use Rattle.ci_machine.specs.StateLaws.{WordsStayByLists, WordsStayByControl, WordsStay, OpensInWords, PlainGivesWords};
-ghost use Rattle.ci_machine.specs.StateLaws.{TextStays, OpensWithText};
+ghost use Rattle.ci_machine.specs.StateLaws.{WordsStayByLists, WordsStayByControl, WordsStay};
+ghost use Rattle.ci_machine.specs.StateLaws.{OpensInWords, PlainGivesWords, TextStays, OpensWithText};
 
 /// What an instruction does depends on the registers that it reads and the bytes that it moves, and on nothing else.
 pub fn frame()
@@ -26,7 +27,8 @@ pub fn list_frame()
     ensures streams { ListsKeepStreams }
 {}
 
-/// The registers that instructions read and write are those of their sets, and what a list needs is what it reads first.
+/// The registers that instructions read and write are those of their sets, and what a list needs is what it reads
+/// first.
 pub fn register_sets()
     ensures read { RegistersRead }
     ensures written { RegistersWritten }
