@@ -21,7 +21,7 @@ pub mod HeapLaws
 pub mod HeapFacts
 pub mod CallLaws
 pub mod StartLaws
-pub mod TextTests
+pub mod TextRanges
 pub mod OpeningLaws
 pub mod SameRuns
 pub mod JoinLaws

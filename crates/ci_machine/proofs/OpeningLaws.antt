@@ -23,7 +23,7 @@ use Rattle.ci_machine.proofs.AccessLaws.{bytes_at_row}
 use Rattle.ci_machine.proofs.BlockSteps.{same_insn}
 use Rattle.ci_machine.proofs.TextLaws.{text_stays_for}
 use Rattle.ci_machine.proofs.WordLaws.{text_top}
-use Rattle.ci_machine.proofs.TextTests.{text_found, text_is, text_within, holder}
+use Rattle.ci_machine.proofs.TextRanges.{text_within, holder}
 
 -- ---- bytes of text
 
@@ -94,8 +94,8 @@ module _ (file : Executable) (formed : IsWellFormed file) where
 
   pub opening_text : (input : List ℕ) → HasText (loaded_program file) (opening file input).core
   opening_text input = record {
-    mapped = λ a is. text_mapped a (text_found file.ranges a is);
-    below = λ a is. text_below a (text_found file.ranges a is);
+    mapped = text_mapped;
+    below = text_below;
     heap = omega arith;
   }
 
@@ -152,8 +152,7 @@ module _ (file : Executable) (formed : IsWellFormed file) where
 
   text_tests : (address : ℕ) → IsTextWord file.ranges address → ((address % 4 == 0) && in_text (loaded_program file) address) ≡ true
   text_tests address (aligned, held) =
-      let text : in_text (loaded_program file) address ≡ true = text_is file.ranges address held in
-      both (address % 4) aligned (in_text (loaded_program file) address) text
+      both (address % 4) aligned (in_text (loaded_program file) address) held
     where
       both : (n : ℕ) → n ≡ 0 → (p : Bool) → p ≡ true → ((n == 0) && p) ≡ true
       both n none p is = grind (arith, nat_tests)

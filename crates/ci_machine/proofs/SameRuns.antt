@@ -25,7 +25,6 @@ use Rattle.ci_machine.specs.Texts.{text_word}
 use Rattle.ci_machine.specs.Words.{HoldsWords, IsOfWords, GivesWords}
 use Rattle.ci_machine.proofs.WordLaws.{words_stay, values_words}
 use Rattle.ci_machine.proofs.TestLaws.{by_test, both_first, both_second, neither_first, neither_second, some_is}
-use Rattle.ci_machine.proofs.TextTests.{text_found}
 use Rattle.ci_machine.proofs.OpeningLaws.{later_insn}
 
 -- ---- instructions
@@ -219,7 +218,7 @@ module _ (left right : Meaning) (file : Executable) (formed : IsWellFormed file)
           → ((state.pc % 4 == 0) && in_text (loaded_program file) state.pc) ≡ true → StepAlike left right (loaded_program file) state
       at_text state same is =
           let text : IsTextWord file.ranges state.pc =
-          (aligned (state.pc % 4) (both_first (state.pc % 4 == 0) _ is), text_found file.ranges state.pc (both_second (state.pc % 4 == 0) _ is)) in
+          (aligned (state.pc % 4) (both_first (state.pc % 4 == 0) _ is), both_second (state.pc % 4 == 0) _ is) in
           let word = text_word file state.pc in
           let at_left : fetched left (loaded_program file) state ≡ Some (left.insn word) =
           ap (λ s. insn_in left (loaded_program file) s.core.memory state.pc) same ∙ later_insn file formed left left input n clear state.pc text in

@@ -12,7 +12,6 @@ use Rattle.ci_elf.proofs.PatchLaws.{text_is_loaded_once}
 use Rattle.ci_machine.specs.FileLaws.{OpensAlike}
 use Rattle.ci_machine.specs.Programs.{in_text, lies_in, loaded_byte, loaded_memory, loaded_program}
 use Rattle.ci_machine.proofs.TestLaws.{by_test}
-use Rattle.ci_machine.proofs.TextTests.{text_is}
 
 module _ (old new : List ℕ) (file : Executable) (read : IsReadAs old (Ok file)) (change : ChangeText file new)
     (address : ℕ) (outside : in_text (loaded_program file) address ≡ false) where
@@ -26,7 +25,7 @@ module _ (old new : List ℕ) (file : Executable) (read : IsReadAs old (Ok file)
       rw is (sym (change.same_else (segment.offset + distance) (λ text.
       let loaded = text_is_loaded_once old file read segment distance there (ltb-true distance segment.file_size is) text in
       let here : segment.address + distance ≡ address = omega arith in
-      true≢false (sym (text_is file.ranges address (rw here at loaded)) ∙ outside))))) (λ is. rw is refl)
+      true≢false (sym (rw here at loaded) ∙ outside))))) (λ is. rw is refl)
 
   same_memory :
       (segments : List Segment) → ((s : Segment) → Contains segments s → Contains file.segments s)

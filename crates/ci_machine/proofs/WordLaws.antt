@@ -35,7 +35,7 @@ use Rattle.ci_machine.specs.Runs.{after}
 use Rattle.ci_machine.specs.Words.{IsWord, AreBytes, MapsBytes, HoldsWords, IsOfWords, MakesWords, GivesWords}
 use Rattle.ci_machine.proofs.StartLaws.{segments_end}
 use Rattle.ci_machine.proofs.TestLaws.{by_test, some_is}
-use Rattle.ci_machine.proofs.TextTests.{holder}
+use Rattle.ci_machine.proofs.TextRanges.{holder}
 use Rattle.ci_machine.proofs.RegisterLaws.{register_kept, register_written}
 
 -- ---- operations
