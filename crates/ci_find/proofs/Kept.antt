@@ -24,7 +24,8 @@ success_stays change success status (put_fault fault) x y z = y refl
 success_stays change success status (no_memory_in_write fault) x y z = z refl
 success_stays change success status (no_memory_in_put fault) x y z = z refl
 
-pub Ends-files_stay : (words : List (List ℕ)) (change : Change) (status : ℕ) → Ends words change status → status ≢ 0 → status ≢ 3 → status ≢ 12 → change.shelf_after.files ≡ change.shelf_before.files
+pub Ends-files_stay : (words : List (List ℕ)) (change : Change) (status : ℕ) → Ends words change status
+    → status ≢ 0 → status ≢ 3 → status ≢ 12 → change.shelf_after.files ≡ change.shelf_before.files
 Ends-files_stay words change status (finished {success = success} {status = s} made finishes) x y z = absurd (success_stays change success s finishes x y z)
 Ends-files_stay words change status (refused is unwritten put) x y z = unwritten.same_files
 Ends-files_stay words change status (read_fault reading name reads named may rose unwritten put) x y z = unwritten.same_files
@@ -52,11 +53,15 @@ with_file-get : (name : List ℕ) (content : Option (List ℕ)) (files : Files) 
 with_file-get name content files other =
     elim (eq_by_cmp (slice_cmp nat_cmp) other name) as (λ b. eq_by_cmp (slice_cmp nat_cmp) other name ≡ b
     → ((other ≡ name) × (map.get (with_file name content files) other ≡ content)) ⊎ (map.get (with_file name content files) other ≡ map.get files other)) [
-      | true ↦ λ same. inl (slice_cmp-IsAntisymmetric nat_cmp-IsAntisymmetric other name ((Equal-is (slice_cmp nat_cmp other name)).0 same), there content ∙ ap (λ b. cond b content (map.get files other)) same)
+      | true ↦ λ same. inl (
+        slice_cmp-IsAntisymmetric nat_cmp-IsAntisymmetric other name ((Equal-is (slice_cmp nat_cmp other name)).0 same),
+        there content ∙ ap (λ b. cond b content (map.get files other)) same,
+      )
       | false ↦ λ apart. inr (there content ∙ ap (λ b. cond b content (map.get files other)) apart)
     ] refl
   where
-    there : (content : Option (List ℕ)) → map.get (with_file name content files) other ≡ cond (eq_by_cmp (slice_cmp nat_cmp) other name) content (map.get files other)
+    there : (content : Option (List ℕ))
+        → map.get (with_file name content files) other ≡ cond (eq_by_cmp (slice_cmp nat_cmp) other name) content (map.get files other)
     there None = get-remove nat_list_cmp_total files name other
     there (Some bytes) = get-insert nat_list_cmp_total files name bytes other
 
@@ -76,7 +81,8 @@ with_files-get (file ∷ writes) files name =
 
 module _ (words : List (List ℕ)) (change : Change) (success : Success) (made : IsDone change.shelf_before.files words success) where
   -- the first of the files were written
-  front_left : (status : ℕ) (front others : List Written) → success.writes ≡ front ++ others → AreWritten change.shelf_before change.shelf_after front → AreLeft words change status
+  front_left : (status : ℕ) (front others : List Written) → success.writes ≡ front ++ others
+      → AreWritten change.shelf_before change.shelf_after front → AreLeft words change status
   front_left status front others in_order written =
       left_by (IsLeft words change status) change.shelf_before.files change.shelf_after.files (with_files front) written
       (λ held name. left held name (with_files-get front held name))
@@ -108,11 +114,13 @@ module _ (words : List (List ℕ)) (change : Change) (success : Success) (made :
           → IsLeft words change 3 name (map.get held name) (map.get (with_file fault.failed.name fault.content (with_files fault.front held)) name)
       left held name (inl (is, has)) front =
           subst (IsLeft words change 3 name (map.get held name)) (sym has)
-          (unknown success fault.failed fault.content made among is refl (subst (λ n. IsPut change.sink_before change.sink_after (write_fault_line n)) (sym is) fault.line))
+          (unknown success fault.failed fault.content made among is refl
+          (subst (λ n. IsPut change.sink_before change.sink_after (write_fault_line n)) (sym is) fault.line))
       left held name (inr same) (inl before) = subst (IsLeft words change 3 name (map.get held name)) (sym (same ∙ before)) as_before
       left held name (inr same) (inr (file, written, is, has)) =
           subst (IsLeft words change 3 name (map.get held name)) (sym (same ∙ has))
-          (whole success file made (subst (λ files. Contains files file) (sym fault.in_order) (Contains-append_left fault.front (fault.failed ∷ fault.others) file written)) is)
+          (whole success file made (subst (λ files. Contains files file) (sym fault.in_order)
+          (Contains-append_left fault.front (fault.failed ∷ fault.others) file written)) is)
 
   success_leaves : (status : ℕ) → Finishes change success status → AreLeft words change status
   success_leaves status (done written took) = front_left 0 success.writes [] (sym (append-nil success.writes)) written.written
@@ -141,7 +149,8 @@ success_completes change success status (put_fault fault) none =
 success_completes change success status (no_memory_in_write fault) none = inr refl
 success_completes change success status (no_memory_in_put fault) none = inr refl
 
-pub Ends-complete : (words : List (List ℕ)) (change : Change) (status : ℕ) → Ends words change status → HasNoRefusal change.shelf_before.files words → HasNoFault change → (status ≡ 0) ⊎ (status ≡ 12)
+pub Ends-complete : (words : List (List ℕ)) (change : Change) (status : ℕ) → Ends words change status
+    → HasNoRefusal change.shelf_before.files words → HasNoFault change → (status ≡ 0) ⊎ (status ≡ 12)
 Ends-complete words change status (finished {success = success} {status = s} made finishes) right none = success_completes change success s finishes none
 Ends-complete words change status (refused {status = s} {text = t} is unwritten put) right none = absurd (right s t is)
 Ends-complete words change status (read_fault reading name reads named may rose unwritten put) right none = absurd (none.reads rose)
@@ -157,7 +166,8 @@ takes_nothing before = same before.taken
     same None = refl
     same (Some held) = ap Some (sym (append-nil held))
 
-line_alone : (words : List (List ℕ)) (change : Change) (status : ℕ) (line : List ℕ) → IsFaultLine status line → IsPut change.sink_before change.sink_after line → HasPrinted words change status
+line_alone : (words : List (List ℕ)) (change : Change) (status : ℕ) (line : List ℕ) → IsFaultLine status line
+    → IsPut change.sink_before change.sink_after line → HasPrinted words change status
 line_alone words change status line is put = record {
   between = change.sink_before;
   front = [];
@@ -168,7 +178,8 @@ line_alone words change status line is put = record {
   line_put = put;
 }
 
-success_prints : (words : List (List ℕ)) (change : Change) (success : Success) (status : ℕ) → IsDone change.shelf_before.files words success → Finishes change success status → status ≢ 0 → HasPrinted words change status
+success_prints : (words : List (List ℕ)) (change : Change) (success : Success) (status : ℕ)
+    → IsDone change.shelf_before.files words success → Finishes change success status → status ≢ 0 → HasPrinted words change status
 success_prints words change success status made (done written took) x = absurd (x refl)
 success_prints words change success status made (write_fault fault) x =
     line_alone words change 3 (write_fault_line fault.failed.name) (lines.unwritten fault.failed.name) fault.line

@@ -186,8 +186,8 @@ pub record HasNoFault (change : Change) : Type 0 where
   pub writes : ¬ Rises change.shelf_before.write_faults change.shelf_after.write_faults
   pub puts : ¬ Rises change.sink_before.faults change.sink_after.faults
 
--- What a call of this status leaves of the file of a name: it is as before; or the success that is due writes it, and it
--- holds just that; or its write failed, and nothing is said of it, but the status is 3 and the fault line names it.
+-- What a call of this status leaves of the file of a name: it is as before; or the success that is due writes it, and
+-- it holds just that; or its write failed, and nothing is said of it, but the status is 3 and the fault line names it.
 pub data IsLeft (words : List (List ℕ)) (change : Change) (status : ℕ) (name : List ℕ) (before : Option (List ℕ)) :
     Option (List ℕ) → Type 0 where
   as_before : IsLeft words change status name before before

@@ -3,7 +3,8 @@
 
 ghost use Rattle.std.specs.Prelude.{◌≡◌, ◌≢◌, ◌⊎◌, ℕ, List, [], ◌∷◌, Some, IfSome, Contains, map};
 ghost use Rattle.std.specs.String.{string_bytes};
-ghost use Rattle.ci_find.specs.Endings.{IsDue, changed, Ends, IsAnswered, HasNoRefusal, HasNoFault, AreLeft, HasPrinted};
+ghost use Rattle.ci_find.specs.Endings.{changed, Ends, IsDue, IsAnswered};
+ghost use Rattle.ci_find.specs.Endings.{HasNoRefusal, HasNoFault, AreLeft, HasPrinted};
 
 use ci_io::{Shelf, Sink};
 use commands::make;
@@ -29,8 +30,8 @@ mod tests;
 ///   leader. With `--leader ADDR`, as often as wanted, a block begins at that address too.
 /// - `blocks FILE`, with `--leader ADDR`: puts a line for each basic block of the executable FILE, with its leader, its
 ///   length and the registers that are live at the leader.
-/// - `run FILE`, with the options `--steps N`, `--input FILE` and `--table FILE`: runs the executable FILE, and puts its
-///   output and a line with its end, its steps and their cost.
+/// - `run FILE`, with the options `--steps N`, `--input FILE` and `--table FILE`: runs the executable FILE, and puts
+///   its output and a line with its end, its steps and their cost.
 /// - `asm TEXT OUT`: writes the words that TEXT assembles to, the lowest byte of each first, to OUT. It puts nothing.
 /// - `dis FILE`: puts a line for each whole word of FILE.
 ///
@@ -53,13 +54,15 @@ mod tests;
 pub fn run<F: Shelf, O: Sink>(alloc: Global, words: &Vec<String>, shelf: &mut F, out: &mut O) -> u8
     // It ends as it has to, over the files that the shelf tells.
     ensures ends { Ends (map string_bytes words.now.items)
-        (changed F.read_may_fail F.write_may_fail (F.state shelf.old) (F.state shelf.new) (O.state out.old) (O.state out.new))
+        (changed F.read_may_fail F.write_may_fail
+        (F.state shelf.old) (F.state shelf.new) (O.state out.old) (O.state out.new))
         result }
     // All that follows comes of `ends` alone. What is due comes.
     ensures due { IfSome (F.state shelf.old).files (λ held. (status : ℕ)
         → IsDue (Some held) (map string_bytes words.now.items) status
         → IsAnswered
-        (changed F.read_may_fail F.write_may_fail (F.state shelf.old) (F.state shelf.new) (O.state out.old) (O.state out.new))
+        (changed F.read_may_fail F.write_may_fail
+        (F.state shelf.old) (F.state shelf.new) (O.state out.old) (O.state out.new))
         status result) }
     // No other status comes.
     ensures statuses { Contains (0 ∷ 1 ∷ 2 ∷ 3 ∷ 4 ∷ 5 ∷ 6 ∷ 7 ∷ 12 ∷ 13 ∷ []) result }
@@ -67,16 +70,19 @@ pub fn run<F: Shelf, O: Sink>(alloc: Global, words: &Vec<String>, shelf: &mut F,
     ensures files_stay { result ≢ 0 → result ≢ 3 → result ≢ 12 → (F.state shelf.new).files ≡ (F.state shelf.old).files }
     // No file changes but those that the command writes, and these by a success or a write that failed.
     ensures left { AreLeft (map string_bytes words.now.items)
-        (changed F.read_may_fail F.write_may_fail (F.state shelf.old) (F.state shelf.new) (O.state out.old) (O.state out.new))
+        (changed F.read_may_fail F.write_may_fail
+        (F.state shelf.old) (F.state shelf.new) (O.state out.old) (O.state out.new))
         result }
     // Where nothing is refused and nothing fails, the call succeeds, or memory runs out.
     ensures complete { HasNoRefusal (F.state shelf.old).files (map string_bytes words.now.items)
         → HasNoFault
-        (changed F.read_may_fail F.write_may_fail (F.state shelf.old) (F.state shelf.new) (O.state out.old) (O.state out.new))
+        (changed F.read_may_fail F.write_may_fail
+        (F.state shelf.old) (F.state shelf.new) (O.state out.old) (O.state out.new))
         → (result ≡ 0) ⊎ (result ≡ 12) }
     // After another status than 0, the sink took a front of the text of success, mostly none, and then one fault line.
     ensures printed { result ≢ 0 → HasPrinted (map string_bytes words.now.items)
-        (changed F.read_may_fail F.write_may_fail (F.state shelf.old) (F.state shelf.new) (O.state out.old) (O.state out.new))
+        (changed F.read_may_fail F.write_may_fail
+        (F.state shelf.old) (F.state shelf.new) (O.state out.old) (O.state out.new))
         result }
 {
     match make(alloc, words, shelf) {
