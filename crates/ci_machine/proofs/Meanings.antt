@@ -1,51 +1,49 @@
--- There is a plain meaning, which tables agree on words; and which registers an instruction reads and writes as sets.
-use Rattle.std.proofs.Common.{◌≡◌, ◌↔◌, ◌^◌, ◌<◌, refl, ◌∙◌, arith, inl, inr, List, [], ◌∷◌, Option, Some, None}
-use Rattle.std.specs.Prelude.{ℕ, false, nat_lt, if◌then◌else◌, IfSome}
+-- There is a plain meaning, it reads as the extended table does what has no custom opcode; and which registers an
+-- instruction reads and writes as sets.
+use Rattle.std.proofs.Common.{◌≡◌, ◌<◌, refl, ◌∙◌, arith, List, [], ◌∷◌}
+use Rattle.std.specs.Prelude.{ℕ, false}
 use Rattle.std.specs.FinSet as set
-use Rattle.std.specs.Option.{unwrap_or}
-use Rattle.std.proofs.lemmas.Bool.{cases_lt, lt-ltb, le-ltb}
 use Rattle.std.proofs.lemmas.Bool.Decides.{nat_tests}
 use Rattle.ci_isa.specs.declared.instruction.Insn.{Insn}
-use Rattle.ci_isa.specs.declared.instruction.Insn.TheVariants.{Unit, Cread, Illegal}
-use Rattle.ci_isa.specs.Fields.{HasCustomOpcode}
-use Rattle.ci_isa.specs.Table.{Reads, ReadsX, IsInsnAt}
-use Rattle.ci_isa.specs.Decoding.{plain_row}
-use Rattle.ci_isa.specs.Effects.{registers_read, registers_written, is_among}
-use Rattle.ci_isa.proofs.Found.{plain_reads}
-use Rattle.ci_isa.proofs.Only.{only_plain}
+use Rattle.ci_isa.specs.declared.instruction.Insn.TheVariants.{Unit, Cread}
+use Rattle.ci_isa.specs.Table.{IsInsnAt}
+use Rattle.ci_isa.specs.Effects.{registers_read, registers_written, is_among, is_unit}
+use Rattle.ci_isa.proofs.Only.{one_insn}
 use Rattle.ci_isa.proofs.Registers.{reads_register_is, writes_register_is}
+use Rattle.ci_isa.proofs.TableLaws.{one_insn_at_each_word, tables_agree}
 use Rattle.ci_machine.specs.Steps.{Meaning, IsPlain}
 use Rattle.ci_machine.specs.Cores.{first_hidden, hidden}
 use Rattle.ci_machine.specs.Actions.{Units, TakeHidden}
 use Rattle.ci_machine.specs.Agreement.{reads, writes}
+use Rattle.ci_machine.specs.Texts.{text_word}
+use Rattle.ci_machine.specs.MeaningLaws.{PlainAndExtendedAgree}
 use Rattle.ci_machine.proofs.TestLaws.{by_test}
 
 -- ---- meanings
 
-plain_insn : ℕ → Insn
-plain_insn word = if nat_lt word (2 ^ 32) then unwrap_or (plain_row word) (Illegal word) else Illegal word
-
-row_stands : (word : ℕ) (row : Option Insn) → IfSome row (Reads word) → ((insn : Insn) → Reads word insn → row ≡ Some insn) → IsInsnAt word (unwrap_or row (Illegal word))
-row_stands word None found only = (refl, λ insn reading. let never = only insn reading in cc)
-row_stands word (Some (Illegal other)) found only = absurd found.1
-row_stands word (Some insn) found only = found
-
-stands : (word : ℕ) → IsInsnAt word (plain_insn word)
-unfolding plain_insn
-stands word = elim (cases_lt word (2 ^ 32)) [
-  | inl below ↦ rw (lt-ltb word (2 ^ 32) below) (row_stands word (plain_row word) (plain_reads word below) (only_plain word))
-  | inr above ↦ rw (le-ltb word (2 ^ 32) above) (refl, λ insn reading. absurd (omega (arith, reading.0)))
-]
-
 pub plain_exists : (meaning : Meaning) × IsPlain meaning
-plain_exists = (record { insn = plain_insn; units = record { further = λ number. []; results = λ number values. [] } }, stands)
+plain_exists = (
+  record {
+    insn = λ word. (one_insn_at_each_word word).0.insn;
+    units = record { further = λ number. []; results = λ number values. [] };
+  },
+  λ word. (one_insn_at_each_word word).0.stands,
+)
 
--- ---- tables
+-- what stands at a word by the plain table is no unit word
+no_unit_stands : (word : ℕ) (insn : Insn) → IsInsnAt word insn → is_unit insn ≡ false
+no_unit_stands word (Unit number rd rs1 rs2 rs3) stands = absurd stands.1
+no_unit_stands word insn stands = refl
 
-pub tables_agree : (word : ℕ) (insn : Insn) → ¬ HasCustomOpcode word → ReadsX word insn ↔ Reads word insn
-tables_agree word (Unit number rd rs1 rs2 rs3) none = (λ reads. absurd (none (inl reads.1.0)), λ reads. absurd reads.1)
-tables_agree word (Cread rd) none = (λ reads. absurd (none (inr reads.1.0)), λ reads. absurd reads.1)
-tables_agree word insn none = (λ reads. reads, λ reads. reads)
+pub plain_and_extended_agree : PlainAndExtendedAgree
+plain_and_extended_agree plain extended file is_plain is_extended no_custom address text =
+    let word = text_word file address in
+    let none = no_custom address text in
+    (
+      one_insn word (plain.insn word) (extended.insn word) (is_plain word)
+      ((tables_agree word none (extended.insn word)).1 (is_extended word none)),
+      no_unit_stands word (plain.insn word) (is_plain word),
+    )
 
 -- ---- sets of registers
 

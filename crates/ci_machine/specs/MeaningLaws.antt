@@ -1,11 +1,11 @@
 -- What meanings have to do with the runs that they make.
-use Rattle.std.specs.Prelude.{◌≡◌, ◌↔◌, ℕ, Bool, false, List}
+use Rattle.std.specs.Prelude.{◌≡◌, ℕ, Bool, false, List}
 use Rattle.std.specs.List.{list_any}
 use Rattle.ci_isa.specs.declared.instruction.Insn.{Insn}
 use Rattle.ci_isa.specs.Fields.{HasCustomOpcode}
-use Rattle.ci_isa.specs.Table.{Reads, ReadsX}
+use Rattle.ci_isa.specs.Table.{IsInsnAtX}
 use Rattle.ci_isa.specs.Effects.{is_unit}
-use Rattle.ci_elf.specs.Executables.{Executable, IsWellFormed}
+use Rattle.ci_elf.specs.Executables.{Executable, IsTextWord, IsWellFormed}
 use Rattle.ci_machine.specs.Cores.{Core}
 use Rattle.ci_machine.specs.Outcomes.{Reached}
 use Rattle.ci_machine.specs.Actions.{Units, act}
@@ -13,6 +13,7 @@ use Rattle.ci_machine.specs.Agreement.{act_all, AllLeaveText}
 use Rattle.ci_machine.specs.Programs.{Program, State, loaded_program, opening}
 use Rattle.ci_machine.specs.Steps.{Meaning, IsPlain}
 use Rattle.ci_machine.specs.Runs.{LeavesTextFor}
+use Rattle.ci_machine.specs.Texts.{text_word}
 use Rattle.ci_machine.specs.Words.{IsOfWords, GivesWords}
 use Rattle.ci_machine.specs.Meanings.{RunAlike, AreOneOnWords, AreOneRun, ReadTextAlike}
 
@@ -49,9 +50,14 @@ PlainIsOne =
     (left right : Meaning) → IsPlain left → IsPlain right → (program : Program) (n : ℕ) (state : State)
     → AreOneRun left right program n state
 
--- The extended table has the plain row of a word without a custom opcode, or none where that has none.
-abbrev pub TablesAgree : Type 0
-TablesAgree = (word : ℕ) (insn : Insn) → ¬ HasCustomOpcode word → ReadsX word insn ↔ Reads word insn
+-- It reads the text of a file alike as one that reads by the extended table, whatever that one makes of words with a
+-- custom opcode, where the text has no such word.
+abbrev pub PlainAndExtendedAgree : Type 0
+PlainAndExtendedAgree =
+    (plain extended : Meaning) (file : Executable) → IsPlain plain
+    → ((word : ℕ) → ¬ HasCustomOpcode word → IsInsnAtX word (extended.insn word))
+    → ((address : ℕ) → IsTextWord file.ranges address → ¬ HasCustomOpcode (text_word file address))
+    → ReadTextAlike plain extended file
 
 -- ---- units
 

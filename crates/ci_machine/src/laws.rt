@@ -3,7 +3,7 @@ ghost use Rattle.ci_machine.specs.FileLaws.{OpensWithFileWords, FileInsnsStay, F
 ghost use Rattle.ci_machine.specs.Laws.{Frame, ControlFrame, ListFrame, ListLeaves, ListsKeepStreams};
 ghost use Rattle.ci_machine.specs.Laws.{RegistersRead, RegistersWritten, NeededIsReadFirst};
 ghost use Rattle.ci_machine.specs.MeaningLaws.{MeaningsAgree, WordMeaningsAgree, FileMeaningsAgree};
-ghost use Rattle.ci_machine.specs.MeaningLaws.{PlainExists, PlainIsOne, TablesAgree};
+ghost use Rattle.ci_machine.specs.MeaningLaws.{PlainExists, PlainIsOne, PlainAndExtendedAgree};
 ghost use Rattle.ci_machine.specs.MeaningLaws.{UnitsUnused, UnitsUnusedByLists, UnitsLeaveText};
 ghost use Rattle.ci_machine.specs.RunLaws.{RunsJoin, EndsStay, RunsEndAt, NoEndBefore, CountsJoin, CountsStay};
 ghost use Rattle.ci_machine.specs.RunLaws.{BlockSteps, BlockLeaves, BlockCosts, ControlSteps};
@@ -88,12 +88,12 @@ pub fn one_run()
     ensures files { FileMeaningsAgree }
 {}
 
-/// The plain machine is one, and so is the cost of its runs, whatever its meaning says of units; and the extended table
-/// reads words without a custom opcode as the plain one does.
+/// The plain machine is one, and so is the cost of its runs, whatever its meaning says of units; and it reads a text
+/// without a custom opcode as a machine of the extended table does.
 pub fn plain_meaning()
     ensures exists { PlainExists }
     ensures one { PlainIsOne }
-    ensures tables { TablesAgree }
+    ensures extended { PlainAndExtendedAgree }
 {}
 
 /// Units matter to unit words alone.

@@ -1,4 +1,4 @@
-use Rattle.ci_machine.proofs.Meanings.{plain_exists, tables_agree}
+use Rattle.ci_machine.proofs.Meanings.{plain_exists, plain_and_extended_agree}
 use Rattle.ci_machine.proofs.SameRuns.{plain_is_one}
 use Rattle.ci_machine.proofs.laws.plain_meaning.Goals as goal
 
@@ -8,5 +8,5 @@ returns-clause-exists c = plain_exists
 pub returns-clause-one : goal.returns-clause-one
 returns-clause-one c = plain_is_one
 
-pub returns-clause-tables : goal.returns-clause-tables
-returns-clause-tables c = tables_agree
+pub returns-clause-extended : goal.returns-clause-extended
+returns-clause-extended c = plain_and_extended_agree
