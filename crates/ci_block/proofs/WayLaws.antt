@@ -21,7 +21,7 @@ one_of_one : (x a : ℕ) → Contains (x ∷ []) a → x ≡ a
 one_of_one x a (zero, within, is) = is
 one_of_one x a (suc k, within, is) = absurd (omega (arith, within))
 
-one_of_two : (x y a : ℕ) → Contains (x ∷ y ∷ []) a → (x ≡ a) ⊎ (y ≡ a)
+pub one_of_two : (x y a : ℕ) → Contains (x ∷ y ∷ []) a → (x ≡ a) ⊎ (y ≡ a)
 one_of_two x y a (zero, within, is) = inl is
 one_of_two x y a (suc zero, within, is) = inr is
 one_of_two x y a (suc (suc k), within, is) = absurd (omega (arith, within))

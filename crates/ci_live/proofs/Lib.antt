@@ -10,4 +10,5 @@ pub mod PushLaws
 pub mod LiveLaws
 pub mod NeededLaws
 mod OneAnalysis
+mod LeadLaws
 mod RegisterLaws

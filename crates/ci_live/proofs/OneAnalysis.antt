@@ -17,7 +17,7 @@ use Rattle.ci_live.proofs.NeededLaws.{has_sets}
 use Rattle.ci_live.proofs.NumberedBlocks.{Stands, block_at, live_where_passed}
 
 -- a leader of blocks has one of them
-block_with :
+pub block_with :
     (blocks : List Block) (leader : ℕ) → Contains (map (λ (block : Block). block.leader) blocks) leader
     → (block : Block) × Contains blocks block × (block.leader ≡ leader)
 block_with blocks leader (k, within, is) =

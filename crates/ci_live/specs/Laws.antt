@@ -1,11 +1,12 @@
 -- What the definition of live sets says: laws, which the functions of `src/laws.rt` have as their contracts.
-use Rattle.std.specs.Prelude.{◌≡◌, ℕ, ◌<◌, ◌⊎◌, ◌↔◌, List, map, IsTrue}
+use Rattle.std.specs.Prelude.{◌≡◌, ℕ, ◌-◌, ◌<◌, ◌⊎◌, ◌↔◌, List, map, slice_index_or, IsTrue}
 use Rattle.std.specs.FinSet as set
 use Rattle.std.specs.List.{Contains}
+use Rattle.ci_isa.specs.declared.instruction.Insn.{Insn}
 use Rattle.ci_isa.specs.Sequences.{ReadFirst, Write}
 use Rattle.ci_elf.specs.Executables.{Executable, IsAscending}
 use Rattle.ci_block.specs.declared.blocks.Block.{Block}
-use Rattle.ci_block.specs.Blocks.{AreInOrder}
+use Rattle.ci_block.specs.Blocks.{AreInOrder, Counts, end_of_block, size_of, ways_on}
 use Rattle.ci_block.specs.Laws.{contents_of}
 use Rattle.ci_live.specs.Analyses.{IsAnalysis}
 use Rattle.ci_live.specs.Liveness.{AreLiveSets, IsSuccessor}
@@ -28,6 +29,15 @@ LiveAtSuccessor =
     → AreLiveSets blocks sets → Contains blocks before → Contains blocks after → IsSuccessor before after
     → IsTrue (set.contains (at_leader sets after.leader) r)
     → IsTrue (set.contains (after_block sets before.leader) r)
+
+-- Where a way on from a block of a file counts, it leads to a leader, and what is live there is live after the block.
+abbrev pub LiveOnWays : Type 0
+LiveOnWays =
+    (file : Executable) (targets named : List ℕ) (blocks : List Block) (sets : Sets) (block : Block) (d : Insn)
+    (address r : ℕ) → IsAscending file.ranges → IsAnalysis file targets named blocks sets → Contains blocks block
+    → Counts file (ways_on (end_of_block block - 4) (slice_index_or block.insns.items (size_of block - 1) d)) address
+    → Contains sets.leaders address
+    × (IsTrue (set.contains (at_leader sets address) r) → IsTrue (set.contains (after_block sets block.leader) r))
 
 -- both give the same registers at the leader and after its block
 abbrev pub AgreeAt : Sets → Sets → ℕ → Type 0
