@@ -3,9 +3,8 @@ use Rattle.std.proofs.Common.{◌≡◌, ℕ, ◌+◌, ◌-◌, ◌*◌, ◌/◌
 use Rattle.std.proofs.lemmas.Bool.{cases_lt}
 use Rattle.ci_isa.specs.Fields.{HasCustomOpcode}
 use Rattle.ci_elf.specs.declared.ranges.Range.{Range}
-use Rattle.ci_elf.specs.Executables.{Executable, IsTextWord, IsWellFormed}
+use Rattle.ci_elf.specs.Executables.{Executable, IsTextWord, IsWellFormed, text_word}
 use Rattle.ci_block.specs.Marking.{range_at}
-use Rattle.ci_block.specs.Text.{word_at}
 use Rattle.ci_elf.proofs.WordPlaceLaws.{nowhere}
 use Rattle.ci_block.proofs.RangeLaws.{apart, holder, text_below_top, text_ranges, word_of_range}
 use Rattle.ci_block.specs.CustomSearch.{HasNoCustomWordBefore, IsFirstCustomWordIn}
@@ -46,7 +45,7 @@ module _ (image : Executable) (formed : IsWellFormed image) where
   pub none_at_all : HasNoCustomWordBefore image (length image.ranges) → HasNoCustomWord image
   none_at_all none address text =
       let word = word_of_some_range address text in
-      subst (λ a. ¬ HasCustomOpcode (word_at image a)) (sym word.address_is) (none word.index word.below word.place word.within)
+      subst (λ a. ¬ HasCustomOpcode (text_word image a)) (sym word.address_is) (none word.index word.below word.place word.within)
 
   -- the first of the first range that has one is the first of the text
   pub first_at_all : (i address word : ℕ) → i < length image.ranges → HasNoCustomWordBefore image i → IsFirstCustomWordIn image i address word → IsFirstCustomWord image address word
@@ -56,14 +55,14 @@ module _ (image : Executable) (formed : IsWellFormed image) where
     custom = found.custom;
     first = λ a text earlier.
         let w = word_of_some_range a text in
-        subst (λ b. ¬ HasCustomOpcode (word_at image b)) (sym w.address_is) (elim (cases_lt w.index i) [
+        subst (λ b. ¬ HasCustomOpcode (text_word image b)) (sym w.address_is) (elim (cases_lt w.index i) [
           | inl front ↦ before w.index front w.place w.within
           | inr late ↦ elim (cases_lt i w.index) [
             | inl behind ↦ absurd (omega (arith, earlier, w.address_is, found.address_is, found.within, apart image.ranges (text_ranges image formed) i w.index behind w.below))
             | inr same ↦
                 let is : w.index ≡ i = omega arith in
                 let place : w.place < found.place = omega (arith, earlier, found.address_is, subst (λ j. a ≡ (range_at image.ranges j).start + 4 * w.place) is w.address_is) in
-                subst (λ j. ¬ HasCustomOpcode (word_at image ((range_at image.ranges j).start + 4 * w.place))) (sym is) (found.first w.place place)
+                subst (λ j. ¬ HasCustomOpcode (text_word image ((range_at image.ranges j).start + 4 * w.place))) (sym is) (found.first w.place place)
           ]
         ]);
   }

@@ -8,6 +8,7 @@ use Rattle.ci_isa.specs.Effects.{ends_block}
 use Rattle.ci_elf.specs.declared.ranges.Range.{Range}
 use Rattle.ci_elf.specs.Executables.{Executable, IsAscending, IsTextWord, end_of}
 use Rattle.ci_elf.proofs.ImageLaws.{ordered}
+use Rattle.ci_elf.proofs.RangeLaws.{range_holding}
 use Rattle.ci_block.specs.declared.blocks.Block.{Block}
 use Rattle.ci_block.specs.Blocks.{IsBlockAt, at_end_of_range, at_leader, at_terminator, end_of_block, full, size_of, ways_on}
 use Rattle.ci_block.specs.Laws.{WaysAreLeaders, WordBehindIsLeader}
@@ -60,7 +61,7 @@ module _ (image : Executable) (leaders : List ℕ) (block : Block) (ascending : 
   -- a word of the text where a range ends is the first of another one
   behind_range : end_of l.range ≡ a → Contains leaders a
   behind_range is =
-      let held = text.1 in
+      let held = range_holding image.ranges a text.1 in
       let there : Contains image.ranges held.1 = (held.0, held.2, held.3) in
       elim (ordered (λ x y. end_of x ≤ y.start) image.ranges l.range held.1 ascending l.there there) [
         | inl before ↦

@@ -7,19 +7,15 @@ use Rattle.ci_isa.specs.declared.instruction.Insn.TheVariants.{Jal, Branch}
 use Rattle.ci_isa.specs.Table.{IsInsnAt}
 use Rattle.ci_isa.specs.Effects.{ends_block}
 use Rattle.ci_elf.specs.Fields.{field}
-use Rattle.ci_elf.specs.Executables.{Executable, InText, IsLoaded, IsTextWord, place_of}
+use Rattle.ci_elf.specs.Executables.{Executable, InText, IsLoaded, IsTextWord, text_word}
 
 -- ---- instructions
-
--- the word of the text at an address
-abbrev pub word_at : Executable → ℕ → ℕ
-word_at image address = field 4 (place_of image.segments address) image.bytes
 
 -- The instruction stands at the address, which is a multiple of four in the text. A word that the plain table doesn't
 -- have, as one of the custom opcodes, stands for no instruction (`Illegal`).
 pub record StandsAt (image : Executable) (address : ℕ) (insn : Insn) : Type 0 where
   pub text : IsTextWord image.ranges address
-  pub reads : IsInsnAt (word_at image address) insn
+  pub reads : IsInsnAt (text_word image address) insn
 
 -- A terminator stands at the address: a branch, JAL, JALR, ECALL, EBREAK, FENCE, AUIPC, or a word that the plain table
 -- doesn't have.

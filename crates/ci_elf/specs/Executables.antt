@@ -4,7 +4,7 @@ use Rattle.std.specs.List.{AllPairs, Contains, list_any, sum_by}
 use Rattle.std.specs.List.Sorted.{IsPermutation}
 use Rattle.ci_elf.specs.declared.segments.Segment.{Segment}
 use Rattle.ci_elf.specs.declared.ranges.Range.{Range}
-use Rattle.ci_elf.specs.Fields.{e_entry, e_phnum, e_shnum, p_offset, p_vaddr, p_filesz, p_memsz, is_loadable, sh_addr, sh_size, is_symbol_table, is_text, st_value}
+use Rattle.ci_elf.specs.Fields.{field, e_entry, e_phnum, e_shnum, p_offset, p_vaddr, p_filesz, p_memsz, is_loadable, sh_addr, sh_size, is_symbol_table, is_text, st_value}
 use Rattle.byteorder.specs.Endian.{little_bytes}
 use Rattle.ci_elf.specs.Broken.{each_below, those_below}
 
@@ -115,6 +115,10 @@ unfoldable pub place_of : List Segment → ℕ → ℕ
 place_of [] address = 0
 place_of (segment ∷ segments) address =
     if has_in_file segment address then segment.offset + (address - segment.address) else place_of segments address
+
+-- the word of the text at an address
+abbrev pub text_word : Executable → ℕ → ℕ
+text_word image address = field 4 (place_of image.segments address) image.bytes
 
 -- a segment loads this byte from the file to the address (System V gABI, chapter 5, "Program Header")
 pub record IsLoaded (image : Executable) (address value : ℕ) : Type 0 where

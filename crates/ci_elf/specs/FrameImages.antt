@@ -4,8 +4,7 @@ use Rattle.ci_elf.specs.declared.faults.ElfFault.{ElfFault}
 use Rattle.ci_elf.specs.declared.faults.ElfFault.TheVariants.{NoMemory}
 use Rattle.ci_elf.specs.declared.segments.Segment.{Segment}
 use Rattle.ci_elf.specs.declared.ranges.Range.{Range}
-use Rattle.ci_elf.specs.Fields.{field}
-use Rattle.ci_elf.specs.Executables.{Executable, place_of}
+use Rattle.ci_elf.specs.Executables.{Executable, text_word}
 use Rattle.ci_elf.specs.Rules.{IsReadAs}
 use Rattle.ci_elf.specs.Frames.{frame_of, text_offset, text_address, values_address}
 
@@ -57,7 +56,7 @@ text_range text = record { start = text_address; words = length text }
 abbrev pub HoldsWords : Executable → ℕ → List ℕ → Type 0
 HoldsWords image address words =
     (k : ℕ) → k < length words
-    → field 4 (place_of image.segments (address + 4 * k)) image.bytes ≡ slice_index words k
+    → text_word image (address + 4 * k) ≡ slice_index words k
 
 -- the image of a frame with this text, these constants and these values
 pub record IsFramed (text constants values : List ℕ) (image : Executable) : Type 0 where

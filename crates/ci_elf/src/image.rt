@@ -65,8 +65,7 @@ fn write_word(bytes: &mut [u8], place: usize, word: u32)
 
 impl Image {
     ghost use Rattle.std.specs.Prelude.{◌≡◌, ℕ, ◌+◌, ◌≤◌, ◌↔◌, length, Some, IfOk, IfSome, IsTrue};
-    ghost use Rattle.ci_elf.specs.Fields.{field};
-    ghost use Rattle.ci_elf.specs.Executables.{executable, place_of, with_word};
+    ghost use Rattle.ci_elf.specs.Executables.{executable, place_of, text_word, with_word};
     ghost use Rattle.ci_elf.specs.Executables.{InText, IsLoaded, IsTextWord, IsWellFormed};
 
     /// The image of these parts.
@@ -161,7 +160,7 @@ impl Image {
     /// The word of the text at an address, a multiple of four in text.
     pub fn word(&self, address: u32) -> u32
         requires { IsTextWord self.now.ranges address }
-        ensures { result ≡ field 4 (place_of self.now.segments address) self.now.bytes }
+        ensures { result ≡ text_word self.now address }
     {
         let place = self.place(address);
         word_at(&self.bytes, place)

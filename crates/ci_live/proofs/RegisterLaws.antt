@@ -13,10 +13,9 @@ use Rattle.ci_isa.specs.Table.{IsInsnAt}
 use Rattle.ci_isa.proofs.Only.{plain_well_formed}
 use Rattle.ci_isa.proofs.Registers.{reads_register_is}
 use Rattle.ci_isa.proofs.WellFormed.{fields_fit}
-use Rattle.ci_elf.specs.Executables.{Executable}
+use Rattle.ci_elf.specs.Executables.{Executable, text_word}
 use Rattle.ci_block.specs.declared.blocks.Block.{Block}
 use Rattle.ci_block.specs.Blocks.{IsBlockAt}
-use Rattle.ci_block.specs.Text.{word_at}
 use Rattle.ci_live.specs.Laws.{LiveAreRegisters}
 use Rattle.ci_live.specs.Liveness.{IsLive}
 
@@ -62,7 +61,7 @@ in_block_is_register :
     (image : Executable) (leaders : List ℕ) (block : Block) → IsBlockAt image leaders block
     → (insn : Insn) → Contains block.insns.items insn → (r : ℕ) → IsReadBy insn r → r < 32
 in_block_is_register image leaders block l insn (k, within, is) r reads =
-    let word : ℕ = word_at image (block.leader + 4 * k) in
+    let word : ℕ = text_word image (block.leader + 4 * k) in
     read_is_register word insn (subst (λ i. IsInsnAt word i) is (l.insns k insn within).reads) r reads
 
 live_is_register :

@@ -8,7 +8,7 @@ use Rattle.ci_word.proofs.NumberLaws.{some_below_iff}
 use Rattle.ci_isa.specs.declared.instruction.LoadKind.TheVariants as kinds
 use Rattle.ci_isa.specs.declared.instruction.Insn.{Insn}
 use Rattle.ci_isa.specs.declared.instruction.Insn.TheVariants.{Alu, AluImm, Lui, Load, Ecall, Unit}
-use Rattle.ci_elf.specs.Executables.{Executable, place_of}
+use Rattle.ci_elf.specs.Executables.{Executable, place_of, text_word}
 use Rattle.ci_elf.specs.Fields.{field}
 use Rattle.ci_machine.specs.declared.ends.End.TheVariants as ends
 use Rattle.ci_machine.specs.Cores.{Core, register, with_register}
@@ -19,7 +19,6 @@ use Rattle.ci_machine.specs.Programs.{Program, State, at_pc, in_text, loaded_pro
 use Rattle.ci_machine.specs.Steps.{Meaning, word_at, moved, touched}
 use Rattle.ci_machine.specs.Runs.{latency, after, before_step, is_made, jalr_target, cost, entries, steps_made, IsTame}
 use Rattle.ci_machine.specs.Blocks.{behind}
-use Rattle.ci_machine.specs.Texts.{text_word}
 use Rattle.ci_machine.proofs.TestLaws.{by_test}
 use Rattle.ci_machine.proofs.Rows.{core, units, plain, file, sample, sample_file, usual, reader, reader_file, reading}
 

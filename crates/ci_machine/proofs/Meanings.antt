@@ -15,7 +15,7 @@ use Rattle.ci_machine.specs.Steps.{Meaning, IsPlain}
 use Rattle.ci_machine.specs.Cores.{first_hidden, hidden}
 use Rattle.ci_machine.specs.Actions.{Units, TakeHidden}
 use Rattle.ci_machine.specs.Agreement.{reads, writes}
-use Rattle.ci_machine.specs.Texts.{text_word}
+use Rattle.ci_elf.specs.Executables.{text_word}
 use Rattle.ci_machine.specs.MeaningLaws.{PlainAndExtendedAgree}
 use Rattle.ci_machine.proofs.TestLaws.{by_test}
 

@@ -7,7 +7,7 @@ use Rattle.std.proofs.lemmas.Bool.{cases_lt, lt-ltb}
 use Rattle.std.proofs.lemmas.Bool.Decides.{nat_tests}
 use Rattle.ci_elf.specs.declared.segments.Segment.{Segment}
 use Rattle.ci_elf.specs.Fields.{field}
-use Rattle.ci_elf.specs.Executables.{Executable, InText, IsTextWord, IsWellFormed, has_in_file, place_of, end_of}
+use Rattle.ci_elf.specs.Executables.{Executable, InText, IsTextWord, IsWellFormed, has_in_file, place_of, end_of, text_word}
 use Rattle.ci_elf.proofs.ImageLaws.{contained_later, loaded_from, loaded_to, loads_between, contains_tail, place_found, layout_of}
 use Rattle.ci_machine.specs.Accesses.{addresses, bytes_at, number_of_bytes}
 use Rattle.ci_machine.specs.Parts.{bytes_from}
@@ -16,7 +16,7 @@ use Rattle.ci_machine.specs.Steps.{Meaning, word_at, insn_in, following}
 use Rattle.ci_isa.specs.declared.instruction.Insn.{Insn}
 use Rattle.ci_machine.specs.Runs.{after, LeavesTextFor}
 use Rattle.ci_machine.specs.Blocks.{StandAt}
-use Rattle.ci_machine.specs.Texts.{HasText, text_word, IsFileInsn, AreFileInsns}
+use Rattle.ci_machine.specs.Texts.{HasText, IsFileInsn, AreFileInsns}
 use Rattle.ci_machine.proofs.TestLaws.{by_test}
 use Rattle.ci_machine.proofs.PartLaws.{lies_in-bounds, bounds-lies_in}
 use Rattle.ci_machine.proofs.AccessLaws.{bytes_at_row}

@@ -11,7 +11,7 @@ use Rattle.ci_isa.specs.declared.instruction.Insn.TheVariants.{Jalr, Unit}
 use Rattle.ci_isa.specs.Table.{IsInsnAt}
 use Rattle.ci_isa.proofs.Only.{one_insn}
 use Rattle.ci_isa.specs.Effects.{ends_block, is_unit}
-use Rattle.ci_elf.specs.Executables.{Executable, IsTextWord, IsWellFormed}
+use Rattle.ci_elf.specs.Executables.{Executable, IsTextWord, IsWellFormed, text_word}
 use Rattle.ci_machine.specs.declared.ends.End.{End}
 use Rattle.ci_machine.specs.Cores.{Core, hidden, register, values_in, with_registers}
 use Rattle.ci_machine.specs.Outcomes.{Outcome, Next, Ended, Reached, reached, continued, from_end}
@@ -21,7 +21,6 @@ use Rattle.ci_machine.specs.Programs.{Program, State, in_text, loaded_program, o
 use Rattle.ci_machine.specs.Steps.{Meaning, IsPlain, word_at, insn_in, fetched, then_onward, control, execute, stepped, step, moved, touched}
 use Rattle.ci_machine.specs.Runs.{Latencies, latency, after, before_step, is_made, step_cost, jalr_target, LeavesTextFor}
 use Rattle.ci_machine.specs.Meanings.{GiveSame, StepAlike, GiveSameOfWords, RunAlike, AreOneOnWords, AreOneRun, ReadTextAlike}
-use Rattle.ci_machine.specs.Texts.{text_word}
 use Rattle.ci_machine.specs.Words.{HoldsWords, IsOfWords, GivesWords}
 use Rattle.ci_machine.proofs.WordLaws.{words_stay, values_words}
 use Rattle.ci_machine.proofs.TestLaws.{by_test, both_first, both_second, neither_first, neither_second, some_is}

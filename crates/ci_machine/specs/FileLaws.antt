@@ -1,7 +1,7 @@
 -- What the memory of a run holds of the file.
 use Rattle.std.specs.Prelude.{◌≡◌, ℕ, List, Some, Ok}
 use Rattle.ci_isa.specs.declared.instruction.Insn.{Insn}
-use Rattle.ci_elf.specs.Executables.{Executable, IsTextWord, IsWellFormed}
+use Rattle.ci_elf.specs.Executables.{Executable, IsTextWord, IsWellFormed, text_word}
 use Rattle.ci_elf.specs.Rules.{IsReadAs}
 use Rattle.ci_elf.specs.TextChanges.{ChangeText}
 use Rattle.ci_machine.specs.Agreement.{AgreeOutside}
@@ -9,7 +9,7 @@ use Rattle.ci_machine.specs.Programs.{in_text, loaded_program, opening}
 use Rattle.ci_machine.specs.Steps.{Meaning, word_at, insn_in}
 use Rattle.ci_machine.specs.Runs.{after, LeavesTextFor}
 use Rattle.ci_machine.specs.Blocks.{StandAt}
-use Rattle.ci_machine.specs.Texts.{text_word, AreFileInsns}
+use Rattle.ci_machine.specs.Texts.{AreFileInsns}
 
 -- The words of the text are those of the file.
 abbrev pub OpensWithFileWords : Type 0

@@ -3,13 +3,12 @@ use Rattle.std.specs.Prelude.{◌≡◌, ℕ, ◌<◌, ◌≤◌, Bool, true, fa
 use Rattle.ci_isa.specs.declared.instruction.Insn.{Insn}
 use Rattle.ci_isa.specs.declared.instruction.Insn.TheVariants.{Unit}
 use Rattle.ci_isa.specs.Effects.{is_unit}
-use Rattle.ci_elf.specs.Executables.{Executable, IsTextWord}
+use Rattle.ci_elf.specs.Executables.{Executable, IsTextWord, text_word}
 use Rattle.ci_machine.specs.Cores.{Core, values_in}
 use Rattle.ci_machine.specs.Actions.{Units}
 use Rattle.ci_machine.specs.Programs.{Program, State}
 use Rattle.ci_machine.specs.Steps.{Meaning, fetched}
 use Rattle.ci_machine.specs.Words.{AreTaken}
-use Rattle.ci_machine.specs.Texts.{text_word}
 use Rattle.ci_machine.specs.Runs.{Latencies, after, before_step, is_made, cost, entries, LeavesTextFor, IsTame}
 
 -- what a unit gives of the registers of its word and its further ones

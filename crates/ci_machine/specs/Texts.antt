@@ -1,8 +1,7 @@
 -- The text of a run: that it is there, and stays, and is that of a file.
 use Rattle.std.specs.Prelude.{◌≡◌, ℕ, ◌+◌, ◌*◌, ◌<◌, ◌≤◌, true, List, length, slice_index_or}
 use Rattle.ci_isa.specs.declared.instruction.Insn.{Insn}
-use Rattle.ci_elf.specs.Fields.{field}
-use Rattle.ci_elf.specs.Executables.{Executable, IsTextWord, place_of}
+use Rattle.ci_elf.specs.Executables.{Executable, IsTextWord, text_word}
 use Rattle.ci_machine.specs.Cores.{Core}
 use Rattle.ci_machine.specs.Programs.{Program, in_text, heap_start}
 use Rattle.ci_machine.specs.Steps.{Meaning}
@@ -22,16 +21,12 @@ pub record HasTextOf (program : Program) (first later : Core) : Type 0 where
 
 -- ---- words of a file
 
--- the word of the file's text at an address
-abbrev pub text_word : Executable → ℕ → ℕ
-text_word file address = field 4 (place_of file.segments address) file.bytes
-
--- it reads as the instruction
+-- the word of the file's text at an address reads as the instruction
 pub record IsFileInsn (meaning : Meaning) (file : Executable) (address : ℕ) (insn : Insn) : Type 0 where
   pub text : IsTextWord file.ranges address
   pub reads : meaning.insn (text_word file address) ≡ insn
 
--- the words from an address on do, each as its instruction
+-- so do the words from an address on, each as its instruction
 abbrev pub AreFileInsns : Meaning → Executable → ℕ → List Insn → Type 0
 AreFileInsns meaning file address insns =
     (k : ℕ) (d : Insn) → k < length insns → IsFileInsn meaning file (address + 4 * k) (slice_index_or insns k d)
