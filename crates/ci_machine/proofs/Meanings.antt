@@ -38,10 +38,9 @@ no_unit_stands word insn stands = refl
 pub plain_and_extended_agree : PlainAndExtendedAgree
 plain_and_extended_agree plain extended file is_plain is_extended no_custom address text =
     let word = text_word file address in
-    let none = no_custom address text in
-    (
+    let none = no_custom address text in (
       one_insn word (plain.insn word) (extended.insn word) (is_plain word)
-      ((tables_agree word none (extended.insn word)).1 (is_extended word none)),
+          ((tables_agree word none (extended.insn word)).1 (is_extended word none)),
       no_unit_stands word (plain.insn word) (is_plain word),
     )
 
