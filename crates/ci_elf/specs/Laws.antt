@@ -1,4 +1,4 @@
--- What the definition of an image says of all files: a law, which a function of `src/laws.rt` has as its contract.
+-- What the definition of an image says of all files: laws, which a function of `src/laws.rt` has as its contract.
 use Rattle.std.specs.Prelude.{◌≡◌, ◌⊎◌, ℕ, List, Result, Ok, Err}
 use Rattle.ci_elf.specs.declared.faults.ElfFault.{ElfFault}
 use Rattle.ci_elf.specs.declared.faults.ElfFault.TheVariants.{NoMemory}

@@ -17,7 +17,8 @@ pub fn image_is_determined()
 {}
 
 /// A file of which words of the text are written over keeps all rules, and means what it did, with
-/// the new bytes; and a byte of a word of the text is loaded to the text alone.
+/// the new bytes; a byte of a word of the text is loaded to the text alone; and a word that was
+/// written is read, while words elsewhere in the text stay.
 pub fn text_may_change()
     ensures change { TextMayChange }
     ensures none { NoneWritten }

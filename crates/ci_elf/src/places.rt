@@ -34,7 +34,7 @@ impl Places {
     ghost use Rattle.ci_elf.specs.Executables.{HoldsAddress, IsAscending, in_text};
     ghost use Rattle.ci_elf.specs.WordPlaces.{place_in, word_count, word_place};
 
-    /// The places of the words of these ranges.
+    /// The places of the words of these ranges, which ascend. An Err is out of memory.
     pub fn new(alloc: Global, text: &[Range]) -> Result<Places, AllocError>
         requires { IsAscending text.now }
         ensures { IfOk result (λ places. places ≡ text.now) }
@@ -83,9 +83,9 @@ impl Places {
         self.firsts[index] + ((address - self.ranges[index].start) / 4) as usize
     }
 
-    /// The place of the word at the address, which is a multiple of four.
+    /// The place of the word at the address, where that is a multiple of four in the text.
     ///
-    /// Range `last` is tried first, and is then the one that has the address, if one has it.
+    /// Range `last` is tried first. Where there is a place, `last` is then the number of the range that has it.
     pub fn near(&self, last: &mut usize, address: u32) -> Option<usize>
         ensures { result ≡ word_place self.now address }
     {
@@ -101,7 +101,7 @@ impl Places {
         }
     }
 
-    /// The place of the word at the address, which is a multiple of four.
+    /// The place of the word at the address, where that is a multiple of four in the text.
     pub fn of(&self, address: u32) -> Option<usize>
         ensures { result ≡ word_place self.now address }
     {

@@ -37,8 +37,7 @@ impl Counts {
         self.by_place.len()
     }
 
-    /// The place of the word at the address, which is a multiple of four. Range `last` is tried first, and is then the
-    /// one that has the address, if one has it.
+    /// The place of the word at the address, where that is a multiple of four in the text. Range `last` is tried first.
     pub(crate) fn place(&self, last: &mut usize, address: u32) -> Option<usize>
         ensures value { result ≡ word_place self.now.places address }
         ensures within { IfSome result (λ place. place < length self.now.by_place.items) }
