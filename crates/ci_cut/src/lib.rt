@@ -1,4 +1,7 @@
 //! Graphs of basic blocks, convex cuts of them, and the best cut.
+//!
+//! What a search has decided, and what bounds the cuts that go on from there, is defined here too
+//! (`specs/Prefixes.antt`), and how many branches a search needs (`specs/Need.antt`). Their code is in crates above.
 #![tactic(auto)]
 
 pub use choice::best_of_all;

@@ -2,7 +2,8 @@
 //!
 //! Liveness is defined in `specs/Liveness.antt` by the lists of blocks that a run may pass. The code repeats a step
 //! over sets of registers until nothing changes. `specs/Analyses.antt` says what the blocks of a file and their live
-//! sets are.
+//! sets are. The functions of `laws` have no effect: their contracts say what holds of all live sets
+//! (`specs/Laws.antt`).
 #![tactic(auto)]
 
 pub use analysis::{Analysis, analysis_of};

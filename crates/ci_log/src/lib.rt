@@ -16,9 +16,10 @@
 //! stands there. A tree is the letters of a log in preorder: `B` and then its two children, or one
 //! of `O`, `C`, `I`, `G`, `F`.
 //!
-//! The definitions in `specs` say what the text of a book is (`Books`) and what the first fault of
-//! a text is (`Faults`), both of whole texts. The other files of `specs` say what the private
-//! functions compute; `proofs` shows that both agree.
+//! The definitions in `specs` say what a log is (`Trees`), what the text of a book is (`Books`) and
+//! what the first fault of a text is (`Faults`), both of whole texts, and which log a tree in a region
+//! is (`RegionTrees`). The other files of `specs` say what the private functions compute; `proofs`
+//! shows that both agree.
 #![tactic(auto)]
 
 pub use book::{Entry, Finish, LogBook};

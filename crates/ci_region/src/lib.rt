@@ -1,6 +1,7 @@
 //! A region: a pool of slots for values of one type, reserved once.
 //!
-//! Contracts see a finite map from slots to values, with its capacity (`specs/BoundedMap.antt`).
+//! Contracts see a finite map from slots to values, with its capacity (`specs/BoundedMap.antt`), and those of crates
+//! above trees whose nodes stand in slots (`specs/Trees.antt`).
 //! Only `Region::with_capacity` takes memory.
 #![tactic(auto)]
 
