@@ -1,6 +1,8 @@
 -- What holds of words and of instructions in a row: the contracts of the functions of `src/laws.rt`.
 use Rattle.std.specs.Prelude.{◌≡◌, ℕ, ◌↔◌, List, Some}
+use Rattle.std.specs.FinSet as set
 use Rattle.ci_isa.specs.declared.instruction.Insn.{Insn}
+use Rattle.ci_isa.specs.Effects.{reads_register, writes_register, registers_read, registers_written}
 use Rattle.ci_isa.specs.Fields.{HasCustomOpcode}
 use Rattle.ci_isa.specs.FieldBounds.{FieldsFit}
 use Rattle.ci_isa.specs.Sequences.{latest_writer, IsLastWriter}
@@ -23,6 +25,14 @@ pub record IsOnlyInsn (StandsThere : Insn → Type 0) : Type 0 where
 -- By each table one instruction stands at a word, and one alone.
 abbrev pub OneInsnAtEachWord : Type 0
 OneInsnAtEachWord = (word : ℕ) → IsOnlyInsn (IsInsnAt word) × IsOnlyInsn (IsInsnAtX word)
+
+-- The test of one register finds what the set has, among the registers that an instruction reads,
+abbrev pub ReadTestsAreSets : Type 0
+ReadTestsAreSets = (insn : Insn) (r : ℕ) → reads_register insn r ≡ set.contains (registers_read insn) r
+
+-- and among those that it writes.
+abbrev pub WriteTestsAreSets : Type 0
+WriteTestsAreSets = (insn : Insn) (r : ℕ) → writes_register insn r ≡ set.contains (registers_written insn) r
 
 -- The latest writer of a register before a place is the last instruction there that writes it.
 abbrev pub LatestWriterIsLast : Type 0

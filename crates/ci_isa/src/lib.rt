@@ -12,7 +12,8 @@ pub use encoding::encode;
 pub use instruction::{Cond, Insn, LoadKind, Width};
 pub use kinds::{class, is_access, is_cread, is_eligible, is_terminator, is_unit};
 pub use laws::{
-    latest_writer_is_last, one_insn_at_each_word, tables_agree, well_formed_where_fields_fit,
+    latest_writer_is_last, one_insn_at_each_word, register_tests_are_sets, tables_agree,
+    well_formed_where_fields_fit,
 };
 pub use opcodes::has_custom_opcode;
 pub use register::Reg;
