@@ -15,7 +15,7 @@ use Rattle.ci_cut.specs.declared.graph.Source.TheVariants.{Made}
 use Rattle.ci_cut.specs.FlowGraph.{HasArc, is_source}
 use Rattle.ci_dfg.specs.BlockGraph.{source_from, source_of, has_true_arc, has_anti_arc, has_output_arc, has_memory_arc, has_control_arc, has_own_arc, ends_bundle, has_arc_from_bundle, has_arc_by_cread, has_arc_inside_bundle, has_arc_into, graph_of}
 use Rattle.ci_dfg.specs.Arcs.{IsBundle, IsArc, true_arc, anti_arc, output_arc, memory_arc, control_arc, bundle_arc, into_bundle, out_of_bundle, ArcsAreThese, GraphHasTheseArcs}
-use Rattle.ci_dfg.specs.Hazards.{read_after_write, write_after_read, write_after_write, both_access, HazardsAreJoined}
+use Rattle.ci_dfg.specs.Hazards.{read_after_write, write_after_read, write_after_write, HazardsAreJoined, AccessesAreJoined}
 use Rattle.ci_dfg.proofs.Bundles.{ends, ended, bundles_move_together}
 use Rattle.ci_dfg.proofs.Graphs.{contains-before, node_at_past}
 
@@ -220,7 +220,7 @@ graph_has_these_arcs insns live_out table j k = (of_graph insns live_out table j
 -- ---- hazards
 
 pub hazards_are_joined : HazardsAreJoined
-hazards_are_joined insns j k order (read_after_write r writes reads) =
+hazards_are_joined insns r j k order (read_after_write writes reads) =
     let last = last_writer_from insns r k j order writes in
     let w = last.0 in
     elim (cases_eq w j) [
@@ -232,11 +232,14 @@ hazards_are_joined insns j k order (read_after_write r writes reads) =
             record {
               behind = between;
               before = last.1.before;
+              writes = last.1.writes;
               enters = from_arc insns j w (output_arc j w r between writes last.1.writes);
               leaves = from_arc insns w k (true_arc w k r last.1 reads);
             },
           )
     ]
-hazards_are_joined insns j k order (write_after_read r reads writes) = inl (from_arc insns j k (anti_arc j k r order reads writes))
-hazards_are_joined insns j k order (write_after_write r writes again) = inl (from_arc insns j k (output_arc j k r order writes again))
-hazards_are_joined insns j k order (both_access one other) = inl (from_arc insns j k (memory_arc j k order one other))
+hazards_are_joined insns r j k order (write_after_read reads writes) = inl (from_arc insns j k (anti_arc j k r order reads writes))
+hazards_are_joined insns r j k order (write_after_write writes again) = inl (from_arc insns j k (output_arc j k r order writes again))
+
+pub accesses_are_joined : AccessesAreJoined
+accesses_are_joined insns j k order one other = from_arc insns j k (memory_arc j k order one other)

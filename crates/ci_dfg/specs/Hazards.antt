@@ -5,26 +5,29 @@ use Rattle.ci_isa.specs.Effects.{reads_register, writes_register, is_access}
 use Rattle.ci_isa.specs.Sequences.{insn_at}
 use Rattle.ci_dfg.specs.BlockGraph.{has_arc_into}
 
--- A data hazard: the second reads what the first writes, or writes what the first reads or writes, or both go to
--- memory. This speaks of x1 to x31 alone: the hidden register is what a unit word and its `cread` share.
-pub data HasHazard (first second : Insn) : Type 0 where
-  read_after_write :
-      (r : ℕ) → writes_register first r ≡ true → reads_register second r ≡ true → HasHazard first second
-  write_after_read :
-      (r : ℕ) → reads_register first r ≡ true → writes_register second r ≡ true → HasHazard first second
-  write_after_write :
-      (r : ℕ) → writes_register first r ≡ true → writes_register second r ≡ true → HasHazard first second
-  both_access : is_access first ≡ true → is_access second ≡ true → HasHazard first second
+-- A data hazard in register r: the second reads what the first writes, or writes what the first reads or writes. This
+-- speaks of x1 to x31 alone: the hidden register is what a unit word and its `cread` share.
+pub data HasHazard (r : ℕ) (first second : Insn) : Type 0 where
+  read_after_write : writes_register first r ≡ true → reads_register second r ≡ true → HasHazard r first second
+  write_after_read : reads_register first r ≡ true → writes_register second r ≡ true → HasHazard r first second
+  write_after_write : writes_register first r ≡ true → writes_register second r ≡ true → HasHazard r first second
 
--- a node between j and k, with an arc from j into it and one from it into k
-pub record IsJoinedBy (insns : List Insn) (j k i : ℕ) : Type 0 where
+-- a node between j and k that writes register r too, with an arc from j into it and one from it into k
+pub record IsJoinedBy (insns : List Insn) (r j k i : ℕ) : Type 0 where
   pub behind : j < i
   pub before : i < k
+  pub writes : writes_register (insn_at insns i) r ≡ true
   pub enters : IsTrue (has_arc_into insns i j)
   pub leaves : IsTrue (has_arc_into insns k i)
 
--- An arc, or a node between them, joins two nodes with a hazard. That node is one that writes the register again.
+-- An arc joins two nodes with a hazard in a register, or a node between them that writes the register too.
 abbrev pub HazardsAreJoined : Type 0
 HazardsAreJoined =
-    (insns : List Insn) (j k : ℕ) → j < k → HasHazard (insn_at insns j) (insn_at insns k)
-    → IsTrue (has_arc_into insns k j) ⊎ ((i : ℕ) × IsJoinedBy insns j k i)
+    (insns : List Insn) (r j k : ℕ) → j < k → HasHazard r (insn_at insns j) (insn_at insns k)
+    → IsTrue (has_arc_into insns k j) ⊎ ((i : ℕ) × IsJoinedBy insns r j k i)
+
+-- An arc joins two nodes that both go to memory.
+abbrev pub AccessesAreJoined : Type 0
+AccessesAreJoined =
+    (insns : List Insn) (j k : ℕ) → j < k → is_access (insn_at insns j) ≡ true → is_access (insn_at insns k) ≡ true
+    → IsTrue (has_arc_into insns k j)

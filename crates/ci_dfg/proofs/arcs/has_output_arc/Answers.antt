@@ -5,4 +5,7 @@ use Rattle.ci_dfg.proofs.arcs.has_output_arc.Goals as goal
 
 pub returns : goal.returns
 returns c =
-    c.writes_register.ensures ∙ of_result c.args.insns.now writes_register (λ insn. refl) c.args.j c.args.k c.index-insns-j.result c.index-insns-k.result c.destination.result c.requires.order c.requires.there c.index-insns-j.is c.index-insns-k.is c.destination.ensures
+    c.writes_register.ensures
+    ∙ of_result c.args.insns.now writes_register (λ insn. refl) c.args.j c.args.k
+    c.index-insns-j.result c.index-insns-k.result c.destination.result
+    c.requires.order c.requires.there c.index-insns-j.is c.index-insns-k.is c.destination.ensures
