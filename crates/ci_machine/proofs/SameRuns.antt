@@ -1,5 +1,5 @@
 -- Runs by two meanings that read the words alike.
-use Rattle.std.proofs.Common.{◌≡◌, ℕ, zero, suc, ◌<◌, ◌≤◌, refl, ap, sym, subst, ◌∙◌, arith, List, [], ◌∷◌, Option, Some, None, find}
+use Rattle.std.proofs.Common.{◌≡◌, ℕ, zero, suc, ◌<◌, ◌≤◌, ◌↔◌, refl, ap, sym, subst, ◌∙◌, arith, List, [], ◌∷◌, Option, Some, None, find}
 use Rattle.std.specs.Prelude.{Bool, true, false, ◌%◌, ◌==◌, ◌&&◌, is_none, if◌then◌else◌}
 use Rattle.std.specs.List.{list_any}
 use Rattle.std.specs.Option.{option_map}
@@ -126,8 +126,14 @@ module _ (left right : Meaning) (program : Program) where
     made_too : (i : ℕ) → i < n → is_made right program state i ≡ true → is_made left program state i ≡ true
     made_too i lt made = ap (λ run. is_none run.end) (first_runs i (omega arith)) ∙ made
 
-    leaves_too : LeavesTextFor left program n state → LeavesTextFor right program n state
-    leaves_too clear i lt made = sym (same_touched i lt (made_too i lt made)) ∙ clear i lt (made_too i lt made)
+    made_there : (i : ℕ) → i < n → is_made left program state i ≡ true → is_made right program state i ≡ true
+    made_there i lt made = sym (ap (λ run. is_none run.end) (first_runs i (omega arith))) ∙ made
+
+    leaves_alike : LeavesTextFor left program n state ↔ LeavesTextFor right program n state
+    leaves_alike = (
+      λ clear i lt made. let here = made_too i lt made in sym (same_touched i lt here) ∙ clear i lt here,
+      λ clear i lt made. same_touched i lt made ∙ clear i lt (made_there i lt made),
+    )
 
     pub one_run : AreOneRun left right program n state
     one_run = record {
@@ -136,12 +142,19 @@ module _ (left right : Meaning) (program : Program) where
           sum_below-same n _ _ _ _ (λ i lt. ap (λ run. is_none run.end) (first_runs i (omega arith))) (same_cost latencies);
       entered = λ address.
           count_below-same n _ _ (λ i lt. ap (λ run. is_none run.end && run.state.pc == address) (first_runs i (omega arith)));
-      leaves_text = leaves_too;
-      tame = λ is_listed tame. record {
-        leaves_text = leaves_too tame.leaves_text;
-        listed = λ i target lt made led there.
-            let too = made_too i lt made in tame.listed i target lt too (same_target i lt too ∙ led) there;
-      };
+      leaves_text = leaves_alike;
+      tame = λ is_listed. (
+        λ tame. record {
+          leaves_text = leaves_alike.0 tame.leaves_text;
+          listed = λ i target lt made led there.
+              let here = made_too i lt made in tame.listed i target lt here (same_target i lt here ∙ led) there;
+        },
+        λ tame. record {
+          leaves_text = leaves_alike.1 tame.leaves_text;
+          listed = λ i target lt made led there.
+              tame.listed i target lt (made_there i lt made) (sym (same_target i lt made) ∙ led) there;
+        },
+      );
     }
 
 -- ---- meanings that read all words alike

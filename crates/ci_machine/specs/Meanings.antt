@@ -1,5 +1,5 @@
 -- Meanings by which the steps of a run are the same.
-use Rattle.std.specs.Prelude.{◌≡◌, ℕ, ◌<◌, ◌≤◌, Bool, true, false, ⊤, List, [], ◌∷◌, ◌++◌, Some}
+use Rattle.std.specs.Prelude.{◌≡◌, ℕ, ◌<◌, ◌≤◌, ◌↔◌, Bool, true, false, ⊤, List, [], ◌∷◌, ◌++◌, Some}
 use Rattle.ci_isa.specs.declared.instruction.Insn.{Insn}
 use Rattle.ci_isa.specs.declared.instruction.Insn.TheVariants.{Unit}
 use Rattle.ci_isa.specs.Effects.{is_unit}
@@ -38,8 +38,8 @@ module _ (left right : Meaning) (program : Program) where
     pub runs : (m : ℕ) → m ≤ n → after left program m state ≡ after right program m state
     pub costs : (latencies : Latencies) → cost left program latencies n state ≡ cost right program latencies n state
     pub entered : (address : ℕ) → entries left program n state address ≡ entries right program n state address
-    pub leaves_text : LeavesTextFor left program n state → LeavesTextFor right program n state
-    pub tame : (is_listed : ℕ → Bool) → IsTame left program is_listed n state → IsTame right program is_listed n state
+    pub leaves_text : LeavesTextFor left program n state ↔ LeavesTextFor right program n state
+    pub tame : (is_listed : ℕ → Bool) → IsTame left program is_listed n state ↔ IsTame right program is_listed n state
 
 -- the units take the same registers, and give the same of all words that they may be given, if it is a unit word
 abbrev pub GiveSameOfWords : Units → Units → Insn → Type 0
