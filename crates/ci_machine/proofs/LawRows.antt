@@ -7,11 +7,12 @@ use Rattle.ci_word.specs.Numbers.{count_below, sum_below, some_below}
 use Rattle.ci_word.proofs.NumberLaws.{some_below_iff}
 use Rattle.ci_isa.specs.declared.instruction.LoadKind.TheVariants as kinds
 use Rattle.ci_isa.specs.declared.instruction.Insn.{Insn}
-use Rattle.ci_isa.specs.declared.instruction.Insn.TheVariants.{Alu, AluImm, Lui, Load, Ecall, Unit}
+use Rattle.ci_isa.specs.declared.instruction.Insn.TheVariants.{Alu, AluImm, Lui, Load, Ecall, Unit, Cread}
+use Rattle.ci_isa.specs.Effects.{is_unit, is_cread}
 use Rattle.ci_elf.specs.Executables.{Executable, place_of, text_word}
 use Rattle.ci_elf.specs.Fields.{field}
 use Rattle.ci_machine.specs.declared.ends.End.TheVariants as ends
-use Rattle.ci_machine.specs.Cores.{Core, register, with_register}
+use Rattle.ci_machine.specs.Cores.{Core, first_hidden, register, with_register}
 use Rattle.ci_machine.specs.Outcomes.{at_start}
 use Rattle.ci_machine.specs.Actions.{acted}
 use Rattle.ci_machine.specs.Agreement.{AllLeaveText, needed}
@@ -81,6 +82,13 @@ needs : (needed units first_five (λ _. false) 8 ≡ false) × (needed units fir
     × (needed units (AluImm Add 9 8 (pos 4) ∷ first_five) (λ _. false) 8 ≡ true)
 unfolding first_five units
 needs = (refl, refl, refl)
+
+-- the hidden register is needed by a `cread`, and else where the set has it
+plain_needs : (list_any is_unit first_five ≡ false) × (list_any is_cread first_five ≡ false)
+    × (needed units first_five (λ _. false) first_hidden ≡ false) × (needed units first_five (λ _. true) first_hidden ≡ true)
+    × (needed units (Cread 6 ∷ first_five) (λ _. false) first_hidden ≡ true)
+unfolding first_five units
+plain_needs = (refl, refl, refl, refl, refl)
 
 five_leave_text : AllLeaveText units (in_text sample) first_five (at_start (opening sample_file []).core)
 unfolding first_five sample sample_file units

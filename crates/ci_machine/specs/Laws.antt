@@ -2,7 +2,7 @@
 use Rattle.std.specs.Prelude.{◌≡◌, ℕ, ◌<◌, Bool, true, false, ◌||◌, ◌⊎◌, ◌↔◌, List}
 use Rattle.std.specs.FinSet as set
 use Rattle.ci_isa.specs.declared.instruction.Insn.{Insn}
-use Rattle.ci_isa.specs.Effects.{ends_block, registers_read, registers_written}
+use Rattle.ci_isa.specs.Effects.{ends_block, is_unit, is_cread, registers_read, registers_written}
 use Rattle.ci_isa.specs.Sequences.{ReadFirst, Write}
 use Rattle.ci_machine.specs.Cores.{Core}
 use Rattle.std.specs.List.{list_any}
@@ -69,9 +69,20 @@ RegistersRead =
 abbrev pub RegistersWritten : Type 0
 RegistersWritten = (insn : Insn) (r : ℕ) → r < 32 → writes insn r ≡ set.contains (registers_written insn) r
 
--- What a list needs for a set is what it reads before it writes it, and what is in the set and not written.
+-- a list needs a register for a set exactly where it reads it before it writes it, or where the set has it and the list
+-- doesn't write it
+abbrev pub NeedsReadFirst : Units → List Insn → (ℕ → Bool) → ℕ → Type 0
+NeedsReadFirst units insns set r =
+    needed units insns set r ≡ true ↔ (ReadFirst insns r ⊎ ((set r ≡ true) × ¬ Write insns r))
+
+-- So it is for all but the hidden registers,
 abbrev pub NeededIsReadFirst : Type 0
 NeededIsReadFirst =
     (units : Units) → TakeHidden units
-    → (insns : List Insn) (set : ℕ → Bool) (r : ℕ) → r < 32
-    → needed units insns set r ≡ true ↔ (ReadFirst insns r ⊎ ((set r ≡ true) × ¬ Write insns r))
+    → (insns : List Insn) (set : ℕ → Bool) (r : ℕ) → r < 32 → NeedsReadFirst units insns set r
+
+-- and for these too where no instruction is a unit word or a `cread`, whatever registers units take.
+abbrev pub NeededIsReadFirstByPlain : Type 0
+NeededIsReadFirstByPlain =
+    (units : Units) (insns : List Insn) → list_any is_unit insns ≡ false → list_any is_cread insns ≡ false
+    → (set : ℕ → Bool) (r : ℕ) → NeedsReadFirst units insns set r

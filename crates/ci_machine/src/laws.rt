@@ -1,7 +1,7 @@
 //! What holds of all instructions, lists of instructions and runs, and of the runs of all files.
 ghost use Rattle.ci_machine.specs.FileLaws.{OpensWithFileWords, FileInsnsStay, FileInsnsStand, OpensAlike};
 ghost use Rattle.ci_machine.specs.Laws.{Frame, ControlFrame, ListFrame, ListLeaves, ListsKeepStreams};
-ghost use Rattle.ci_machine.specs.Laws.{RegistersRead, RegistersWritten, NeededIsReadFirst};
+ghost use Rattle.ci_machine.specs.Laws.{RegistersRead, RegistersWritten, NeededIsReadFirst, NeededIsReadFirstByPlain};
 ghost use Rattle.ci_machine.specs.MeaningLaws.{MeaningsAgree, WordMeaningsAgree, FileMeaningsAgree};
 ghost use Rattle.ci_machine.specs.MeaningLaws.{PlainExists, PlainIsOne, PlainAndExtendedAgree};
 ghost use Rattle.ci_machine.specs.MeaningLaws.{UnitsUnused, UnitsUnusedByLists, UnitsLeaveText};
@@ -28,11 +28,12 @@ pub fn list_frame()
 {}
 
 /// The registers that instructions read and write are those of their sets, and what a list needs is what it reads
-/// first.
+/// first: of all registers where no instruction is a unit word or a `cread`, and else of all but the hidden ones.
 pub fn register_sets()
     ensures read { RegistersRead }
     ensures written { RegistersWritten }
     ensures needed { NeededIsReadFirst }
+    ensures plain { NeededIsReadFirstByPlain }
 {}
 
 /// Runs go on where others came to, and do not go on after an end.
