@@ -30,7 +30,7 @@ impl Model for Places {
 }
 
 impl Places {
-    ghost use Rattle.std.specs.Prelude.{◌≡◌, IfOk};
+    ghost use Rattle.std.specs.Prelude.{◌≡◌, IfOk, MatchOption};
     ghost use Rattle.ci_elf.specs.Executables.{HoldsAddress, IsAscending, in_text};
     ghost use Rattle.ci_elf.specs.WordPlaces.{place_in, word_count, word_place};
 
@@ -85,9 +85,11 @@ impl Places {
 
     /// The place of the word at the address, where that is a multiple of four in the text.
     ///
-    /// Range `last` is tried first. Where there is a place, `last` is then the number of the range that has it.
+    /// Range `last` is tried first. Where there is a place, `last` is then the number of the range that has it, and
+    /// otherwise it stays.
     pub fn near(&self, last: &mut usize, address: u32) -> Option<usize>
-        ensures { result ≡ word_place self.now address }
+        ensures place { result ≡ word_place self.now address }
+        ensures last { MatchOption result (last.new ≡ last.old) (λ _. HoldsAddress self.now address last.new) }
     {
         if address % 4 != 0 {
             return None;

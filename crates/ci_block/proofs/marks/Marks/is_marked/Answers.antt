@@ -15,14 +15,14 @@ range-requires c =
 pub index-requires : goal.index-requires
 index-requires c =
     let marks = c.args.self.now in
-    omega (arith, marks.whole, word_below marks.places _ c.in-Some.place (sym c.in-Some.ensures))
+    omega (arith, marks.whole, word_below marks.places _ c.in-Some.place (sym c.in-Some.ensures.place))
 
 pub returns-in-Some : goal.returns-in-Some
 returns-in-Some c =
     let marks = c.args.self.now in
     let address = (range_at marks.places c.args.index).start + 4 * c.args.word in
     let there : word_place marks.places address ≡ Some c.in-Some.place =
-    ap (λ r. word_place marks.places (r.start + 4 * c.args.word)) (sym c.range.ensures) ∙ sym c.in-Some.ensures in
+    ap (λ r. word_place marks.places (r.start + 4 * c.args.word)) (sym c.range.ensures) ∙ sym c.in-Some.ensures.place in
     let flag : c.index.result.now ≡ get_or marks.flags.items c.in-Some.place false =
     c.index.ensures ∙ get_or_default marks.flags.items c.in-Some.place c.index.result.now false
     (omega (arith, marks.whole, word_below marks.places address c.in-Some.place there)) in
@@ -31,5 +31,5 @@ returns-in-Some c =
 pub returns-in-None : goal.returns-in-None
 returns-in-None c =
     let marks = c.args.self.now in
-    let none = ap (λ r. word_place marks.places (r.start + 4 * c.args.word)) (sym c.range.ensures) ∙ sym c.in-None.ensures in
+    let none = ap (λ r. word_place marks.places (r.start + 4 * c.args.word)) (sym c.range.ensures) ∙ sym c.in-None.ensures.place in
     ((λ is. absurd (true≢false (sym is))), (λ m. absurd (not_marked marks _ none m)))
