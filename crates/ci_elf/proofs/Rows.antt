@@ -1,5 +1,5 @@
 -- What the definitions of words of the text give on small texts and on a small file.
-use Rattle.std.proofs.Common.{◌≡◌, ℕ, ◌<◌, ◌≤◌, true, false, List, [], ◌∷◌, Some, None, refl, arith, lit<, lit≤}
+use Rattle.std.proofs.Common.{◌≡◌, ℕ, ◌+◌, ◌<◌, ◌≤◌, true, false, List, [], ◌∷◌, Some, None, refl, arith, lit<, lit≤}
 use Rattle.std.proofs.lemmas.Bool.Decides.{nat_tests}
 use Rattle.ci_elf.specs.declared.ranges.Range.{Range}
 use Rattle.ci_elf.specs.declared.segments.Segment.{Segment}
@@ -76,3 +76,18 @@ place_behind (address, (aligned, held), within) =
 -- a byte that is none of the text may not change
 other_byte : ¬ ChangeText sample (0 ∷ 1 ∷ 2 ∷ 3 ∷ 4 ∷ 5 ∷ 6 ∷ 7 ∷ 8 ∷ 9 ∷ 10 ∷ 11 ∷ 99 ∷ 13 ∷ 14 ∷ 15 ∷ [])
 other_byte change = let same = change.same_else 12 place_behind in cc
+
+-- ---- text that is loaded
+
+-- the sample, and a second segment that loads the same bytes of the file to 5000
+abbrev twice : Executable
+twice = record sample { segments = segment ∷ record segment { address = 0x5000 } ∷ [] }
+
+-- the last byte of the second word, by both segments: where no rule is kept, one of them loads it to no text
+loaded_once : IsTextPlace sample (segment.offset + 7) × (in_text sample.ranges (segment.address + 7) ≡ true)
+unfolding place_of
+loaded_once = ((0x1004, (refl, refl), (lit≤ tt, lit< tt)), refl)
+
+loaded_twice : IsTextPlace twice (segment.offset + 7) × (in_text twice.ranges (0x5000 + 7) ≡ false)
+unfolding place_of
+loaded_twice = ((0x1004, (refl, refl), (lit≤ tt, lit< tt)), refl)

@@ -1,7 +1,8 @@
 //! What holds of all files and frames, as contracts of functions without effect.
 ghost use Rattle.ci_elf.specs.FrameImages.{FramesAreRead, FramesKeepRules};
-ghost use Rattle.ci_elf.specs.Laws.{AnswerIsOne, ImageIsOne};
-ghost use Rattle.ci_elf.specs.TextChanges.{NoneWritten, OneMoreWritten, OtherWordsStay, TextIsLoadedOnce, TextMayChange, WordIsRead};
+ghost use Rattle.ci_elf.specs.Laws.{AnswerIsOne, ImageIsOne, ImageIsWellFormed};
+ghost use Rattle.ci_elf.specs.TextChanges.{NoneWritten, OneMoreWritten, OtherWordsStay};
+ghost use Rattle.ci_elf.specs.TextChanges.{TextIsLoadedOnce, TextMayChange, WordIsRead};
 
 /// Reading what `frame` makes gives back what went in: the entry, the segments, and the words of the
 /// text, of the constants and of the values at their addresses.
@@ -10,10 +11,11 @@ pub fn frames_are_read()
     ensures rules { FramesKeepRules }
 {}
 
-/// The bytes of a file determine its image.
+/// The bytes of a file determine its image, which is well-formed where the file is read.
 pub fn image_is_determined()
     ensures image { ImageIsOne }
     ensures answer { AnswerIsOne }
+    ensures formed { ImageIsWellFormed }
 {}
 
 /// A file of which words of the text are written over keeps all rules, and means what it did, with
