@@ -10,3 +10,4 @@ pub mod OneListing
 pub mod BlockLaws
 pub mod OneBlock
 pub mod WayLaws
+mod Rows
