@@ -1,5 +1,5 @@
 -- What instructions read first and write, from the last one on.
-use Rattle.std.proofs.Common.{◌≡◌, ℕ, ◌+◌, ◌<◌, ◌↔◌, inl, inr, List, [], ◌∷◌, ◌++◌, length, drop, get_or, nat_cmp, sym, subst, arith, ◌∙◌, add-one}
+use Rattle.std.proofs.Common.{◌≡◌, ℕ, ◌+◌, ◌<◌, ◌↔◌, inl, inr, List, ◌∷◌, length, drop, get_or, nat_cmp, sym, subst, ◌∙◌, add-one}
 use Rattle.std.specs.FinSet as set
 use Rattle.std.proofs.Math.Seq.{drop-cons}
 use Rattle.ci_isa.specs.declared.instruction.Insn.{Insn}

@@ -5,7 +5,6 @@ use Rattle.std.specs.List.{Contains}
 use Rattle.ci_isa.specs.declared.instruction.Insn.{Insn}
 use Rattle.ci_isa.specs.declared.instruction.Insn.TheVariants.{Jalr}
 use Rattle.ci_elf.specs.Executables.{Executable}
-use Rattle.ci_block.specs.declared.blocks.Block.{Block}
 use Rattle.ci_block.specs.declared.blocks.Next.{Next}
 use Rattle.ci_block.specs.declared.blocks.Next.TheVariants.{Stop, One, Two, Any}
 use Rattle.ci_block.specs.Blocks.{AreCounted, Counts, IsNext, ways_on}

@@ -12,3 +12,4 @@ pub mod NeededLaws
 mod OneAnalysis
 mod LeadLaws
 mod RegisterLaws
+mod Rows

@@ -1,6 +1,5 @@
 -- Liveness by lists of blocks, one block at a time.
 use Rattle.std.proofs.Common.{ℕ, List, [], ◌∷◌, refl}
-use Rattle.std.specs.FinSet as set
 use Rattle.std.specs.List.{All, Contains}
 use Rattle.std.proofs.lemmas.List.Elements.{All-nil, All-head, All-tail}
 use Rattle.ci_block.specs.declared.blocks.Block.{Block}

@@ -1,5 +1,6 @@
 //! What holds of all live sets, as contracts of functions without effect.
-ghost use Rattle.ci_live.specs.Laws.{AnalysisIsOne, LiveAreRegisters, LiveAtSuccessor, LiveIsNeeded, LiveOnWays, LiveSetsAreOne};
+ghost use Rattle.ci_live.specs.Laws.{AnalysisIsOne, LiveAreRegisters, LiveAtSuccessor};
+ghost use Rattle.ci_live.specs.Laws.{LiveIsNeeded, LiveOnWays, LiveSetsAreOne};
 
 /// What is live at a leader is what its block needs for what is live after it, and what is live at a successor, or
 /// where a way on leads, is live after the block.
