@@ -83,7 +83,8 @@ other_byte change = let same = change.same_else 12 place_behind in cc
 abbrev twice : Executable
 twice = record sample { segments = segment ∷ record segment { address = 0x5000 } ∷ [] }
 
--- the last byte of the second word, by both segments: where no rule is kept, one of them loads it to no text
+-- The last byte of the second word is loaded to the text by the first segment, and by the second one, which shares the
+-- text and so breaks a rule, to no text.
 loaded_once : IsTextPlace sample (segment.offset + 7) × (in_text sample.ranges (segment.address + 7) ≡ true)
 unfolding place_of
 loaded_once = ((0x1004, (refl, refl), (lit≤ tt, lit< tt)), refl)
