@@ -85,6 +85,16 @@ pub fn run<F: Shelf, O: Sink>(alloc: Global, words: &Vec<String>, shelf: &mut F,
         (F.state shelf.old) (F.state shelf.new) (O.state out.old) (O.state out.new))
         result }
 {
+    answer(alloc, words, shelf, out)
+}
+
+/// Makes what the words say, or refuses it, and tells the status.
+fn answer<F: Shelf, O: Sink>(alloc: Global, words: &Vec<String>, shelf: &mut F, out: &mut O) -> u8
+    ensures { Ends (map string_bytes words.now.items)
+        (changed F.read_may_fail F.write_may_fail
+        (F.state shelf.old) (F.state shelf.new) (O.state out.old) (O.state out.new))
+        result }
+{
     match make(alloc, words, shelf) {
         Ok(success) => finish(alloc, &success, shelf, out),
         Err(refusal) => refuse(alloc, &refusal, out),
