@@ -8,7 +8,7 @@ use Rattle.std.proofs.lemmas.Fmt.{decimal_is_IsNumeral, digits_is_IsNumeral, len
 use Rattle.std.proofs.lemmas.Bool.Decides.{nat_tests}
 use Rattle.ci_asm.specs.declared.scanner.ByteClass.TheVariants.{NameByte, Digit, HexDigit}
 use Rattle.ci_asm.specs.Tokens.{belongs, is_letter, is_digit, is_between, number, number_of, two_digits, register_at, has_one_digit, has_two_digits, register_of}
-use Rattle.ci_text.specs.Hex.{eight_hex_digits}
+use Rattle.ci_reading.specs.Hex.{eight_hex_digits}
 use Rattle.ci_asm.specs.Shown.{register_name}
 use Rattle.std.proofs.lemmas.Bool.{cases_lt}
 use Rattle.std.proofs.Math.Nat.{pow-suc}

@@ -7,7 +7,7 @@ use Rattle.ci_word.specs.declared.arithmetic.Op.TheVariants as ops
 use Rattle.ci_isa.specs.declared.instruction.Insn.{Insn}
 use Rattle.ci_isa.specs.declared.instruction.Insn.TheVariants as insn
 use Rattle.ci_isa.specs.Table.{IsWellFormed}
-use Rattle.ci_text.specs.Hex.{eight_hex_digits}
+use Rattle.ci_reading.specs.Hex.{eight_hex_digits}
 use Rattle.ci_asm.specs.declared.numbers.Number.{Number}
 use Rattle.ci_asm.specs.Forms.{Field, operation_name, register_immediate, branch_name, load_name, store_name}
 use Rattle.ci_asm.specs.Shapes.{is_statement, immediate_field, form_name}

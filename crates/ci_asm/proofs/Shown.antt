@@ -25,7 +25,7 @@ use Rattle.ci_asm.specs.declared.statements.Statement.{Statement}
 use Rattle.ci_asm.specs.Tokens.{belongs, is_letter, token, token_at, next_token, text_of, number_of, register_of}
 use Rattle.ci_asm.specs.Shapes.{is_statement, name_of, mnemonic_of, lowest, highest, fits, field_of, slots_of}
 use Rattle.ci_asm.specs.Statements.{◌>>=◌, found, fault, at_place, no_operands, register_in, number_in, filled, ended, read_slots, mnemonic_in, read_statement, is_label, with_statement, read_line, HasRegisters}
-use Rattle.ci_text.specs.Hex.{eight_hex_digits}
+use Rattle.ci_reading.specs.Hex.{eight_hex_digits}
 use Rattle.ci_asm.specs.Shown.{register_name}
 use Rattle.ci_asm.specs.Spelling.{spelled_number, spelled, operands_text, statement_text}
 use Rattle.ci_asm.proofs.Tokens.{StandsAt, behind_text, text_between, stops, ends, ends-stops_names, and_both, pick_true, pick_false, run_of, token_end, token_name, token_comma, token_open, token_close, token_directive, token_decimal, token_negative, token_hex, IsNext, next_here, next_blank}

@@ -3,7 +3,7 @@
 use Rattle.std.specs.Prelude.{ℕ, suc, ◌/◌, true, false, if◌then◌else◌, List, [], ◌∷◌, ◌++◌, codes, ℤ, pos, negsuc}
 use Rattle.std.specs.List.{flat_map}
 use Rattle.std.specs.Fmt.{decimal, digits}
-use Rattle.ci_text.specs.Hex.{eight_hex_digits}
+use Rattle.ci_reading.specs.Hex.{eight_hex_digits}
 use Rattle.ci_asm.specs.Shown.{register_name}
 use Rattle.ci_isa.specs.declared.instruction.Insn.{Insn}
 use Rattle.ci_isa.specs.declared.instruction.Insn.TheVariants as insn

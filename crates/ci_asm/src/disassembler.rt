@@ -11,7 +11,7 @@ use crate::numbers::Number;
 use crate::slots::{Field, Slot};
 use crate::statements::Operands;
 use ci_isa::{Insn, Reg};
-use ci_text::push_hex;
+use ci_reading::push_hex;
 use std::alloc::{AllocError, Global};
 
 /// The one line, without its newline, that assembles to the instruction, which is well formed.

@@ -5,8 +5,8 @@ use Rattle.ci_elf.specs.declared.faults.ElfFault.{ElfFault}
 use Rattle.ci_elf.specs.declared.faults.ElfFault.TheVariants.{NoMemory}
 use Rattle.ci_elf.specs.Rules.{Rule, Holds, fault_of, KeepsRules, BreaksFirst}
 use Rattle.ci_elf.specs.Checks.{IsTestOf}
-use Rattle.ci_elf.proofs.BrokenLaws.{kept_append, broken_here, broken_in_front, broken_behind, broken_each}
-use Rattle.ci_elf.specs.Broken.{each_below}
+use Rattle.ci_reading.proofs.BrokenLaws.{kept_append, broken_here, broken_in_front, broken_behind, broken_each}
+use Rattle.ci_reading.specs.Broken.{each_below}
 
 module _ (bytes : List ℕ) where
   pub keeps_append : (front behind : List Rule) → KeepsRules bytes front → KeepsRules bytes behind → KeepsRules bytes (front ++ behind)

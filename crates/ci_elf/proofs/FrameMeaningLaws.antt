@@ -3,7 +3,7 @@ use Rattle.std.proofs.Common.{◌≡◌, ℕ, suc, zero, ◌+◌, ◌-◌, ◌*�
 use Rattle.std.proofs.lemmas.Bool.Decides.{nat_tests}
 use Rattle.ci_elf.specs.declared.segments.Segment.{Segment}
 use Rattle.ci_elf.specs.Fields.{is_loadable, is_symbol_table, is_text, sh_addr, sh_size}
-use Rattle.ci_elf.specs.Broken.{each_below}
+use Rattle.ci_reading.specs.Broken.{each_below}
 use Rattle.ci_elf.specs.Executables.{segments_of, segment_of, symbols_of, ranges_of}
 use Rattle.ci_elf.proofs.FrameHeaderLaws.{IsLoad, HasFrameHeaders}
 

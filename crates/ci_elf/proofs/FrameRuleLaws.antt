@@ -4,10 +4,10 @@ use Rattle.std.specs.List.{sum_by}
 use Rattle.ci_elf.specs.declared.segments.Segment.{Segment}
 use Rattle.ci_elf.specs.declared.ranges.Range.{Range}
 use Rattle.ci_elf.specs.Fields.{e_phnum, e_shnum, is_symbol_table, is_text}
-use Rattle.ci_elf.specs.Broken.{each_below}
+use Rattle.ci_reading.specs.Broken.{each_below}
 use Rattle.ci_elf.specs.Rules.{Rule, NamesNoInterpreter, HasFilePart, IsPlaced, MemoryIsApart, MemoryIsBounded, HasSymbols, TextIsLoaded, TextIsAlone, TextIsUnshared, TextIsBounded, EntryIsText, Holds, KeepsRules, rules, file_header_rules, kind_rules, table_rules, segment_rules, memory_rules, section_rules, sharing_rules}
 use Rattle.ci_elf.proofs.RangeLaws.{text_from}
-use Rattle.ci_elf.proofs.BrokenLaws.{kept_each}
+use Rattle.ci_reading.proofs.BrokenLaws.{kept_each}
 use Rattle.ci_elf.proofs.CheckLaws.{keeps_append}
 use Rattle.ci_elf.proofs.ReadingLaws.{kept_stages}
 use Rattle.ci_elf.proofs.FrameHeaderLaws.{IsLoad, HasFrameHeaders}

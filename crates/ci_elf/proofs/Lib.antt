@@ -1,5 +1,4 @@
 pub mod FieldLaws
-pub mod BrokenLaws
 pub mod CheckLaws
 pub mod SegmentLaws
 pub mod PartLaws

@@ -4,7 +4,7 @@ use Rattle.ci_elf.specs.declared.faults.ElfFault.{ElfFault}
 use Rattle.ci_elf.specs.declared.faults.ElfFault.TheVariants.{NoMemory}
 use Rattle.ci_elf.specs.Rules.{Rule, Holds, KeepsRules, BreaksFirst, rules}
 use Rattle.ci_elf.specs.Laws.{AnswerIsOne}
-use Rattle.ci_elf.proofs.BrokenLaws.{kept_back}
+use Rattle.ci_reading.proofs.BrokenLaws.{kept_back}
 use Rattle.ci_elf.proofs.OneImage.{image_is_one}
 
 -- none is broken first where all are kept

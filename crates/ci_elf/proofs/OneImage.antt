@@ -9,7 +9,7 @@ use Rattle.ci_elf.specs.declared.ranges.Range.{Range}
 use Rattle.ci_elf.specs.Fields.{e_shnum, is_text}
 use Rattle.ci_elf.specs.Executables.{Executable, IsImageOf, has_words, range_of, ranges_of}
 use Rattle.ci_elf.specs.Laws.{ImageIsOne}
-use Rattle.ci_elf.proofs.BrokenLaws.{contained_those}
+use Rattle.ci_reading.proofs.BrokenLaws.{contained_those}
 use Rattle.ci_elf.proofs.OneOrder.{Ascends, ascending_is_one}
 use Rattle.ci_elf.proofs.SegmentLaws.{both}
 

@@ -13,10 +13,10 @@ use Rattle.std.proofs.lemmas.List.Sorted.{Contains-permutation, IsPermutation-sy
 use borrow.Author.Tests.{ltb-true}
 use Rattle.ci_elf.specs.declared.ranges.Range.{Range}
 use Rattle.ci_elf.specs.Fields.{e_phnum, e_shnum, is_text, is_loadable, sh_addr, sh_offset, sh_size, p_vaddr, p_memsz}
-use Rattle.ci_elf.specs.Broken.{each_below, those_below}
+use Rattle.ci_reading.specs.Broken.{each_below, those_below}
 use Rattle.ci_elf.specs.Executables.{range_of, has_words, ranges_of, end_of, has_byte, HoldsAddress, InText, IsAscending}
 use Rattle.ci_elf.specs.Rules.{NamesNoInterpreter, HasFilePart, IsPlaced, HasSymbols, TextIsLoaded, TextIsAlone, Holds, FitsMemory, IsLoadedBy, IsAlone, KeepsRules, segment_rules, memory_rules, section_rules}
-use Rattle.ci_elf.proofs.BrokenLaws.{kept_at, contained_those}
+use Rattle.ci_reading.proofs.BrokenLaws.{kept_at, contained_those}
 use Rattle.ci_elf.proofs.PairLaws.{pairs_permuted}
 use Rattle.ci_elf.proofs.SegmentLaws.{apart_means, has_memory, both}
 use Rattle.ci_elf.proofs.SectionLaws.{apart_at, text_filled}

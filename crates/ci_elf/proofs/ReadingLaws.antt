@@ -12,7 +12,7 @@ use Rattle.ci_elf.specs.Fields.{e_entry, e_phnum, e_shnum, is_loadable, p_offset
 use Rattle.ci_elf.specs.Executables.{Executable, IsImageOf, IsWellFormed, ShareNoMemory, IsAscending, IsTextWord, LoadsRange, range_of, has_words, ranges_of, segment_of, segments_of, symbols_of}
 use Rattle.ci_elf.specs.Checks.{SegmentFits}
 use Rattle.ci_elf.specs.Rules.{Rule, NamesNoInterpreter, HasFilePart, IsPlaced, MemoryIsBounded, TextIsBounded, EntryIsText, Holds, LiesIn, KeepsRules, BreaksFirst, IsReadAs, rules, file_header_rules, kind_rules, table_rules, segment_rules, memory_rules, section_rules, sharing_rules}
-use Rattle.ci_elf.proofs.BrokenLaws.{kept_at, contained_those, those_contain, those_pairs}
+use Rattle.ci_reading.proofs.BrokenLaws.{kept_at, contained_those, those_contain, those_pairs}
 use Rattle.ci_elf.proofs.CheckLaws.{keeps_append}
 use Rattle.ci_elf.proofs.SegmentLaws.{apart_means, fits_to, has_memory}
 use Rattle.ci_elf.proofs.SectionLaws.{apart_at, segment_among, text_filled}

@@ -2,7 +2,7 @@
 use Rattle.std.proofs.Common.{◌≡◌, ℕ, suc, zero, ◌+◌, ◌<◌, ◌≤◌, List, [], ◌∷◌, length, take, get_or, refl, arith}
 use Rattle.byteorder.specs.Endian.{little_from}
 use Rattle.ci_elf.specs.Fields.{field}
-use Rattle.ci_elf.specs.Broken.{each_below}
+use Rattle.ci_reading.specs.Broken.{each_below}
 use Rattle.ci_elf.specs.Rules.{Within}
 
 -- both lists hold the same in the `size` places from `start` on

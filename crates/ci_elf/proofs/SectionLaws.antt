@@ -12,12 +12,12 @@ use Rattle.ci_elf.specs.declared.sections.Section.{Section}
 use Rattle.ci_elf.specs.declared.parts.Part.{Part}
 use Rattle.ci_elf.specs.Fields.{e_phoff, e_phnum, e_shoff, e_shnum, is_loadable, is_text, is_symbol_table, p_vaddr, p_memsz, p_filesz, sh_offset, sh_size, sh_type, sh_flags}
 use Rattle.ci_elf.specs.Executables.{segment_of, segments_of}
-use Rattle.ci_elf.specs.Broken.{each_below}
+use Rattle.ci_reading.specs.Broken.{each_below}
 use Rattle.ci_elf.specs.Rules.{NamesNoInterpreter, HasFilePart, IsPlaced, MemoryIsApart, Holds, IsLoadedBy, IsAlone, KeepsRules, segment_rules, memory_rules}
 use Rattle.ci_elf.specs.Checks.{IsLastBefore}
 use Rattle.ci_elf.specs.Parts.{Covers, IsCoverage, IsNext, IsFirstMeeting, part, part_at, parts_below, text_of, symbols_at, tables_of}
 use Rattle.ci_elf.specs.SectionChecks.{HoldsSection, AreLaidOut, section_of}
-use Rattle.ci_elf.proofs.BrokenLaws.{kept_at, contained_those, those_contain, singles_at, length_singles}
+use Rattle.ci_reading.proofs.BrokenLaws.{kept_at, contained_those, those_contain, singles_at, length_singles}
 use Rattle.ci_elf.proofs.SegmentLaws.{has_memory, both}
 use Rattle.ci_elf.proofs.CoverageLaws.{covers_within}
 use Rattle.ci_elf.proofs.MemoryLaws.{overlap_breaks, chosen_part, overlap_chosen, overlap_symmetric, place_chosen}

@@ -2,12 +2,12 @@
 use Rattle.std.proofs.Common.{◌≡◌, ℕ, ◌+◌, ◌<◌, ◌≤◌, List, [], ◌∷◌, ◌++◌, refl, sym, ◌∙◌, arith, lit≤, length, subst}
 use Rattle.std.specs.Prelude.{IsTrue, ⊤}
 use Rattle.std.specs.List.{AllByRecursion}
-use Rattle.ci_elf.specs.Broken.{each_below}
+use Rattle.ci_reading.specs.Broken.{each_below}
 use Rattle.ci_elf.specs.Fields.{e_phnum, e_shnum, is_loadable, is_symbol_table, is_text}
 use Rattle.ci_elf.specs.Executables.{Executable, IsImageOf, ranges_of, segments_of}
 use Rattle.ci_elf.specs.Rules.{Rule, HasFileHeader, HasMagic, FieldIs, HasNoCompressedCode, HasProgramEntrySize, HasSectionEntrySize, HasProgramTable, HasSectionTable, NamesNoInterpreter, HasFilePart, IsPlaced, MemoryIsApart, MemoryIsBounded, HasSymbols, TextIsLoaded, TextIsAlone, TextIsUnshared, TextIsBounded, EntryIsText, Holds, IsLoadedBy, IsAlone, KeepsRules, rules, segment_rules, memory_rules, section_rules, sharing_rules}
 use Rattle.ci_elf.specs.TextChanges.{TextMayChange}
-use Rattle.ci_elf.proofs.BrokenLaws.{kept_append, kept_each}
+use Rattle.ci_reading.proofs.BrokenLaws.{kept_append, kept_each}
 use Rattle.ci_elf.proofs.ReadingLaws.{header_stage, last_stage}
 use Rattle.ci_elf.proofs.SameFields.{each_same, field_same, take_same}
 use Rattle.ci_elf.proofs.SameHeaders.{HaveSameHeaders, same_headers}

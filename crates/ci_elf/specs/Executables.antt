@@ -6,7 +6,7 @@ use Rattle.ci_elf.specs.declared.segments.Segment.{Segment}
 use Rattle.ci_elf.specs.declared.ranges.Range.{Range}
 use Rattle.ci_elf.specs.Fields.{field, e_entry, e_phnum, e_shnum, p_offset, p_vaddr, p_filesz, p_memsz, is_loadable, sh_addr, sh_size, is_symbol_table, is_text, st_value}
 use Rattle.byteorder.specs.Endian.{little_bytes}
-use Rattle.ci_elf.specs.Broken.{each_below, those_below}
+use Rattle.ci_reading.specs.Broken.{each_below, those_below}
 
 -- an executable file and what it means
 pub record Executable : Type 0 where

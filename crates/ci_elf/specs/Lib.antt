@@ -1,5 +1,4 @@
 pub mod Fields
-pub mod Broken
 pub mod Executables
 pub mod Rules
 pub mod Places

@@ -1,7 +1,7 @@
 -- What is known of symbols while they are read, for private contracts.
 use Rattle.std.specs.Prelude.{ℕ, ◌+◌, ◌*◌, List, [], ◌∷◌, if◌then◌else◌}
 use Rattle.ci_elf.specs.Fields.{field, is_symbol_table}
-use Rattle.ci_elf.specs.Broken.{each_below}
+use Rattle.ci_reading.specs.Broken.{each_below}
 use Rattle.ci_elf.specs.Executables.{symbols_in}
 
 -- the values of the `count` symbols from an offset on

@@ -3,7 +3,7 @@ use Rattle.std.proofs.Common.{ℕ, inl, inr, List, [], ◌∷◌, ◌++◌, subs
 use Rattle.std.specs.List.{AllByRecursion}
 use Rattle.ci_asm.proofs.Promises.{no_fault}
 use Rattle.ci_elf.specs.declared.faults.ElfFault.{ElfFault}
-use Rattle.ci_elf.specs.Broken.{IsFirstBroken}
+use Rattle.ci_reading.specs.Broken.{IsFirstBroken}
 use Rattle.ci_elf.specs.Rules.{Holds, rules, KeepsRules, BreaksFirst}
 use Rattle.ci_find.specs.Texts.{IsText, IsBadText}
 

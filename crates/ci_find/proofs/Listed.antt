@@ -3,9 +3,9 @@ use Rattle.std.specs.Prelude.{◌≡◌, ℕ, ◌+◌, ◌/◌, ◌≤◌, List,
 use Rattle.std.proofs.Common.{refl, sym, ap, subst, ◌∙◌, append_assoc, append-nil, take}
 use Rattle.std.proofs.lemmas.List.{take_more, take_all}
 use Rattle.std.proofs.lemmas.Option.{slice_get_within, get_or_from_slice_get}
-use Rattle.ci_text.specs.Bytes.{words_of_bytes}
+use Rattle.ci_reading.specs.Bytes.{words_of_bytes}
 use Rattle.ci_find.specs.DisCommand.{IsTextOf, IsListing, listed}
-use Rattle.ci_text.proofs.ByteLaws.{length-words_of_bytes}
+use Rattle.ci_reading.proofs.ByteLaws.{length-words_of_bytes}
 
 -- one line more, for one word more
 pub IsListing-push : (words : List ℕ) (text : List ℕ) (word : ℕ) (shown : List ℕ) → IsListing words text → IsTextOf word shown → IsListing (words ++ word ∷ []) (text ++ listed word shown)

@@ -4,7 +4,7 @@ use Rattle.std.specs.FinSet as set
 use Rattle.std.specs.List.{Contains}
 use Rattle.std.specs.Ordering.{nat_cmp}
 use Rattle.std.proofs.lemmas.Option.{slice_get_within, get_or_from_slice_get}
-use Rattle.ci_text.specs.Bytes.{words_of_bytes}
+use Rattle.ci_reading.specs.Bytes.{words_of_bytes}
 use Rattle.ci_isa.specs.declared.instruction.Insn.{Insn}
 use Rattle.ci_isa.specs.Fields.{HasCustomOpcode}
 use Rattle.ci_elf.specs.Executables.{Executable, IsImageOf}

@@ -4,8 +4,8 @@ use Rattle.std.proofs.lemmas.Bool.{cases_lt}
 use Rattle.std.proofs.lemmas.Option.{get_or_from_slice_get}
 use Rattle.std.proofs.Math.ListN.{get_or-append}
 use Rattle.std.proofs.Math.Seq.{get_or-append_seam}
-use Rattle.ci_text.specs.Bytes.{words_of_bytes}
-use Rattle.ci_text.proofs.ByteLaws.{length-words_of_bytes}
+use Rattle.ci_reading.specs.Bytes.{words_of_bytes}
+use Rattle.ci_reading.proofs.ByteLaws.{length-words_of_bytes}
 use Rattle.ci_isa.specs.declared.instruction.Insn.{Insn}
 use Rattle.ci_isa.specs.Table.{IsInsnAt}
 use Rattle.ci_find.specs.WordBlocks.{IsMisplaced, IsWordBlock, IsNoWordBlock}

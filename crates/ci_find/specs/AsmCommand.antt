@@ -1,6 +1,6 @@
 -- The command `asm`: the words of an assembler text.
 use Rattle.std.specs.Prelude.{◌≡◌, ℕ, List, [], ◌∷◌}
-use Rattle.ci_text.specs.Bytes.{bytes_of_words}
+use Rattle.ci_reading.specs.Bytes.{bytes_of_words}
 use Rattle.ci_find.specs.Forms.{assembler_text}
 use Rattle.ci_find.specs.Inputs.{Input}
 use Rattle.ci_find.specs.Success.{Success}

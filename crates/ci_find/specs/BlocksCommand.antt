@@ -3,8 +3,8 @@ use Rattle.std.specs.Prelude.{◌≡◌, ℕ, List, [], ◌∷◌, ◌++◌, cod
 use Rattle.std.specs.Fmt.{decimal}
 use Rattle.std.specs.FinSet as set
 use Rattle.std.specs.List.{flat_map}
-use Rattle.ci_text.specs.Hex.{eight_hex_digits}
-use Rattle.ci_text.specs.Lines.{line}
+use Rattle.ci_reading.specs.Hex.{eight_hex_digits}
+use Rattle.ci_reading.specs.Lines.{line}
 use Rattle.ci_word.specs.Members.{members_text}
 use Rattle.ci_elf.specs.Executables.{Executable, IsImageOf}
 use Rattle.ci_block.specs.declared.blocks.Block.{Block}

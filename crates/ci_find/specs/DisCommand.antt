@@ -4,9 +4,9 @@ use Rattle.ci_isa.specs.declared.instruction.Insn.{Insn}
 use Rattle.ci_isa.specs.declared.instruction.Insn.TheVariants.{Illegal}
 use Rattle.ci_isa.specs.Table.{ReadsX}
 use Rattle.ci_asm.specs.Shown.{shown}
-use Rattle.ci_text.specs.Bytes.{words_of_bytes}
-use Rattle.ci_text.specs.Hex.{eight_hex_digits}
-use Rattle.ci_text.specs.Lines.{line}
+use Rattle.ci_reading.specs.Bytes.{words_of_bytes}
+use Rattle.ci_reading.specs.Hex.{eight_hex_digits}
+use Rattle.ci_reading.specs.Lines.{line}
 use Rattle.ci_find.specs.Forms.{any_bytes}
 use Rattle.ci_find.specs.Inputs.{Input}
 use Rattle.ci_find.specs.Success.{Success}

@@ -1,8 +1,8 @@
 -- The lines that the program prints.
 use Rattle.std.specs.Prelude.{ℕ, Bool, List, ◌++◌, codes, Option, Some, None}
 use Rattle.std.specs.Fmt.{decimal, signed_decimal}
-use Rattle.ci_text.specs.Lines.{line}
-use Rattle.ci_text.specs.Hex.{eight_hex_digits}
+use Rattle.ci_reading.specs.Lines.{line}
+use Rattle.ci_reading.specs.Hex.{eight_hex_digits}
 use Rattle.ci_word.specs.Members.{members_text}
 use Rattle.ci_elf.specs.declared.faults.ElfFault.{ElfFault}
 use Rattle.ci_elf.specs.declared.faults.ElfFault.TheVariants as elf

@@ -2,7 +2,7 @@
 use Rattle.std.specs.Prelude.{◌≡◌, ◌≢◌, ℕ, ◌+◌, ◌*◌, ◌%◌, ◌<◌, ◌⊎◌, true, List, length, slice_get, slice_index_or, Some}
 use Rattle.std.specs.FinSet as set
 use Rattle.std.specs.Ordering.{nat_cmp}
-use Rattle.ci_text.specs.Bytes.{words_of_bytes}
+use Rattle.ci_reading.specs.Bytes.{words_of_bytes}
 use Rattle.ci_word.specs.Numbers.{set_below}
 use Rattle.ci_isa.specs.declared.instruction.Insn.{Insn}
 use Rattle.ci_isa.specs.Effects.{ends_block}

@@ -8,7 +8,7 @@ ghost use Rattle.ci_find.specs.Faults.{IsRefused};
 use ci_elf::ElfFault;
 use ci_io::Sink;
 use ci_lat::LatFault;
-use ci_text::push_hex;
+use ci_reading::push_hex;
 use std::alloc::{AllocError, Global};
 
 /// The status where the words have no reading.

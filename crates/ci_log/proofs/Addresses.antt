@@ -2,8 +2,8 @@
 use Rattle.std.proofs.Common.{◌≡◌, ℕ, zero, suc, ◌+◌, ◌-◌, ◌*◌, ◌/◌, ◌%◌, ◌^◌, ◌<◌, ◌≤◌, Bool, true, false, cond, nat_le, ◌&&◌, List, [], ◌∷◌, ◌++◌, length, refl, sym, ap, ◌∙◌, subst, arith, lit<, add-one, Option, Some, None, Ok, Err}
 use Rattle.std.proofs.lemmas.Bool.Decides.{nat_tests}
 use Rattle.std.proofs.Math.Nat.{pow-suc, div-div-eq-div-mul, mul-div_cancel}
-use Rattle.ci_text.specs.Hex.{eight_hex_digits}
-use Rattle.ci_text.specs.Hex as hex
+use Rattle.ci_reading.specs.Hex.{eight_hex_digits}
+use Rattle.ci_reading.specs.Hex as hex
 use Rattle.ci_log.specs.declared.faults.Stop.{Stop}
 use Rattle.ci_log.specs.declared.faults.Failure.{Failure}
 use Rattle.ci_log.specs.declared.faults.Failure.TheVariants as failure

@@ -3,8 +3,8 @@ use Rattle.std.proofs.Common.{◌≡◌, ◌≢◌, ℕ, zero, suc, ◌<◌, ◌
 use Rattle.std.specs.List.{flat_map, AllByRecursion}
 use Rattle.std.specs.FinSet as set
 use Rattle.std.proofs.lemmas.Bool.{eqb-true}
-use Rattle.ci_text.specs.Hex.{eight_hex_digits}
-use Rattle.ci_text.specs.Lines.{line}
+use Rattle.ci_reading.specs.Hex.{eight_hex_digits}
+use Rattle.ci_reading.specs.Lines.{line}
 use Rattle.ci_log.specs.Trees.{letters}
 use Rattle.ci_log.specs.declared.book.Entry.{Entry}
 use Rattle.ci_log.specs.declared.book.Entry.TheVariants.{Best, Without, Spent, Take}

@@ -4,7 +4,7 @@ use Rattle.std.specs.List.{flat_map}
 use Rattle.std.proofs.lemmas.Grind.{flat_map-append}
 use Rattle.std.proofs.lemmas.Bool.{eqb-true}
 use Rattle.std.proofs.lemmas.Bool.Decides.{nat_tests}
-use Rattle.ci_text.specs.Lines.{line}
+use Rattle.ci_reading.specs.Lines.{line}
 use Rattle.ci_log.specs.declared.book.Finish.TheVariants.{Empty}
 use Rattle.ci_log.specs.declared.faults.LogFault.{LogFault}
 use Rattle.ci_log.specs.declared.faults.LogFault.TheVariants.{BadHeader, BadItem, Unfinished, Trailing, NoMemory}

@@ -3,7 +3,7 @@ use Rattle.std.proofs.Common.{◌≡◌, ◌≢◌, ℕ, zero, suc, ◌+◌, ◌
 use Rattle.std.proofs.lemmas.List.{length-map, map-append, length-replicate}
 use Rattle.std.proofs.lemmas.Bool.{eqb-true}
 use Rattle.std.proofs.lemmas.Bool.Decides.{nat_tests}
-use Rattle.ci_text.specs.Lines.{line}
+use Rattle.ci_reading.specs.Lines.{line}
 use Rattle.ci_log.specs.declared.log.Item.{Item}
 use Rattle.ci_log.specs.declared.log.Item.TheVariants.{B, O, C, I, G, F}
 use Rattle.ci_log.specs.declared.faults.Stop.{Stop}

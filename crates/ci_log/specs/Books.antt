@@ -4,8 +4,8 @@ use Rattle.std.specs.List.{flat_map, AllByRecursion}
 use Rattle.std.specs.Fmt.{decimal}
 use Rattle.std.specs.Ordering.{nat_cmp}
 use Rattle.std.specs.FinSet as set
-use Rattle.ci_text.specs.Hex.{eight_hex_digits}
-use Rattle.ci_text.specs.Lines.{line}
+use Rattle.ci_reading.specs.Hex.{eight_hex_digits}
+use Rattle.ci_reading.specs.Lines.{line}
 use Rattle.ci_word.specs.Members.{members_text}
 use Rattle.ci_log.specs.declared.book.Entry.{Entry}
 use Rattle.ci_log.specs.declared.book.Entry.TheVariants.{Best, Without, Spent, Take}

@@ -1,7 +1,7 @@
 -- The first fault of a text that spells no log book.
 use Rattle.std.specs.Prelude.{◌≡◌, ◌≢◌, ℕ, List, [], ◌∷◌, ◌++◌, length, ◌⊎◌, Result, Err}
 use Rattle.std.specs.List.{flat_map}
-use Rattle.ci_text.specs.Lines.{line}
+use Rattle.ci_reading.specs.Lines.{line}
 use Rattle.ci_log.specs.declared.book.Entry.{Entry}
 use Rattle.ci_log.specs.declared.book.Entry.TheVariants.{Best, Without, Spent, Take}
 use Rattle.ci_log.specs.declared.faults.LogFault.{LogFault}

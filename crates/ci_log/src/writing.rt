@@ -2,14 +2,14 @@
 ghost use Rattle.std.specs.Prelude.{◌≡◌, ◌++◌, IfOk, OnOk};
 ghost use Rattle.std.specs.String.{string_bytes};
 ghost use Rattle.std.specs.Fmt.{decimal};
-ghost use Rattle.ci_text.specs.Hex.{eight_hex_digits};
-ghost use Rattle.ci_text.specs.Lines.{line};
+ghost use Rattle.ci_reading.specs.Hex.{eight_hex_digits};
+ghost use Rattle.ci_reading.specs.Lines.{line};
 ghost use Rattle.ci_log.specs.Trees.{letter, letters};
 ghost use Rattle.ci_log.specs.Books.{Spells, entry_text};
 
 use crate::book::{Entry, Finish, LogBook};
 use crate::log::{Item, Log};
-use ci_text::push_hex;
+use ci_reading::push_hex;
 use ci_word::push_members;
 use std::alloc::{AllocError, Global};
 

@@ -1,7 +1,7 @@
 //! The command `asm`: the words of an assembler text.
 ghost use Rattle.std.specs.Prelude.{◌≡◌, ℕ, List, ◌≤◌, length, IfOk, IfErr};
 ghost use Rattle.ci_words.specs.Words.{Reading};
-ghost use Rattle.ci_text.specs.Bytes.{bytes_of_words};
+ghost use Rattle.ci_reading.specs.Bytes.{bytes_of_words};
 ghost use Rattle.ci_find.specs.Faults.{IsTextFault, Makes, MakesNothing, reads_between};
 ghost use Rattle.ci_find.specs.Finish.{success_of};
 ghost use Rattle.ci_find.specs.Texts.{IsText};
@@ -11,7 +11,7 @@ use crate::faults::Refusal;
 use crate::inputs::read_file;
 use ci_asm::{AsmFault, assemble};
 use ci_io::Shelf;
-use ci_text::bytes_of_words;
+use ci_reading::bytes_of_words;
 use std::alloc::Global;
 
 /// The maximum length of an assembler text, in bytes.

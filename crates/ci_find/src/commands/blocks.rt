@@ -17,7 +17,7 @@ use ci_block::Block;
 use ci_elf::Image;
 use ci_io::Shelf;
 use ci_live::LiveSets;
-use ci_text::hex_text;
+use ci_reading::hex_text;
 use ci_word::push_members;
 use std::alloc::{AllocError, Global};
 

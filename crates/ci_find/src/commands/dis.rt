@@ -2,7 +2,7 @@
 ghost use Rattle.std.specs.Prelude.{◌≡◌, ℕ, List, ◌++◌, IfOk, IfErr, OnOk};
 ghost use Rattle.std.specs.String.{string_bytes};
 ghost use Rattle.ci_words.specs.Words.{Reading};
-ghost use Rattle.ci_text.specs.Bytes.{words_of_bytes};
+ghost use Rattle.ci_reading.specs.Bytes.{words_of_bytes};
 ghost use Rattle.ci_find.specs.DisCommand.{IsTextOf, IsListing, listed};
 ghost use Rattle.ci_find.specs.Faults.{Makes, MakesNothing, reads_between};
 ghost use Rattle.ci_find.specs.Finish.{success_of};
@@ -13,7 +13,7 @@ use crate::inputs::read_file;
 use ci_asm::show;
 use ci_io::Shelf;
 use ci_isa::{Insn, decode_x};
-use ci_text::{hex_text, word_at};
+use ci_reading::{hex_text, word_at};
 use std::alloc::{AllocError, Global};
 
 /// The maximum length of a file of words, in bytes.

@@ -2,7 +2,7 @@
 ghost use Rattle.std.specs.Prelude.{◌≡◌, ◌≤◌, ◌++◌, IfOk, IfErr, codes};
 ghost use Rattle.std.specs.String.{string_bytes};
 ghost use Rattle.std.specs.Fmt.{decimal};
-ghost use Rattle.ci_text.specs.Hex.{eight_hex_digits};
+ghost use Rattle.ci_reading.specs.Hex.{eight_hex_digits};
 ghost use Rattle.ci_isa.specs.Effects.{width_bytes};
 ghost use Rattle.ci_words.specs.Commands.{name_in};
 ghost use Rattle.ci_find.specs.Faults.{Makes, MakesNothing, run_by, reads_between};
@@ -19,7 +19,7 @@ use ci_io::Shelf;
 use ci_isa::Width;
 use ci_lat::Table;
 use ci_machine::State;
-use ci_text::hex_text;
+use ci_reading::hex_text;
 use std::alloc::{AllocError, Global};
 
 /// Makes the output and the end line of the run of the executable in the file, over the input in another and by the

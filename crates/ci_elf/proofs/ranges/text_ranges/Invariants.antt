@@ -1,7 +1,7 @@
 use Rattle.std.proofs.Common.{◌≡◌}
 use Rattle.ci_elf.specs.Executables.{has_words}
 use Rattle.ci_elf.specs.Executables.{range_of}
-use Rattle.ci_elf.specs.Broken.{those_below}
+use Rattle.ci_reading.specs.Broken.{those_below}
 use Rattle.ci_elf.proofs.ranges.text_ranges.Given as goal
 
 abbrev pub invariant-loop-n : goal.invariant-loop-n

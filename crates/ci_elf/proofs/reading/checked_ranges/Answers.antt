@@ -6,7 +6,7 @@ use Rattle.ci_elf.specs.Fields.{e_shnum, e_entry}
 use Rattle.ci_elf.specs.Executables.{has_words, range_of, ranges_of, IsAscending, IsTextWord}
 use Rattle.ci_elf.specs.Rules.{TextIsBounded, EntryIsText}
 use Rattle.ci_elf.proofs.FieldLaws.{e_shnum_small}
-use Rattle.ci_elf.proofs.BrokenLaws.{length_those}
+use Rattle.ci_reading.proofs.BrokenLaws.{length_those}
 use Rattle.ci_elf.proofs.CheckLaws.{handed_on, fault_here, fault_behind}
 use Rattle.ci_elf.proofs.RangeLaws.{ascending, text_permuted}
 use Rattle.ci_elf.proofs.reading.checked_ranges.Goals as goal

@@ -4,7 +4,7 @@ use Rattle.ci_elf.specs.Fields.{e_phnum, is_loadable}
 use Rattle.ci_elf.specs.Executables.{segment_of, segments_of}
 use Rattle.ci_elf.specs.Rules.{MemoryIsBounded}
 use Rattle.ci_elf.proofs.FieldLaws.{e_phnum_small}
-use Rattle.ci_elf.proofs.BrokenLaws.{length_those}
+use Rattle.ci_reading.proofs.BrokenLaws.{length_those}
 use Rattle.ci_elf.proofs.CheckLaws.{handed_on, fault_here}
 use Rattle.ci_elf.proofs.reading.checked_segments.Goals as goal
 

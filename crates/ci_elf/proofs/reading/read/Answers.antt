@@ -1,7 +1,7 @@
 use Rattle.std.proofs.Common.{[], ◌∷◌, ◌++◌, sym, subst}
 use Rattle.ci_elf.specs.Executables.{IsImageOf}
 use Rattle.ci_elf.specs.Rules.{MemoryIsBounded, Holds, memory_rules, section_rules, segment_rules, sharing_rules}
-use Rattle.ci_elf.proofs.BrokenLaws.{kept_front, kept_back}
+use Rattle.ci_reading.proofs.BrokenLaws.{kept_front, kept_back}
 use Rattle.ci_elf.proofs.CheckLaws.{fault_in_front, fault_behind}
 use Rattle.ci_elf.proofs.ReadingLaws.{header_stage, loading_stage, text_stage, last_stage, kept_stages, read_handed_on, well_formed_from, image_from}
 use Rattle.ci_elf.proofs.reading.read.Goals as goal

@@ -1,7 +1,7 @@
 use Rattle.std.proofs.Common.{ℕ, List, [], ◌∷◌, arith, below_more}
 use Rattle.ci_elf.specs.Fields.{e_phnum}
 use Rattle.ci_elf.specs.Rules.{Rule, NamesNoInterpreter, HasFilePart, IsPlaced, Holds, segment_rules}
-use Rattle.ci_elf.proofs.BrokenLaws.{kept_each}
+use Rattle.ci_reading.proofs.BrokenLaws.{kept_each}
 use Rattle.ci_elf.proofs.CheckLaws.{handed_on, fault_each}
 use Rattle.ci_elf.proofs.segments.check_segments.Goals as goal
 

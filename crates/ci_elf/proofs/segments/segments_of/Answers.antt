@@ -2,8 +2,8 @@ use Rattle.std.proofs.Common.{◌≡◌, sym, ◌∙◌, ap, [], ◌∷◌, ◌+
 use Rattle.std.proofs.lemmas.List.{append-nil}
 use Rattle.ci_elf.specs.Fields.{is_loadable, e_phnum}
 use Rattle.ci_elf.specs.Executables.{segment_of, segments_of}
-use Rattle.ci_elf.specs.Broken.{those_below}
-use Rattle.ci_elf.proofs.BrokenLaws.{each_below_none, those_below_step}
+use Rattle.ci_reading.specs.Broken.{those_below}
+use Rattle.ci_reading.proofs.BrokenLaws.{each_below_none, those_below_step}
 use Rattle.ci_elf.proofs.segments.segments_of.Goals as goal
 use Rattle.ci_elf.proofs.segments.segments_of.Goals.{in-Some+in_ok-push, in_default}
 

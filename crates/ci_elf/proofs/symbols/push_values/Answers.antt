@@ -2,7 +2,7 @@ use Rattle.std.proofs.Common.{◌≡◌, ◌+◌, ◌*◌, [], ◌∷◌, ◌++�
 use Rattle.std.proofs.lemmas.List.{append-nil}
 use Rattle.ci_elf.specs.Fields.{field}
 use Rattle.ci_elf.specs.SymbolChecks.{values_at}
-use Rattle.ci_elf.proofs.BrokenLaws.{each_below_none, each_below_more}
+use Rattle.ci_reading.proofs.BrokenLaws.{each_below_none, each_below_more}
 use Rattle.ci_elf.proofs.symbols.push_values.Goals as goal
 
 pub loop-k-init : goal.loop-k-init

@@ -1,10 +1,10 @@
 use Rattle.std.proofs.Common.{◌≡◌, [], ◌∷◌, ◌++◌, sym, ◌∙◌, ap, arith}
 use Rattle.ci_elf.specs.Fields.{e_shnum}
-use Rattle.ci_elf.specs.Broken.{each_below}
+use Rattle.ci_reading.specs.Broken.{each_below}
 use Rattle.ci_elf.specs.Executables.{symbols_of}
 use Rattle.ci_elf.specs.SymbolChecks.{symbols_here}
 use Rattle.ci_elf.specs.Rules.{Holds, HasSymbols, TextIsLoaded, TextIsAlone}
-use Rattle.ci_elf.proofs.BrokenLaws.{each_below_none, each_below_more, kept_at}
+use Rattle.ci_reading.proofs.BrokenLaws.{each_below_none, each_below_more, kept_at}
 use Rattle.ci_elf.proofs.symbols.symbol_values.Goals as goal
 
 pub loop-n-init : goal.loop-n-init

@@ -1,5 +1,5 @@
 use Rattle.std.proofs.Common.{◌≡◌}
-use Rattle.ci_elf.specs.Broken.{each_below}
+use Rattle.ci_reading.specs.Broken.{each_below}
 use Rattle.ci_elf.specs.SymbolChecks.{symbols_here}
 use Rattle.ci_elf.proofs.symbols.symbol_values.Given as goal
 

@@ -7,7 +7,7 @@ ghost use Rattle.ci_find.specs.WordBlocks.{IsWordBlock, IsNoWordBlock, IsTermina
 use super::LiveBlock;
 use crate::analysis::BlockErr;
 use ci_isa::{Insn, has_custom_opcode, insn_at, is_terminator};
-use ci_text::word_at;
+use ci_reading::word_at;
 use ci_word::Row;
 use std::alloc::Global;
 

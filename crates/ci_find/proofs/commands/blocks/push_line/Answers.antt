@@ -3,7 +3,7 @@ use Rattle.std.proofs.Common.{◌≡◌, ◌++◌, List, ℕ, [], ◌∷◌, ◌
 use Rattle.std.specs.FinSet as set
 use Rattle.std.specs.Fmt.{decimal}
 use Rattle.std.specs.String.{string_bytes}
-use Rattle.ci_text.specs.Lines.{line}
+use Rattle.ci_reading.specs.Lines.{line}
 use Rattle.ci_word.specs.Members.{members_text}
 use Rattle.ci_find.proofs.commands.blocks.push_line.Goals as goal
 

@@ -1,7 +1,7 @@
 -- Each word adds its line.
 use Rattle.std.proofs.Common.{arith}
 use Rattle.std.specs.String.{string_bytes}
-use Rattle.ci_text.specs.Bytes.{words_of_bytes}
+use Rattle.ci_reading.specs.Bytes.{words_of_bytes}
 use Rattle.ci_find.proofs.Listed.{listing_more, listing_all}
 use Rattle.ci_find.proofs.commands.dis.listing.Goals as goal
 

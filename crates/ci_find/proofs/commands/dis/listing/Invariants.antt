@@ -1,6 +1,6 @@
 use Rattle.std.specs.String.{string_bytes}
 use Rattle.std.proofs.Common.{take}
-use Rattle.ci_text.specs.Bytes.{words_of_bytes}
+use Rattle.ci_reading.specs.Bytes.{words_of_bytes}
 use Rattle.ci_find.specs.DisCommand.{IsListing}
 use Rattle.ci_find.proofs.commands.dis.listing.Given as goal
 

@@ -1,6 +1,6 @@
 -- Each word stands for an instruction, up to the first that can't stand at its place.
 use Rattle.std.proofs.Common.{◌≡◌, ◌⊎◌, ℕ, ◌+◌, ◌<◌, true, false, List, refl, subst, sym, ◌∙◌, arith}
-use Rattle.ci_text.proofs.ByteLaws.{length-words_of_bytes}
+use Rattle.ci_reading.proofs.ByteLaws.{length-words_of_bytes}
 use Rattle.ci_isa.specs.Fields.{HasCustomOpcode}
 use Rattle.ci_find.specs.WordBlocks.{IsTerminator}
 use Rattle.ci_find.proofs.WordLaws.{IsReadTo, read_more, read_wrong, read_all}

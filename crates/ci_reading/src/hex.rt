@@ -1,7 +1,7 @@
 //! Words in hexadecimal digits.
 ghost use Rattle.std.specs.Prelude.{◌≡◌, ℕ, ◌<◌, ◌++◌, take, OnOk, IfOk, OnErr};
 ghost use Rattle.std.specs.String.{string_bytes};
-ghost use Rattle.ci_text.specs.Hex.{eight_hex_digits};
+ghost use Rattle.ci_reading.specs.Hex.{eight_hex_digits};
 
 use std::alloc::{AllocError, Global};
 

@@ -1,7 +1,7 @@
 use Rattle.std.proofs.Common.{◌≡◌, ◌-◌, ◌++◌, take}
 use Rattle.std.specs.String.{string_bytes}
-use Rattle.ci_text.specs.Hex.{eight_hex_digits}
-use Rattle.ci_text.proofs.hex.push_hex.Given as goal
+use Rattle.ci_reading.specs.Hex.{eight_hex_digits}
+use Rattle.ci_reading.proofs.hex.push_hex.Given as goal
 
 -- the digits above the place
 abbrev pub invariant-loop-place : goal.invariant-loop-place

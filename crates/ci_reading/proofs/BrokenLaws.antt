@@ -7,7 +7,7 @@ use Rattle.std.proofs.lemmas.Bool.{cases_lt}
 use Rattle.std.specs.List.{AllByRecursion, AllPairs, Contains}
 use Rattle.std.proofs.lemmas.List.Elements.{Contains-append_left, Contains-append_right, Contains-append_cases, Contains-get_or}
 use Rattle.std.proofs.lemmas.List.Quantifiers.{all_pairs_push}
-use Rattle.ci_elf.specs.Broken.{IsFirstBroken, each_below, those_below}
+use Rattle.ci_reading.specs.Broken.{IsFirstBroken, each_below, those_below}
 
 module _ {A : Type 0} (P : A → Type 0) where
   pub kept_append : (xs ys : List A) → AllByRecursion P xs → AllByRecursion P ys → AllByRecursion P (xs ++ ys)

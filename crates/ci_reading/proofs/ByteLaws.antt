@@ -5,7 +5,7 @@ use Rattle.std.specs.Int.{to_le_bytes, from_le_bytes, w32}
 use Rattle.std.proofs.lemmas.List.{get_or-append-add}
 use Rattle.std.proofs.lemmas.List.Elements.{All-head, All-tail}
 use Rattle.std.proofs.lemmas.Nat.{from_le_bytes-to_le_bytes_4}
-use Rattle.ci_text.specs.Bytes.{bytes_of_words, words_of_bytes}
+use Rattle.ci_reading.specs.Bytes.{bytes_of_words, words_of_bytes}
 
 -- a word has four bytes
 pub length-bytes_of_words : (words : List ℕ) → length (bytes_of_words words) ≡ 4 * length words

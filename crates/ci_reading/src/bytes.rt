@@ -1,6 +1,6 @@
 //! Words of 32 bits as bytes, the lowest byte first.
 ghost use Rattle.std.specs.Prelude.{◌≡◌, ◌+◌, ◌*◌, ◌≤◌, length, slice_get, Some, IfOk};
-ghost use Rattle.ci_text.specs.Bytes as terms;
+ghost use Rattle.ci_reading.specs.Bytes as terms;
 
 use std::alloc::{AllocError, Global};
 

@@ -1,8 +1,8 @@
 use Rattle.std.proofs.Common.{◌≡◌, ◌<◌, ◌-◌, ◌*◌, ◌/◌, ◌%◌, ◌^◌, arith}
 use Rattle.std.proofs.lemmas.Grind.{common_steps}
-use Rattle.ci_text.specs.Hex.{hex_digit}
-use Rattle.ci_text.proofs.HexLaws.{digits_more, glyph_small}
-use Rattle.ci_text.proofs.hex.push_hex.Goals as goal
+use Rattle.ci_reading.specs.Hex.{hex_digit}
+use Rattle.ci_reading.proofs.HexLaws.{digits_more, glyph_small}
+use Rattle.ci_reading.proofs.hex.push_hex.Goals as goal
 
 pub loop-place-preserved : goal.loop-place-preserved
 loop-place-preserved c =

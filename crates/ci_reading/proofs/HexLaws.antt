@@ -1,6 +1,6 @@
 -- The digits of a word, one after the other.
 use Rattle.std.proofs.Common.{◌≡◌, ℕ, zero, suc, ◌-◌, ◌*◌, ◌/◌, ◌%◌, ◌^◌, ◌<◌, [], ◌∷◌, ◌++◌, take, refl, arith}
-use Rattle.ci_text.specs.Hex.{hex_digit, eight_hex_digits}
+use Rattle.ci_reading.specs.Hex.{hex_digit, eight_hex_digits}
 
 -- the digits above place k, and the one at k
 pub digits_more : (n k : ℕ) → k < 8 → take (8 - k) (eight_hex_digits n) ≡ take (8 - suc k) (eight_hex_digits n) ++ (hex_digit (n / 2 ^ (4 * k) % 16) ∷ [])

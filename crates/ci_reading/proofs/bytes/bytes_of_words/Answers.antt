@@ -2,9 +2,9 @@ use Rattle.std.proofs.Common.{◌≡◌, ◌<◌, ◌^◌, ap, ◌∙◌, arith}
 use Rattle.std.specs.Prelude.{All}
 use Rattle.std.proofs.lemmas.Grind.{common_steps}
 use Rattle.std.proofs.lemmas.List.Elements.{All-from_get_or}
-use Rattle.ci_text.specs.Bytes.{bytes_of_words, words_of_bytes}
-use Rattle.ci_text.proofs.ByteLaws.{words_of_bytes-bytes_of_words}
-use Rattle.ci_text.proofs.bytes.bytes_of_words.Goals as goal
+use Rattle.ci_reading.specs.Bytes.{bytes_of_words, words_of_bytes}
+use Rattle.ci_reading.proofs.ByteLaws.{words_of_bytes-bytes_of_words}
+use Rattle.ci_reading.proofs.bytes.bytes_of_words.Goals as goal
 
 pub returns-clause-words : goal.returns-clause-words
 returns-clause-words c =

@@ -1,0 +1,3 @@
+mod HexLaws
+pub mod BrokenLaws
+pub mod ByteLaws

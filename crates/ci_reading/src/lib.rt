@@ -1,0 +1,11 @@
+//! What the texts of several formats have in common: lines, words in hexadecimal digits, words as bytes, and the first
+//! element of a list that breaks a property.
+#![tactic(auto)]
+
+pub use bytes::{bytes_of_words, word_at};
+pub use hex::{hex_text, push_hex};
+
+mod bytes;
+mod hex;
+#[cfg(test)]
+mod tests;

@@ -1,2 +1,0 @@
-pub mod ByteLaws
-mod HexLaws
