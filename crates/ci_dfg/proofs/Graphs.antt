@@ -14,7 +14,7 @@ use Rattle.ci_lat.specs.Latencies.{Latencies, IsLatencyTable}
 use Rattle.ci_cut.specs.declared.graph.Source.TheVariants.{Made}
 use Rattle.ci_cut.specs.declared.graph.Node.{Node}
 use Rattle.ci_cut.specs.FlowGraph.{IsFlowGraph, node_at, no_node, is_source}
-use Rattle.ci_isa.specs.Sequences.{insn_at}
+use Rattle.ci_isa.specs.Sequences.{nth_insn}
 use Rattle.ci_dfg.specs.BlockGraph.{has_arc_into, node_of, graph_of}
 use Rattle.ci_dfg.proofs.KindLaws as kinds
 use Rattle.ci_dfg.proofs.SourceLaws.{sources_rise}
@@ -25,7 +25,8 @@ module _ (insns : List Insn) (live_out : set.FinSet nat_cmp) (table : Latencies)
   nodes_none = ap (map (node_of insns live_out table)) (numbers_below-zero (λ _. true))
 
   -- one instruction more, one node more
-  pub nodes_more : (k : ℕ) → map (node_of insns live_out table) (numbers_below (k + 1) (λ _. true)) ≡ map (node_of insns live_out table) (numbers_below k (λ _. true)) ++ node_of insns live_out table k ∷ []
+  pub nodes_more : (k : ℕ) → map (node_of insns live_out table) (numbers_below (k + 1) (λ _. true))
+      ≡ map (node_of insns live_out table) (numbers_below k (λ _. true)) ++ node_of insns live_out table k ∷ []
   nodes_more k = rw (add-one, numbers_below-suc) (map-append (node_of insns live_out table) (numbers_below k (λ _. true)) (k ∷ []))
 
   -- a node for each instruction
@@ -39,7 +40,8 @@ module _ (insns : List Insn) (live_out : set.FinSet nat_cmp) (table : Latencies)
       ∙ ap (node_of insns live_out table) (get_or-all_below (length insns) k k there)
 
   -- and its arcs are those of the definition
-  pub contains-before : (k j : ℕ) → k < length insns → set.contains (node_at (graph_of insns live_out table) k).before j ≡ (nat_lt j k && has_arc_into insns k j)
+  pub contains-before : (k j : ℕ) → k < length insns
+      → set.contains (node_at (graph_of insns live_out table) k).before j ≡ (nat_lt j k && has_arc_into insns k j)
   contains-before k j there = ap (λ node. set.contains node.before j) (node_at_within k there) ∙ contains-set_below k (has_arc_into insns k) j
 
   -- past the last instruction stands none
@@ -47,7 +49,8 @@ module _ (insns : List Insn) (live_out : set.FinSet nat_cmp) (table : Latencies)
   node_at_past k past = get_or_past (graph_of insns live_out table).nodes k no_node (rw length-nodes past)
 
   -- what holds of each instruction's node, and of none, holds at every number
-  each_node : (P : ℕ → Node → Type 0) → ((k : ℕ) → P k (node_of insns live_out table k)) → ((k : ℕ) → P k no_node) → (k : ℕ) → P k (node_at (graph_of insns live_out table) k)
+  each_node : (P : ℕ → Node → Type 0) → ((k : ℕ) → P k (node_of insns live_out table k)) → ((k : ℕ) → P k no_node)
+      → (k : ℕ) → P k (node_at (graph_of insns live_out table) k)
   each_node P within past k =
       elim (cases_lt k (length insns)) [
         | inl there ↦ subst (P k) (sym (node_at_within k there)) (within k)
@@ -69,12 +72,12 @@ module _ (insns : List Insn) (live_out : set.FinSet nat_cmp) (table : Latencies)
         (λ at found. absurd (true≢false (sym found)))
         k;
     latency_least = each_node (λ at node. IsTrue node.eligible → 1 ≤ node.latency)
-        (λ at joins. kinds.latency_least table kept (class_of (insn_at insns at)) (kinds.may_join_delayed (insn_at insns at) joins))
+        (λ at joins. kinds.latency_least table kept (class_of (nth_insn insns at)) (kinds.may_join_delayed (nth_insn insns at) joins))
         (λ at eligible. absurd (true≢false (sym eligible)));
-    latency_most = each_node (λ at node. node.latency ≤ 1000) (λ at. kinds.latency_most table kept (class_of (insn_at insns at))) (λ at. zero-le);
-    delay_most = each_node (λ at node. node.delay ≤ 100000) (λ at. kinds.delay_most table kept (class_of (insn_at insns at))) (λ at. zero-le);
+    latency_most = each_node (λ at node. node.latency ≤ 1000) (λ at. kinds.latency_most table kept (class_of (nth_insn insns at))) (λ at. zero-le);
+    delay_most = each_node (λ at node. node.delay ≤ 100000) (λ at. kinds.delay_most table kept (class_of (nth_insn insns at))) (λ at. zero-le);
     pad_least = each_node (λ at node. IsTrue node.eligible → table.pad ≤ node.latency)
-        (λ at joins. kinds.pad_least table kept (class_of (insn_at insns at)) (kinds.may_join_delayed (insn_at insns at) joins))
+        (λ at joins. kinds.pad_least table kept (class_of (nth_insn insns at)) (kinds.may_join_delayed (nth_insn insns at) joins))
         (λ at eligible. absurd (true≢false (sym eligible)));
     pad_read = kept.pad_below_read;
   }

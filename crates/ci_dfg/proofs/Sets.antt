@@ -15,7 +15,8 @@ set_below_none p = ap set.from_list (numbers_below-zero p)
 pub set_below_more : (n : ℕ) (p : ℕ → Bool) → set_below (n + 1) p ≡ (if p n then set.insert (set_below n p) n else set_below n p)
 set_below_more n p = rw (add-one, numbers_below-suc) (by_test (p n))
   where
-    by_test : (b : Bool) → set.from_list {R = nat_cmp} (numbers_below n p ++ (if b then n ∷ [] else [])) ≡ (if b then set.insert (set_below n p) n else set_below n p)
+    by_test : (b : Bool) → set.from_list {R = nat_cmp} (numbers_below n p ++ (if b then n ∷ [] else []))
+        ≡ (if b then set.insert (set_below n p) n else set_below n p)
     by_test true = set.from_list_push nat_cmp_total set.nat_cmp-IsAntisymmetric (numbers_below n p) n
     by_test false = ap set.from_list (append-nil (numbers_below n p))
 

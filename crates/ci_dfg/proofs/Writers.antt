@@ -6,7 +6,7 @@ use Rattle.ci_word.proofs.NumberLaws.{some_below_iff}
 use Rattle.ci_isa.specs.declared.instruction.Insn.{Insn}
 use Rattle.ci_dfg.proofs.Instructions.{insn_there}
 use Rattle.ci_isa.specs.Effects.{writes_register}
-use Rattle.ci_isa.specs.Sequences.{insn_at, latest_writer}
+use Rattle.ci_isa.specs.Sequences.{nth_insn, latest_writer}
 use Rattle.ci_dfg.specs.BlockGraph.{is_written_after}
 
 module _ (insns : List Insn) (register : ℕ) where
@@ -16,40 +16,42 @@ module _ (insns : List Insn) (register : ℕ) where
   latest_writer-zero = refl
 
   -- one node more, which writes the register
-  latest_writer_is : (k : ℕ) → writes_register (insn_at insns k) register ≡ true → latest_writer insns register (suc k) ≡ Some k
+  latest_writer_is : (k : ℕ) → writes_register (nth_insn insns k) register ≡ true → latest_writer insns register (suc k) ≡ Some k
   unfolding latest_writer
   latest_writer_is k writes = ap (λ b. if b then Some k else latest_writer insns register k) writes
 
   -- one node more, which does not
-  latest_writer_stays : (k : ℕ) → writes_register (insn_at insns k) register ≡ false → latest_writer insns register (suc k) ≡ latest_writer insns register k
+  latest_writer_stays : (k : ℕ) → writes_register (nth_insn insns k) register ≡ false → latest_writer insns register (suc k) ≡ latest_writer insns register k
   unfolding latest_writer
   latest_writer_stays k other = ap (λ b. if b then Some k else latest_writer insns register k) other
 
   -- the same of the node below k
-  pub writer_below : (k : ℕ) → 0 < k → writes_register (insn_at insns (k - 1)) register ≡ true → latest_writer insns register k ≡ Some (k - 1)
+  pub writer_below : (k : ℕ) → 0 < k → writes_register (nth_insn insns (k - 1)) register ≡ true → latest_writer insns register k ≡ Some (k - 1)
   writer_below k above writes =
       let next : suc (k - 1) ≡ k = omega arith in
       subst (λ n. latest_writer insns register n ≡ Some (k - 1)) next (latest_writer_is (k - 1) writes)
 
-  pub no_writer_below : (k : ℕ) → 0 < k → writes_register (insn_at insns (k - 1)) register ≡ false → latest_writer insns register k ≡ latest_writer insns register (k - 1)
+  pub no_writer_below : (k : ℕ) → 0 < k → writes_register (nth_insn insns (k - 1)) register ≡ false
+      → latest_writer insns register k ≡ latest_writer insns register (k - 1)
   no_writer_below k above other =
       let next : suc (k - 1) ≡ k = omega arith in
       subst (λ n. latest_writer insns register n ≡ latest_writer insns register (k - 1)) next (latest_writer_stays (k - 1) other)
 
   -- ---- a writer behind k
 
-  pub written_after : (k j : ℕ) → k < j → j < length insns → writes_register (insn_at insns j) register ≡ true → is_written_after insns k register ≡ true
+  pub written_after : (k j : ℕ) → k < j → j < length insns → writes_register (nth_insn insns j) register ≡ true → is_written_after insns k register ≡ true
   written_after k j later there writes =
-      (some_below_iff (length insns) (λ i. nat_lt k i && writes_register (insn_at insns i) register)).1
-      (j, there, and_from (nat_lt k j) (writes_register (insn_at insns j) register) (lt-ltb k j later) writes)
+      (some_below_iff (length insns) (λ i. nat_lt k i && writes_register (nth_insn insns i) register)).1
+      (j, there, and_from (nat_lt k j) (writes_register (nth_insn insns j) register) (lt-ltb k j later) writes)
 
-  pub not_written_after : (k : ℕ) → ((j : ℕ) → k < j → j < length insns → writes_register (insn_at insns j) register ≡ false) → is_written_after insns k register ≡ false
+  pub not_written_after : (k : ℕ) → ((j : ℕ) → k < j → j < length insns
+      → writes_register (nth_insn insns j) register ≡ false) → is_written_after insns k register ≡ false
   not_written_after k none = false_from_ne_true _ absent
     where
       absent : IsTrue (is_written_after insns k register) → ⊥
       absent found =
-          let at = (some_below_iff (length insns) (λ i. nat_lt k i && writes_register (insn_at insns i) register)).0 found in
-          let parts = and_parts (nat_lt k at.0) (writes_register (insn_at insns at.0) register) at.2 in
+          let at = (some_below_iff (length insns) (λ i. nat_lt k i && writes_register (nth_insn insns i) register)).0 found in
+          let parts = and_parts (nat_lt k at.0) (writes_register (nth_insn insns at.0) register) at.2 in
           true≢false (sym parts.1 ∙ none at.0 (ltb-true k at.0 parts.0) at.1)
 
 pub ruleset writers = (latest_writer-zero, writer_below, no_writer_below, insn_there)

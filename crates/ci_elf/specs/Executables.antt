@@ -1,10 +1,12 @@
 -- What an executable file means: its segments, its text and its symbols.
-use Rattle.std.specs.Prelude.{◌≡◌, ℕ, ◌+◌, ◌-◌, ◌*◌, ◌/◌, ◌%◌, ◌<◌, ◌≤◌, ◌⊎◌, ◌&&◌, Bool, if◌then◌else◌, List, [], ◌∷◌, ◌++◌, length, take, drop, nat_lt, nat_le, slice_index, slice_index_or, IsTrue}
+use Rattle.std.specs.Prelude.{◌≡◌, ℕ, ◌+◌, ◌-◌, ◌*◌, ◌/◌, ◌%◌, ◌<◌, ◌≤◌, ◌⊎◌, ◌&&◌, Bool, if◌then◌else◌, List, [], ◌∷◌}
+use Rattle.std.specs.Prelude.{◌++◌, length, take, drop, nat_lt, nat_le, slice_index, slice_index_or, IsTrue}
 use Rattle.std.specs.List.{AllPairs, Contains, list_any, sum_by}
 use Rattle.std.specs.List.Sorted.{IsPermutation}
 use Rattle.ci_elf.specs.declared.segments.Segment.{Segment}
 use Rattle.ci_elf.specs.declared.ranges.Range.{Range}
-use Rattle.ci_elf.specs.Fields.{field, e_entry, e_phnum, e_shnum, p_offset, p_vaddr, p_filesz, p_memsz, is_loadable, sh_addr, sh_size, is_symbol_table, is_text, st_value}
+use Rattle.ci_elf.specs.Fields.{field, e_entry, e_phnum, e_shnum, p_offset, p_vaddr, p_filesz, p_memsz, is_loadable}
+use Rattle.ci_elf.specs.Fields.{sh_addr, sh_size, is_symbol_table, is_text, st_value}
 use Rattle.byteorder.specs.Endian.{little_bytes}
 use Rattle.ci_reading.specs.Broken.{each_below, those_below}
 

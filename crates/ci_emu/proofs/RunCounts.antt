@@ -1,5 +1,6 @@
 -- What is counted over a run, after one step more and after an end.
-use Rattle.std.proofs.Common.{◌≡◌, ℕ, zero, suc, ◌+◌, ◌<◌, ap, sym, subst, ◌∙◌, refl, arith, Option, Some, None, inl, inr, add-zero, add-one, add-suc, lt-suc_self}
+use Rattle.std.proofs.Common.{◌≡◌, ℕ, zero, suc, ◌+◌, ◌<◌, ap, sym, subst, ◌∙◌, refl, arith, Option, Some, None, inl}
+use Rattle.std.proofs.Common.{inr, add-zero, add-one, add-suc, lt-suc_self}
 use Rattle.std.specs.Prelude.{Bool, true, false, ◌==◌, ◌&&◌, is_none, if◌then◌else◌, ◌↔◌, ◌⊎◌}
 use Rattle.std.specs.List.{list_any}
 use Rattle.std.specs.Ordering.{nat_cmp}

@@ -6,7 +6,8 @@ use Rattle.ci_elf.specs.WordPlaces.{word_place}
 use Rattle.ci_lat.specs.Latencies.{Latencies as Table, latency_of}
 use Rattle.ci_machine.specs.Programs.{Program, State}
 use Rattle.ci_machine.specs.Steps.{Meaning}
-use Rattle.ci_machine.specs.Runs.{Latencies, after, before_step, is_made, steps_made, cost, entries, jalr_target, LeavesTextFor, IsFirstTouch}
+use Rattle.ci_machine.specs.Runs.{Latencies, after, before_step, is_made, steps_made, cost, entries, jalr_target}
+use Rattle.ci_machine.specs.Runs.{LeavesTextFor, IsFirstTouch}
 use Rattle.ci_emu.specs.declared.counts.Counts.{Counts}
 use Rattle.ci_emu.specs.declared.profile.Profile.{Profile}
 

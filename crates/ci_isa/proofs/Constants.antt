@@ -9,13 +9,15 @@ use Rattle.ci_isa.specs.Table.{ConstantForm, SignedImmediate, ShiftAmount, NoFor
 pub ruleset passed = (to_z-of_z)
 
 -- what has no amount for a shift has an immediate
-pub held_immediate : (w : ℕ) (form : ConstantForm) (code : ℕ) (n : ℤ) → (form ≡ ShiftAmount → ⊥) → HoldsConstant w form code n → signed_immediate immediate_format w ≡ n
+pub held_immediate : (w : ℕ) (form : ConstantForm) (code : ℕ) (n : ℤ) → (form ≡ ShiftAmount → ⊥)
+    → HoldsConstant w form code n → signed_immediate immediate_format w ≡ n
 held_immediate w SignedImmediate code n other held = held
 held_immediate w ShiftAmount code n other held = absurd (other refl)
 held_immediate w NoForm code n other held = absurd held
 
 -- an amount stands beside its funct7
-pub held_amount : (w : ℕ) (form : ConstantForm) (code : ℕ) (n : ℤ) → form ≡ ShiftAmount → HoldsConstant w form code n → (funct7 w ≡ code) × (pos (rs2_field w) ≡ n)
+pub held_amount : (w : ℕ) (form : ConstantForm) (code : ℕ) (n : ℤ) → form ≡ ShiftAmount
+    → HoldsConstant w form code n → (funct7 w ≡ code) × (pos (rs2_field w) ≡ n)
 held_amount w form code n is held = subst (λ f. HoldsConstant w f code n) is held
 
 -- an amount is passed as it is

@@ -10,18 +10,25 @@ use Rattle.ci_isa.specs.declared.instruction.Cond.TheVariants.{Eq, Ne, Lt, Ge, L
 use Rattle.ci_isa.specs.declared.instruction.LoadKind.TheVariants.{B, H, W, Bu, Hu}
 use Rattle.ci_isa.specs.declared.instruction.Width.TheVariants.{Byte, Half, Word}
 use Rattle.ci_isa.specs.declared.instruction.Insn.{Insn}
-use Rattle.ci_isa.specs.declared.instruction.Insn.TheVariants.{Alu, AluImm, Lui, Auipc, Jal, Jalr, Branch, Load, Store, Fence, Ecall, Ebreak, Unit, Cread, Illegal}
-use Rattle.ci_isa.specs.Fields.{field, opcode, rd_field, funct3, rs1_field, rs2_field, funct7, immediate_format, store_format, branch_format, upper_format, jump_format, immediate, signed_immediate}
+use Rattle.ci_isa.specs.declared.instruction.Insn.TheVariants.{Alu, AluImm, Lui, Auipc, Jal, Jalr, Branch, Load, Store}
+use Rattle.ci_isa.specs.declared.instruction.Insn.TheVariants.{Fence, Ecall, Ebreak, Unit, Cread, Illegal}
+use Rattle.ci_isa.specs.Fields.{field, opcode, rd_field, funct3, rs1_field, rs2_field, funct7, immediate_format}
+use Rattle.ci_isa.specs.Fields.{store_format, branch_format, upper_format, jump_format, immediate, signed_immediate}
 use Rattle.ci_isa.specs.Table.{operation_codes, condition_code, load_code, store_code, constant_form, HoldsConstant, HasFieldsOf, HasFieldsOfX, Reads, ReadsX}
-use Rattle.ci_isa.specs.Decoding.{condition_at, load_at, width_at, operation_among, base_at, other_at, product_at, immediate_at, operation_at, shift_at, jump_row, branch_row, load_row, store_row, immediate_row, shift_row, constant_row, operation_row, fence_row, environment_row, unit_row, hidden_row, plain_row, extended_row}
+use Rattle.ci_isa.specs.Decoding.{condition_at, load_at, width_at, operation_among, base_at, other_at, product_at}
+use Rattle.ci_isa.specs.Decoding.{immediate_at, operation_at, shift_at, jump_row, branch_row, load_row, store_row}
+use Rattle.ci_isa.specs.Decoding.{immediate_row, shift_row, constant_row, operation_row, fence_row, environment_row}
+use Rattle.ci_isa.specs.Decoding.{unit_row, hidden_row, plain_row, extended_row}
 
 -- ---- choices
 
 -- what has a code is found by it
-by_code : {X : Type 0} (code : X → ℕ) (P : X → Type 0) (n : ℕ) (xs : List X) → AllByRecursion P xs → IfSome (find (λ x. code x == n) xs) (λ x. (n ≡ code x) × P x)
+by_code : {X : Type 0} (code : X → ℕ) (P : X → Type 0) (n : ℕ) (xs : List X) → AllByRecursion P xs
+    → IfSome (find (λ x. code x == n) xs) (λ x. (n ≡ code x) × P x)
 by_code code P n [] all = tt
 by_code code P n (x ∷ xs) all =
-    cond_both (code x == n) (Some x) (find (λ x. code x == n) xs) (λ o. IfSome o (λ x. (n ≡ code x) × P x)) (λ e. (sym (eqb-true _ _ e), all.0)) (λ _. by_code code P n xs all.1)
+    cond_both (code x == n) (Some x) (find (λ x. code x == n) xs) (λ o. IfSome o (λ x. (n ≡ code x) × P x))
+    (λ e. (sym (eqb-true _ _ e), all.0)) (λ _. by_code code P n xs all.1)
 
 -- what holds of each value of one answer holds of each of the other
 mapped : {X Y : Type 0} (f : X → Y) (o : Option X) (P : X → Type 0) (Q : Y → Type 0) → IfSome o P → ((x : X) → P x → Q (f x)) → IfSome (option_map f o) Q
@@ -40,38 +47,44 @@ tested n m x y P hit miss = cond_both (n == m) x y (λ o. IfSome o P) (λ e. hit
 
 jump_found : (w : ℕ) → opcode w ≡ 0x67 → IfSome (jump_row w) (HasFieldsOf w)
 unfolding jump_row
-jump_found w e = tested (funct3 w) 0 (Some (Jalr (rd_field w) (rs1_field w) (signed_immediate immediate_format w))) None (HasFieldsOf w) (λ h. (e, h, refl, refl, refl)) tt
+jump_found w e = tested (funct3 w) 0 (Some (Jalr (rd_field w) (rs1_field w) (signed_immediate immediate_format w)))
+    None (HasFieldsOf w) (λ h. (e, h, refl, refl, refl)) tt
 
 branch_found : (w : ℕ) → opcode w ≡ 0x63 → IfSome (branch_row w) (HasFieldsOf w)
 unfolding branch_row
 branch_found w e =
-    mapped (λ cond. Branch cond (rs1_field w) (rs2_field w) (signed_immediate branch_format w)) (condition_at (funct3 w)) (λ cond. (funct3 w ≡ condition_code cond) × ⊤) (HasFieldsOf w)
+    mapped (λ cond. Branch cond (rs1_field w) (rs2_field w) (signed_immediate branch_format w))
+    (condition_at (funct3 w)) (λ cond. (funct3 w ≡ condition_code cond) × ⊤) (HasFieldsOf w)
     (by_code condition_code (λ _. ⊤) (funct3 w) (Eq ∷ Ne ∷ Lt ∷ Ge ∷ Ltu ∷ Geu ∷ []) (tt, (tt, (tt, (tt, (tt, (tt, tt)))))))
     (λ cond h. (e, h.0, refl, refl, refl))
 
 load_found : (w : ℕ) → opcode w ≡ 0x03 → IfSome (load_row w) (HasFieldsOf w)
 unfolding load_row
 load_found w e =
-    mapped (λ kind. Load kind (rd_field w) (rs1_field w) (signed_immediate immediate_format w)) (load_at (funct3 w)) (λ kind. (funct3 w ≡ load_code kind) × ⊤) (HasFieldsOf w)
+    mapped (λ kind. Load kind (rd_field w) (rs1_field w) (signed_immediate immediate_format w)) (load_at (funct3 w))
+    (λ kind. (funct3 w ≡ load_code kind) × ⊤) (HasFieldsOf w)
     (by_code load_code (λ _. ⊤) (funct3 w) (B ∷ H ∷ W ∷ Bu ∷ Hu ∷ []) (tt, (tt, (tt, (tt, (tt, tt))))))
     (λ kind h. (e, h.0, refl, refl, refl))
 
 store_found : (w : ℕ) → opcode w ≡ 0x23 → IfSome (store_row w) (HasFieldsOf w)
 unfolding store_row
 store_found w e =
-    mapped (λ width. Store width (rs1_field w) (rs2_field w) (signed_immediate store_format w)) (width_at (funct3 w)) (λ width. (funct3 w ≡ store_code width) × ⊤) (HasFieldsOf w)
+    mapped (λ width. Store width (rs1_field w) (rs2_field w) (signed_immediate store_format w))
+    (width_at (funct3 w)) (λ width. (funct3 w ≡ store_code width) × ⊤) (HasFieldsOf w)
     (by_code store_code (λ _. ⊤) (funct3 w) (Byte ∷ Half ∷ Word ∷ []) (tt, (tt, (tt, tt))))
     (λ width h. (e, h.0, refl, refl, refl))
 
 -- an operation among some that have a fact, found by its funct3
-among : (P : Op → Type 0) (operations : List Op) (n : ℕ) → AllByRecursion P operations → IfSome (operation_among operations n) (λ op. (n ≡ (operation_codes op).0) × P op)
+among : (P : Op → Type 0) (operations : List Op) (n : ℕ) → AllByRecursion P operations
+    → IfSome (operation_among operations n) (λ op. (n ≡ (operation_codes op).0) × P op)
 among P operations n all = by_code (λ op. (operation_codes op).0) P n operations all
 
 immediate_found : (w : ℕ) → opcode w ≡ 0x13 → IfSome (immediate_row w) (HasFieldsOf w)
 unfolding immediate_row
 immediate_found w e =
     let P = λ (op : Op). HoldsConstant w (constant_form op) (operation_codes op).1 (signed_immediate immediate_format w) in
-    mapped (λ op. AluImm op (rd_field w) (rs1_field w) (signed_immediate immediate_format w)) (immediate_at (funct3 w)) (λ op. (funct3 w ≡ (operation_codes op).0) × P op) (HasFieldsOf w)
+    mapped (λ op. AluImm op (rd_field w) (rs1_field w) (signed_immediate immediate_format w))
+    (immediate_at (funct3 w)) (λ op. (funct3 w ≡ (operation_codes op).0) × P op) (HasFieldsOf w)
     (among P (Add ∷ Slt ∷ Sltu ∷ Xor ∷ Or ∷ And ∷ []) (funct3 w) (refl, (refl, (refl, (refl, (refl, (refl, tt)))))))
     (λ op h. (e, h.0, refl, refl, h.1))
 
@@ -95,9 +108,13 @@ operation_found w e =
     let P = λ (op : Op). funct7 w ≡ (operation_codes op).1 in
     let Q = λ (op : Op). (funct3 w ≡ (operation_codes op).0) × P op in
     mapped (λ op. Alu op (rd_field w) (rs1_field w) (rs2_field w)) (operation_at (funct3 w) (funct7 w)) Q (HasFieldsOf w)
-    (tested (funct7 w) 0x00 (base_at (funct3 w)) _ Q (λ h. among P (Add ∷ Sll ∷ Slt ∷ Sltu ∷ Xor ∷ Srl ∷ Or ∷ And ∷ []) (funct3 w) (h, (h, (h, (h, (h, (h, (h, (h, tt)))))))))
+    (tested (funct7 w) 0x00 (base_at (funct3 w)) _ Q
+    (λ h. among P (Add ∷ Sll ∷ Slt ∷ Sltu ∷ Xor ∷ Srl ∷ Or ∷ And ∷ []) (funct3 w)
+    (h, (h, (h, (h, (h, (h, (h, (h, tt)))))))))
     (tested (funct7 w) 0x20 (other_at (funct3 w)) _ Q (λ h. among P (Sub ∷ Sra ∷ []) (funct3 w) (h, (h, tt)))
-    (tested (funct7 w) 0x01 (product_at (funct3 w)) None Q (λ h. among P (Mul ∷ Mulh ∷ Mulhsu ∷ Mulhu ∷ Div ∷ Divu ∷ Rem ∷ Remu ∷ []) (funct3 w) (h, (h, (h, (h, (h, (h, (h, (h, tt))))))))) tt)))
+    (tested (funct7 w) 0x01 (product_at (funct3 w)) None Q
+    (λ h. among P (Mul ∷ Mulh ∷ Mulhsu ∷ Mulhu ∷ Div ∷ Divu ∷ Rem ∷ Remu ∷ []) (funct3 w)
+    (h, (h, (h, (h, (h, (h, (h, (h, tt))))))))) tt)))
     (λ op h. (e, h.0, h.1, refl, refl, refl))
 
 fence_found : (w : ℕ) → opcode w ≡ 0x0f → IfSome (fence_row w) (HasFieldsOf w)

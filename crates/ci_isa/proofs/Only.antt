@@ -10,10 +10,15 @@ use Rattle.ci_isa.specs.declared.instruction.LoadKind.TheVariants.{B, H, W, Bu, 
 use Rattle.ci_isa.specs.declared.instruction.Width.{Width}
 use Rattle.ci_isa.specs.declared.instruction.Width.TheVariants.{Byte, Half, Word}
 use Rattle.ci_isa.specs.declared.instruction.Insn.{Insn}
-use Rattle.ci_isa.specs.declared.instruction.Insn.TheVariants.{Alu, AluImm, Lui, Auipc, Jal, Jalr, Branch, Load, Store, Fence, Ecall, Ebreak, Unit, Cread, Illegal}
+use Rattle.ci_isa.specs.declared.instruction.Insn.TheVariants.{Alu, AluImm, Lui, Auipc, Jal, Jalr, Branch, Load, Store}
+use Rattle.ci_isa.specs.declared.instruction.Insn.TheVariants.{Fence, Ecall, Ebreak, Unit, Cread, Illegal}
 use Rattle.ci_isa.specs.Fields.{field, rd_field, funct3, rs1_field, rs2_field, funct7, immediate_format, store_format, branch_format, signed_immediate}
-use Rattle.ci_isa.specs.Table.{operation_codes, condition_code, load_code, store_code, constant_form, HoldsConstant, HasFieldsOf, HasFieldsOfX, Reads, ReadsX, IsWordOf, IsWellFormed, IsInsnAt}
-use Rattle.ci_isa.specs.Decoding.{condition_at, load_at, width_at, immediate_at, operation_at, shift_at, jump_row, branch_row, load_row, store_row, immediate_row, shift_row, constant_row, operation_row, fence_row, environment_row, unit_row, hidden_row, plain_row, extended_row}
+use Rattle.ci_isa.specs.Table.{operation_codes, condition_code, load_code, store_code, constant_form, HoldsConstant}
+use Rattle.ci_isa.specs.Table.{HasFieldsOf, HasFieldsOfX, Reads, ReadsX, IsWordOf, IsWellFormed, IsInsnAt}
+use Rattle.ci_isa.specs.Decoding.{condition_at, load_at, width_at, immediate_at, operation_at, shift_at, jump_row}
+use Rattle.ci_isa.specs.Decoding.{branch_row, load_row, store_row, immediate_row, shift_row, constant_row}
+use Rattle.ci_isa.specs.Decoding.{operation_row, fence_row, environment_row, unit_row, hidden_row, plain_row}
+use Rattle.ci_isa.specs.Decoding.{extended_row}
 use Rattle.ci_isa.proofs.Found.{in_extended}
 
 -- ---- each code has one meaning
@@ -60,47 +65,61 @@ operation_known Remu = refl
 
 -- ---- the rows of the plain table
 
-jump_only : (w rd rs1 : ℕ) (offset : ℤ) → funct3 w ≡ 0 → rd_field w ≡ rd → rs1_field w ≡ rs1 → signed_immediate immediate_format w ≡ offset → jump_row w ≡ Some (Jalr rd rs1 offset)
+jump_only : (w rd rs1 : ℕ) (offset : ℤ) → funct3 w ≡ 0 → rd_field w ≡ rd → rs1_field w ≡ rs1
+    → signed_immediate immediate_format w ≡ offset → jump_row w ≡ Some (Jalr rd rs1 offset)
 unfolding jump_row
 jump_only w rd rs1 offset code d a e = rw code (λ i. Some (Jalr (d i) (a i) (e i)))
 
-branch_only : (w : ℕ) (cond : Cond) (rs1 rs2 : ℕ) (offset : ℤ) → funct3 w ≡ condition_code cond → rs1_field w ≡ rs1 → rs2_field w ≡ rs2 → signed_immediate branch_format w ≡ offset → branch_row w ≡ Some (Branch cond rs1 rs2 offset)
+branch_only : (w : ℕ) (cond : Cond) (rs1 rs2 : ℕ) (offset : ℤ) → funct3 w ≡ condition_code cond → rs1_field w ≡ rs1
+    → rs2_field w ≡ rs2 → signed_immediate branch_format w ≡ offset
+    → branch_row w ≡ Some (Branch cond rs1 rs2 offset)
 unfolding branch_row
 branch_only w cond rs1 rs2 offset code a b e =
     ap (option_map (λ cond. Branch cond (rs1_field w) (rs2_field w) (signed_immediate branch_format w))) (ap condition_at code ∙ condition_known cond)
     ∙ (λ i. Some (Branch cond (a i) (b i) (e i)))
 
-load_only : (w : ℕ) (kind : LoadKind) (rd rs1 : ℕ) (offset : ℤ) → funct3 w ≡ load_code kind → rd_field w ≡ rd → rs1_field w ≡ rs1 → signed_immediate immediate_format w ≡ offset → load_row w ≡ Some (Load kind rd rs1 offset)
+load_only : (w : ℕ) (kind : LoadKind) (rd rs1 : ℕ) (offset : ℤ) → funct3 w ≡ load_code kind → rd_field w ≡ rd
+    → rs1_field w ≡ rs1 → signed_immediate immediate_format w ≡ offset → load_row w ≡ Some (Load kind rd rs1 offset)
 unfolding load_row
 load_only w kind rd rs1 offset code d a e =
     ap (option_map (λ kind. Load kind (rd_field w) (rs1_field w) (signed_immediate immediate_format w))) (ap load_at code ∙ load_known kind)
     ∙ (λ i. Some (Load kind (d i) (a i) (e i)))
 
-store_only : (w : ℕ) (width : Width) (rs1 rs2 : ℕ) (offset : ℤ) → funct3 w ≡ store_code width → rs1_field w ≡ rs1 → rs2_field w ≡ rs2 → signed_immediate store_format w ≡ offset → store_row w ≡ Some (Store width rs1 rs2 offset)
+store_only : (w : ℕ) (width : Width) (rs1 rs2 : ℕ) (offset : ℤ) → funct3 w ≡ store_code width → rs1_field w ≡ rs1
+    → rs2_field w ≡ rs2 → signed_immediate store_format w ≡ offset → store_row w ≡ Some (Store width rs1 rs2 offset)
 unfolding store_row
 store_only w width rs1 rs2 offset code a b e =
     ap (option_map (λ width. Store width (rs1_field w) (rs2_field w) (signed_immediate store_format w))) (ap width_at code ∙ width_known width)
     ∙ (λ i. Some (Store width (a i) (b i) (e i)))
 
-operation_only : (w : ℕ) (op : Op) (rd rs1 rs2 : ℕ) → funct3 w ≡ (operation_codes op).0 → funct7 w ≡ (operation_codes op).1 → rd_field w ≡ rd → rs1_field w ≡ rs1 → rs2_field w ≡ rs2 → operation_row w ≡ Some (Alu op rd rs1 rs2)
+operation_only : (w : ℕ) (op : Op) (rd rs1 rs2 : ℕ) → funct3 w ≡ (operation_codes op).0
+    → funct7 w ≡ (operation_codes op).1 → rd_field w ≡ rd → rs1_field w ≡ rs1 → rs2_field w ≡ rs2
+    → operation_row w ≡ Some (Alu op rd rs1 rs2)
 unfolding operation_row
 operation_only w op rd rs1 rs2 code3 code7 d a b =
     ap (option_map (λ op. Alu op (rd_field w) (rs1_field w) (rs2_field w))) ((λ i. operation_at (code3 i) (code7 i)) ∙ operation_known op)
     ∙ (λ i. Some (Alu op (d i) (a i) (b i)))
 
-immediate_only : (w : ℕ) (op : Op) (rd rs1 : ℕ) (imm : ℤ) → immediate_at (operation_codes op).0 ≡ Some op → funct3 w ≡ (operation_codes op).0 → rd_field w ≡ rd → rs1_field w ≡ rs1 → signed_immediate immediate_format w ≡ imm → immediate_row w ≡ Some (AluImm op rd rs1 imm)
+immediate_only : (w : ℕ) (op : Op) (rd rs1 : ℕ) (imm : ℤ) → immediate_at (operation_codes op).0 ≡ Some op
+    → funct3 w ≡ (operation_codes op).0 → rd_field w ≡ rd → rs1_field w ≡ rs1
+    → signed_immediate immediate_format w ≡ imm → immediate_row w ≡ Some (AluImm op rd rs1 imm)
 unfolding immediate_row
 immediate_only w op rd rs1 imm known code d a e =
     ap (option_map (λ op. AluImm op (rd_field w) (rs1_field w) (signed_immediate immediate_format w))) (ap immediate_at code ∙ known)
     ∙ (λ i. Some (AluImm op (d i) (a i) (e i)))
 
-shift_only : (w : ℕ) (op : Op) (rd rs1 : ℕ) (imm : ℤ) → shift_at (operation_codes op).0 (operation_codes op).1 ≡ Some op → funct3 w ≡ (operation_codes op).0 → rd_field w ≡ rd → rs1_field w ≡ rs1 → (funct7 w ≡ (operation_codes op).1) × (pos (rs2_field w) ≡ imm) → shift_row w ≡ Some (AluImm op rd rs1 imm)
+shift_only : (w : ℕ) (op : Op) (rd rs1 : ℕ) (imm : ℤ)
+    → shift_at (operation_codes op).0 (operation_codes op).1 ≡ Some op → funct3 w ≡ (operation_codes op).0
+    → rd_field w ≡ rd → rs1_field w ≡ rs1 → (funct7 w ≡ (operation_codes op).1) × (pos (rs2_field w) ≡ imm)
+    → shift_row w ≡ Some (AluImm op rd rs1 imm)
 unfolding shift_row
 shift_only w op rd rs1 imm known code d a held =
     ap (option_map (λ op. AluImm op (rd_field w) (rs1_field w) (pos (rs2_field w)))) ((λ i. shift_at (code i) (held.0 i)) ∙ known)
     ∙ (λ i. Some (AluImm op (d i) (a i) (held.1 i)))
 
-constant_only : (w : ℕ) (op : Op) (rd rs1 : ℕ) (imm : ℤ) → funct3 w ≡ (operation_codes op).0 → rd_field w ≡ rd → rs1_field w ≡ rs1 → HoldsConstant w (constant_form op) (operation_codes op).1 imm → constant_row w ≡ Some (AluImm op rd rs1 imm)
+constant_only : (w : ℕ) (op : Op) (rd rs1 : ℕ) (imm : ℤ) → funct3 w ≡ (operation_codes op).0 → rd_field w ≡ rd
+    → rs1_field w ≡ rs1 → HoldsConstant w (constant_form op) (operation_codes op).1 imm
+    → constant_row w ≡ Some (AluImm op rd rs1 imm)
 unfolding constant_row
 constant_only w Add rd rs1 imm code d a held = rw code (immediate_only w Add rd rs1 imm refl code d a held)
 constant_only w Sub rd rs1 imm code d a held = absurd held
@@ -145,7 +164,8 @@ plain_only w (Illegal word) r = absurd r
 
 -- ---- the extended table
 
-unit_only : (w number rd rs1 rs2 rs3 : ℕ) → field w 26 25 ≡ number / 8 → funct3 w ≡ number % 8 → rd_field w ≡ rd → rs1_field w ≡ rs1 → rs2_field w ≡ rs2 → field w 31 27 ≡ rs3 → unit_row w ≡ Some (Unit number rd rs1 rs2 rs3)
+unit_only : (w number rd rs1 rs2 rs3 : ℕ) → field w 26 25 ≡ number / 8 → funct3 w ≡ number % 8 → rd_field w ≡ rd
+    → rs1_field w ≡ rs1 → rs2_field w ≡ rs2 → field w 31 27 ≡ rs3 → unit_row w ≡ Some (Unit number rd rs1 rs2 rs3)
 unfolding unit_row
 unit_only w number rd rs1 rs2 rs3 high low d a b c =
     let whole : field w 26 25 * 8 + funct3 w ≡ number = omega arith in

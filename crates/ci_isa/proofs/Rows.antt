@@ -8,7 +8,7 @@ use Rattle.ci_isa.specs.declared.instruction.Insn.TheVariants.{Alu, AluImm, Unit
 use Rattle.ci_isa.specs.Table.{IsInsnAt, IsInsnAtX}
 use Rattle.ci_isa.specs.Decoding.{environment_row, plain_row}
 use Rattle.ci_isa.specs.Effects.{writes_register, registers_read}
-use Rattle.ci_isa.specs.Sequences.{insn_at, latest_writer, IsLastWriter}
+use Rattle.ci_isa.specs.Sequences.{nth_insn, latest_writer, IsLastWriter}
 use Rattle.ci_isa.proofs.Only.{only_plain}
 use Rattle.ci_isa.proofs.Registers.{reads_register_is}
 
@@ -50,5 +50,5 @@ unfolding writers
 last = record {
   before = omega arith;
   writes = refl;
-  none_between = λ i behind below. let third : 2 ≡ i = omega arith in ap (λ k. writes_register (insn_at writers k) 5) (sym third);
+  none_between = λ i behind below. let third : 2 ≡ i = omega arith in ap (λ k. writes_register (nth_insn writers k) 5) (sym third);
 }

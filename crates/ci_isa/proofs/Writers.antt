@@ -4,12 +4,12 @@ use Rattle.std.specs.Prelude.{if◌then◌else◌}
 use Rattle.std.proofs.lemmas.Bool.{cases_eq}
 use Rattle.ci_isa.specs.declared.instruction.Insn.{Insn}
 use Rattle.ci_isa.specs.Effects.{writes_register}
-use Rattle.ci_isa.specs.Sequences.{insn_at, latest_writer, IsLastWriter}
+use Rattle.ci_isa.specs.Sequences.{nth_insn, latest_writer, IsLastWriter}
 use Rattle.ci_isa.specs.Laws.{LatestWriterIsLast}
 
 module _ (insns : List Insn) (r : ℕ) where
   abbrev written : ℕ → Bool
-  written i = writes_register (insn_at insns i) r
+  written i = writes_register (nth_insn insns i) r
 
   -- ---- one place more
 

@@ -1,5 +1,6 @@
 -- What an instruction reads and writes, and what kind it is (RISC-V Unprivileged ISA 20191213, chapters 2 and 7).
-use Rattle.std.specs.Prelude.{ℕ, ◌-◌, Bool, true, false, not, ◌&&◌, ◌==◌, if◌then◌else◌, List, [], ◌∷◌, ◌++◌, length, replicate, filter, ℤ, pos, negsuc}
+use Rattle.std.specs.Prelude.{ℕ, ◌-◌, Bool, true, false, not, ◌&&◌, ◌==◌, if◌then◌else◌, List, [], ◌∷◌, ◌++◌, length}
+use Rattle.std.specs.Prelude.{replicate, filter, ℤ, pos, negsuc}
 use Rattle.std.specs.Ordering.{nat_cmp}
 use Rattle.std.specs.List.{list_any}
 use Rattle.std.specs.FinSet as set
@@ -10,7 +11,8 @@ use Rattle.ci_word.specs.declared.arithmetic.Class.TheVariants as class
 use Rattle.ci_isa.specs.declared.instruction.Width.{Width}
 use Rattle.ci_isa.specs.declared.instruction.Width.TheVariants.{Byte, Half, Word}
 use Rattle.ci_isa.specs.declared.instruction.Insn.{Insn}
-use Rattle.ci_isa.specs.declared.instruction.Insn.TheVariants.{Alu, AluImm, Lui, Auipc, Jal, Jalr, Branch, Load, Store, Fence, Ecall, Ebreak, Unit, Cread, Illegal}
+use Rattle.ci_isa.specs.declared.instruction.Insn.TheVariants.{Alu, AluImm, Lui, Auipc, Jal, Jalr, Branch, Load, Store}
+use Rattle.ci_isa.specs.declared.instruction.Insn.TheVariants.{Fence, Ecall, Ebreak, Unit, Cread, Illegal}
 
 -- ---- what an instruction reads and writes
 

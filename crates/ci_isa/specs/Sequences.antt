@@ -1,6 +1,7 @@
 -- Instructions one behind the other: which of them stands at a place, who writes a register, and what is read before it
 -- is written.
-use Rattle.std.specs.Prelude.{◌≡◌, ℕ, zero, suc, ◌<◌, true, false, ◌++◌, ◌∷◌, if◌then◌else◌, List, Option, Some, None, slice_index_or, IsTrue}
+use Rattle.std.specs.Prelude.{◌≡◌, ℕ, zero, suc, ◌<◌, true, false, ◌++◌, ◌∷◌, if◌then◌else◌, List, Option, Some, None}
+use Rattle.std.specs.Prelude.{slice_index_or, IsTrue}
 use Rattle.std.specs.FinSet as set
 use Rattle.std.specs.List.{Contains}
 use Rattle.ci_isa.specs.declared.instruction.Insn.{Insn}
@@ -10,19 +11,19 @@ use Rattle.ci_isa.specs.Effects.{registers_read, registers_written, writes_regis
 -- ---- by place, from 0
 
 module _ (insns : List Insn) where
-  abbrev pub insn_at : ℕ → Insn
-  insn_at k = slice_index_or insns k Ebreak
+  abbrev pub nth_insn : ℕ → Insn
+  nth_insn k = slice_index_or insns k Ebreak
 
   -- the place of the latest instruction before place k that writes the register
   unfoldable pub latest_writer : ℕ → ℕ → Option ℕ
   latest_writer register zero = None
-  latest_writer register (suc k) = if writes_register (insn_at k) register then Some k else latest_writer register k
+  latest_writer register (suc k) = if writes_register (nth_insn k) register then Some k else latest_writer register k
 
 -- Instruction j is the last one before place k that writes the register.
 pub record IsLastWriter (insns : List Insn) (r k j : ℕ) : Type 0 where
   pub before : j < k
-  pub writes : writes_register (insn_at insns j) r ≡ true
-  pub none_between : (i : ℕ) → j < i → i < k → writes_register (insn_at insns i) r ≡ false
+  pub writes : writes_register (nth_insn insns j) r ≡ true
+  pub none_between : (i : ℕ) → j < i → i < k → writes_register (nth_insn insns i) r ≡ false
 
 -- ---- what all of them read and write
 

@@ -3,7 +3,8 @@ ghost use Rattle.std.specs.Prelude.{◌≡◌, ℕ, ◌^◌, ◌<◌, ◌↔◌,
 ghost use Rattle.ci_isa.specs.Fields as fields;
 ghost use Rattle.ci_isa.specs.Fields.{field, immediate_format, signed_immediate};
 ghost use Rattle.ci_isa.specs.declared.instruction.Insn.{Insn};
-ghost use Rattle.ci_isa.specs.Table.{operation_codes, constant_form, ShiftAmount, condition_code, load_code, store_code, Reads, ReadsX, IsWordOf, IsWellFormed};
+ghost use Rattle.ci_isa.specs.Table.{operation_codes, constant_form, ShiftAmount, condition_code, load_code};
+ghost use Rattle.ci_isa.specs.Table.{store_code, Reads, ReadsX, IsWordOf, IsWellFormed};
 
 use crate::immediates::{
     branch_high_bits, branch_low_bits, immediate_bits, jump_bits, store_high_bits, store_low_bits,

@@ -1,5 +1,6 @@
 -- What the numbers that a document gives keep.
-use Rattle.std.proofs.Common.{◌≡◌, ◌≢◌, ℕ, List, ◌≤◌, Bool, true, false, not, nat_le, [], ◌∷◌, sym, ◌∙◌, ◌&&◌, cond, get_or, map, take, Option, Some, None, pos, negsuc, refl, arith, unwrap_or, lit≤}
+use Rattle.std.proofs.Common.{◌≡◌, ◌≢◌, ℕ, List, ◌≤◌, Bool, true, false, not, nat_le, [], ◌∷◌, sym, ◌∙◌, ◌&&◌, cond}
+use Rattle.std.proofs.Common.{get_or, map, take, Option, Some, None, pos, negsuc, refl, arith, unwrap_or, lit≤}
 use Rattle.std.specs.List.{All, list_all}
 use Rattle.std.specs.Option.{option_and_then}
 use Rattle.std.proofs.lemmas.List.Sums.{AllPass-from_list_all}
@@ -20,47 +21,50 @@ use Rattle.ci_lat.proofs.FaultLaws.{list_all-found_none, pad_fits}
 use Rattle.ci_lat.specs.Faults.{setting, table_of, given, causes, first_fault, is_below_pad}
 
 abbrev Within : ℕ → ℕ → ℕ → Type 0
-Within least greatest n = (least ≤ n) × (n ≤ greatest)
+Within minimum maximum n = (minimum ≤ n) × (n ≤ maximum)
 
-tested : (least greatest n d : ℕ) (b : Bool) → (nat_le least n && nat_le n greatest) ≡ b → Within least greatest d → Within least greatest (unwrap_or (cond b (Some n) None) d)
-tested least greatest n d true e usual_within = grind (arith, nat_tests)
-tested least greatest n d false e usual_within = usual_within
+tested : (minimum maximum n d : ℕ) (b : Bool) → (nat_le minimum n && nat_le n maximum) ≡ b
+    → Within minimum maximum d → Within minimum maximum (unwrap_or (cond b (Some n) None) d)
+tested minimum maximum n d true e usual_within = grind (arith, nat_tests)
+tested minimum maximum n d false e usual_within = usual_within
 
 -- the number of a value, or another one in its range
-number_within : (least greatest d : ℕ) (value : Data) → Within least greatest d → Within least greatest (unwrap_or (number_of (number least greatest) value) d)
-number_within least greatest d (string s) h = h
-number_within least greatest d (integer (pos n)) h = tested least greatest n d _ refl h
-number_within least greatest d (integer (negsuc n)) h = h
-number_within least greatest d (float x) h = h
-number_within least greatest d (boolean b) h = h
-number_within least greatest d (datetime t) h = h
-number_within least greatest d (array ds) h = h
-number_within least greatest d (table ms) h = h
+number_within : (minimum maximum d : ℕ) (value : Data) → Within minimum maximum d
+    → Within minimum maximum (unwrap_or (number_of (number minimum maximum) value) d)
+number_within minimum maximum d (string s) h = h
+number_within minimum maximum d (integer (pos n)) h = tested minimum maximum n d _ refl h
+number_within minimum maximum d (integer (negsuc n)) h = h
+number_within minimum maximum d (float x) h = h
+number_within minimum maximum d (boolean b) h = h
+number_within minimum maximum d (datetime t) h = h
+number_within minimum maximum d (array ds) h = h
+number_within minimum maximum d (table ms) h = h
 
-given_within : (least greatest d : ℕ) (o : Option Data) → Within least greatest d → Within least greatest (unwrap_or (option_and_then (number_of (number least greatest)) o) d)
-given_within least greatest d None h = h
-given_within least greatest d (Some value) h = number_within least greatest d value h
+given_within : (minimum maximum d : ℕ) (o : Option Data) → Within minimum maximum d
+    → Within minimum maximum (unwrap_or (option_and_then (number_of (number minimum maximum)) o) d)
+given_within minimum maximum d None h = h
+given_within minimum maximum d (Some value) h = number_within minimum maximum d value h
 
 -- the number that a test puts in its range
-within_from_test : (least greatest n : ℕ) → (nat_le least n && nat_le n greatest) ≡ true → Within least greatest n
-within_from_test least greatest n e = grind (arith, nat_tests)
+within_from_test : (minimum maximum n : ℕ) → (nat_le minimum n && nat_le n maximum) ≡ true → Within minimum maximum n
+within_from_test minimum maximum n e = grind (arith, nat_tests)
 
 -- the usual table's number at the key is in this range
 abbrev usual_fits : ℕ → ℕ → Key → Bool
-usual_fits least greatest k = nat_le least (entry usual k) && nat_le (entry usual k) greatest
+usual_fits minimum maximum k = nat_le minimum (entry usual k) && nat_le (entry usual k) maximum
 
-module _ (document : Members) (least greatest : ℕ) where
-  setting_within : (k : Key) → kind_of k ≡ number least greatest → Within least greatest (entry usual k) → Within least greatest (setting document k)
+module _ (document : Members) (minimum maximum : ℕ) where
+  setting_within : (k : Key) → kind_of k ≡ number minimum maximum → Within minimum maximum (entry usual k) → Within minimum maximum (setting document k)
   unfolding setting
-  setting_within k kind h = rw kind (given_within least greatest (entry usual k) (given document k) h)
+  setting_within k kind h = rw kind (given_within minimum maximum (entry usual k) (given document k) h)
 
   -- the numbers of keys of one kind
-  settings_within : (keys : List Key) → All (λ k. kind_of k ≡ number least greatest) keys → list_all (usual_fits least greatest) keys ≡ true
-      → All (Within least greatest) (map (setting document) keys)
+  settings_within : (keys : List Key) → All (λ k. kind_of k ≡ number minimum maximum) keys → list_all (usual_fits minimum maximum) keys ≡ true
+      → All (Within minimum maximum) (map (setting document) keys)
   settings_within keys kinds fit =
-      All-map (Within least greatest) (setting document) keys
+      All-map (Within minimum maximum) (setting document) keys
       (λ i k h. setting_within (get_or keys i k) (kinds i k h)
-      (within_from_test least greatest (entry usual (get_or keys i k)) (AllPass-from_list_all (usual_fits least greatest) keys fit i k h)))
+      (within_from_test minimum maximum (entry usual (get_or keys i k)) (AllPass-from_list_all (usual_fits minimum maximum) keys fit i k h)))
 
 module _ (document : Members) where
   read_within : Within 1 1000 (setting document Read)
@@ -105,13 +109,13 @@ module _ (document : Members) (sound : first_fault (causes document) ≡ None) w
   IsLatencyTable-table_of = record {
     rows_with_latency = refl;
     rows_with_delay = refl;
-    least_read = (read_within document).0;
-    greatest_read = (read_within document).1;
+    minimum_read = (read_within document).0;
+    maximum_read = (read_within document).1;
     pad_below_read = pad_below_read;
-    least_latency = λ k d h. (software_within document k d h).0;
-    greatest_latency = λ k d h. (software_within document k d h).1;
+    minimum_latency = λ k d h. (software_within document k d h).0;
+    maximum_latency = λ k d h. (software_within document k d h).1;
     pad_below_latency = pad_below_software;
-    greatest_delay = λ k d h. (hardware_within document k d h).1;
+    maximum_delay = λ k d h. (hardware_within document k d h).1;
   }
 
 -- ---- the places of the classes

@@ -1,5 +1,6 @@
 -- What each class of instructions takes in software, in cycles, and in hardware, in thousandths of a cycle.
-use Rattle.std.specs.Prelude.{◌≡◌, ℕ, ◌<◌, ◌≤◌, List, [], ◌∷◌, length, map, filter, All, take, slice_index, codes, Option, Some, None, is_some, unwrap_or}
+use Rattle.std.specs.Prelude.{◌≡◌, ℕ, ◌<◌, ◌≤◌, List, [], ◌∷◌, length, map, filter, All, take, slice_index, codes}
+use Rattle.std.specs.Prelude.{Option, Some, None, is_some, unwrap_or}
 use Rattle.ci_word.specs.declared.arithmetic.Class.{Class}
 use Rattle.ci_word.specs.declared.arithmetic.Class.TheVariants as class
 
@@ -92,10 +93,10 @@ HasDelay c = place c < 8
 pub record IsLatencyTable (table : Latencies) : Type 0 where
   pub rows_with_latency : length table.software ≡ 16
   pub rows_with_delay : length table.hardware ≡ 8
-  pub least_read : 1 ≤ table.read
-  pub greatest_read : table.read ≤ 1000
+  pub minimum_read : 1 ≤ table.read
+  pub maximum_read : table.read ≤ 1000
   pub pad_below_read : table.pad ≤ table.read
-  pub least_latency : All (λ n. 1 ≤ n) table.software
-  pub greatest_latency : All (λ n. n ≤ 1000) table.software
+  pub minimum_latency : All (λ n. 1 ≤ n) table.software
+  pub maximum_latency : All (λ n. n ≤ 1000) table.software
   pub pad_below_latency : All (λ n. table.pad ≤ n) (take 8 table.software)
-  pub greatest_delay : All (λ n. n ≤ 100000) table.hardware
+  pub maximum_delay : All (λ n. n ≤ 100000) table.hardware

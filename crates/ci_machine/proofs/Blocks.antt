@@ -15,7 +15,8 @@ use Rattle.ci_machine.proofs.Effects.{frame}
 -- ---- relations
 
 -- the same with a set of fewer registers
-pub AreRelated-fewer : (text set fewer : ℕ → Bool) (left right : Reached Core) → ((r : ℕ) → fewer r ≡ true → set r ≡ true) → AreRelated text set left right → AreRelated text fewer left right
+pub AreRelated-fewer : (text set fewer : ℕ → Bool) (left right : Reached Core)
+    → ((r : ℕ) → fewer r ≡ true → set r ≡ true) → AreRelated text set left right → AreRelated text fewer left right
 AreRelated-fewer text set fewer left right within same = record {
   end = same.end;
   outside = same.outside;
@@ -29,7 +30,8 @@ AreRelated-refl text set run = record {
   registers = λ on r is. refl;
 }
 
-pub AreRelated-trans : (text set : ℕ → Bool) (left middle right : Reached Core) → AreRelated text set left middle → AreRelated text set middle right → AreRelated text set left right
+pub AreRelated-trans : (text set : ℕ → Bool) (left middle right : Reached Core) → AreRelated text set left middle
+    → AreRelated text set middle right → AreRelated text set left right
 AreRelated-trans text set left middle right first second = record {
   end = first.end ∙ second.end;
   outside = record {
@@ -87,7 +89,8 @@ module _ (text : ℕ → Bool) (units : Units) where
 
 -- ---- lists one behind the other
 
-pub act_all-append : (units : Units) (before after : List Insn) (run : Reached Core) → act_all units (before ++ after) run ≡ act_all units after (act_all units before run)
+pub act_all-append : (units : Units) (before after : List Insn) (run : Reached Core)
+    → act_all units (before ++ after) run ≡ act_all units after (act_all units before run)
 act_all-append units [] after run = refl
 act_all-append units (insn ∷ before) after run = act_all-append units before after (continued (act units insn) run)
 

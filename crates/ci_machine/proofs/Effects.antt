@@ -17,7 +17,8 @@ use Rattle.ci_machine.specs.Outcomes.{Next, Reached, reached}
 use Rattle.ci_machine.specs.Actions.{Units, acted, accessed, address_from, loaded, stored}
 use Rattle.ci_machine.specs.Agreement.{reads, writes, AgreeOutside, AgreeOn, AreRelated, LeavesText}
 use Rattle.ci_machine.proofs.TestLaws.{by_test, neither_first, neither_second, either_first}
-use Rattle.ci_machine.proofs.RegisterLaws.{register_kept, register_written, operands_agree, values_agree, registers_kept, registers_written, first_there, second_there}
+use Rattle.ci_machine.proofs.RegisterLaws.{register_kept, register_written, operands_agree, values_agree}
+use Rattle.ci_machine.proofs.RegisterLaws.{registers_kept, registers_written, first_there, second_there}
 
 -- ---- one instruction from one core
 
@@ -40,7 +41,8 @@ pub record Keeps (insn : Insn) (core : Core) (run : Reached Core) : Type 0 where
   pub ended : (end : End) → run.end ≡ Some end → run.state ≡ core
   pub goes_on : is_access insn ≡ false → run.end ≡ None
 
-keeps_result : (insn : Insn) (core : Core) (rd value : ℕ) → ((r : ℕ) → writes insn r ≡ is_among (rd ∷ []) r) → Keeps insn core (reached core (Next (with_register core rd value)))
+keeps_result : (insn : Insn) (core : Core) (rd value : ℕ) → ((r : ℕ) → writes insn r ≡ is_among (rd ∷ []) r)
+    → Keeps insn core (reached core (Next (with_register core rd value)))
 keeps_result insn core rd value one = record {
   registers = λ r other. register_kept core rd value r (sym (one r) ∙ other);
   memory = λ _. refl;
@@ -62,7 +64,8 @@ nothing_done insn core = record {
   goes_on = λ _. refl;
 }
 
-keeps_load : (kind : LoadKind) (rd rs1 : ℕ) (offset : ℤ) (core : Core) (address : ℕ) (bytes : Option (List ℕ)) → Keeps (Load kind rd rs1 offset) core (reached core (loaded core kind rd address bytes))
+keeps_load : (kind : LoadKind) (rd rs1 : ℕ) (offset : ℤ) (core : Core) (address : ℕ) (bytes : Option (List ℕ))
+    → Keeps (Load kind rd rs1 offset) core (reached core (loaded core kind rd address bytes))
 keeps_load kind rd rs1 offset core address (Some bytes) = record {
   registers = λ r other. register_kept core rd _ r other;
   memory = λ _. refl;
@@ -82,7 +85,8 @@ keeps_load kind rd rs1 offset core address None = record {
   goes_on = λ none. cc;
 }
 
-keeps_store : (width : Width) (rs1 rs2 : ℕ) (offset : ℤ) (core : Core) (address value : ℕ) (bytes : Option (List ℕ)) → Keeps (Store width rs1 rs2 offset) core (reached core (stored core width address value bytes))
+keeps_store : (width : Width) (rs1 rs2 : ℕ) (offset : ℤ) (core : Core) (address value : ℕ) (bytes : Option (List ℕ))
+    → Keeps (Store width rs1 rs2 offset) core (reached core (stored core width address value bytes))
 keeps_store width rs1 rs2 offset core address value (Some bytes) = record {
   registers = λ r other. refl;
   memory = λ none. cc;
@@ -137,7 +141,8 @@ pub same_bytes : (addresses : List ℕ) (left right : ℕ → Option ℕ) → Ag
 same_bytes [] left right agree = refl
 same_bytes (address ∷ more) left right (here, there) = λ i. joined (here i) (same_bytes more left right there i)
 
-pub same_stores : (addresses bytes : List ℕ) (left right : ℕ → Option ℕ) (a : ℕ) → left a ≡ right a → with_bytes left addresses bytes a ≡ with_bytes right addresses bytes a
+pub same_stores : (addresses bytes : List ℕ) (left right : ℕ → Option ℕ) (a : ℕ) → left a ≡ right a
+    → with_bytes left addresses bytes a ≡ with_bytes right addresses bytes a
 same_stores [] bytes left right a same = same
 same_stores (address ∷ more) [] left right a same = same
 same_stores (address ∷ more) (byte ∷ bytes) left right a same = ap (λ rest. if a == address then Some byte else rest) (same_stores more bytes left right a same)
@@ -156,7 +161,8 @@ alike_load kind rd rs1 offset left right address (Some bytes) = alike_result (Lo
 alike_load kind rd rs1 offset left right address None = record { end = refl; written = λ none. cc; memory = λ _ same. same }
 
 alike_store : (width : Width) (rs1 rs2 : ℕ) (offset : ℤ) (left right : Core) (address value : ℕ) (bytes : Option (List ℕ))
-    → AreAlike (Store width rs1 rs2 offset) left right (reached left (stored left width address value bytes)) (reached right (stored right width address value bytes))
+    → AreAlike (Store width rs1 rs2 offset) left right (reached left (stored left width address value bytes))
+    (reached right (stored right width address value bytes))
 alike_store width rs1 rs2 offset left right address value (Some bytes) = record {
   end = refl;
   written = λ _ r is. none_written r is;
@@ -181,18 +187,22 @@ module _ (units : Units) (left right : Core) where
   alike (Load kind rd rs1 offset) acts read moved =
       let a = operands_agree (rs1 ∷ []) left right rs1 read (first_there rs1 []) in
       let place : address_from left rs1 offset ≡ address_from right rs1 offset = λ i. operation Add (a i) (word_of offset) in
-      let bytes : bytes_at left.memory (addresses (width_bytes (load_width kind)) (address_from left rs1 offset)) ≡ bytes_at right.memory (addresses (width_bytes (load_width kind)) (address_from right rs1 offset)) =
+      let bytes : bytes_at left.memory (addresses (width_bytes (load_width kind)) (address_from left rs1 offset))
+      ≡ bytes_at right.memory (addresses (width_bytes (load_width kind)) (address_from right rs1 offset)) =
       same_bytes _ left.memory right.memory moved ∙ ap (λ at. bytes_at right.memory (addresses (width_bytes (load_width kind)) at)) place in
-      subst (λ (pair : ℕ × Option (List ℕ)). AreAlike (Load kind rd rs1 offset) left right (acted units (Load kind rd rs1 offset) left) (reached right (loaded right kind rd pair.0 pair.1)))
+      subst (λ (pair : ℕ × Option (List ℕ)). AreAlike (Load kind rd rs1 offset) left right
+      (acted units (Load kind rd rs1 offset) left) (reached right (loaded right kind rd pair.0 pair.1)))
       (λ i. (place i, bytes i))
       (alike_load kind rd rs1 offset left right _ _)
   alike (Store width rs1 rs2 offset) acts read moved =
       let a = operands_agree (rs1 ∷ rs2 ∷ []) left right rs1 read (first_there rs1 (rs2 ∷ [])) in
       let b = operands_agree (rs1 ∷ rs2 ∷ []) left right rs2 read (second_there rs1 rs2 []) in
       let place : address_from left rs1 offset ≡ address_from right rs1 offset = λ i. operation Add (a i) (word_of offset) in
-      let bytes : bytes_at left.memory (addresses (width_bytes width) (address_from left rs1 offset)) ≡ bytes_at right.memory (addresses (width_bytes width) (address_from right rs1 offset)) =
+      let bytes : bytes_at left.memory (addresses (width_bytes width) (address_from left rs1 offset))
+      ≡ bytes_at right.memory (addresses (width_bytes width) (address_from right rs1 offset)) =
       same_bytes _ left.memory right.memory moved ∙ ap (λ at. bytes_at right.memory (addresses (width_bytes width) at)) place in
-      subst (λ (all : ℕ × ℕ × Option (List ℕ)). AreAlike (Store width rs1 rs2 offset) left right (acted units (Store width rs1 rs2 offset) left) (reached right (stored right width all.0 all.1 all.2)))
+      subst (λ (all : ℕ × ℕ × Option (List ℕ)). AreAlike (Store width rs1 rs2 offset) left right
+      (acted units (Store width rs1 rs2 offset) left) (reached right (stored right width all.0 all.1 all.2)))
       (λ i. (place i, b i, bytes i))
       (alike_store width rs1 rs2 offset left right _ _ _)
   alike (Unit number rd rs1 rs2 rs3) acts read moved =
@@ -212,7 +222,8 @@ module _ (units : Units) (left right : Core) where
 
 -- ---- cores that agree
 
-pub outside_text : (text : ℕ → Bool) (addresses : List ℕ) (left right : ℕ → Option ℕ) → ((a : ℕ) → text a ≡ false → left a ≡ right a) → list_any text addresses ≡ false → AgreeAt addresses left right
+pub outside_text : (text : ℕ → Bool) (addresses : List ℕ) (left right : ℕ → Option ℕ)
+    → ((a : ℕ) → text a ≡ false → left a ≡ right a) → list_any text addresses ≡ false → AgreeAt addresses left right
 outside_text text [] left right same clear = tt
 outside_text text (address ∷ more) left right same clear =
     (same address (neither_first (text address) _ clear), outside_text text more left right same (neither_second (text address) _ clear))
@@ -223,7 +234,8 @@ module _ (text set : ℕ → Bool) (units : Units) (left right : Core) (outside 
   frame insn acts covered clear =
       let kept_left = keeps units insn left in
       let kept_right = keeps units insn right in
-      let same = alike units left right insn acts (λ r is. agree r (covered r is)) (outside_text text (accessed insn left) left.memory right.memory outside.memory clear) in
+      let same = alike units left right insn acts (λ r is. agree r (covered r is))
+      (outside_text text (accessed insn left) left.memory right.memory outside.memory clear) in
       record {
         end = same.end;
         outside = record {

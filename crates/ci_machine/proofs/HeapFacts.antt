@@ -1,15 +1,16 @@
 -- What is known of the heap, the second part.
-use Rattle.std.proofs.Common.{◌≡◌, ℕ, ◌+◌, ◌-◌, ◌*◌, ◌/◌, ◌<◌, ◌≤◌, List, [], ◌∷◌, length, get_or, set, sym, subst, arith, Bool, true, false, ◌^◌, ◌∙◌, refl, cond, leb, ◌&&◌, ◌||◌}
+use Rattle.std.proofs.Common.{◌≡◌, ℕ, ◌+◌, ◌-◌, ◌*◌, ◌/◌, ◌<◌, ◌≤◌, List, [], ◌∷◌, length, get_or, set, sym, subst}
+use Rattle.std.proofs.Common.{arith, Bool, true, false, ◌^◌, ◌∙◌, refl, cond, leb, ◌&&◌, ◌||◌}
 use Rattle.std.proofs.lemmas.Bool.Decides.{nat_tests}
 use Rattle.ci_elf.specs.declared.ranges.Range.{Range}
 use Rattle.ci_machine.specs.declared.parts.Part.{Part}
-use Rattle.ci_machine.specs.Programs.{greatest_end, loaded_size, lies_in, stack_start, stack_end}
+use Rattle.ci_machine.specs.Programs.{maximum_end, loaded_size, lies_in, stack_start, stack_end}
 use Rattle.ci_machine.specs.Parts.{IsApart, IsLaidOut, places, heap_end_in, program_in, segments_in}
 use Rattle.ci_machine.specs.Calls.{may_end_at}
 use Rattle.ci_machine.proofs.HeapLaws.{IsMoved, moved, not_heap}
 
 pub record IsHeap (parts : List Part) (heap : Part) (loaded : ℕ) : Type 0 where
-  pub begins : heap.start ≡ (greatest_end (segments_in (places parts)) + 15) / 16 * 16
+  pub begins : heap.start ≡ (maximum_end (segments_in (places parts)) + 15) / 16 * 16
   pub ends : heap_end_in (places parts) ≡ heap.start + length heap.bytes.items
   pub top : heap.start + length heap.bytes.items ≤ 0xffff0000
   pub counted : loaded ≡ loaded_size (segments_in (places parts))
@@ -66,7 +67,7 @@ module _ (stack heap new : Part) (segments : List Part) (loaded end : ℕ) (begi
     (may : room heap.start loaded end ≡ true) where
   resized : (ok : Bool) → length new.bytes.items ≡ cond ok (end - heap.start) (length heap.bytes.items)
       → IsApart (stack ∷ heap ∷ segments) → IsLaidOut (places (stack ∷ heap ∷ segments)) loaded
-      → greatest_end (places (stack ∷ heap ∷ segments)) ≤ 2 ^ 32
+      → maximum_end (places (stack ∷ heap ∷ segments)) ≤ 2 ^ 32
       → IsMoved (stack ∷ heap ∷ segments) (stack ∷ new ∷ segments) loaded (cond ok end (heap_end_in (places (stack ∷ heap ∷ segments))))
   unfolding places IsLaidOut
   resized true size apart laid within =
@@ -79,7 +80,7 @@ module _ (stack heap new : Part) (segments : List Part) (loaded end : ℕ) (begi
       (not_heap stack heap segments apart)
 
 pub heap-set : (parts : List Part) (loaded : ℕ) (heap new : Part) (end : ℕ) (ok : Bool)
-    → IsApart parts → IsLaidOut (places parts) loaded → greatest_end (places parts) ≤ 2 ^ 32 → heap ≡ get_or parts 1 heap
+    → IsApart parts → IsLaidOut (places parts) loaded → maximum_end (places parts) ≤ 2 ^ 32 → heap ≡ get_or parts 1 heap
     → new.start ≡ heap.start → length new.bytes.items ≡ cond ok (end - heap.start) (length heap.bytes.items)
     → ((k : ℕ) → k < length new.bytes.items → get_or new.bytes.items k 0 ≡ get_or heap.bytes.items k 0)
     → room heap.start loaded end ≡ true
@@ -89,7 +90,7 @@ heap-set [] loaded heap new end ok apart laid within is begins size kept may = a
 heap-set (stack ∷ []) loaded heap new end ok apart laid within is begins size kept may = absurd laid
 heap-set (stack ∷ h ∷ segments) loaded heap new end ok apart laid within is begins size kept may =
     let Q : Part → Type 0 = λ q. IsApart (stack ∷ q ∷ segments) → IsLaidOut (places (stack ∷ q ∷ segments)) loaded
-    → greatest_end (places (stack ∷ q ∷ segments)) ≤ 2 ^ 32
+    → maximum_end (places (stack ∷ q ∷ segments)) ≤ 2 ^ 32
     → IsMoved (stack ∷ q ∷ segments) (stack ∷ new ∷ segments) loaded (cond ok end (heap_end_in (places (stack ∷ q ∷ segments)))) in
     subst Q is (resized stack heap new segments loaded end begins kept may ok size) apart laid within
 

@@ -1,4 +1,5 @@
 pub mod TestLaws
+pub mod StateViews
 pub mod LeavingLists
 pub mod RegisterLaws
 pub mod Effects

@@ -12,7 +12,8 @@ use Rattle.ci_isa.specs.declared.instruction.LoadKind.TheVariants as kinds
 use Rattle.ci_isa.specs.declared.instruction.Width.TheVariants as widths
 use Rattle.ci_isa.specs.declared.instruction.Insn.{Insn}
 use Rattle.ci_isa.specs.declared.instruction.Insn.TheVariants.{Alu, AluImm, Load, Store, Jalr, Unit, Illegal}
-use Rattle.ci_isa.specs.Decoding.{jump_row, branch_row, load_row, store_row, immediate_row, shift_row, constant_row, operation_row, fence_row, environment_row, plain_row}
+use Rattle.ci_isa.specs.Decoding.{jump_row, branch_row, load_row, store_row, immediate_row, shift_row, constant_row}
+use Rattle.ci_isa.specs.Decoding.{operation_row, fence_row, environment_row, plain_row}
 use Rattle.ci_machine.specs.declared.ends.End.{End}
 use Rattle.ci_machine.specs.declared.ends.End.TheVariants as ends
 use Rattle.ci_machine.specs.Cores.{Core, first_hidden, register, with_register}
@@ -189,7 +190,8 @@ program : Program
 program = loaded_program file
 
 -- behind the file's part of the segment stand zeros
-loaded_bytes : ((opening file []).core.memory 0x1002 ≡ Some 0x70) × ((opening file []).core.memory 0x1010 ≡ Some 0) × ((opening file []).core.memory 0x1014 ≡ None)
+loaded_bytes : ((opening file []).core.memory 0x1002 ≡ Some 0x70) × ((opening file []).core.memory 0x1010 ≡ Some 0)
+    × ((opening file []).core.memory 0x1014 ≡ None)
 unfolding file
 loaded_bytes = (refl, refl, refl)
 
@@ -201,7 +203,9 @@ unfolding plain program file units
 ends_by_exit = refl
 
 -- ends by its fourth step, and costs 10 + 10 + 3 + 10
-run_accounts : (steps_made plain program 9 (opening file []) ≡ 4) × (cost plain program latencies 9 (opening file []) ≡ 33) × (entries plain program 9 (opening file []) 0x1008 ≡ 1)
+run_accounts : (steps_made plain program 9 (opening file []) ≡ 4)
+    × (cost plain program latencies 9 (opening file []) ≡ 33)
+    × (entries plain program 9 (opening file []) 0x1008 ≡ 1)
 unfolding plain program file units latencies count_below sum_below
 run_accounts = (refl, refl, refl)
 

@@ -15,7 +15,9 @@ use Rattle.ci_machine.specs.Accesses.{addresses}
 use Rattle.ci_machine.specs.Outcomes.{Outcome, Next, Ended, Reached, reached, continued, from_end}
 use Rattle.ci_machine.specs.Actions.{Units, act, acted, accessed}
 use Rattle.ci_machine.specs.Programs.{Program, State, at_pc, in_text, lies_in, heap_start}
-use Rattle.ci_machine.specs.Calls.{bad_file, bad_address, no_such_call, answering, range_at, read_length, read_into, read_call, written_from, is_output, write_call, may_end_at, with_heap_end, heap_call, call, moved_range, moved_by_call}
+use Rattle.ci_machine.specs.Calls.{bad_file, bad_address, no_such_call, answering, range_at, read_length, read_into}
+use Rattle.ci_machine.specs.Calls.{read_call, written_from, is_output, write_call, may_end_at, with_heap_end, heap_call}
+use Rattle.ci_machine.specs.Calls.{call, moved_range, moved_by_call}
 use Rattle.ci_machine.specs.Steps.{Meaning, fetched, onward, directed, is_taken, then_onward, control, execute, stepped, step, moved, touched}
 use Rattle.ci_machine.specs.Runs.{after, LeavesTextFor}
 use Rattle.ci_machine.specs.Blocks.{HaveSameText}

@@ -10,7 +10,8 @@ use Rattle.ci_machine.specs.declared.ends.End.TheVariants.{Access}
 use Rattle.ci_machine.specs.Cores.{Core, first_hidden, hidden, register, with_register, values_in, with_registers}
 use Rattle.ci_machine.specs.Outcomes.{Outcome, Next, Ended, Reached, reached}
 use Rattle.ci_isa.specs.Effects.{is_among, width_bytes}
-use Rattle.ci_machine.specs.Accesses.{addresses, number_of_bytes, bytes_of_number, bytes_at, with_bytes, load_width, extended}
+use Rattle.ci_machine.specs.Accesses.{addresses, number_of_bytes, bytes_of_number, bytes_at, with_bytes, load_width}
+use Rattle.ci_machine.specs.Accesses.{extended}
 
 -- The units, by their numbers. A unit takes the values of the three sources of its word, and behind these the values of
 -- further registers, which its word doesn't name. To the list of all these values it gives a list of results.

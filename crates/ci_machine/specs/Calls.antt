@@ -1,6 +1,7 @@
 -- The environment calls. RISC-V Unprivileged ISA 20191213, section 2.8, leaves them to the environment; their numbers
 -- and answers are those of Linux. The number is in x17, the arguments are in x10 to x12, and x10 takes the answer.
-use Rattle.std.specs.Prelude.{ℕ, ◌+◌, ◌-◌, ◌^◌, Bool, ◌==◌, ◌&&◌, ◌||◌, nat_le, min, if◌then◌else◌, List, [], ◌++◌, length, take, drop, Option, Some, None}
+use Rattle.std.specs.Prelude.{ℕ, ◌+◌, ◌-◌, ◌^◌, Bool, ◌==◌, ◌&&◌, ◌||◌, nat_le, min, if◌then◌else◌, List, [], ◌++◌}
+use Rattle.std.specs.Prelude.{length, take, drop, Option, Some, None}
 use Rattle.ci_machine.specs.declared.ends.End.TheVariants as ends
 use Rattle.ci_machine.specs.Cores.{Core, register, with_register}
 use Rattle.ci_machine.specs.Accesses.{addresses, bytes_at, with_bytes}

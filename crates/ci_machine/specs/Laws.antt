@@ -8,7 +8,8 @@ use Rattle.ci_machine.specs.Cores.{Core}
 use Rattle.std.specs.List.{list_any}
 use Rattle.ci_machine.specs.Outcomes.{reached, Reached}
 use Rattle.ci_machine.specs.Actions.{Units, TakeHidden, acted}
-use Rattle.ci_machine.specs.Agreement.{reads, writes, act_all, AgreeOutside, AgreeOn, AreRelated, LeavesText, AreActions, AllLeaveText, needed}
+use Rattle.ci_machine.specs.Agreement.{reads, writes, act_all, AgreeOutside, AgreeOn, AreRelated, LeavesText}
+use Rattle.ci_machine.specs.Agreement.{AreActions, AllLeaveText, needed}
 use Rattle.ci_machine.specs.Programs.{Program, at_pc}
 use Rattle.ci_machine.specs.Steps.{control, moved}
 use Rattle.ci_machine.specs.Blocks.{AreRelatedAt, HaveSameLayout, HaveSameStreams, IsMapped}

@@ -1,5 +1,6 @@
 -- Runs of steps, and what is counted over them.
-use Rattle.std.specs.Prelude.{◌≡◌, ℕ, zero, suc, ◌<◌, ◌≤◌, Bool, ◌==◌, ◌&&◌, true, is_none, if◌then◌else◌, Option, Some, None}
+use Rattle.std.specs.Prelude.{◌≡◌, ℕ, zero, suc, ◌<◌, ◌≤◌, Bool, ◌==◌, ◌&&◌, true, is_none, if◌then◌else◌, Option, Some}
+use Rattle.std.specs.Prelude.{None}
 use Rattle.ci_word.specs.declared.arithmetic.Class.{Class}
 use Rattle.ci_word.specs.Numbers.{count_below, sum_below}
 use Rattle.ci_isa.specs.declared.instruction.Insn.{Insn}

@@ -1,6 +1,7 @@
 -- A step: an instruction is fetched, and acts or directs the run (RISC-V Unprivileged ISA 20191213, sections 1.5, 2.2,
 -- 2.4.2, 2.5, 2.7 and 2.8).
-use Rattle.std.specs.Prelude.{ℕ, ◌+◌, ◌-◌, ◌%◌, ◌^◌, Bool, ◌==◌, ◌&&◌, not, nat_lt, int_lt, if◌then◌else◌, List, Option, Some, None, find}
+use Rattle.std.specs.Prelude.{ℕ, ◌+◌, ◌-◌, ◌%◌, ◌^◌, Bool, ◌==◌, ◌&&◌, not, nat_lt, int_lt, if◌then◌else◌, List, Option}
+use Rattle.std.specs.Prelude.{Some, None, find}
 use Rattle.std.specs.Option.{option_map}
 use Rattle.ci_word.specs.declared.arithmetic.Op.TheVariants.{Add}
 use Rattle.ci_word.specs.Arithmetic.{operation, signed, word_of}

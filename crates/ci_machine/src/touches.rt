@@ -1,5 +1,5 @@
 //! Which byte of the text an instruction touches first.
-#![tactic(auto, unfolding(crate::specs::States::state_of, crate::specs::States::core_of, crate::specs::States::program_of))]
+#![tactic(auto, unfolding(crate::proofs::StateViews::views))]
 
 use crate::state::State;
 use ci_isa::Width;

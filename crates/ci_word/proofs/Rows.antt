@@ -1,5 +1,8 @@
 -- What each call does to the words, said of the set that they hold.
-use Rattle.std.proofs.Common.{◌≡◌, ◌≢◌, ℕ, zero, suc, ◌+◌, ◌-◌, ◌*◌, ◌/◌, ◌%◌, ◌^◌, ◌<◌, ◌≤◌, ◌⊎◌, max, min, Bool, true, false, cond, not, ◌&&◌, ◌||◌, nat_eq, nat_lt, List, [], ◌∷◌, length, slice_index, IsTrue, ◌↔◌, bit_and, bit_or, count_ones, refl, sym, ap, ◌∙◌, inl, inr, arith, zero-add, add_comm, pow_pos, pow-suc, div-add-mod', lit<, w64, nat_cmp}
+use Rattle.std.proofs.Common.{◌≡◌, ◌≢◌, ℕ, zero, suc, ◌+◌, ◌-◌, ◌*◌, ◌/◌, ◌%◌, ◌^◌, ◌<◌, ◌≤◌, ◌⊎◌, max, min, Bool, true}
+use Rattle.std.proofs.Common.{false, cond, not, ◌&&◌, ◌||◌, nat_eq, nat_lt, List, [], ◌∷◌, length, slice_index, IsTrue}
+use Rattle.std.proofs.Common.{◌↔◌, bit_and, bit_or, count_ones, refl, sym, ap, ◌∙◌, inl, inr, arith, zero-add, add_comm}
+use Rattle.std.proofs.Common.{pow_pos, pow-suc, div-add-mod', lit<, w64, nat_cmp}
 use Rattle.std.proofs.Math.ListN.{set as list_set, length-set}
 use Rattle.std.specs.Cmp.{nat_cmp_total}
 use Rattle.std.specs.FinSet as set
@@ -10,12 +13,14 @@ use Rattle.std.proofs.lemmas.Bool.Decides.{nat_tests}
 use Rattle.std.proofs.lemmas.Grind.{get_or-set_at}
 use Rattle.std.proofs.lemmas.List.{get_or-set_other}
 use Rattle.std.proofs.lemmas.Nat.{and_le_l, or_lt, le_or_l, le_or_r, mod_below, div_below, shr_split, ones_cat, ones-le}
-use Rattle.std.proofs.lemmas.Nat.Bits.{shr_and_one, bit_at-zero, bit_at-lt, bit_at_and, bit_at_or, bit_at_not, bit_at_cat_low, bit_at_set_same, bit_at_set_other, bit_at_clear_same, bit_at_clear_other, bit_at-trailing_zeros}
+use Rattle.std.proofs.lemmas.Nat.Bits.{shr_and_one, bit_at-zero, bit_at-lt, bit_at_and, bit_at_or, bit_at_not}
+use Rattle.std.proofs.lemmas.Nat.Bits.{bit_at_cat_low, bit_at_set_same, bit_at_set_other, bit_at_clear_same}
+use Rattle.std.proofs.lemmas.Nat.Bits.{bit_at_clear_other, bit_at-trailing_zeros}
 use Rattle.std.specs.Cmp.Lexicographic.{pointwise}
 use Rattle.std.proofs.lemmas.Slice.Eq.{bytes_eq-Decides}
 use Rattle.ci_word.specs.Numbers.{count_below, Meets}
 use Rattle.ci_word.proofs.NumberLaws.{same_numbers, contains-insert_nat, contains-remove_nat, count_below-same, count_below-add}
-use Rattle.ci_word.specs.Words.{is_in, numbers_in, number_of, AreWords, four_words, words_of}
+use Rattle.ci_word.specs.Words.{is_in, numbers_in, number_of, AreRowWords, four_words, words_of}
 use Rattle.ci_word.specs.WordLaws.{contains-numbers_in, is_in-at, bit_at-number_of}
 
 -- ---- what a row contains
@@ -29,13 +34,15 @@ contains_is_in words s is n below =
     ap (λ t. set.contains t n) (sym is) ∙ contains-numbers_in words n ∙ ap (λ t. t && is_in words n) (lt-ltb n 256 below)
 
 -- the test `(word >> bit) & 1 == 1`
-pub contains_by_shift : (words : List ℕ) (s : set.FinSet nat_cmp) → numbers_in words ≡ s → (n : ℕ) → n < 256 → nat_eq (bit_and (slice_index words (n / 64) / 2 ^ (n % 64)) 1) 1 ≡ set.contains s n
+pub contains_by_shift : (words : List ℕ) (s : set.FinSet nat_cmp) → numbers_in words ≡ s → (n : ℕ) → n < 256
+    → nat_eq (bit_and (slice_index words (n / 64) / 2 ^ (n % 64)) 1) 1 ≡ set.contains s n
 contains_by_shift words s is n below =
     ap (λ b. nat_eq b 1) (shr_and_one (slice_index words (n / 64)) (n % 64)) ∙ sym (contains_is_in words s is n below)
 
 -- the four words with no bit set
 pub numbers_in_zeros : numbers_in (0 ∷ 0 ∷ 0 ∷ 0 ∷ []) ≡ set.empty
-numbers_in_zeros = same_numbers _ _ (λ q. contains-numbers_in zeros q ∙ ap (λ t. nat_lt q 256 && t) (none q) ∙ never (nat_lt q 256) ∙ sym (set.contains-empty nat_cmp q))
+numbers_in_zeros = same_numbers _ _ (λ q. contains-numbers_in zeros q ∙ ap (λ t. nat_lt q 256 && t) (none q)
+    ∙ never (nat_lt q 256) ∙ sym (set.contains-empty nat_cmp q))
   where
     zeros : List ℕ
     zeros = 0 ∷ 0 ∷ 0 ∷ 0 ∷ []
@@ -56,8 +63,8 @@ numbers_in_zeros = same_numbers _ _ (λ q. contains-numbers_in zeros q ∙ ap (�
 
 -- ---- a word written
 
-pub AreWords-set : (words : List ℕ) (i w : ℕ) → AreWords words → i < 4 → w < 2 ^ 64 → AreWords (list_set words i w)
-AreWords-set words i w (four, below) within fits = (
+pub AreRowWords-set : (words : List ℕ) (i w : ℕ) → AreRowWords words → i < 4 → w < 2 ^ 64 → AreRowWords (list_set words i w)
+AreRowWords-set words i w (four, below) within fits = (
   length-set words i w ∙ four,
   λ k. elim (cases_eq k i) [
     | inl same ↦ let at : slice_index (list_set words i w) k ≡ w = get_or-set_at words i k w 0 same (omega arith) in omega arith
@@ -69,7 +76,9 @@ is_in-set_same : (words : List ℕ) (n w : ℕ) → n / 64 < length words → is
 is_in-set_same words n w within = ap (λ x. nat_eq (bit_at x (n % 64)) 1) (get_or-set_at words (n / 64) (n / 64) w 0 refl within)
 
 -- where a word keeps its other bits, the row keeps its other numbers
-is_in-set_other : (words : List ℕ) (n q w : ℕ) → n / 64 < length words → q ≢ n → ((b : ℕ) → b < 64 → b ≢ n % 64 → bit_at w b ≡ bit_at (slice_index words (n / 64)) b) → is_in (list_set words (n / 64) w) q ≡ is_in words q
+is_in-set_other : (words : List ℕ) (n q w : ℕ) → n / 64 < length words → q ≢ n
+    → ((b : ℕ) → b < 64 → b ≢ n % 64 → bit_at w b ≡ bit_at (slice_index words (n / 64)) b)
+    → is_in (list_set words (n / 64) w) q ≡ is_in words q
 is_in-set_other words n q w within apart kept =
     elim (cases_eq (q / 64) (n / 64)) [
       | inl same ↦
@@ -80,7 +89,10 @@ is_in-set_other words n q w within apart kept =
     ]
 
 -- a set that differs from the row's in n alone is what the row holds once that bit is written
-numbers_in-set : (words : List ℕ) (s t : set.FinSet nat_cmp) (n w : ℕ) → numbers_in words ≡ s → length words ≡ 4 → n < 256 → ((b : ℕ) → b < 64 → b ≢ n % 64 → bit_at w b ≡ bit_at (slice_index words (n / 64)) b) → nat_eq (bit_at w (n % 64)) 1 ≡ set.contains t n → ((q : ℕ) → q ≢ n → set.contains s q ≡ set.contains t q) → numbers_in (list_set words (n / 64) w) ≡ t
+numbers_in-set : (words : List ℕ) (s t : set.FinSet nat_cmp) (n w : ℕ) → numbers_in words ≡ s → length words ≡ 4
+    → n < 256 → ((b : ℕ) → b < 64 → b ≢ n % 64 → bit_at w b ≡ bit_at (slice_index words (n / 64)) b)
+    → nat_eq (bit_at w (n % 64)) 1 ≡ set.contains t n → ((q : ℕ) → q ≢ n → set.contains s q ≡ set.contains t q)
+    → numbers_in (list_set words (n / 64) w) ≡ t
 numbers_in-set words s t n w is four below kept here others =
     same_numbers _ _
     (λ q. contains-numbers_in (list_set words (n / 64) w) q ∙ elim (cases_eq q n) [
@@ -91,7 +103,9 @@ numbers_in-set words s t n w is four below kept here others =
     ])
 
 -- `word | 1 << bit`
-pub numbers_in-insert : (words : List ℕ) (s : set.FinSet nat_cmp) (n : ℕ) → numbers_in words ≡ s → length words ≡ 4 → n < 256 → numbers_in (list_set words (n / 64) (bit_or (slice_index words (n / 64)) (1 * 2 ^ (n % 64) % 2 ^ 64))) ≡ set.insert s n
+pub numbers_in-insert : (words : List ℕ) (s : set.FinSet nat_cmp) (n : ℕ) → numbers_in words ≡ s → length words ≡ 4
+    → n < 256 → numbers_in (list_set words (n / 64)
+    (bit_or (slice_index words (n / 64)) (1 * 2 ^ (n % 64) % 2 ^ 64))) ≡ set.insert s n
 numbers_in-insert words s n is four below =
     numbers_in-set words s (set.insert s n) n _ is four below
     (λ b h other. bit_at_set_other w64 _ (n % 64) (omega arith) b other)
@@ -100,7 +114,9 @@ numbers_in-insert words s n is four below =
     (λ q other. sym (contains-insert_nat s n q ∙ ap (λ b. b || set.contains s q) (ne_eqb q n other)))
 
 -- `word & !(1 << bit)`
-pub numbers_in-remove : (words : List ℕ) (s : set.FinSet nat_cmp) (n : ℕ) → numbers_in words ≡ s → length words ≡ 4 → n < 256 → numbers_in (list_set words (n / 64) (bit_and (slice_index words (n / 64)) (bit_not w64 (1 * 2 ^ (n % 64) % 2 ^ 64)))) ≡ set.remove s n
+pub numbers_in-remove : (words : List ℕ) (s : set.FinSet nat_cmp) (n : ℕ) → numbers_in words ≡ s → length words ≡ 4
+    → n < 256 → numbers_in (list_set words (n / 64)
+    (bit_and (slice_index words (n / 64)) (bit_not w64 (1 * 2 ^ (n % 64) % 2 ^ 64)))) ≡ set.remove s n
 numbers_in-remove words s n is four below =
     numbers_in-set words s (set.remove s n) n _ is four below
     (λ b h other. bit_at_clear_other w64 _ (n % 64) (omega arith) b h other)
@@ -125,8 +141,8 @@ past_four f (suc (suc zero)) past = absurd (omega arith)
 past_four f (suc (suc (suc zero))) past = absurd (omega arith)
 past_four f (suc (suc (suc (suc k)))) past = refl
 
-AreWords_four : (f : ℕ → ℕ) → ((k : ℕ) → f k < 2 ^ 64) → AreWords (four_words f)
-AreWords_four f below = (
+AreRowWords_four : (f : ℕ → ℕ) → ((k : ℕ) → f k < 2 ^ 64) → AreRowWords (four_words f)
+AreRowWords_four f below = (
   refl,
   λ k. elim (cases_lt k 4) [
     | inl within ↦ let at = four_at f k within in omega (arith, below k)
@@ -153,8 +169,8 @@ contains_combined op a b f none bits q =
 abbrev joined : List ℕ → List ℕ → ℕ → ℕ
 joined a b k = bit_or (slice_index a k) (slice_index b k)
 
-pub AreWords_joined : (a b : List ℕ) → AreWords a → AreWords b → AreWords (four_words (joined a b))
-AreWords_joined a b (_, in_a) (_, in_b) = AreWords_four (joined a b) (λ k. or_lt 64 (slice_index a k) (slice_index b k) (in_a k) (in_b k))
+pub AreRowWords_joined : (a b : List ℕ) → AreRowWords a → AreRowWords b → AreRowWords (four_words (joined a b))
+AreRowWords_joined a b (_, in_a) (_, in_b) = AreRowWords_four (joined a b) (λ k. or_lt 64 (slice_index a k) (slice_index b k) (in_a k) (in_b k))
 
 bit_or_test : (x y : ℕ) → x < 2 → y < 2 → nat_eq (max x y) 1 ≡ (nat_eq x 1 || nat_eq y 1)
 bit_or_test x y p q = grind (arith, nat_tests)
@@ -182,16 +198,16 @@ numbers_in_joined a b s t is_s is_t =
 abbrev left_over : List ℕ → List ℕ → ℕ → ℕ
 left_over a b k = bit_and (slice_index a k) (bit_not w64 (slice_index b k))
 
-pub AreWords_left_over : (a b : List ℕ) → AreWords a → AreWords (four_words (left_over a b))
-AreWords_left_over a b (_, in_a) =
-    AreWords_four (left_over a b) (λ k. let least = and_le_l (slice_index a k) (bit_not w64 (slice_index b k)) in omega (arith, least, in_a k))
+pub AreRowWords_left_over : (a b : List ℕ) → AreRowWords a → AreRowWords (four_words (left_over a b))
+AreRowWords_left_over a b (_, in_a) =
+    AreRowWords_four (left_over a b) (λ k. let least = and_le_l (slice_index a k) (bit_not w64 (slice_index b k)) in omega (arith, least, in_a k))
 
 bit_and_not_test : (x y : ℕ) → x < 2 → y < 2 → nat_eq (min x (1 - y)) 1 ≡ (nat_eq x 1 && not (nat_eq y 1))
 bit_and_not_test x y p q = grind (arith, nat_tests)
 
 -- the set of what is left over is the difference
 pub numbers_in_left_over :
-    (a b : List ℕ) (s t : set.FinSet nat_cmp) → numbers_in a ≡ s → numbers_in b ≡ t → AreWords b
+    (a b : List ℕ) (s t : set.FinSet nat_cmp) → numbers_in a ≡ s → numbers_in b ≡ t → AreRowWords b
     → numbers_in (four_words (left_over a b)) ≡ set.difference s t
 numbers_in_left_over a b s t is_s is_t (_, fits) =
     same_numbers _ _
@@ -245,7 +261,7 @@ some_of_four f some =
     ]
 
 -- a bit in both words is a number in both sets
-meets_at_word : (a b : List ℕ) (s t : set.FinSet nat_cmp) → numbers_in a ≡ s → numbers_in b ≡ t → AreWords a → (k : ℕ) → k < 4 → shared a b k ≢ 0 → Meets s t
+meets_at_word : (a b : List ℕ) (s t : set.FinSet nat_cmp) → numbers_in a ≡ s → numbers_in b ≡ t → AreRowWords a → (k : ℕ) → k < 4 → shared a b k ≢ 0 → Meets s t
 meets_at_word a b s t is_s is_t (_, fits) k within some =
     let small = and_le_l (slice_index a k) (slice_index b k) in
     let fit = fits k in
@@ -262,7 +278,8 @@ meets_at_word a b s t is_s is_t (_, fits) k within some =
     )
 
 -- a number in both sets is a bit in both words
-word_of_meets : (a b : List ℕ) (s t : set.FinSet nat_cmp) → numbers_in a ≡ s → numbers_in b ≡ t → (n : ℕ) → IsTrue (set.contains s n) → IsTrue (set.contains t n) → shared a b (n / 64) ≢ 0
+word_of_meets : (a b : List ℕ) (s t : set.FinSet nat_cmp) → numbers_in a ≡ s → numbers_in b ≡ t → (n : ℕ)
+    → IsTrue (set.contains s n) → IsTrue (set.contains t n) → shared a b (n / 64) ≢ 0
 word_of_meets a b s t is_s is_t n in_s in_t none =
     let below = numbers_in-below a s is_s n in_s in
     let x = eqb-true (bit_at (slice_index a (n / 64)) (n % 64)) 1 (sym (contains_is_in a s is_s n below) ∙ in_s) in
@@ -271,10 +288,14 @@ word_of_meets a b s t is_s is_t n in_s in_t none =
     let zero_bit = ap (λ w. bit_at w (n % 64)) none ∙ bit_at-zero (n % 64) in
     omega arith
 
-pub meets_iff : (a b : List ℕ) (s t : set.FinSet nat_cmp) → numbers_in a ≡ s → numbers_in b ≡ t → AreWords a → IsTrue (not (nat_eq (any_of_four (shared a b)) 0)) ↔ Meets s t
+pub meets_iff : (a b : List ℕ) (s t : set.FinSet nat_cmp) → numbers_in a ≡ s → numbers_in b ≡ t → AreRowWords a
+    → IsTrue (not (nat_eq (any_of_four (shared a b)) 0)) ↔ Meets s t
 meets_iff a b s t is_s is_t words = (
-  λ some. let found = some_of_four (shared a b) (eqb-false (any_of_four (shared a b)) 0 (not-true _ some)) in meets_at_word a b s t is_s is_t words found.0 found.1 found.2,
-  λ (n, in_s, in_t). ap not (ne_eqb (any_of_four (shared a b)) 0 (λ none. word_of_meets a b s t is_s is_t n in_s in_t (each_of_none (shared a b) none (n / 64) (div_below n 64 4 (lit< tt) (numbers_in-below a s is_s n in_s))))),
+  λ some. let found = some_of_four (shared a b) (eqb-false (any_of_four (shared a b)) 0 (not-true _ some)) in
+      meets_at_word a b s t is_s is_t words found.0 found.1 found.2,
+  λ (n, in_s, in_t). ap not (ne_eqb (any_of_four (shared a b)) 0
+      (λ none. word_of_meets a b s t is_s is_t n in_s in_t
+      (each_of_none (shared a b) none (n / 64) (div_below n 64 4 (lit< tt) (numbers_in-below a s is_s n in_s))))),
 )
 
 -- ---- how many numbers
@@ -294,13 +315,17 @@ ones-count (suc w) x below =
     let high : x / 2 ^ w < 2 = div_below x (2 ^ w) 2 (pow_pos w) (omega arith) in
     ap count_ones (sym split) ∙ ones_cat w (x / 2 ^ w) (x % 2 ^ w) low
     ∙ add_comm (count_ones (x / 2 ^ w)) (count_ones (x % 2 ^ w))
-    ∙ (λ i. (ones-count w (x % 2 ^ w) low ∙ count_below-same w _ _ (λ b h. ap (λ t. nat_eq t 1) (sym (bit_at_cat_low (x / 2 ^ w) w (x % 2 ^ w) b h) ∙ ap (λ y. bit_at y b) split))) i + small_ones (x / 2 ^ w) high i)
+    ∙ (λ i. (ones-count w (x % 2 ^ w) low ∙ count_below-same w _ _
+    (λ b h. ap (λ t. nat_eq t 1) (sym (bit_at_cat_low (x / 2 ^ w) w (x % 2 ^ w) b h)
+    ∙ ap (λ y. bit_at y b) split))) i + small_ones (x / 2 ^ w) high i)
 
-ones_of_word : (words : List ℕ) → AreWords words → (k : ℕ) → count_below 64 (λ b. is_in words (k * 64 + b)) ≡ count_ones (slice_index words k)
+ones_of_word : (words : List ℕ) → AreRowWords words → (k : ℕ) → count_below 64 (λ b. is_in words (k * 64 + b)) ≡ count_ones (slice_index words k)
 ones_of_word words (_, below) k =
     count_below-same 64 _ _ (λ b h. is_in-at words k b h) ∙ sym (ones-count 64 (slice_index words k) (below k))
 
-pub ones_of_words : (words : List ℕ) (s : set.FinSet nat_cmp) → numbers_in words ≡ s → AreWords words → count_ones (slice_index words 0) + count_ones (slice_index words 1) + count_ones (slice_index words 2) + count_ones (slice_index words 3) ≡ count_below 256 (set.contains s)
+pub ones_of_words : (words : List ℕ) (s : set.FinSet nat_cmp) → numbers_in words ≡ s → AreRowWords words
+    → count_ones (slice_index words 0) + count_ones (slice_index words 1) + count_ones
+    (slice_index words 2) + count_ones (slice_index words 3) ≡ count_below 256 (set.contains s)
 ones_of_words words s is fit =
     let word = ones_of_word words fit in
     let p = is_in words in
@@ -327,7 +352,9 @@ bit_of_words_of s q below =
     ∙ ap (λ n. cond (set.contains s n) 1 0) (div-add-mod' q 64)
 
 -- the `==` of two rows, whose numbers are below 256, tells whether they are the same set
-pub same_row_iff : (s t : set.FinSet nat_cmp) → ((k : ℕ) → IsTrue (set.contains s k) → k < 256) → ((k : ℕ) → IsTrue (set.contains t k) → k < 256) → IsTrue (pointwise nat_eq (words_of s) (words_of t)) ↔ (s ≡ t)
+pub same_row_iff : (s t : set.FinSet nat_cmp) → ((k : ℕ) → IsTrue (set.contains s k) → k < 256)
+    → ((k : ℕ) → IsTrue (set.contains t k) → k < 256)
+    → IsTrue (pointwise nat_eq (words_of s) (words_of t)) ↔ (s ≡ t)
 same_row_iff s t s_below t_below = (
   λ e. let words = (bytes_eq-Decides (words_of s) (words_of t)).0 e in same_numbers s t (λ q. each words q (cases_lt q 256)),
   λ is. (bytes_eq-Decides (words_of s) (words_of t)).1 (ap words_of is),

@@ -6,7 +6,8 @@ use Rattle.ci_elf.specs.Executables.{IsTextWord}
 use Rattle.ci_emu.specs.Profiles.{latencies_of}
 use Rattle.ci_emu.specs.Steps.{IsPlainStep, IsReached}
 use Rattle.ci_emu.proofs.RunCounts.{none_counted}
-use Rattle.ci_emu.proofs.RunSteps.{on_error, stepped_to, reached_more, reached_next, counted_more, ended_profile, ended_state, has_room, whole_profile, whole_state}
+use Rattle.ci_emu.proofs.RunSteps.{on_error, stepped_to, reached_more, reached_next, counted_more, ended_profile}
+use Rattle.ci_emu.proofs.RunSteps.{ended_state, has_room, whole_profile, whole_state}
 use Rattle.ci_emu.proofs.runs.run.Goals as goal
 use Rattle.ci_emu.proofs.runs.run.Goals.{In_ok-end}
 

@@ -15,4 +15,5 @@ pub returns-clause-none : goal.returns-clause-none
 returns-clause-none c = none_read c.extended_row.result (ReadsX c.args.word) (λ insn reads. c.extended_row.ensures ∙ only_extended c.args.word insn reads)
 
 pub returns-clause-well_formed : goal.returns-clause-well_formed
-returns-clause-well_formed c = IfSome_then c.extended_row.result (rw c.extended_row.ensures (extended_reads c.args.word (omega arith))) (read_well_formed c.args.word)
+returns-clause-well_formed c = IfSome_then c.extended_row.result
+    (rw c.extended_row.ensures (extended_reads c.args.word (omega arith))) (read_well_formed c.args.word)

@@ -1,7 +1,7 @@
 use Rattle.std.proofs.Common.{◌+◌, ◌<◌, refl, subst, arith}
 use Rattle.ci_elf.specs.declared.segments.Segment.{Segment}
 use Rattle.ci_elf.proofs.ImageLaws.{loaded_from, loaded_to, loader, loads_between}
-use Rattle.ci_elf.proofs.image.place_in.Goals as goal
+use Rattle.ci_elf.proofs.image.loaded_place.Goals as goal
 
 pub returns-in_err-segment : goal.returns-in_err-segment
 returns-in_err-segment c =

@@ -1,15 +1,18 @@
 -- Looks at several blocks, one after the other.
-use Rattle.std.proofs.Common.{◌≡◌, ℕ, ◌+◌, ◌<◌, ◌≤◌, inl, inr, List, [], ◌∷◌, ◌++◌, length, take, get_or, true, false, sym, ap, ◌∙◌, subst, arith, length-append, length-take}
+use Rattle.std.proofs.Common.{◌≡◌, ℕ, ◌+◌, ◌<◌, ◌≤◌, inl, inr, List, [], ◌∷◌, ◌++◌, length, take, get_or, true, false}
+use Rattle.std.proofs.Common.{sym, ap, ◌∙◌, subst, arith, length-append, length-take}
 use Rattle.std.proofs.lemmas.List.{get_or-take}
 use Rattle.std.proofs.lemmas.Bool.{cases_lt}
 use Rattle.ci_live.specs.declared.flow.Flow.{Flow}
 use Rattle.ci_live.specs.declared.iteration.Found.{Found as FoundSets}
-use Rattle.ci_live.specs.Found.{AreLooks, IsClosed, IsLook, IsSound, room}
+use Rattle.ci_live.specs.Found.{AreVisits, IsClosed, IsTransfer, IsSound, room}
 
-module _ (flows : List Flow) (before middle after : FoundSets) (order grown : List ℕ) (i : ℕ) (within : i < length order) (so_far : AreLooks flows before middle (take i order) grown) (sound : IsSound flows after) where
-  pub look_found : IsLook flows middle after (get_or order i 0) true → (x : ℕ) → AreLooks flows before after (take (i + 1) order) (grown ++ x ∷ [])
-  look_found less x =
-      let some = length-append grown (x ∷ []) in
+module _ (flows : List Flow) (before middle after : FoundSets) (order changed : List ℕ) (i : ℕ)
+    (within : i < length order) (so_far : AreVisits flows before middle (take i order) changed)
+    (sound : IsSound flows after) where
+  pub visit_changed : IsTransfer flows middle after (get_or order i 0) true → (x : ℕ) → AreVisits flows before after (take (i + 1) order) (changed ++ x ∷ [])
+  visit_changed less x =
+      let some = length-append changed (x ∷ []) in
       record {
         sound = sound;
         less = omega (arith, less, so_far.less);
@@ -18,8 +21,8 @@ module _ (flows : List Flow) (before middle after : FoundSets) (order grown : Li
         closed = λ h. absurd (omega arith);
       }
 
-  pub look_found_nothing : IsLook flows middle after (get_or order i 0) false → AreLooks flows before after (take (i + 1) order) grown
-  look_found_nothing (same, closed) = record {
+  pub visit_unchanged : IsTransfer flows middle after (get_or order i 0) false → AreVisits flows before after (take (i + 1) order) changed
+  visit_unchanged (same, closed) = record {
     sound = sound;
     less = subst (λ f. room f ≤ room before) same so_far.less;
     some = λ h. subst (λ f. room f < room before) same (so_far.some h);

@@ -6,12 +6,12 @@ use Rattle.std.proofs.lemmas.List.{get_or_default}
 use Rattle.ci_word.specs.Numbers.{count_below}
 use Rattle.ci_live.specs.Flows.{Has}
 use Rattle.ci_live.specs.Found.{live_at, missing_at, room}
-use Rattle.ci_live.proofs.LookLaws.{found_right, missing_apart}
+use Rattle.ci_live.proofs.TransferLaws.{found_right, missing_apart}
 use Rattle.ci_live.proofs.SetLaws.{has_none, less_room}
-use Rattle.ci_live.proofs.iteration.Found.look.Goals as goal
+use Rattle.ci_live.proofs.iteration.Found.transfer.Goals as goal
 
-pub returns-then-count-eq0-clause-look : goal.returns-then-count-eq0-clause-look
-returns-then-count-eq0-clause-look c =
+pub returns-then-count-eq0-clause-transfer : goal.returns-then-count-eq0-clause-transfer
+returns-then-count-eq0-clause-transfer c =
     let empty = sym c.missing-missing.ensures ∙ set.empty_of_len c.missing-missing.result (sym c.count.ensures.value ∙ c.if-count-eq0.true) in
     (refl, λ r has. has_none r (subst (λ s. Has s r) empty has))
 
@@ -24,8 +24,8 @@ returns-clause-sound c =
     (ap (λ s. list_set live n s) (c.union.ensures.value ∙ (λ i. set.union (before i) (c.missing-missing.ensures i))))
     (c.union-self.ensures.value ∙ ap (λ s. set.union c.args.self.now.any s) c.missing-missing.ensures)
 
-pub returns-clause-look : goal.returns-clause-look
-returns-clause-look c =
+pub returns-clause-transfer : goal.returns-clause-transfer
+returns-clause-transfer c =
     let live = c.args.self.now.live.items in
     let n = c.args.number in
     let within : n < length live = omega (arith, c.requires.sound.many) in

@@ -1,4 +1,4 @@
--- A look at one block: what it finds is right, and where it finds nothing nothing is missing.
+-- The transfer of one block: what it finds is right, and where it finds nothing nothing is missing.
 use Rattle.std.proofs.Common.{◌≡◌, ℕ, ◌<◌, inl, inr, List, length, replicate, nat_cmp, Option, Some, None, get_or, refl, sym, ap, ◌∙◌, subst, arith}
 use Rattle.std.specs.FinSet as set
 use Rattle.std.proofs.Math.ListN.{set as list_set, length-set}
@@ -6,11 +6,11 @@ use Rattle.std.proofs.lemmas.Bool.{cases_eq, cases_lt}
 use Rattle.std.proofs.lemmas.Grind.{get_or-set_at}
 use Rattle.std.proofs.lemmas.List.{get_or_past, get_or-replicate, get_or-set_other, length-replicate}
 use Rattle.ci_live.specs.declared.flow.Flow.{Flow}
-use Rattle.ci_live.specs.declared.flow.Ways.{Ways}
-use Rattle.ci_live.specs.declared.flow.Ways.TheVariants.{Named, Anywhere}
+use Rattle.ci_live.specs.declared.flow.Successors.{Successors}
+use Rattle.ci_live.specs.declared.flow.Successors.TheVariants.{Named, Anywhere}
 use Rattle.ci_live.specs.declared.iteration.Found.{Found as FoundSets}
 use Rattle.ci_live.specs.Flows.{Has, IsReached, here, further, Leads, flow_at}
-use Rattle.ci_live.specs.Found.{IsSound, live_at, missing_at, needed_at, on_way, on_ways, passed_at}
+use Rattle.ci_live.specs.Found.{IsSound, live_at, missing_at, needed_at, on_edge, on_edges, passed_at}
 use Rattle.ci_live.proofs.SetLaws.{has_difference, has_none, has_union}
 
 -- empty sets are right
@@ -33,18 +33,19 @@ nothing_found flows found live_is any_is = record {
     none k r has = has_none r (subst (λ s. Has s r) (ap (λ (xs : List (set.FinSet nat_cmp)). get_or xs k set.empty) live_is ∙ each k) has)
 
 module _ (flows : List Flow) (found : FoundSets) (sound : IsSound flows found) where
-  -- what was found on one of the ways is live at a block that it leads to
-  on_way_reached : (r : ℕ) (way : Option ℕ) → Has (on_way found.live.items way) r → (j : ℕ) × (way ≡ Some j) × IsReached flows r j
-  on_way_reached r None has = absurd (has_none r has)
-  on_way_reached r (Some j) has = (j, refl, sound.live j r has)
+  -- what was found at one of the successors is live at the block of that number
+  on_edge_reached : (r : ℕ) (way : Option ℕ) → Has (on_edge found.live.items way) r → (j : ℕ) × (way ≡ Some j) × IsReached flows r j
+  on_edge_reached r None has = absurd (has_none r has)
+  on_edge_reached r (Some j) has = (j, refl, sound.live j r has)
 
-  pub on_ways_reached : (r : ℕ) (ways : Ways) → Has (on_ways found.live.items found.any ways) r → (j : ℕ) × Leads ways j × IsReached flows r j
-  on_ways_reached r (Named first second) has =
-      elim ((has_union (on_way found.live.items first) (on_way found.live.items second) r).0 has) [
-        | inl h ↦ let at = on_way_reached r first h in (at.0, inl at.1, at.2)
-        | inr h ↦ let at = on_way_reached r second h in (at.0, inr at.1, at.2)
+  pub on_edges_reached : (r : ℕ) (successors : Successors) → Has (on_edges found.live.items found.any successors) r
+      → (j : ℕ) × Leads successors j × IsReached flows r j
+  on_edges_reached r (Named first second) has =
+      elim ((has_union (on_edge found.live.items first) (on_edge found.live.items second) r).0 has) [
+        | inl h ↦ let at = on_edge_reached r first h in (at.0, inl at.1, at.2)
+        | inr h ↦ let at = on_edge_reached r second h in (at.0, inr at.1, at.2)
       ]
-  on_ways_reached r Anywhere has = let at = sound.any r has in (at.0, tt, at.1)
+  on_edges_reached r Anywhere has = let at = sound.any r has in (at.0, tt, at.1)
 
   module _ (n : ℕ) (within : n < length flows) where
     abbrev before : set.FinSet nat_cmp
@@ -55,11 +56,11 @@ module _ (flows : List Flow) (found : FoundSets) (sound : IsSound flows found) w
 
     missing_reached : (r : ℕ) → Has missing r → IsReached flows r n
     missing_reached r has =
-        elim ((has_union (flow_at flows n).first (passed_at flows found n) r).0 ((has_difference (needed_at flows found n) before r).0 has).0) [
+        elim ((has_union (flow_at flows n).uses (passed_at flows found n) r).0 ((has_difference (needed_at flows found n) before r).0 has).0) [
           | inl h ↦ here n within h
           | inr h ↦
-              let passed = (has_difference (on_ways found.live.items found.any (flow_at flows n).ways) (flow_at flows n).written r).0 h in
-              let at = on_ways_reached r (flow_at flows n).ways passed.0 in
+              let passed = (has_difference (on_edges found.live.items found.any (flow_at flows n).successors) (flow_at flows n).defs r).0 h in
+              let at = on_edges_reached r (flow_at flows n).successors passed.0 in
               further n at.0 within at.1 passed.1 at.2
         ]
 
@@ -76,7 +77,7 @@ module _ (flows : List Flow) (found : FoundSets) (sound : IsSound flows found) w
         let in_list : n < length live = omega (arith, sound.many) in
         let at = λ (k r : ℕ) (has : Has (live_at after.live.items k) r).
         subst (λ (xs : List (set.FinSet nat_cmp)). Has (get_or xs k set.empty) r) live_is has in
-        let grown = λ (k r : ℕ) (same : k ≡ n) (has : Has (live_at after.live.items k) r).
+        let changed = λ (k r : ℕ) (same : k ≡ n) (has : Has (live_at after.live.items k) r).
         (has_union before missing r).0
         (subst (λ s. Has s r) (get_or-set_at live n k (set.union before missing) set.empty same in_list) (at k r has)) in
         let stays = λ (k r : ℕ) (other : ¬ (k ≡ n)) (has : Has (live_at after.live.items k) r).
@@ -87,7 +88,7 @@ module _ (flows : List Flow) (found : FoundSets) (sound : IsSound flows found) w
               λ k r has. elim (cases_eq k n) [
                 | inl same ↦
                     subst (λ i. IsReached flows r i) (sym same)
-                    (elim (grown k r same has) [ inl h ↦ sound.live n r h | inr h ↦ missing_reached r h ])
+                    (elim (changed k r same has) [ inl h ↦ sound.live n r h | inr h ↦ missing_reached r h ])
                 | inr other ↦ sound.live k r (stays k r other has)
               ];
           any =
@@ -99,7 +100,7 @@ module _ (flows : List Flow) (found : FoundSets) (sound : IsSound flows found) w
               λ k r has.
               subst (λ s. Has s r) (sym any_is)
               ((has_union found.any missing r).1 (elim (cases_eq k n) [
-                | inl same ↦ elim (grown k r same has) [ inl h ↦ inl (sound.all n r h) | inr h ↦ inr h ]
+                | inl same ↦ elim (changed k r same has) [ inl h ↦ inl (sound.all n r h) | inr h ↦ inr h ]
                 | inr other ↦ inl (sound.all k r (stays k r other has))
               ]));
         }
