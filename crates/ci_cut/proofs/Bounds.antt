@@ -7,7 +7,9 @@ use Rattle.ci_cut.specs.Gain.{Fits, gain}
 use Rattle.ci_cut.specs.Prefixes.{Prefix, is_eligible, is_next, taken, left_out, possible, bound, IsBefore}
 use Rattle.ci_cut.specs.Need.{IsOpen}
 use Rattle.ci_cut.specs.Reached.{Completes, IsBounded}
-use Rattle.ci_cut.proofs.PrefixLaws.{same_test, eligible_below, possible_parts, possible_from, possible_earlier, decided_cases, decided_newest, decided_earlier, next_unique, next_below, above_next, not_both, completes_earlier, taken_completes, completion_extends}
+use Rattle.ci_cut.proofs.PrefixLaws.{same_test, eligible_below, possible_parts, possible_from, possible_earlier}
+use Rattle.ci_cut.proofs.PrefixLaws.{decided_cases, decided_newest, decided_earlier, next_unique, next_below}
+use Rattle.ci_cut.proofs.PrefixLaws.{above_next, not_both, completes_earlier, taken_completes, completion_extends}
 use Rattle.ci_cut.proofs.Extensions.{convex_within, outputs_rise, settled_rise, saved_by_falls}
 
 module _ (graph : FlowGraph) (flows : IsFlowGraph graph) (prefix : Prefix) where
@@ -24,7 +26,8 @@ module _ (graph : FlowGraph) (flows : IsFlowGraph graph) (prefix : Prefix) where
     -- a set that goes on from the prefix gains no more than the bound
     pub completion_bound : gain graph cut ≤ℤ bound graph prefix
     completion_bound =
-        saved_by_falls graph flows (taken graph prefix) cut (completion_extends graph prefix cut goes) cut_nodes cut (possible graph prefix) goes.within possible_eligible
+        saved_by_falls graph flows (taken graph prefix) cut (completion_extends graph prefix cut goes) cut_nodes cut
+        (possible graph prefix) goes.within possible_eligible
 
     -- and where it fits, the prefix is convex and within the limits
     pub completion_bounded : (limits : Limits) → Fits graph limits cut → IsBounded graph limits prefix
@@ -34,7 +37,12 @@ module _ (graph : FlowGraph) (flows : IsFlowGraph graph) (prefix : Prefix) where
           convex = convex_within graph flows (taken graph prefix) cut extends fits.convex;
           outputs_within = omega (arith, outputs_rise graph flows (taken graph prefix) cut extends, fits.outputs_within);
           inputs_within =
-              omega (arith, settled_rise graph flows (taken graph prefix) cut extends cut_nodes cut (possible graph prefix) goes.within possible_eligible, fits.inputs_within);
+              omega (
+                arith,
+                settled_rise graph flows (taken graph prefix) cut extends cut_nodes cut
+                    (possible graph prefix) goes.within possible_eligible,
+                fits.inputs_within,
+              );
         }
 
   -- ---- one choice more
@@ -113,7 +121,8 @@ module _ (graph : FlowGraph) (flows : IsFlowGraph graph) (prefix : Prefix) where
   ]
 
   -- one with the next node out comes also after the sets that go on with the node in
-  pub before_out : (cut : ℕ → Bool) → ((k : ℕ) → IsTrue (cut k) → IsTrue (is_eligible graph k)) → IsBefore graph cut (false ∷ prefix) → IsBefore graph cut prefix ⊎ Completes graph (true ∷ prefix) cut
+  pub before_out : (cut : ℕ → Bool) → ((k : ℕ) → IsTrue (cut k) → IsTrue (is_eligible graph k))
+      → IsBefore graph cut (false ∷ prefix) → IsBefore graph cut prefix ⊎ Completes graph (true ∷ prefix) cut
   before_out cut eligible before = elim (decided_cases graph not false prefix before.node before.out_of_prefix) [
     | inr earlier ↦ inl (record {
       node = before.node;
@@ -141,7 +150,8 @@ module _ (graph : FlowGraph) (flows : IsFlowGraph graph) (prefix : Prefix) where
           (λ in_. elim (decided_cases graph (λ b. b) false prefix k in_) [ inl newest ↦ absurd (cc newest.1) | inr earlier ↦ earlier ])
           (decided_earlier graph (λ b. b) false prefix k)
 
-  pub before_by_next : (cut : ℕ → Bool) (node : ℕ) → IsTrue (is_next graph prefix node) → Completes graph (true ∷ prefix) cut → IsBefore graph cut (false ∷ prefix)
+  pub before_by_next : (cut : ℕ → Bool) (node : ℕ) → IsTrue (is_next graph prefix node)
+      → Completes graph (true ∷ prefix) cut → IsBefore graph cut (false ∷ prefix)
   before_by_next cut node next goes = record {
     node = node;
     in_cut = goes.has node (decided_newest graph (λ b. b) true prefix node next refl);

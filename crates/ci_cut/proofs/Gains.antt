@@ -44,11 +44,13 @@ abbrev pub AreWithin : Limits → ℕ → ℕ → ℕ → Type 0
 AreWithin limits ins outs members = (ins ≤ limits.inputs) × (1 ≤ outs) × (outs ≤ limits.outputs) × (1 + further_words_of ins outs ≤ members)
 
 -- a set's ports and size are within the limits, as numbers that are theirs
-module _ (graph : FlowGraph) (limits : Limits) (cut : ℕ → Bool) (ins outs members : ℕ) (a : ins ≡ inputs graph cut) (b : outs ≡ outputs graph cut) (m : members ≡ size graph cut) where
+module _ (graph : FlowGraph) (limits : Limits) (cut : ℕ → Bool) (ins outs members : ℕ) (a : ins ≡ inputs graph cut)
+    (b : outs ≡ outputs graph cut) (m : members ≡ size graph cut) where
   same_words : further_words_of ins outs ≡ further_words graph cut
   same_words = λ i. further_words_of (a i) (b i)
 
-  pub fits_from_parts : ((k : ℕ) → IsTrue (cut k) → IsTrue (node_at graph k).eligible) → IsConvex graph cut → AreWithin limits ins outs members → Fits graph limits cut
+  pub fits_from_parts : ((k : ℕ) → IsTrue (cut k) → IsTrue (node_at graph k).eligible) → IsConvex graph cut
+      → AreWithin limits ins outs members → Fits graph limits cut
   fits_from_parts eligible convex within = record {
     eligible = eligible;
     convex = convex;

@@ -5,7 +5,7 @@ pub mod Extensions
 pub mod GainArithmetic
 pub mod Gains
 pub mod GraphLaws
-pub mod GreatestAt
+pub mod MaximumAt
 pub mod ListCountLaws
 pub mod LongestChains
 pub mod NeedLaws

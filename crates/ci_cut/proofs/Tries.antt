@@ -6,12 +6,13 @@ use Rattle.std.specs.FinSet as set
 use Rattle.std.proofs.lemmas.Int.{ints}
 use Rattle.std.proofs.lemmas.Bool.{cases_eq}
 use Rattle.std.proofs.lemmas.Bool.Decides.{nat_tests}
-use Rattle.ci_cut.specs.declared.choice.Reached.{Reached}
+use Rattle.ci_cut.specs.declared.incumbent.Incumbent.{Incumbent}
 use Rattle.ci_cut.specs.declared.graph.Limits.{Limits}
 use Rattle.ci_cut.specs.declared.graph.Node.{Node}
 use Rattle.ci_cut.specs.FlowGraph.{FlowGraph, node_at}
 use Rattle.ci_cut.specs.Gain.{Fits, gain}
 use Rattle.ci_cut.specs.Best.{ComesBefore, IsBest, HasNoCut}
+use Rattle.ci_cut.specs.Incumbents.{IsImproved}
 use Rattle.ci_cut.specs.Tried.{Agrees, IsBetterFrom}
 use Rattle.ci_cut.proofs.NodeLaws.{node_in-within, node_in-past}
 
@@ -49,7 +50,8 @@ decided_with n k count cut below within decided j here =
     ]
 
 -- a node below n is no member
-pub undecided_out : (n k count : ℕ) (cut : set.FinSet nat_cmp) → k < n → ((j : ℕ) → IsTrue (set.contains cut j) → (n ≤ j) × (j < count)) → set.contains cut k ≡ false
+pub undecided_out : (n k count : ℕ) (cut : set.FinSet nat_cmp) → k < n
+    → ((j : ℕ) → IsTrue (set.contains cut j) → (n ≤ j) × (j < count)) → set.contains cut k ≡ false
 undecided_out n k count cut below decided =
     elim (in_or_out (set.contains cut k)) [ inl here ↦ let bounds : (n ≤ k) × (k < count) = decided k here in absurd (omega arith) | inr out ↦ out ]
 
@@ -73,7 +75,7 @@ module _ (k : ℕ) (cut with_node : ℕ → Bool) (node_out : cut k ≡ false) (
 
   module _ (Fits : (ℕ → Bool) → Type 0) (gain : (ℕ → Bool) → ℤ) where
     -- first the sets with the node, then those without it
-    pub better_both : (reached between result : Reached) → IsBetterFrom Fits gain k with_node reached between → IsBetterFrom Fits gain k cut between result
+    pub better_both : (reached between result : Incumbent) → IsBetterFrom Fits gain k with_node reached between → IsBetterFrom Fits gain k cut between result
         → IsBetterFrom Fits gain (k + 1) cut reached result
     better_both reached between result (inl (one_is, one_none)) (inl (two_is, two_none)) =
         inl (
@@ -132,27 +134,8 @@ module _ (k : ℕ) (cut with_node : ℕ → Bool) (node_out : cut k ≡ false) (
         )
 
 module _ (Fits : (ℕ → Bool) → Type 0) (gain : (ℕ → Bool) → ℤ) where
-  -- with no node left to choose, the cut alone is tried
-  pub kept_for_one : (cut : ℕ → Bool) (reached : Reached) → (Fits cut → gain cut ≤ℤ reached.gain) → IsBetterFrom Fits gain 0 cut reached reached
-  kept_for_one cut reached here =
-      inl (refl, λ other fits same. let P : (ℕ → Bool) → Type 0 = λ s. Fits s → gain s ≤ℤ reached.gain in subst P (sym (agree_all other cut same)) here fits)
-
-  pub found_for_one : (cut : set.FinSet nat_cmp) (reached : Reached) (gained : ℤ) → Fits (set.contains cut) → gained ≡ gain (set.contains cut) → reached.gain <ℤ gained
-      → IsBetterFrom Fits gain 0 (set.contains cut) reached (record { cut = Some cut; gain = gained })
-  found_for_one cut reached gained fits is more =
-      inr (
-        cut,
-        ap (λ g. record { cut = Some cut; gain = g }) is,
-        record {
-          fits = fits;
-          agrees = λ _ _. refl;
-          more = subst (λ g. reached.gain <ℤ g) is more;
-          first = λ other _ same. inr (ap gain (agree_all other (set.contains cut) same), inl (λ k. sym (same k (omega arith))));
-        },
-      )
-
   -- the sets tried are the same from a later node on, where the nodes between are settled
-  pub better_later : (k n : ℕ) (cut : ℕ → Bool) (reached result : Reached)
+  pub better_later : (k n : ℕ) (cut : ℕ → Bool) (reached result : Incumbent)
       → k ≤ n → ((other : ℕ → Bool) → Fits other → Agrees n other cut → Agrees k other cut)
       → IsBetterFrom Fits gain k cut reached result → IsBetterFrom Fits gain n cut reached result
   better_later k n cut reached result later settled (inl (is, none)) = inl (is, λ other fits same. none other fits (settled other fits same))
@@ -168,6 +151,26 @@ module _ (Fits : (ℕ → Bool) → Type 0) (gain : (ℕ → Bool) → ℤ) wher
         },
       )
 
+-- with no node left to choose, the cut alone is tried
+pub improved_for_one : (graph : FlowGraph) (limits : Limits) (before after : Incumbent) (cut : set.FinSet nat_cmp)
+    → IsImproved graph limits before cut after
+    → IsBetterFrom (Fits graph limits) (gain graph) 0 (set.contains cut) before after
+improved_for_one graph limits before after cut (inl (same, none)) =
+    let P : (ℕ → Bool) → Type 0 = λ s. Fits graph limits s → gain graph s ≤ℤ before.gain in
+    inl (same, λ other fits agrees. subst P (sym (agree_all other (set.contains cut) agrees)) none fits)
+improved_for_one graph limits before after cut (inr found) =
+    inr (
+      cut,
+      λ i. record { cut = found.0 i; gain = found.2 i },
+      record {
+        fits = found.1;
+        agrees = λ _ _. refl;
+        more = subst (λ g. before.gain <ℤ g) found.2 found.3;
+        first = λ other _ same.
+            inr (ap (gain graph) (agree_all other (set.contains cut) same), inl (λ k. sym (same k (omega arith))));
+      },
+    )
+
 -- no set that fits has a node that is not eligible
 pub not_in : (graph : FlowGraph) (limits : Limits) (k : ℕ) → (node_at graph k).eligible ≡ false → (other : ℕ → Bool) → Fits graph limits other → other k ≡ false
 not_in graph limits k out other fits = elim (in_or_out (other k)) [ inl here ↦ absurd (true≢false (sym (fits.eligible k here) ∙ out)) | inr here ↦ here ]
@@ -179,8 +182,9 @@ module _ (graph : FlowGraph) (limits : Limits) (n k count : ℕ) (cut : set.FinS
   node_out = undecided_out n k count cut (omega arith) decided
 
   -- a node that is not eligible needs no choice
-  pub better_without : (reached result : Reached) → (node_at graph k).eligible ≡ false
-      → IsBetterFrom (Fits graph limits) (gain graph) k (set.contains cut) reached result → IsBetterFrom (Fits graph limits) (gain graph) n (set.contains cut) reached result
+  pub better_without : (reached result : Incumbent) → (node_at graph k).eligible ≡ false
+      → IsBetterFrom (Fits graph limits) (gain graph) k (set.contains cut) reached result
+      → IsBetterFrom (Fits graph limits) (gain graph) n (set.contains cut) reached result
   better_without reached result ineligible tried =
       rw last (better_later (Fits graph limits) (gain graph) k (k + 1) (set.contains cut) reached result
       (omega arith)
@@ -188,7 +192,7 @@ module _ (graph : FlowGraph) (limits : Limits) (n k count : ℕ) (cut : set.FinS
       tried)
 
   -- a node that is eligible is in, and then out
-  pub better_with : (with_node : set.FinSet nat_cmp) (reached between result : Reached) → with_node ≡ set.insert cut k
+  pub better_with : (with_node : set.FinSet nat_cmp) (reached between result : Incumbent) → with_node ≡ set.insert cut k
       → IsBetterFrom (Fits graph limits) (gain graph) k (set.contains with_node) reached between
       → IsBetterFrom (Fits graph limits) (gain graph) k (set.contains cut) between result
       → IsBetterFrom (Fits graph limits) (gain graph) n (set.contains cut) reached result
@@ -203,19 +207,20 @@ eligible_read graph nodes k d is below =
     ap (λ xs. (get_or xs k d).eligible) is ∙ ap (λ node. node.eligible) (sym (node_in-within graph.nodes k d below))
 
 -- a set that fits has nodes alone
-pub agree_past : (graph : FlowGraph) (limits : Limits) (other : ℕ → Bool) → Fits graph limits other → Agrees (length graph.nodes) other (set.contains (set.empty {R = nat_cmp}))
+pub agree_past : (graph : FlowGraph) (limits : Limits) (other : ℕ → Bool) → Fits graph limits other
+    → Agrees (length graph.nodes) other (set.contains (set.empty {R = nat_cmp}))
 agree_past graph limits other fits j past =
     not_in graph limits j (ap (λ node. node.eligible) (node_in-past graph.nodes j past)) other fits ∙ sym (set.contains-empty nat_cmp j)
 
 -- all sets of nodes have been tried, from nothing reached on
-pub best_of_tries : (graph : FlowGraph) (limits : Limits) (result : Reached)
+pub best_of_tries : (graph : FlowGraph) (limits : Limits) (result : Incumbent)
     → IsBetterFrom (Fits graph limits) (gain graph) (length graph.nodes) (set.contains (set.empty {R = nat_cmp})) (record { cut = None; gain = pos 0 }) result
     → MatchOption result.cut (HasNoCut graph limits) (λ cut. IsBest graph limits (set.contains cut))
 best_of_tries graph limits result (inl (is, none)) =
-    let P : Reached → Type 0 = λ r. MatchOption r.cut (HasNoCut graph limits) (λ cut. IsBest graph limits (set.contains cut)) in
+    let P : Incumbent → Type 0 = λ r. MatchOption r.cut (HasNoCut graph limits) (λ cut. IsBest graph limits (set.contains cut)) in
     subst P (sym is) (λ other fits. none other fits (agree_past graph limits other fits))
 best_of_tries graph limits result (inr (best, is, found)) =
-    let P : Reached → Type 0 = λ r. MatchOption r.cut (HasNoCut graph limits) (λ cut. IsBest graph limits (set.contains cut)) in
+    let P : Incumbent → Type 0 = λ r. MatchOption r.cut (HasNoCut graph limits) (λ cut. IsBest graph limits (set.contains cut)) in
     subst P (sym is) (record {
       fits = found.fits;
       positive = found.more;

@@ -10,5 +10,6 @@ pub mod Prefixes
 pub mod Need
 pub mod SourceSets
 pub mod ChainDelays
+pub mod Incumbents
 pub mod Tried
 pub mod Reached

@@ -111,7 +111,8 @@ impl Model for Graph {
 
     ghost view = { λ graph. record { nodes = graph.nodes.items; read = graph.read; pad = graph.pad } };
 
-    ghost invariant = { λ graph. IsFlowGraph (record { nodes = graph.nodes.items; read = graph.read; pad = graph.pad }) };
+    ghost invariant = { λ graph.
+        IsFlowGraph (record { nodes = graph.nodes.items; read = graph.read; pad = graph.pad }) };
 }
 
 impl Graph {

@@ -1,5 +1,6 @@
 -- What the code holds of a prefix, and of the best cut and a log.
-use Rattle.std.specs.Prelude.{◌≡◌, ℕ, suc, ◌+◌, ◌<◌, ◌≤◌, Bool, ◌⊎◌, List, ◌++◌, drop, length, IsTrue, Option, None, Some, Result, Ok, Err}
+use Rattle.std.specs.Prelude.{◌≡◌, ℕ, suc, ◌+◌, ◌<◌, ◌≤◌, Bool, ◌⊎◌, List, ◌++◌, drop, length, IsTrue, Option, None}
+use Rattle.std.specs.Prelude.{Some, Result, Ok, Err}
 use Rattle.std.specs.List.{AllByRecursion}
 use Rattle.std.specs.FinSet as set
 use Rattle.ci_word.specs.Numbers.{count_below}
@@ -10,22 +11,22 @@ use Rattle.ci_log.specs.declared.log.Item.{Item}
 use Rattle.ci_log.specs.declared.log.Item.TheVariants.{B}
 use Rattle.ci_log.specs.Trees.{IsLeaf, IsTree}
 use Rattle.ci_check.specs.declared.choices.Choices.{Choices}
-use Rattle.ci_check.specs.declared.rules.Best.{Best}
+use Rattle.ci_cut.specs.declared.incumbent.Incumbent.{Incumbent}
 use Rattle.ci_check.specs.declared.checking.Wrong.{Wrong}
 use Rattle.ci_check.specs.Rules.{Given, best_gain, IsGood, Station, IsRightAt, IsFirstWrongIn}
 use Rattle.ci_cut.specs.Prefixes.{Prefix, is_eligible, eligible_nodes, taken, possible}
 
--- the eligible nodes from a place on are decided by this prefix
-pub record Stands (graph : FlowGraph) (prefix : Prefix) (choices : Choices) : Type 0 where
+-- the choices represent the prefix, which decides the eligible nodes from their place on
+pub record Represents (graph : FlowGraph) (prefix : Prefix) (choices : Choices) : Type 0 where
   pub kept : IsFlowGraph graph
   pub within : choices.place ≤ length graph.nodes
   pub decided : count_below choices.place (is_eligible graph) + length prefix ≡ eligible_nodes graph
-  pub is_taken : (k : ℕ) → set.contains choices.taken k ≡ taken graph prefix k
+  pub is_included : (k : ℕ) → set.contains choices.included k ≡ taken graph prefix k
   pub is_possible : (k : ℕ) → set.contains choices.possible k ≡ possible graph prefix k
 
--- what the code holds stands for some prefix
-abbrev pub IsStanding : FlowGraph → Choices → Type 0
-IsStanding graph choices = (prefix : Prefix) × Stands graph prefix choices
+-- the choices represent some prefix
+abbrev pub RepresentsSome : FlowGraph → Choices → Type 0
+RepresentsSome graph choices = (prefix : Prefix) × Represents graph prefix choices
 
 -- node k is the last eligible one below a place
 pub record IsNextBelow (graph : FlowGraph) (place k : ℕ) : Type 0 where
@@ -40,7 +41,7 @@ ComesBeforeFrom from first second = (before : ComesBefore first second) × (from
 -- ---- the best cut
 
 -- a good best cut, or none, with its gain
-pub record IsMeasured (graph : FlowGraph) (limits : Limits) (best : Best) : Type 0 where
+pub record IsMeasured (graph : FlowGraph) (limits : Limits) (best : Incumbent) : Type 0 where
   pub good : IsGood graph limits best.cut
   pub gain_is : best.gain ≡ best_gain graph best.cut
 
