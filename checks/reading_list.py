@@ -68,15 +68,16 @@ def item(text, name):
     return found + re.findall(r"^ *ghost Value = .*", model.group(), re.M) if model else found
 
 
-def declaring(crate, name):
-    """The file of a crate's code that declares an item, which is public or seen in the crate."""
-    folder = f"crates/{crate}/src"
+def declaring(crate, name, module=()):
+    """The file of a crate's code that declares an item: that of the module, where it is known, or the first one."""
+    folder, found = f"crates/{crate}/src", []
     for path, _, files in sorted(os.walk(os.path.join(TOP, folder))):
         for file in sorted(files):
             code = os.path.relpath(os.path.join(path, file), TOP)
             if file.endswith(".rt") and item(text_of(code), name):
-                return code
-    return None
+                found.append(code)
+    stem = "/".join([folder, *module])
+    return next((code for code in found if code in (f"{stem}.rt", f"{stem}/mod.rt")), found[0] if found else None)
 
 
 class List:
@@ -94,10 +95,10 @@ class List:
             if wanted is None or wanted & set(names):
                 self.waiting.append(path)
 
-    def declare(self, crate, name):
+    def declare(self, crate, name, module=()):
         """Counts an item of a crate's code, and follows what its clauses cite, and the types and traits that it
         names."""
-        code = declaring(crate, name)
+        code = declaring(crate, name, module)
         if code is None or (code, name) in self.declared:
             return code is not None
         text = text_of(code)
@@ -115,8 +116,8 @@ class List:
         if crate not in CRATES:
             self.library.add(path)
         elif parts[:2] == ["specs", "declared"]:
-            name = [part for part in parts[2:] if part != "TheVariants"][-1]
-            if not self.declare(crate, name):
+            *module, name = [part for part in parts[2:] if part != "TheVariants"]
+            if not self.declare(crate, name, module):
                 sys.exit(f"the code of {crate} declares no {name}")
         elif "/".join(parts) not in self.files.setdefault(crate, {}):
             text = text_of(f"crates/{crate}/{'/'.join(parts)}.antt")
