@@ -18,6 +18,8 @@ import sys
 
 TOP = os.path.join(os.path.dirname(os.path.abspath(__file__)), "..")
 CALL = "ci_find", "run"
+# The modules of definitions that the toolchain makes of what the code declares.
+OF_THE_CODE = ("declared", "contracts")
 IMPORT = re.compile(r"^[ \t]*(?:ghost )?use Rattle\.([\w.]+?)(?:\.\{([^}]*)\})?(?: as (\w+))?;?[ \t]*$", re.M)
 PRIVATE = re.compile(r"private contracts|no public clause|^lemmas\b|the model of `\w+` alone", re.I)
 DECLARED = r"^(?:pub(?:\([a-z]+\))? )?(?:unsafe )?(?:struct|enum|trait|const|static|type|fn) %s\b"
@@ -115,7 +117,7 @@ class List:
         crate, *parts = path.split(".")
         if crate not in CRATES:
             self.library.add(path)
-        elif parts[:2] == ["specs", "declared"]:
+        elif parts[0] == "specs" and parts[1] in OF_THE_CODE:
             *module, name = [part for part in parts[2:] if part != "TheVariants"]
             if not self.declare(crate, name, module):
                 sys.exit(f"the code of {crate} declares no {name}")
