@@ -42,10 +42,10 @@ CRATES = crates()
 
 
 def imports(text):
-    """The imports of a text: each a path, and the names that it brings in, as they are called here."""
+    """The imports of a text: each a path, the names that it brings in, and what these are called here."""
     for path, names, alias in IMPORT.findall(text):
-        brought = [name.split(" as ")[-1].strip() for name in names.split(",")] if names else []
-        yield path, ([alias] if alias else []) + [name for name in brought if name]
+        brought = [name.split() for name in names.split(",") if name.strip()]
+        yield path, [name[0] for name in brought], {alias} | {name[-1] for name in brought}
 
 
 def words(text):
@@ -93,9 +93,9 @@ class List:
 
     def follow(self, text, wanted=None):
         """Everything that a text imports, or of that what brings in one of some names, waits to be looked at."""
-        for path, names in imports(text):
-            if wanted is None or wanted & set(names):
-                self.waiting.append(path)
+        for path, names, called in imports(text):
+            if wanted is None or wanted & called:
+                self.waiting.append((path, names))
 
     def declare(self, crate, name, module=()):
         """Counts an item of a crate's code, and follows what its clauses cite, and the types and traits that it
@@ -112,15 +112,16 @@ class List:
                 any(self.declare(other, word) for other in [crate, *CRATES[crate]])
         return True
 
-    def look(self, path):
-        """Counts what a path leads to."""
+    def look(self, path, names):
+        """Counts what an import of some names from a path leads to."""
         crate, *parts = path.split(".")
         if crate not in CRATES:
             self.library.add(path)
         elif parts[0] == "specs" and parts[1] in OF_THE_CODE:
-            *module, name = [part for part in parts[2:] if part != "TheVariants"]
-            if not self.declare(crate, name, module):
-                sys.exit(f"the code of {crate} declares no {name}")
+            *module, last = [part for part in parts[2:] if part != "TheVariants"]
+            for name in names if last == "TheConstants" else [last]:
+                if not self.declare(crate, name, module):
+                    sys.exit(f"the code of {crate} declares no {name}")
         elif "/".join(parts) not in self.files.setdefault(crate, {}):
             text = text_of(f"crates/{crate}/{'/'.join(parts)}.antt")
             self.files[crate]["/".join(parts)] = text
@@ -131,7 +132,7 @@ class List:
         if not self.declare(*CALL):
             sys.exit(f"{CALL[0]} has no {CALL[1]}")
         while self.waiting:
-            self.look(self.waiting.pop())
+            self.look(*self.waiting.pop())
 
 
 def first_comment(text):
