@@ -9,7 +9,9 @@ use Rattle.ci_elf.proofs.reading.read.Goals as goal
 pub returns-in_err-check_headers : goal.returns-in_err-check_headers
 returns-in_err-check_headers c =
     read_handed_on c.args.bytes.now _ _ c.from_residual.ensures.1
-    (fault_in_front c.args.bytes.now header_stage (loading_stage c.args.bytes.now ++ (text_stage c.args.bytes.now ++ last_stage)) _ c.in_err-check_headers.ensures)
+    (fault_in_front c.args.bytes.now header_stage
+    (loading_stage c.args.bytes.now ++ (text_stage c.args.bytes.now ++ last_stage)) _
+    c.in_err-check_headers.ensures)
 
 pub returns-in_err-segments : goal.returns-in_err-segments
 returns-in_err-segments c =
@@ -37,7 +39,9 @@ check_texts-requires-clause-placed c =
 
 pub check_texts-requires-clause-memory : goal.check_texts-requires-clause-memory
 check_texts-requires-clause-memory c =
-    kept_front (Holds c.args.bytes.now) (memory_rules c.args.bytes.now) (MemoryIsBounded ∷ []) (kept_back (Holds c.args.bytes.now) (segment_rules c.args.bytes.now) (memory_rules c.args.bytes.now ++ MemoryIsBounded ∷ []) c.in_ok-segments.ensures.test)
+    kept_front (Holds c.args.bytes.now) (memory_rules c.args.bytes.now) (MemoryIsBounded ∷ [])
+    (kept_back (Holds c.args.bytes.now) (segment_rules c.args.bytes.now)
+    (memory_rules c.args.bytes.now ++ MemoryIsBounded ∷ []) c.in_ok-segments.ensures.test)
 
 pub checked_ranges-requires-clause-placed : goal.checked_ranges-requires-clause-placed
 checked_ranges-requires-clause-placed c =
@@ -45,7 +49,9 @@ checked_ranges-requires-clause-placed c =
 
 pub checked_ranges-requires-clause-memory : goal.checked_ranges-requires-clause-memory
 checked_ranges-requires-clause-memory c =
-    kept_front (Holds c.args.bytes.now) (memory_rules c.args.bytes.now) (MemoryIsBounded ∷ []) (kept_back (Holds c.args.bytes.now) (segment_rules c.args.bytes.now) (memory_rules c.args.bytes.now ++ MemoryIsBounded ∷ []) c.in_ok-segments.ensures.test)
+    kept_front (Holds c.args.bytes.now) (memory_rules c.args.bytes.now) (MemoryIsBounded ∷ [])
+    (kept_back (Holds c.args.bytes.now) (segment_rules c.args.bytes.now)
+    (memory_rules c.args.bytes.now ++ MemoryIsBounded ∷ []) c.in_ok-segments.ensures.test)
 
 pub checked_ranges-requires-clause-sections : goal.checked_ranges-requires-clause-sections
 checked_ranges-requires-clause-sections c =
@@ -60,10 +66,14 @@ new-requires c =
     rw (c.in_ok-copy.ensures.items, c.entry.ensures, c.in_ok-segments.ensures.value)
     (well_formed_from c.args.bytes.now
     (kept_front (Holds c.args.bytes.now) (segment_rules c.args.bytes.now) (memory_rules c.args.bytes.now ++ MemoryIsBounded ∷ []) c.in_ok-segments.ensures.test)
-    (kept_front (Holds c.args.bytes.now) (memory_rules c.args.bytes.now) (MemoryIsBounded ∷ []) (kept_back (Holds c.args.bytes.now) (segment_rules c.args.bytes.now) (memory_rules c.args.bytes.now ++ MemoryIsBounded ∷ []) c.in_ok-segments.ensures.test))
+    (kept_front (Holds c.args.bytes.now) (memory_rules c.args.bytes.now) (MemoryIsBounded ∷ [])
+    (kept_back (Holds c.args.bytes.now) (segment_rules c.args.bytes.now)
+    (memory_rules c.args.bytes.now ++ MemoryIsBounded ∷ []) c.in_ok-segments.ensures.test))
     (kept_front (Holds c.args.bytes.now) (section_rules c.args.bytes.now) (sharing_rules c.args.bytes.now) c.in_ok-check_texts.ensures)
     c.in_ok-ranges.ranges.items c.in_ok-ranges.ensures.same c.in_ok-symbols.symbols.items
-    (kept_back (Holds c.args.bytes.now) (memory_rules c.args.bytes.now) (MemoryIsBounded ∷ []) (kept_back (Holds c.args.bytes.now) (segment_rules c.args.bytes.now) (memory_rules c.args.bytes.now ++ MemoryIsBounded ∷ []) c.in_ok-segments.ensures.test)).0
+    (kept_back (Holds c.args.bytes.now) (memory_rules c.args.bytes.now) (MemoryIsBounded ∷ [])
+    (kept_back (Holds c.args.bytes.now) (segment_rules c.args.bytes.now)
+    (memory_rules c.args.bytes.now ++ MemoryIsBounded ∷ []) c.in_ok-segments.ensures.test)).0
     c.in_ok-ranges.ensures.ascending
     c.in_ok-ranges.ensures.test.1.0)
 
@@ -73,8 +83,11 @@ returns c = (
   subst (IsImageOf c.args.bytes.now) (sym c.in_ok-image.ensures)
       (rw (c.in_ok-copy.ensures.items, c.entry.ensures, c.in_ok-segments.ensures.value, c.in_ok-symbols.ensures)
       (image_from c.args.bytes.now
-      (kept_front (Holds c.args.bytes.now) (segment_rules c.args.bytes.now) (memory_rules c.args.bytes.now ++ MemoryIsBounded ∷ []) c.in_ok-segments.ensures.test)
-      (kept_front (Holds c.args.bytes.now) (memory_rules c.args.bytes.now) (MemoryIsBounded ∷ []) (kept_back (Holds c.args.bytes.now) (segment_rules c.args.bytes.now) (memory_rules c.args.bytes.now ++ MemoryIsBounded ∷ []) c.in_ok-segments.ensures.test))
+      (kept_front (Holds c.args.bytes.now) (segment_rules c.args.bytes.now)
+      (memory_rules c.args.bytes.now ++ MemoryIsBounded ∷ []) c.in_ok-segments.ensures.test)
+      (kept_front (Holds c.args.bytes.now) (memory_rules c.args.bytes.now) (MemoryIsBounded ∷ [])
+      (kept_back (Holds c.args.bytes.now) (segment_rules c.args.bytes.now)
+      (memory_rules c.args.bytes.now ++ MemoryIsBounded ∷ []) c.in_ok-segments.ensures.test))
       (kept_front (Holds c.args.bytes.now) (section_rules c.args.bytes.now) (sharing_rules c.args.bytes.now) c.in_ok-check_texts.ensures)
       c.in_ok-ranges.ranges.items c.in_ok-ranges.ensures.same c.in_ok-ranges.ensures.ascending)),
 )
