@@ -1,8 +1,8 @@
-/* What the programs of this folder need of a system: standard input and output, memory, and an end. It stands in the
-   place of the C library's own start file, which is made for a bare board. */
+/* What a program with picolibc needs of a system: standard input and output, memory, and an end. It stands in the place
+   of the library's own start file, which is made for a bare board: link with -nostartfiles. */
 #include <stdio.h>
 #include <stdlib.h>
-#include "../../samples/start.h"
+#include "start.h"
 
 int main(void);
 
