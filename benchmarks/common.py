@@ -1,7 +1,9 @@
 """What the benchmarks share: where the program is, how files are made, and how long a call takes and how much memory.
 The modules of checks/ are found from here on."""
+import functools
 import multiprocessing
 import os
+import re
 import shutil
 import signal
 import subprocess
@@ -23,9 +25,13 @@ PACKAGES = {CROSS: "gcc-riscv64-unknown-elf", HOST: "gcc"}
 TARGET = ["-march=rv32im", "-mabi=ilp32", "-ffreestanding", "-nostdlib", "-nostartfiles", "-static"]
 
 
+@functools.cache
 def program():
-    """The built program: the first word, or what the script at the top of the repository has built."""
-    return os.path.abspath(sys.argv[1] if len(sys.argv) > 1 else os.path.join(TOP, "out", "rumtsafi"))
+    """The built program: the first word, or what the script at the top of the repository runs."""
+    if len(sys.argv) > 1:
+        return os.path.abspath(sys.argv[1])
+    told = subprocess.run([os.path.join(TOP, "rumtsafi"), "--version"], stdout=subprocess.PIPE, text=True, check=True)
+    return os.path.join(TOP, re.search(r"^program (\S+),", told.stdout, re.M)[1])
 
 
 def build():

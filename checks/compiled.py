@@ -1,6 +1,5 @@
 """Executables that GCC compiles and links for RV32IM, for the checks that compare with other tools."""
 import os
-import re
 import shutil
 import subprocess
 
@@ -8,7 +7,10 @@ HERE = os.path.dirname(os.path.abspath(__file__))
 PROGRAMS, SAMPLES = os.path.join(HERE, "programs"), os.path.join(HERE, "..", "samples")
 GCC, LINKER = "riscv64-unknown-elf-gcc", "riscv64-unknown-elf-ld"
 SPECIFICATION = "picolibc.specs"
-TARGET = ["-march=rv32im", "-mabi=ilp32", "-static", f"--specs={SPECIFICATION}", "-nostartfiles"]
+# The linker's own layout stands in the place of picolibc's, which is for a board with two memories.
+TARGET = ["-march=rv32im", "-mabi=ilp32", "-static", f"--specs={SPECIFICATION}", "-nostartfiles",
+          "-T", "ldscripts/elf32lriscv.x"]
+SUPPORT = os.path.join(SAMPLES, "picolibc.c")
 LEVELS = ("-O2", "-Os")
 
 
@@ -31,13 +33,6 @@ def compiler_lacks(name):
     return found.strip() == name
 
 
-def write_layout(name):
-    """Writes the linker's own layout. It stands in the place of picolibc's, which is for a board with two memories."""
-    verbose = subprocess.run([LINKER, "-m", "elf32lriscv", "--verbose"], check=True, capture_output=True, text=True)
-    with open(name, "w", encoding="utf-8") as file:
-        file.write(re.split("^=+$", verbose.stdout, flags=re.M)[1])
-
-
 def samples():
     """The executables of samples/, each with its name."""
     return [(name, os.path.join(SAMPLES, name)) for name in sorted(os.listdir(SAMPLES)) if name.endswith(".elf")]
@@ -45,13 +40,11 @@ def samples():
 
 def executables(folder):
     """Each executable with a name: those of samples/, and those of checks/programs, which are built here."""
-    layout, found = os.path.join(folder, "layout"), samples()
-    write_layout(layout)
+    found = samples()
     for name in sorted(os.listdir(PROGRAMS)):
         for level in LEVELS:
-            if name.endswith(".c") and name != "support.c":
+            if name.endswith(".c"):
                 program = os.path.join(folder, name[:-2] + level)
-                subprocess.run([GCC, *TARGET, level, "-T", layout, os.path.join(PROGRAMS, name),
-                                os.path.join(PROGRAMS, "support.c"), "-o", program], check=True)
+                subprocess.run([GCC, *TARGET, level, os.path.join(PROGRAMS, name), SUPPORT, "-o", program], check=True)
                 found.append((f"{name} {level}", program))
     return found

@@ -1,15 +1,17 @@
 #!/usr/bin/env python3
-"""Runs the examples of README.md, and compares what they print and how they end.
+"""Runs the examples of README.md and docs/GUIDE.md, and compares what they print and how they end.
 
     readme_examples.py [PROGRAM]
 
 PROGRAM is the built program that `./rumtsafi` stands for in the examples; with none it is the script at the top of the
 repository, which builds the program if need be.
 
-An example is a fenced block marked `console`. Its lines that begin with `$ ` are commands, and the lines after each
-are what it prints on standard output. Every command has to end with status 0, unless the next command is `echo $?`. The
-blocks are run in turn, each by one shell, in a folder that holds a copy of samples/ and what earlier blocks left. A
-block that needs a tool which is not there is skipped, with a line that says so.
+An example is a fenced block marked `console`. Its lines that begin with `$ ` are commands, which go on behind a line
+that ends with a backslash, and the lines after each are what it prints on standard output. Every command has to end
+with status 0, unless the next command is `echo $?`. A block marked `c NAME` is a file that later examples use. The
+blocks of a document are run in turn, each by one shell, in a folder that holds a copy of samples/ and what earlier
+blocks left. A block that needs a tool which is not there is skipped, with a line that says so, and so is one that needs
+a file which a skipped block makes. Blocks in which GCC compiles take the version that the figures are of.
 """
 import os
 import re
@@ -20,28 +22,51 @@ import subprocess
 import sys
 import tempfile
 
+from compiled import compiler_lacks
+
 TOP = os.path.join(os.path.dirname(os.path.abspath(__file__)), "..")
+DOCUMENTS = ("README.md", "docs/GUIDE.md")
 BUILT_IN = {"cd", "echo"}
+GCC, VERSION = "riscv64-unknown-elf-gcc", "12.2.0"
 LIMIT = 120
 
 
-def blocks():
-    """The examples: a list of commands for each block, each with its text, its output and the number of its line."""
-    found, commands = [], None
-    with open(os.path.join(TOP, "README.md"), encoding="utf-8") as file:
+class Command:
+    """A command of an example: its text, the output that is due, and where it stands."""
+
+    def __init__(self, text, place):
+        self.text, self.place, self.output = text, place, ""
+
+
+def fences(document):
+    """The fenced blocks of a document: the mark of each, its lines, and the number of its first line."""
+    mark, inside, lines, first = None, 0, [], 0
+    with open(os.path.join(TOP, document), encoding="utf-8") as file:
         for number, line in enumerate(file, 1):
-            if commands is None:
-                if line.rstrip() == "```console":
-                    commands = []
-            elif line.rstrip() == "```":
-                found.append(commands)
-                commands = None
-            elif line.startswith("$ "):
-                commands.append([line[2:].rstrip("\n"), "", number])
-            elif commands:
-                commands[-1][1] += line
-            else:
-                sys.exit(f"README.md:{number}: a block of examples begins with a command")
+            indent = re.match(" *", line).end()
+            if mark is None and line[indent:].startswith("```"):
+                mark, inside, lines, first = line[indent + 3:].strip(), indent, [], number + 1
+            elif mark is not None and line.strip() == "```":
+                yield mark, lines, first
+                mark = None
+            elif mark is not None:
+                lines.append(line[inside:])
+
+
+def commands_of(document, lines, first):
+    """The commands of an example."""
+    found, goes_on = [], False
+    for number, line in enumerate(lines, first):
+        if goes_on:
+            found[-1].text += "\n" + line.rstrip("\n")
+        elif line.startswith("$ "):
+            found.append(Command(line[2:].rstrip("\n"), f"{document}:{number}"))
+        elif found:
+            found[-1].output += line
+            continue
+        else:
+            sys.exit(f"{document}:{number}: a block of examples begins with a command")
+        goes_on = line.endswith("\\\n")
     return found
 
 
@@ -57,12 +82,29 @@ def tools(command):
     return names
 
 
+def made(commands):
+    """The files that a block of examples makes, by the words behind `-o` and `>`."""
+    return {name for command in commands for name in re.findall(r"(?:-o|>) ?([\w./-]+)", command.text)}
+
+
+def missing(commands, lost):
+    """What a block of examples needs that is not there: programs, GCC's version, and files that no block made."""
+    names = set().union(*(tools(command.text) for command in commands)) - BUILT_IN
+    absent = sorted(name for name in names if not name.startswith("./") and not shutil.which(name))
+    if GCC in names and GCC not in absent:
+        version = subprocess.run([GCC, "-dumpfullversion"], check=True, capture_output=True, text=True).stdout.strip()
+        absent += [] if version == VERSION else [f"version {VERSION} of {GCC}"]
+        if any("picolibc.specs" in command.text for command in commands) and compiler_lacks("picolibc.specs"):
+            absent.append("picolibc")
+    return absent + sorted(name for name in lost if any(name in command.text for command in commands))
+
+
 def run(commands, folder):
     """What each command of a block prints, and its status."""
     mark = secrets.token_hex(16)
     text = "status=0\n"
-    for command, _, _ in commands:
-        text += f"(exit $status)\n{command}\nstatus=$?\nprintf '{mark} %d\\n' $status\n"
+    for command in commands:
+        text += f"(exit $status)\n{command.text}\nstatus=$?\nprintf '{mark} %d\\n' $status\n"
     done = subprocess.run(["bash", "-c", text], cwd=folder, stdin=subprocess.DEVNULL, stdout=subprocess.PIPE,
                           stderr=subprocess.DEVNULL, timeout=LIMIT, check=False)
     output = done.stdout.decode("utf-8", errors="backslashreplace")
@@ -70,18 +112,38 @@ def run(commands, folder):
 
 
 def compare(commands, folder):
-    """The lines that say where a block's commands do something else than the README says."""
+    """The lines that say where a block's commands do something else than the document says."""
     faults = []
     ends = run(commands, folder)
     if len(ends) != len(commands):
-        faults.append(f"README.md:{commands[0][2]}: the block ended before its last command")
-    for place, ((command, wanted, number), (output, status)) in enumerate(zip(commands, ends)):
-        tells = place + 1 < len(commands) and commands[place + 1][0] == "echo $?"
+        faults.append(f"{commands[0].place}: the block ended before its last command")
+    for place, (command, (output, status)) in enumerate(zip(commands, ends)):
+        tells = place + 1 < len(commands) and commands[place + 1].text == "echo $?"
         if status != "0" and not tells:
-            faults.append(f"README.md:{number}: {command}\n  ends with status {status}")
-        if output != wanted:
-            faults.append(f"README.md:{number}: {command}\n  prints {output!r}\n  and not {wanted!r}")
+            faults.append(f"{command.place}: {command.text}\n  ends with status {status}")
+        if output != command.output:
+            faults.append(f"{command.place}: {command.text}\n  prints {output!r}\n  and not {command.output!r}")
     return faults
+
+
+def examples(document, folder):
+    """Runs the examples of a document in a folder: how many commands they have, and the faults that were found."""
+    count, faults, lost = 0, [], set()
+    for mark, lines, first in fences(document):
+        kind, _, name = mark.partition(" ")
+        if kind == "c" and name:
+            with open(os.path.join(folder, name), "w", encoding="utf-8") as file:
+                file.writelines(lines)
+        elif kind == "console":
+            commands = commands_of(document, lines, first)
+            absent = missing(commands, lost)
+            if absent:
+                print(f"skipped: the examples from {document}:{first} on, for want of {', '.join(absent)}")
+                lost |= made(commands)
+                continue
+            count += len(commands)
+            faults += compare(commands, folder)
+    return count, faults
 
 
 def main():
@@ -90,22 +152,17 @@ def main():
     if not os.access(program, os.X_OK) or subprocess.run([program, "dis", os.devnull], check=False).returncode:
         print(f"{program} can't be run")
         return 1
-    count, faults, examples = 0, [], blocks()
-    with tempfile.TemporaryDirectory() as folder:
-        shutil.copytree(os.path.join(TOP, "samples"), os.path.join(folder, "samples"))
-        os.symlink(program, os.path.join(folder, "rumtsafi"))
-        for commands in examples:
-            names = set().union(*(tools(command) for command, _, _ in commands)) - BUILT_IN
-            missing = sorted(name for name in names if not name.startswith("./") and not shutil.which(name))
-            if missing:
-                print(f"skipped: the examples from README.md:{commands[0][2]} on, for want of {', '.join(missing)}")
-                continue
-            count += len(commands)
-            faults += compare(commands, folder)
-    for fault in faults:
+    total, found = 0, []
+    for document in DOCUMENTS:
+        with tempfile.TemporaryDirectory() as folder:
+            shutil.copytree(os.path.join(TOP, "samples"), os.path.join(folder, "samples"))
+            os.symlink(program, os.path.join(folder, "rumtsafi"))
+            count, faults = examples(document, folder)
+            total, found = total + count, found + faults
+    for fault in found:
         print(fault)
-    print(f"{count} examples run, {len(faults)} differ")
-    return 1 if faults or not examples else 0
+    print(f"{total} examples run, {len(found)} differ")
+    return 1 if found or not total else 0
 
 
 sys.exit(main())

@@ -3,30 +3,49 @@
 
 It takes some seconds, needs no toolchain, and leaves nothing behind.
 """
+import errno
+import fcntl
 import os
+import pty
+import select
 import shutil
 import signal
 import subprocess
 import tempfile
+import termios
 import time
 import unittest
 
-SCRIPT = os.path.join(os.path.dirname(os.path.abspath(__file__)), "..", "rumtsafi")
+TOP = os.path.join(os.path.dirname(os.path.abspath(__file__)), "..")
 SYSTEM = "/usr/bin:/bin"
 TOOLS = ["bash", "awk", "find", "sort", "xargs", "sha256sum", "flock"]
 CRATES = "# what each crate uses\nci_main: middle\nlow:\nunused:\nmiddle: low clap\n"
-README = "```usage\nrumtsafi best FILE\n```\n\n```\nother\n```\n"
-# Each call is written down, with the crate's name. A crate whose source says so is refused.
+USAGE = "rumtsafi best FILE\n"
+TOOLCHAIN = "kit of the tests"
+# What a call of the script asks of `rt`, with the folder that it does so in.
+BUILDS = ["a clone all check --jobs N", "ci_main run -- dis /dev/null"]
+# Each call but that for the version is written down. A crate whose source says so is refused.
 STAND_IN = """#!/bin/sh
-crate=$(basename "$PWD")
-echo "$crate $*" >> "$CALLS"
+[ "$1" != version ] || { echo "$TOOLCHAIN"; exit 0; }
+folder=$(basename "$PWD")
+echo "$folder $*" | sed 's/--jobs [1-9][0-9]*$/--jobs N/' >> "$CALLS"
 sleep "${LASTS:-0}"
-echo "fn $crate::good: proved"
 [ -z "$CHANGES" ] || echo "// $$" >> src/lib.rt
-if grep -q wrong src/*; then echo "fn $crate::bad: no proof"; exit 1; fi
-[ "$1" = run ] || exit 0
+if [ "$1" = all ]; then
+    for crate in low middle ci_main; do
+        echo "== $crate"
+        echo "fn $crate::good: proved"
+        if grep -q wrong crates/$crate/src/*; then
+            echo "fn $crate::bad: no proof"
+            echo "$crate: failed (1)"
+            exit 1
+        fi
+    done
+    exit 0
+fi
 mkdir -p out
 echo '#!/bin/sh' > out/ci_main
+echo '[ "$*" != "dis /dev/null" ] || exit 0' >> out/ci_main
 echo "echo built from $(cat src/main.rt) with \\"\\$*\\"" >> out/ci_main
 echo 'exit "${STATUS:-0}"' >> out/ci_main
 chmod +x out/ci_main
@@ -43,11 +62,15 @@ class Repository(unittest.TestCase):
         self.root, self.tools = os.path.join(self.room, "a clone"), os.path.join(self.room, "tools")
         self.calls = os.path.join(self.room, "calls")
         self.write("crates.txt", CRATES)
-        self.write("README.md", README)
+        self.write("docs/usage.txt", USAGE)
+        self.write("CHANGELOG.md", "# Changes\n\n## Unreleased\n\n## 2026-01-02\n\n## 2026-01-01\n")
         for crate in ("low", "middle", "unused"):
             self.write(f"crates/{crate}/src/lib.rt", crate)
         self.write("crates/ci_main/src/main.rt", "first")
-        shutil.copy(SCRIPT, self.root)
+        shutil.copy(os.path.join(TOP, "rumtsafi"), self.root)
+        for name in ("script", "checks"):
+            shutil.copytree(os.path.join(TOP, name), os.path.join(self.root, name))
+        shutil.copy(os.path.join(TOP, "docs/faults.tsv"), os.path.join(self.root, "docs"))
         os.mkdir(self.tools)
         self.give_rt()
 
@@ -67,9 +90,11 @@ class Repository(unittest.TestCase):
             file.write(text)
 
     def start(self, *words, script=None, **more):
-        environment = {"PATH": f"{self.tools}:{SYSTEM}", "CALLS": self.calls, **more}
-        return subprocess.Popen([script or os.path.join(self.root, "rumtsafi"), *words], cwd=self.room, env=environment,
-                                stdout=subprocess.PIPE, stderr=subprocess.PIPE, text=True)
+        return subprocess.Popen([script or os.path.join(self.root, "rumtsafi"), *words], cwd=self.room,
+                                env=self.environment(**more), stdout=subprocess.PIPE, stderr=subprocess.PIPE, text=True)
+
+    def environment(self, **more):
+        return {"PATH": f"{self.tools}:{SYSTEM}", "CALLS": self.calls, "TOOLCHAIN": TOOLCHAIN, **more}
 
     def use(self, *words, **more):
         """Runs the script: its status, its standard output and its standard error."""
@@ -86,11 +111,33 @@ class Repository(unittest.TestCase):
         os.remove(self.calls)
         return lines
 
-    def test_first_use_builds_the_crates_that_are_used_lowest_first(self):
+    def ship(self, text, toolchain=TOOLCHAIN):
+        """Puts a shell script into bin/ that stands for the program."""
+        self.write("bin/rumtsafi", f"#!/bin/sh\n[ \"$*\" != 'dis /dev/null' ] || exit 0\n{text}\n")
+        os.chmod(os.path.join(self.root, "bin/rumtsafi"), 0o755)
+        self.write("bin/rumtsafi.sources", f"sources {self.hash()}\ntoolchain {toolchain}\n")
+
+    def hash(self):
+        """The hash of the present sources."""
+        told = subprocess.run(["bash", "-c", '. "$root/script/sources.sh"; sources'],
+                              env=self.environment(root=self.root), stdout=subprocess.PIPE, text=True, check=True)
+        return told.stdout.strip()
+
+    def call(self, name, *words):
+        """Runs another script of the repository: its status, and all that it says."""
+        done = subprocess.run([os.path.join(self.root, name), *words], env=self.environment(), stdout=subprocess.PIPE,
+                              stderr=subprocess.STDOUT, text=True, check=False)
+        return done.returncode, done.stdout
+
+
+class Built(Repository):
+    """A repository with no program in bin/."""
+
+    def test_first_use_builds_the_program_where_none_ships(self):
         status, output, told = self.use("best", "a file", "--in", "3")
         self.assertEqual((status, output), (0, "built from first with best a file --in 3\n"))
-        self.assertEqual(self.new_calls(), ["low lib", "middle lib", "ci_main run -- dis /dev/null"])
-        for line in ("crate 1 of 3, low", "crate 2 of 3, middle", "crate 3 of 3, ci_main", "built in"):
+        self.assertEqual(self.new_calls(), BUILDS)
+        for line in ("3 crates", "linking the program", "built in"):
             self.assertIn(line, told)
 
     def test_a_second_use_builds_nothing_and_tells_nothing(self):
@@ -108,13 +155,21 @@ class Repository(unittest.TestCase):
         self.assertEqual(self.new_calls(), [])
         self.write("crates/ci_main/src/main.rt", "second")
         self.assertEqual(self.use("three")[:2], (0, "built from second with three\n"))
-        self.assertEqual(len(self.new_calls()), 3)
-        for change in (lambda: self.write("crates/low/specs/New.antt", ""),
-                       lambda: os.remove(os.path.join(self.root, "crates/low/specs/New.antt")),
+        self.assertEqual(self.new_calls(), BUILDS)
+        for change in (lambda: self.write("crates/low/src/new.rt", ""),
+                       lambda: os.remove(os.path.join(self.root, "crates/low/src/new.rt")),
                        lambda: self.write("crates.txt", CRATES + "more:\n")):
             change()
             self.use("four")
-            self.assertEqual(len(self.new_calls()), 3)
+            self.assertEqual(self.new_calls(), BUILDS)
+
+    def test_definitions_and_proofs_leave_nothing_in_the_program(self):
+        self.use("one")
+        self.new_calls()
+        self.write("crates/low/specs/New.antt", "")
+        self.write("crates/low/proofs/New.antt", "")
+        self.use("two")
+        self.assertEqual(self.new_calls(), [])
 
     def test_a_source_that_is_refused_ends_with_70_and_leaves_the_old_program(self):
         self.use("one")
@@ -125,7 +180,7 @@ class Repository(unittest.TestCase):
         self.assertIn("fn middle::bad: no proof\n", told)
         self.assertNotIn("middle::good", told)
         self.assertIn("crate middle did not build", told)
-        self.assertEqual(self.new_calls(), ["low lib", "middle lib"])
+        self.assertEqual(self.new_calls(), BUILDS[:1])
         self.write("crates/middle/src/lib.rt", "middle")
         self.assertEqual(self.use("three"), (0, "built from first with three\n", ""))
 
@@ -143,8 +198,20 @@ class Repository(unittest.TestCase):
 
     def test_usage_follows_status_1_alone_and_on_standard_error(self):
         self.use("one")
-        self.assertEqual(self.use("two", STATUS="1"), (1, "built from first with two\n", "rumtsafi best FILE\n"))
-        self.assertEqual(self.use("three", STATUS="7"), (7, "built from first with three\n", ""))
+        self.assertEqual(self.use(STATUS="1"), (1, "built from first with \n", USAGE))
+        self.assertEqual(self.use("best", "a", STATUS="7"), (7, "built from first with best a\n", ""))
+
+    def test_status_1_names_the_word_that_has_no_reading(self):
+        self.use("one")
+        for words, why in ((["bset"], "there is no command 'bset'; there are: best"),
+                           (["best", "a", "--steps", "3"], "best has no option '--steps'"),
+                           (["best", "a", "--in", "4"], "--in takes a number from 1 to 3, which '4' is not"),
+                           (["best"], "best takes FILE, and FILE is missing"),
+                           (["asm", "a", "b", "c d"], "asm takes TEXT OUT, and 'c d' is a word too many"),
+                           (["asm", "a", "a"], "asm can't write 'a', which it names twice")):
+            status, _, told = self.use(*words, STATUS="1")
+            self.assertEqual(status, 1)
+            self.assertTrue(told.startswith(f"{USAGE}rumtsafi: {why}"), told)
 
     def test_two_uses_at_once_build_once(self):
         uses = [self.start(word, LASTS="1") for word in ("one", "two", "three")]
@@ -152,7 +219,7 @@ class Repository(unittest.TestCase):
         self.assertEqual([(output, status) for output, _, status in ended],
                          [(f"built from first with {word}\n", 0) for word in ("one", "two", "three")])
         self.assertTrue(any("waiting for another use" in told for _, told, _ in ended))
-        self.assertEqual(len(self.new_calls()), 3)
+        self.assertEqual(self.new_calls(), BUILDS)
 
     def test_a_use_that_is_stopped_leaves_nothing_that_waits_or_runs(self):
         process = self.start("one", LASTS="5")
@@ -180,6 +247,188 @@ class Repository(unittest.TestCase):
         self.assertEqual((status, output), (70, ""))
         self.assertIn("can't be written to", told)
         self.assertEqual(self.new_calls(), [])
+
+
+class Shipped(Repository):
+    """A repository with a program in bin/."""
+
+    def test_a_shipped_program_runs_without_rt_and_writes_nothing(self):
+        self.take_rt()
+        self.ship('echo shipped "$@"')
+        self.assertEqual(self.use("one", "two"), (0, "shipped one two\n", ""))
+        self.assertFalse(os.path.exists(os.path.join(self.root, "out")))
+
+    def test_a_shipped_program_of_other_sources_is_not_run(self):
+        self.ship('echo shipped "$@"')
+        self.write("crates/low/src/lib.rt", "another")
+        status, output, told = self.use("one")
+        self.assertEqual((status, output), (0, "built from first with one\n"))
+        self.assertIn("a source has changed since the program was built; proving and building it", told)
+
+    def test_a_shipped_program_that_does_not_run_here_is_not_run(self):
+        for change in (lambda: os.chmod(os.path.join(self.root, "bin/rumtsafi"), 0o644),
+                       lambda: self.write("bin/rumtsafi", "\x7fELF of another processor"),
+                       lambda: self.write("bin/rumtsafi", "#!/bin/sh\nexit 1\n")):
+            self.ship("echo shipped")
+            change()
+            self.assertEqual(self.use("one")[:2], (0, "built from first with one\n"))
+        self.take_rt()
+        shutil.rmtree(os.path.join(self.root, "out"))
+        self.assertIn("bin/rumtsafi doesn't run on this machine, and there is no rt", self.use("two")[2])
+
+    def test_standard_input_status_and_bytes_are_passed_on(self):
+        self.ship("cat; printf 'a\\000b\\377'; exit 9")
+        process = subprocess.Popen([os.path.join(self.root, "rumtsafi"), "one"], env=self.environment(),
+                                   stdin=subprocess.PIPE, stdout=subprocess.PIPE)
+        self.assertEqual(process.communicate(b"in\0put"), (b"in\0puta\0b\xff", None))
+        self.assertEqual(process.returncode, 9)
+
+    def test_the_script_alone_answers_help_and_version(self):
+        self.take_rt()
+        for word in ("--help", "-h"):
+            self.assertEqual(self.use(word), (0, USAGE, ""))
+        status, output, told = self.use("--version")
+        self.assertEqual((status, told), (0, ""))
+        self.assertTrue(output.startswith("rumtsafi 2026-01-02, and later changes\nprogram none: "), output)
+        self.ship("")
+        self.assertEqual(self.use("--version"), (0, "rumtsafi 2026-01-02, and later changes\n"
+                         f"program bin/rumtsafi, built from these sources\nsources {self.hash()}\n"
+                         f"toolchain {TOOLCHAIN}\n", ""))
+
+    def test_the_shipped_program_is_renewed_and_compared(self):
+        built = os.path.join(self.root, "out", "rumtsafi")
+        self.assertEqual(self.call("checks/renew_program.sh")[0], 0)
+        self.assertEqual(self.call("checks/compare_shipped.sh", built), (0, "bin/rumtsafi has the same bits\n"))
+        self.assertEqual(self.use("--build")[:2], (0, "out/rumtsafi has the same bits as bin/rumtsafi\n"))
+        self.ship("another")
+        self.assertEqual(self.call("checks/compare_shipped.sh", built)[0], 1)
+        self.assertEqual(self.use("--build")[0], 70)
+        self.ship("another", toolchain="an older kit")
+        status, said = self.call("checks/compare_shipped.sh", built)
+        self.assertEqual((status, said[:6]), (0, "stale:"))
+        self.write("crates/low/src/lib.rt", "another")
+        self.write("crates/ci_main/src/main.rt", "second")
+        status, said = self.call("checks/compare_shipped.sh", built)
+        self.assertEqual((status, said[:6]), (0, "stale:"))
+        self.assertEqual(self.call("checks/renew_program.sh")[0], 0)
+        self.take_rt()
+        self.assertEqual(self.use("one"), (0, "built from second with one\n", ""))
+
+    def test_a_signal_reaches_the_program(self):
+        mark = os.path.join(self.room, "mark")
+        self.ship(f"trap 'echo ended > \"{mark}\"; kill $!; exit 3' TERM; echo begun; sleep 30 > /dev/null 2>&1 & wait")
+        process = self.start("one")
+        self.assertEqual(process.stdout.readline(), "begun\n")
+        process.send_signal(signal.SIGTERM)
+        self.assertEqual(process.wait(timeout=10), 3)
+        self.assertTrue(os.path.exists(mark))
+        process.communicate()
+
+
+class AtTerminal(Repository):
+    """Uses whose standard output is a terminal, and mostly their standard error too."""
+
+    def at_terminal(self, *words, keys="", with_error=True, before=b""):
+        """Runs the script, and types the keys once `before` is shown: its status, the terminal, standard error."""
+        master, slave = pty.openpty()
+        modes = termios.tcgetattr(slave)
+        modes[1] &= ~termios.OPOST
+        termios.tcsetattr(slave, termios.TCSANOW, modes)
+
+        def own_terminal():
+            os.setsid()
+            fcntl.ioctl(slave, termios.TIOCSCTTY, 0)
+
+        with tempfile.TemporaryFile() as error:
+            process = subprocess.Popen([os.path.join(self.root, "rumtsafi"), *words], env=self.environment(),
+                                       stdin=slave, stdout=slave, stderr=slave if with_error else error,
+                                       preexec_fn=own_terminal)
+            os.close(slave)
+            shown, latest = b"", time.monotonic() + 30
+            while time.monotonic() < latest:
+                if keys and before in shown:
+                    os.write(master, keys.encode())
+                    keys = ""
+                if not select.select([master], [], [], 0.1)[0]:
+                    continue
+                try:
+                    part = os.read(master, 65536)
+                except OSError as fault:
+                    self.assertEqual(fault.errno, errno.EIO)
+                    break
+                shown += part
+                if not part:
+                    break
+            os.close(master)
+            status = process.wait(timeout=10)
+            error.seek(0)
+            return status, shown, error.read().decode()
+
+    def test_a_fault_line_is_said_in_words(self):
+        for line, words, said in (
+                ("fault 5 elf 3 4 2", ["run", "a"],
+                 "a 64-bit file: field at offset 4 is 2; use -march=rv32im -mabi=ilp32"),
+                ("fault 2 read a  & *", ["dis", "a  & *"], "a  & * isn't there, or can't be read"),
+                ("fault 7 unsupported 00010074 00000000", ["best", "a", "--at=0x10074"],
+                 "no block begins at 00010074: blocks lists where they do"),
+                ("fault 13 asm 5 2 14", ["asm", "a", "b"], "line 2, column 14: a label that isn't defined")):
+            self.ship(f"echo '{line}'; exit 8")
+            said = f"rumtsafi: {said}\n"
+            self.assertEqual(self.at_terminal(*words, with_error=False), (8, f"{line}\n".encode(), said))
+            self.assertEqual(self.at_terminal(*words), (8, f"{line}\n{said}".encode(), ""))
+        self.assertEqual(self.use("asm", "a", "b"), (8, "fault 13 asm 5 2 14\n", ""))
+
+    def test_an_answer_is_passed_on_as_it_is(self):
+        for answer in (b"", b"\0", b"\0a\xff", b"cut 1 2 gain 3\n", b"a\nb", b"\n\n",
+                       b"fault 2 read a\nend exit 00000000\n"):
+            text = "".join(f"\\{byte:03o}" for byte in answer)
+            self.ship(f"printf '{text}'; exit 0")
+            self.assertEqual(self.at_terminal("run", "a"), (0, answer, ""))
+
+    def test_usage_follows_status_1(self):
+        self.ship("echo fault 1 usage; exit 1")
+        self.assertEqual(self.at_terminal(with_error=False), (1, b"fault 1 usage\n", USAGE))
+
+    def test_a_long_command_shows_that_it_runs(self):
+        self.ship("sleep 3.4; echo cut")
+        status, shown, _ = self.at_terminal("best", "a")
+        self.assertEqual(status, 0)
+        self.assertRegex(shown.decode(), r"^\rrumtsafi: running, 2 s\rrumtsafi: running, 3 s\r +\rcut\n$")
+        self.assertEqual(self.at_terminal("best", "a", with_error=False), (0, b"cut\n", ""))
+
+    def test_control_c_ends_the_program_and_the_script(self):
+        mark = os.path.join(self.room, "mark")
+        self.ship(f"trap 'echo ended > \"{mark}\"; kill $!; trap - INT; kill -INT $$' INT\n"
+                  "sleep 30 > /dev/null 2>&1 & wait")
+        status, shown, _ = self.at_terminal("best", "a", keys="\x03", before=b"running, 2 s")
+        self.assertEqual(status, 130)
+        self.assertTrue(os.path.exists(mark))
+        self.assertTrue(shown.endswith(b"\r"), shown)
+
+
+class Made(unittest.TestCase):
+    """What checks/usage.py makes of the usage."""
+
+    def complete(self, *words):
+        text = (f'. "{TOP}/share/bash-completion/completions/rumtsafi"; COMP_WORDS=("$@"); COMP_CWORD=$(($# - 1)); '
+                'cd -- "$0"; _rumtsafi; echo "${COMPREPLY[*]}"')
+        done = subprocess.run(["bash", "-c", text, os.path.join(TOP, "samples"), "rumtsafi", *words],
+                              stdout=subprocess.PIPE, stderr=subprocess.STDOUT, text=True, check=False)
+        return done.stdout.strip()
+
+    def test_bash_completes_commands_options_and_files(self):
+        self.assertEqual(self.complete("b"), "best blocks")
+        self.assertEqual(self.complete("--v"), "--version")
+        self.assertEqual(self.complete("run", "crc32.elf", "--"), "--steps --input --table")
+        self.assertEqual(self.complete("best", "crc32.e"), "crc32.elf")
+        self.assertEqual(self.complete("best", "--table", "crc32.e"), "crc32.elf")
+        self.assertEqual(self.complete("best", "--in", ""), "")
+
+    @unittest.skipUnless(shutil.which("groff"), "there is no groff")
+    def test_the_man_page_has_no_fault(self):
+        done = subprocess.run(["groff", "-man", "-Tutf8", "-ww", "-z", os.path.join(TOP, "share/man/man1/rumtsafi.1")],
+                              stderr=subprocess.STDOUT, stdout=subprocess.PIPE, text=True, check=False)
+        self.assertEqual((done.returncode, done.stdout), (0, ""))
 
 
 if __name__ == "__main__":

@@ -48,7 +48,8 @@ module _ (image : Executable) (formed : IsWellFormed image) where
       subst (λ a. ¬ HasCustomOpcode (text_word image a)) (sym word.address_is) (none word.index word.below word.place word.within)
 
   -- the first of the first range that has one is the first of the text
-  pub first_at_all : (i address word : ℕ) → i < length image.ranges → HasNoCustomWordBefore image i → IsFirstCustomWordIn image i address word → IsFirstCustomWord image address word
+  pub first_at_all : (i address word : ℕ) → i < length image.ranges → HasNoCustomWordBefore image i
+      → IsFirstCustomWordIn image i address word → IsFirstCustomWord image address word
   first_at_all i address word below before found = record {
     text = subst (IsTextWord image.ranges) (sym found.address_is) (word_of_range image.ranges (text_ranges image formed) i found.place found.within);
     there = found.there;
@@ -58,10 +59,23 @@ module _ (image : Executable) (formed : IsWellFormed image) where
         subst (λ b. ¬ HasCustomOpcode (text_word image b)) (sym w.address_is) (elim (cases_lt w.index i) [
           | inl front ↦ before w.index front w.place w.within
           | inr late ↦ elim (cases_lt i w.index) [
-            | inl behind ↦ absurd (omega (arith, earlier, w.address_is, found.address_is, found.within, apart image.ranges (text_ranges image formed) i w.index behind w.below))
+            | inl behind ↦
+                absurd (omega (
+                  arith,
+                  earlier,
+                  w.address_is,
+                  found.address_is,
+                  found.within,
+                  apart image.ranges (text_ranges image formed) i w.index behind w.below,
+                ))
             | inr same ↦
                 let is : w.index ≡ i = omega arith in
-                let place : w.place < found.place = omega (arith, earlier, found.address_is, subst (λ j. a ≡ (range_at image.ranges j).start + 4 * w.place) is w.address_is) in
+                let place : w.place < found.place = omega (
+                  arith,
+                  earlier,
+                  found.address_is,
+                  subst (λ j. a ≡ (range_at image.ranges j).start + 4 * w.place) is w.address_is,
+                ) in
                 subst (λ j. ¬ HasCustomOpcode (text_word image ((range_at image.ranges j).start + 4 * w.place))) (sym is) (found.first w.place place)
           ]
         ]);

@@ -5,7 +5,8 @@ use Rattle.std.proofs.lemmas.Bool.{cases_lt}
 use Rattle.ci_elf.specs.declared.ranges.Range.{Range}
 use Rattle.ci_elf.specs.Executables.{Executable, IsTextWord}
 use Rattle.ci_block.specs.declared.marks.Marks.{Marks}
-use Rattle.ci_block.specs.Leaders.{IsBehindFullBlock, IsListing, IsMark, entry, target_of_jump, behind_terminator, where_ranges_meet, symbol, data_word, target_of_jalr, named_by_user}
+use Rattle.ci_block.specs.Leaders.{IsBehindFullBlock, IsListing, IsMark, entry, target_of_jump, behind_terminator}
+use Rattle.ci_block.specs.Leaders.{where_ranges_meet, symbol, data_word, target_of_jalr, named_by_user}
 use Rattle.ci_block.specs.Listing.{IsFull, IsListedBelow}
 use Rattle.ci_block.specs.Marking.{range_at, AreTextRanges}
 use Rattle.ci_block.specs.Marks.{Adds, AreMarksOf, IsMarked}

@@ -54,7 +54,8 @@ pub some_is : (a b : ℕ) → Some a ≡ Some b → a ≡ b
 some_is a b is = cc
 
 -- bytes of a word that begins at a multiple of four are text where its first one is
-pub word_of_text : (ranges : List Range) → AreTextRanges ranges → (address k : ℕ) → address % 4 ≡ 0 → k < 4 → InText ranges (address + k) → InText ranges address
+pub word_of_text : (ranges : List Range) → AreTextRanges ranges → (address k : ℕ) → address % 4 ≡ 0 → k < 4
+    → InText ranges (address + k) → InText ranges address
 word_of_text ranges text address k aligned h in_text =
     let held = holder ranges (address + k) in_text in
     text_at ranges address held.0 (omega (arith, held.1.from nowhere, text.aligned held.0)) (omega (arith, held.1.to nowhere))

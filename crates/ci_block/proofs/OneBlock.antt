@@ -12,7 +12,7 @@ use Rattle.ci_elf.proofs.ImageLaws.{ordered}
 use Rattle.ci_block.specs.declared.blocks.Block.{Block}
 use Rattle.ci_block.specs.declared.blocks.Next.{Next}
 use Rattle.ci_block.specs.declared.blocks.Next.TheVariants.{Stop, One, Two, Any}
-use Rattle.ci_block.specs.Blocks.{AreCounted, Counts, IsBlockAt, IsNext, at_end_of_range, at_leader, at_terminator, end_of_block, full, size_of, ways_on}
+use Rattle.ci_block.specs.Blocks.{AreSuccessors, Counts, IsBlockAt, IsNext, at_end_of_range, at_leader, at_terminator, end_of_block, full, size_of, ways_on}
 use Rattle.ci_block.specs.Laws.{BlockIsOne, BlocksAreOne, contents_of}
 use Rattle.ci_block.specs.Text.{StandsAt}
 use Rattle.ci_block.proofs.InsnLaws.{stands_alone}
@@ -20,13 +20,13 @@ use Rattle.ci_block.proofs.InsnLaws.{stands_alone}
 -- ---- successors
 
 module _ (image : Executable) (ways : List ℕ) where
-  both_count : (a b : ℕ) → AreCounted image ways (Two a b) → Counts image ways a × Counts image ways b
+  both_count : (a b : ℕ) → AreSuccessors image ways (Two a b) → Counts image ways a × Counts image ways b
   both_count a b two = (
     (subst (λ ws. Contains ws a) (sym two.0) (0, omega arith, refl), two.1),
     (subst (λ ws. Contains ws b) (sym two.0) (1, omega arith, refl), two.2),
   )
 
-  one_count : (left right : Next) → AreCounted image ways left → AreCounted image ways right → left ≡ right
+  one_count : (left right : Next) → AreSuccessors image ways left → AreSuccessors image ways right → left ≡ right
   one_count Stop Stop l r = refl
   one_count Stop (One a) l r = absurd (l a r.0)
   one_count Stop (Two a b) l r = absurd (l a (both_count a b r).0)

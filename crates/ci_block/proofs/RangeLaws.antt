@@ -60,7 +60,8 @@ module _ (ranges : List Range) (text : AreTextRanges ranges) where
   ]
 
   -- no text lies between two neighbours
-  pub between : (i address : ℕ) → i < length ranges → end_of (range_at ranges i) ≤ address → (i + 1 < length ranges → address < (range_at ranges (i + 1)).start) → ¬ InText ranges address
+  pub between : (i address : ℕ) → i < length ranges → end_of (range_at ranges i) ≤ address
+      → (i + 1 < length ranges → address < (range_at ranges (i + 1)).start) → ¬ InText ranges address
   between i address within past before h =
       let held = holder ranges address h in
       let j = held.0 in

@@ -126,7 +126,12 @@ module _ (ranges : List Range) where
           | inr n ↦ let same : j ≡ i = omega arith in absurd (omega (arith, rw same at meets, text.worded i h))
         ]
         | inr m ↦ elim (cases_lt (i + 1) j) [
-          | inl n ↦ absurd (omega (arith, apart ranges text i (i + 1) (omega arith) (omega arith), apart ranges text (i + 1) j n l, text.worded (i + 1) (omega arith)))
+          | inl n ↦ absurd (omega (
+            arith,
+            apart ranges text i (i + 1) (omega arith) (omega arith),
+            apart ranges text (i + 1) j n l,
+            text.worded (i + 1) (omega arith),
+          ))
           | inr n ↦ omega arith
         ]
       ]

@@ -1,5 +1,6 @@
 -- The basic blocks of an executable file, and their successors.
-use Rattle.std.specs.Prelude.{◌≡◌, ◌≢◌, ℕ, ◌+◌, ◌-◌, ◌*◌, ◌<◌, ◌≤◌, Bool, true, false, List, [], ◌∷◌, length, map, slice_index_or}
+use Rattle.std.specs.Prelude.{◌≡◌, ◌≢◌, ℕ, ◌+◌, ◌-◌, ◌*◌, ◌<◌, ◌≤◌, Bool, true, false, List, [], ◌∷◌, length, map}
+use Rattle.std.specs.Prelude.{slice_index_or}
 use Rattle.std.specs.List.{AllPairs, Contains}
 use Rattle.ci_word.specs.declared.arithmetic.Op.TheVariants.{Add}
 use Rattle.ci_word.specs.Arithmetic.{operation, word_of}
@@ -29,17 +30,17 @@ abbrev pub Counts : Executable → List ℕ → ℕ → Type 0
 Counts image ways address = Contains ways address × IsTextWord image.ranges address
 
 -- Those of the ways that count, in their order. Two that are equal are one.
-abbrev pub AreCounted : Executable → List ℕ → Next → Type 0
-AreCounted image ways Stop = (a : ℕ) → ¬ Counts image ways a
-AreCounted image ways (One a) = Counts image ways a × ((b : ℕ) → Counts image ways b → b ≡ a)
-AreCounted image ways (Two a b) =
+abbrev pub AreSuccessors : Executable → List ℕ → Next → Type 0
+AreSuccessors image ways Stop = (a : ℕ) → ¬ Counts image ways a
+AreSuccessors image ways (One a) = Counts image ways a × ((b : ℕ) → Counts image ways b → b ≡ a)
+AreSuccessors image ways (Two a b) =
     (ways ≡ a ∷ b ∷ []) × IsTextWord image.ranges a × IsTextWord image.ranges b × (a ≢ b)
-AreCounted image ways Any = ⊥
+AreSuccessors image ways Any = ⊥
 
 -- the successors of a block whose last instruction stands at this address
 abbrev pub IsNext : Executable → ℕ → Insn → Next → Type 0
 IsNext image last (Jalr rd rs1 offset) next = next ≡ Any
-IsNext image last insn next = AreCounted image (ways_on last insn) next
+IsNext image last insn next = AreSuccessors image (ways_on last insn) next
 
 -- ---- blocks
 

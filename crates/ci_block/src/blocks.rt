@@ -1,7 +1,7 @@
 //! The blocks, and where they lead.
 ghost use Rattle.std.specs.Prelude.{◌+◌, ◌*◌, ◌<◌, ◌↔◌, [], ◌∷◌, length, slice_index, IfOk, IsTrue};
 ghost use Rattle.ci_elf.specs.Executables.{IsTextWord};
-ghost use Rattle.ci_block.specs.Blocks.{AreBlocks, AreCounted, IsNext};
+ghost use Rattle.ci_block.specs.Blocks.{AreBlocks, AreSuccessors, IsNext};
 ghost use Rattle.ci_block.specs.Leaders.{AreLeaders};
 ghost use Rattle.ci_block.specs.Stretches.{AreInsns, EndsStretch, IsBlockOf, IsRangeEnd, IsStretch};
 
@@ -76,8 +76,8 @@ fn is_text_word(image: &Image, address: u32) -> bool
 }
 
 /// The successor, where there is one way on.
-fn one_way(image: &Image, way: u32) -> Next
-    ensures { AreCounted image.now (way ∷ []) result }
+fn jump_successor(image: &Image, way: u32) -> Next
+    ensures { AreSuccessors image.now (way ∷ []) result }
 {
     if is_text_word(image, way) {
         Next::One(way)
@@ -87,11 +87,11 @@ fn one_way(image: &Image, way: u32) -> Next
 }
 
 /// The successors, where there are two ways on.
-fn two_ways(image: &Image, target: u32, following: u32) -> Next
-    ensures { AreCounted image.now (target ∷ following ∷ []) result }
+fn branch_successors(image: &Image, target: u32, following: u32) -> Next
+    ensures { AreSuccessors image.now (target ∷ following ∷ []) result }
 {
     if target == following || !is_text_word(image, following) {
-        one_way(image, target)
+        jump_successor(image, target)
     } else if is_text_word(image, target) {
         Next::Two(target, following)
     } else {
@@ -107,9 +107,13 @@ fn successors(image: &Image, last: u32, insn: &Insn) -> Next
     match *insn {
         Insn::Jalr { .. } => Next::Any,
         Insn::Ebreak | Insn::Illegal { .. } => Next::Stop,
-        Insn::Jal { offset, .. } => one_way(image, address_behind(last, offset)),
-        Insn::Branch { offset, .. } => two_ways(image, address_behind(last, offset), last + 4),
-        _ => one_way(image, last + 4),
+        Insn::Jal { offset, .. } => jump_successor(image, address_behind(last, offset)),
+        Insn::Branch { offset, .. } => branch_successors(
+            image,
+            address_behind(last, offset),
+            last + 4,
+        ),
+        _ => jump_successor(image, last + 4),
     }
 }
 

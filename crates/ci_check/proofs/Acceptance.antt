@@ -1,11 +1,13 @@
 -- An accepted log shows that no set that fits is better than the best cut.
-use Rattle.std.proofs.Common.{◌≡◌, ℕ, ◌<◌, ◌≤◌, Bool, true, false, not, ◌⊎◌, inl, inr, List, [], ◌∷◌, ◌++◌, length, sym, ◌∙◌, arith, ℤ, pos, ◌≤ℤ◌, ◌<ℤ◌, subst, Some, None, MatchOption}
+use Rattle.std.proofs.Common.{◌≡◌, ℕ, ◌<◌, ◌≤◌, Bool, true, false, not, ◌⊎◌, inl, inr, List, [], ◌∷◌, ◌++◌, length, sym}
+use Rattle.std.proofs.Common.{◌∙◌, arith, ℤ, pos, ◌≤ℤ◌, ◌<ℤ◌, subst, Some, None, MatchOption}
 use Rattle.std.proofs.lemmas.Bool.{cases_Bool}
 use Rattle.std.proofs.lemmas.Int.{ints}
 use Rattle.std.specs.List.{AllByRecursion}
 use Rattle.std.specs.FinSet as set
 use Rattle.ci_cut.specs.declared.graph.Limits.{Limits}
-use Rattle.ci_cut.specs.FlowGraph.{FlowGraph, IsFlowGraph}
+use Rattle.ci_cut.specs.FlowGraph.{FlowGraph}
+use Rattle.ci_cut.specs.GraphRules.{IsFlowGraph}
 use Rattle.ci_cut.specs.Gain.{Fits, gain}
 use Rattle.ci_cut.specs.Best.{ComesBefore, IsSameSet, IsBest, HasNoCut}
 use Rattle.ci_log.specs.declared.log.Item.{Item}
@@ -15,7 +17,7 @@ use Rattle.ci_cut.specs.Prefixes.{Prefix, taken, IsBefore}
 use Rattle.ci_check.specs.Rules.{Given, best_gain, IsGood, IsAfterBest, IsBeforeBest, IsBetter, IsRight, stations, IsRightAt, IsAccepted}
 use Rattle.ci_cut.specs.Reached.{Completes}
 use Rattle.ci_cut.proofs.PrefixLaws.{same_test, eligible_below, next_exists, decided_above, possible_parts, completes_none, completes_more, whole_choice}
-use Rattle.ci_cut.proofs.Bounds.{completion_bound, completion_bounded}
+use Rattle.ci_cut.proofs.BoundLaws.{completion_bound, completion_bounded}
 use Rattle.ci_check.proofs.SetOrder.{compare_sets}
 use Rattle.ci_cut.proofs.NeedLaws.{compare_gains}
 
@@ -80,7 +82,8 @@ module _ (graph : FlowGraph) (flows : IsFlowGraph graph) (limits : Limits) where
   ]
 
   -- a set that fits and isn't a better cut
-  from_not_better : (best : Given) (cut : ℕ → Bool) → IsGood graph limits best → Fits graph limits cut → ¬ IsBetter graph limits best cut → IsNoBetter graph best cut
+  from_not_better : (best : Given) (cut : ℕ → Bool) → IsGood graph limits best → Fits graph limits cut
+      → ¬ IsBetter graph limits best cut → IsNoBetter graph best cut
   from_not_better best cut good fits not_better = elim (compare_gains (gain graph cut) (best_gain graph best)) [
     | inl less ↦ inl less
     | inr (inr more) ↦ absurd (not_better (record { fits = fits; more = inl more }))
@@ -90,7 +93,8 @@ module _ (graph : FlowGraph) (flows : IsFlowGraph graph) (limits : Limits) where
       by_order : (best : Given) → IsGood graph limits best → ¬ IsBeforeBest best cut → IsNotBefore best cut
       by_order None good not_first = tt
       by_order (Some best) good not_first =
-          elim (compare_sets (length graph.nodes) (set.contains best) cut (λ k past. fits_nodes (set.contains best) good.0 k past ∙ sym (fits_nodes cut fits k past))) [
+          elim (compare_sets (length graph.nodes) (set.contains best) cut
+          (λ k past. fits_nodes (set.contains best) good.0 k past ∙ sym (fits_nodes cut fits k past))) [
             | inl same ↦ inl same
             | inr (inl first) ↦ inr first
             | inr (inr second) ↦ absurd (not_first second)
@@ -116,17 +120,24 @@ module _ (graph : FlowGraph) (flows : IsFlowGraph graph) (limits : Limits) where
         from_not_better best cut good fits (subst (λ s. ¬ IsBetter graph limits best s) (sym same) not_better)
 
     -- a set that goes on from a tree's prefix is followed down to a leaf
-    pub no_better : {items : List Item} (tree : IsTree items) (prefix : Prefix) → AllByRecursion (IsRightAt graph limits best) (stations tree prefix) → Completes graph prefix cut → IsNoBetter graph best cut
+    pub no_better : {items : List Item} (tree : IsTree items) (prefix : Prefix)
+        → AllByRecursion (IsRightAt graph limits best) (stations tree prefix) → Completes graph prefix cut
+        → IsNoBetter graph best cut
     no_better (leaf {item = item} is) prefix right goes = at_leaf item is prefix right.0 goes
     no_better (branch first second) prefix right goes =
         let next = next_exists graph prefix right.0 in
         elim (cases_Bool (cut next.0)) [
-          | inl in_ ↦ no_better first (true ∷ prefix) (all_left (IsRightAt graph limits best) _ (stations second (false ∷ prefix)) right.1) (completes_more graph prefix cut next.0 true goes next.1 in_)
-          | inr out ↦ no_better second (false ∷ prefix) (all_right (IsRightAt graph limits best) (stations first (true ∷ prefix)) _ right.1) (completes_more graph prefix cut next.0 false goes next.1 out)
+          | inl in_ ↦ no_better first (true ∷ prefix)
+              (all_left (IsRightAt graph limits best) _ (stations second (false ∷ prefix)) right.1)
+              (completes_more graph prefix cut next.0 true goes next.1 in_)
+          | inr out ↦ no_better second (false ∷ prefix)
+              (all_right (IsRightAt graph limits best) (stations first (true ∷ prefix)) _ right.1)
+              (completes_more graph prefix cut next.0 false goes next.1 out)
         ]
 
   -- an accepted log implies that the cut is best, or that there is none
-  pub accepted_is_best : (best : Given) (items : List Item) → IsAccepted graph limits best items → MatchOption best (HasNoCut graph limits) (λ cut. IsBest graph limits (set.contains cut))
+  pub accepted_is_best : (best : Given) (items : List Item) → IsAccepted graph limits best items
+      → MatchOption best (HasNoCut graph limits) (λ cut. IsBest graph limits (set.contains cut))
   accepted_is_best None items accepted =
       λ cut fits. none_more cut (no_better None accepted.good cut fits accepted.tree [] accepted.right (completes_none graph cut fits.eligible))
     where

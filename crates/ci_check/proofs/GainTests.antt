@@ -9,7 +9,9 @@ pub of_z_same : (a b : ℤ) → SFits w64 a → SFits w64 b → of_z w64 a ≡ o
 of_z_same a b first second same = sym (to_z-of_z w64 a first) ∙ ap (to_z w64) same ∙ to_z-of_z w64 b second
 
 -- neither less nor equal
-pub above_by_tests : (a b : ℤ) → SFits w64 a → SFits w64 b → lt_z (to_z w64 (of_z w64 a)) (to_z w64 (of_z w64 b)) ≡ false → ¬ (of_z w64 a ≡ of_z w64 b) → {c d : ℤ} → a ≡ c → b ≡ d → d <ℤ c
+pub above_by_tests : (a b : ℤ) → SFits w64 a → SFits w64 b
+    → lt_z (to_z w64 (of_z w64 a)) (to_z w64 (of_z w64 b)) ≡ false → ¬ (of_z w64 a ≡ of_z w64 b) → {c d : ℤ}
+    → a ≡ c → b ≡ d → d <ℤ c
 above_by_tests a b first second not_less other {c} {d} is_first is_second = elim (compare_gains a b) [
   | inl less ↦ absurd (below first second less not_less)
   | inr (inl same) ↦ absurd (other (ap (of_z w64) same))

@@ -1,4 +1,4 @@
-pub mod StandingLaws
+pub mod ChoiceLaws
 pub mod SetOrder
 pub mod Acceptance
 pub mod GainTests

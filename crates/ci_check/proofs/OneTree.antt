@@ -11,7 +11,8 @@ record AreOne {one other : List Item} (first : IsTree one) (second : IsTree othe
   same_rest : rest ≡ behind
   same_stations : (prefix : Prefix) → stations first prefix ≡ stations second prefix
 
-one_tree : {one : List Item} (first : IsTree one) {other : List Item} (second : IsTree other) (rest behind : List Item) → one ++ rest ≡ other ++ behind → AreOne first second rest behind
+one_tree : {one : List Item} (first : IsTree one) {other : List Item} (second : IsTree other)
+    (rest behind : List Item) → one ++ rest ≡ other ++ behind → AreOne first second rest behind
 one_tree (leaf {item = a} is) (leaf {item = b} is') rest behind same =
     let item : a ≡ b = (cc) in
     record { same_rest = (cc); same_stations = λ prefix. ap (λ i. record { prefix = prefix; item = i } ∷ []) item }

@@ -3,7 +3,7 @@ use Rattle.std.proofs.Common.{◌≡◌, ℕ, zero, suc, ◌<◌, ◌≤◌, Boo
 use Rattle.std.proofs.Math.Bool.{beq}
 use Rattle.std.proofs.lemmas.Bool.{cases_eq, cases_order, cases_Bool}
 use Rattle.ci_cut.specs.Best.{ComesBefore, IsSameSet}
-use Rattle.ci_check.specs.Standing.{ComesBeforeFrom}
+use Rattle.ci_check.specs.Representation.{ComesBeforeFrom}
 
 -- sets that are the same from some number on are one, or one of them comes before the other
 pub compare_sets : (n : ℕ) (s t : ℕ → Bool) → ((k : ℕ) → n ≤ k → s k ≡ t k) → IsSameSet s t ⊎ (ComesBefore s t ⊎ ComesBefore t s)
@@ -35,7 +35,8 @@ module _ (first second : ℕ → Bool) (from k : ℕ) (same : (j : ℕ) → k < 
     | inr (inr lower) ↦ true≢false (sym in_ ∙ sym (before.same_above k lower) ∙ out)
   ]
 
-  pub at_difference : (has other : Bool) → has ≡ first k → other ≡ second k → not (beq has other) ≡ true → from ≤ k → IsTrue has ↔ ComesBeforeFrom from first second
+  pub at_difference : (has other : Bool) → has ≡ first k → other ≡ second k → not (beq has other) ≡ true → from ≤ k
+      → IsTrue has ↔ ComesBeforeFrom from first second
   at_difference true true is is_other differ down = absurd (true≢false (sym differ))
   at_difference true false is is_other differ down = (λ _. in_first (sym is) (sym is_other) down, λ _. refl)
   at_difference false true is is_other differ down = (λ e. absurd (true≢false (sym e)), λ before. absurd (in_second (sym is) (sym is_other) before))

@@ -1,5 +1,7 @@
 -- A walk over the items of a tree, and what it tells of them.
-use Rattle.std.proofs.Common.{◌≡◌, ℕ, suc, ◌+◌, ◌<◌, ◌≤◌, true, false, inl, inr, List, [], ◌∷◌, ◌++◌, length, length-append, length-drop, append_assoc, drop, get_or, None, Result, Ok, Err, refl, sym, ap, ◌∙◌, subst, arith}
+use Rattle.std.proofs.Common.{◌≡◌, ℕ, suc, ◌+◌, ◌<◌, ◌≤◌, true, false, inl, inr, List, [], ◌∷◌, ◌++◌, length}
+use Rattle.std.proofs.Common.{length-append, length-drop, append_assoc, drop, get_or, None, Result, Ok, Err, refl, sym}
+use Rattle.std.proofs.Common.{ap, ◌∙◌, subst, arith}
 use Rattle.std.proofs.lemmas.List.{drop_more, drop-drop, drop_at}
 use Rattle.std.specs.List.{AllByRecursion}
 use Rattle.ci_word.specs.Numbers.{count_below}
@@ -11,7 +13,7 @@ use Rattle.ci_log.specs.Trees.{IsLeaf, IsTree, leaf, branch}
 use Rattle.ci_check.specs.declared.checking.Wrong.{Wrong}
 use Rattle.ci_cut.specs.Prefixes.{Prefix, is_eligible, eligible_nodes}
 use Rattle.ci_check.specs.Rules.{Given, IsRight, reason_of, Station, stations, IsRightAt, IsFirstWrongIn}
-use Rattle.ci_check.specs.Standing.{IsTreeAt, IsJudged, IsBranchOn}
+use Rattle.ci_check.specs.Representation.{IsTreeAt, IsJudged, IsBranchOn}
 use Rattle.ci_check.proofs.Acceptance.{all_right, all_both}
 
 -- ---- trees in a list of items
@@ -33,7 +35,8 @@ tree_within items place at_place =
     omega (arith, parts, tree_nonempty at_place.tree)
 
 -- the item at a place, and the items behind it
-pub first_item : (items one rest : List Item) (place : ℕ) → place < length items → drop place items ≡ one ++ rest → get_or items place B ∷ drop (place + 1) items ≡ one ++ rest
+pub first_item : (items one rest : List Item) (place : ℕ) → place < length items → drop place items ≡ one ++ rest
+    → get_or items place B ∷ drop (place + 1) items ≡ one ++ rest
 first_item items one rest place within is = sym (drop_more items place B within) ∙ is
 
 -- the trees below a branch
@@ -43,18 +46,30 @@ pub record SubTrees {one : List Item} (tree : IsTree one) (prefix : Prefix) (tai
   pub first_tree : IsTree first
   pub second_tree : IsTree second
   pub is_tail : tail ≡ first ++ (second ++ rest)
-  pub are_stations : stations tree prefix ≡ (record { prefix = prefix; item = B } ∷ (stations first_tree (true ∷ prefix) ++ stations second_tree (false ∷ prefix)))
+  pub are_stations : stations tree prefix ≡
+      (record { prefix = prefix; item = B } ∷ (stations first_tree (true ∷ prefix)
+      ++ stations second_tree (false ∷ prefix)))
 
-pub sub_trees : {one : List Item} (tree : IsTree one) (prefix : Prefix) (item : Item) (tail rest : List Item) → item ∷ tail ≡ one ++ rest → item ≡ B → SubTrees tree prefix tail rest
+pub sub_trees : {one : List Item} (tree : IsTree one) (prefix : Prefix) (item : Item) (tail rest : List Item)
+    → item ∷ tail ≡ one ++ rest → item ≡ B → SubTrees tree prefix tail rest
 sub_trees (leaf {item = here} is) prefix item tail rest splits branches =
     let same : here ≡ B = (cc) in
     absurd (subst IsLeaf same is)
 sub_trees (branch {taken = first} {left_out = second} first_tree second_tree) prefix item tail rest splits branches =
     let behind : tail ≡ (first ++ second) ++ rest = (cc) in
-    record { first = first; second = second; first_tree = first_tree; second_tree = second_tree; is_tail = behind ∙ append_assoc first second rest; are_stations = refl }
+    record {
+      first = first;
+      second = second;
+      first_tree = first_tree;
+      second_tree = second_tree;
+      is_tail = behind
+          ∙ append_assoc first second rest;
+      are_stations = refl;
+    }
 
 -- where the first tree below a branch ends, the second begins
-pub behind_first : (items rest : List Item) (start end : ℕ) {one : List Item} {tree : IsTree one} {prefix : Prefix} (parts : SubTrees tree prefix (drop start items) rest)
+pub behind_first : (items rest : List Item) (start end : ℕ) {one : List Item} {tree : IsTree one} {prefix : Prefix}
+    (parts : SubTrees tree prefix (drop start items) rest)
     → end ≡ start + length (stations parts.first_tree (true ∷ prefix)) → drop end items ≡ parts.second ++ rest
 behind_first items rest start end {prefix = prefix} parts ends =
     let at_end : end ≡ start + length parts.first = omega (arith, ends, length-stations parts.first_tree (true ∷ prefix)) in
@@ -67,11 +82,21 @@ behind_first items rest start end {prefix = prefix} parts ends =
 
 module _ (graph : FlowGraph) (limits : Limits) (best : Given) where
   -- the first item is wrong
-  pub wrong_here : {one : List Item} (tree : IsTree one) (prefix : Prefix) (item : Item) (tail rest : List Item) → item ∷ tail ≡ one ++ rest → ¬ IsRight graph limits best prefix item
+  pub wrong_here : {one : List Item} (tree : IsTree one) (prefix : Prefix) (item : Item) (tail rest : List Item)
+      → item ∷ tail ≡ one ++ rest → ¬ IsRight graph limits best prefix item
       → IsFirstWrongIn graph limits best (stations tree prefix) 0 (reason_of item)
   wrong_here (leaf {item = here} is) prefix item tail rest splits wrong =
       let same : item ≡ here = (cc) in
-      record { before = []; station = record { prefix = prefix; item = here }; behind = []; is_split = refl; right_before = tt; not_right = subst (λ i. ¬ IsRight graph limits best prefix i) same wrong; is_number = refl; is_reason = ap reason_of same }
+      record {
+        before = [];
+        station = record { prefix = prefix; item = here };
+        behind = [];
+        is_split = refl;
+        right_before = tt;
+        not_right = subst (λ i. ¬ IsRight graph limits best prefix i) same wrong;
+        is_number = refl;
+        is_reason = ap reason_of same;
+      }
   wrong_here (branch first second) prefix item tail rest splits wrong =
       let same : item ≡ B = (cc) in
       record {
@@ -86,7 +111,8 @@ module _ (graph : FlowGraph) (limits : Limits) (best : Given) where
       }
 
   -- the first item is right, and no branch
-  pub right_alone : {one : List Item} (tree : IsTree one) (prefix : Prefix) (item : Item) (tail rest : List Item) (place : ℕ) → item ∷ tail ≡ one ++ rest → IsRight graph limits best prefix item
+  pub right_alone : {one : List Item} (tree : IsTree one) (prefix : Prefix) (item : Item) (tail rest : List Item)
+      (place : ℕ) → item ∷ tail ≡ one ++ rest → IsRight graph limits best prefix item
       → IsBranchOn graph place item None → (count_below place (is_eligible graph) ≡ 0 → eligible_nodes graph ≤ length prefix)
       → AllByRecursion (IsRightAt graph limits best) (stations tree prefix) × (length (stations tree prefix) ≡ 1)
   right_alone (leaf {item = here} is) prefix item tail rest place splits right alone whole =
@@ -96,12 +122,14 @@ module _ (graph : FlowGraph) (limits : Limits) (best : Given) where
       let same : item ≡ B = (cc) in
       absurd (elim alone [
         | inl is ↦ subst IsLeaf same is
-        | inr none ↦ let undecided : length prefix < eligible_nodes graph = subst (λ i. IsRight graph limits best prefix i) same right in omega (arith, whole none)
+        | inr none ↦ let undecided : length prefix < eligible_nodes graph =
+            subst (λ i. IsRight graph limits best prefix i) same right in omega (arith, whole none)
       ])
 
   -- a wrong item in the first of two lists, and in the second
   module _ (station : Station) (here : IsRightAt graph limits best station) (first second : List Station) (number reason : ℕ) where
-    pub wrong_in_first : IsFirstWrongIn graph limits best first number reason → IsFirstWrongIn graph limits best (station ∷ (first ++ second)) (suc number) reason
+    pub wrong_in_first : IsFirstWrongIn graph limits best first number reason
+        → IsFirstWrongIn graph limits best (station ∷ (first ++ second)) (suc number) reason
     wrong_in_first wrong = record {
       before = station ∷ wrong.before;
       station = wrong.station;
@@ -113,7 +141,9 @@ module _ (graph : FlowGraph) (limits : Limits) (best : Given) where
       is_reason = wrong.is_reason;
     }
 
-    pub wrong_in_second : AllByRecursion (IsRightAt graph limits best) first → IsFirstWrongIn graph limits best second number reason → IsFirstWrongIn graph limits best (station ∷ (first ++ second)) (suc (length first + number)) reason
+    pub wrong_in_second : AllByRecursion (IsRightAt graph limits best) first
+        → IsFirstWrongIn graph limits best second number reason
+        → IsFirstWrongIn graph limits best (station ∷ (first ++ second)) (suc (length first + number)) reason
     wrong_in_second all wrong = record {
       before = station ∷ (first ++ wrong.before);
       station = wrong.station;
@@ -125,12 +155,23 @@ module _ (graph : FlowGraph) (limits : Limits) (best : Given) where
       is_reason = wrong.is_reason;
     }
 
-  module _ {one : List Item} (tree : IsTree one) (prefix : Prefix) (tail rest : List Item) (parts : SubTrees tree prefix tail rest) (right : IsRight graph limits best prefix B) (place : ℕ) where
-    pub judged_by_first : (wrong : Wrong) → IsJudged graph limits best (stations parts.first_tree (true ∷ prefix)) (place + 1) (Err wrong) → IsJudged graph limits best (stations tree prefix) place (Err wrong)
+  module _ {one : List Item} (tree : IsTree one) (prefix : Prefix) (tail rest : List Item)
+      (parts : SubTrees tree prefix tail rest) (right : IsRight graph limits best prefix B) (place : ℕ) where
+    pub judged_by_first : (wrong : Wrong) → IsJudged graph limits best (stations parts.first_tree (true ∷ prefix))
+        (place + 1) (Err wrong) → IsJudged graph limits best (stations tree prefix) place (Err wrong)
     judged_by_first wrong (number, is, item) =
-        rw parts.are_stations (suc number, wrong_in_first (record { prefix = prefix; item = B }) right (stations parts.first_tree (true ∷ prefix)) (stations parts.second_tree (false ∷ prefix)) number wrong.reason is, omega arith)
+        rw parts.are_stations (
+          suc number,
+          wrong_in_first (record { prefix = prefix; item = B }) right
+              (stations parts.first_tree (true ∷ prefix))
+              (stations parts.second_tree (false ∷ prefix)) number wrong.reason is,
+          omega arith,
+        )
 
-    pub judged_by_second : (end : ℕ) (result : Result ℕ Wrong) → IsJudged graph limits best (stations parts.first_tree (true ∷ prefix)) (place + 1) (Ok end) → IsJudged graph limits best (stations parts.second_tree (false ∷ prefix)) end result → IsJudged graph limits best (stations tree prefix) place result
+    pub judged_by_second : (end : ℕ) (result : Result ℕ Wrong)
+        → IsJudged graph limits best (stations parts.first_tree (true ∷ prefix)) (place + 1) (Ok end)
+        → IsJudged graph limits best (stations parts.second_tree (false ∷ prefix)) end result
+        → IsJudged graph limits best (stations tree prefix) place result
     judged_by_second end (Ok last) (all, ends) (all_second, last_is) =
         let first = stations parts.first_tree (true ∷ prefix) in
         let second = stations parts.second_tree (false ∷ prefix) in
@@ -138,9 +179,15 @@ module _ (graph : FlowGraph) (limits : Limits) (best : Given) where
     judged_by_second end (Err wrong) (all, ends) (number, is, item) =
         let first = stations parts.first_tree (true ∷ prefix) in
         let second = stations parts.second_tree (false ∷ prefix) in
-        rw parts.are_stations (suc (length first + number), wrong_in_second (record { prefix = prefix; item = B }) right first second number wrong.reason all is, omega arith)
+        rw parts.are_stations (
+          suc (length first + number),
+          wrong_in_second (record { prefix = prefix; item = B }) right first second number wrong.reason all is,
+          omega arith,
+        )
 
   -- a list with a wrong item isn't right
-  pub not_all : (all : List Station) (number reason : ℕ) → IsFirstWrongIn graph limits best all number reason → AllByRecursion (IsRightAt graph limits best) all → ⊥
+  pub not_all : (all : List Station) (number reason : ℕ) → IsFirstWrongIn graph limits best all number reason
+      → AllByRecursion (IsRightAt graph limits best) all → ⊥
   not_all all number reason wrong right =
-      wrong.not_right (all_right (IsRightAt graph limits best) wrong.before (wrong.station ∷ wrong.behind) (subst (AllByRecursion (IsRightAt graph limits best)) wrong.is_split right)).0
+      wrong.not_right (all_right (IsRightAt graph limits best) wrong.before (wrong.station ∷ wrong.behind)
+      (subst (AllByRecursion (IsRightAt graph limits best)) wrong.is_split right)).0

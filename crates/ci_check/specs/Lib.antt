@@ -1,3 +1,3 @@
 pub mod Rules
-pub mod Standing
+pub mod Representation
 pub mod Walked

@@ -6,11 +6,11 @@ ghost use Rattle.ci_log.specs.declared.log.Item.{Item};
 ghost use Rattle.ci_log.specs.Trees.{IsTree};
 ghost use Rattle.ci_cut.specs.Prefixes.{Prefix};
 ghost use Rattle.ci_check.specs.Rules.{stations, IsAccepted, IsFirstWrong};
-ghost use Rattle.ci_check.specs.Standing.{Stands, IsStanding, IsMeasured, IsTreeAt, IsJudged, IsBranchOn};
+ghost use Rattle.ci_check.specs.Representation.{Represents, RepresentsSome, IsMeasured, IsTreeAt, IsJudged, IsBranchOn};
 
 use crate::choices::Choices;
-use crate::rules::{Best, good_best, is_right, reason_of};
-use ci_cut::{Graph, Limits};
+use crate::rules::{checked, is_right, reason_of};
+use ci_cut::{Graph, Incumbent, Limits};
 use ci_log::{Item, Log};
 use ci_word::Row;
 
@@ -39,7 +39,7 @@ pub fn check(graph: &Graph, limits: &Limits, best: Option<Row>, log: &Log) -> Re
     ensures best { OnOk result (MatchOption best (HasNoCut graph.now limits.now)
         (λ cut. IsBest graph.now limits.now (set.contains cut))) }
 {
-    let Some(best) = good_best(graph, limits, best) else {
+    let Some(best) = checked(graph, limits, best) else {
         return Err(Wrong { item: 0, reason: 7 });
     };
     check_tree(graph, limits, &best, log.items(), 0, &Choices::none(graph))?;
@@ -50,16 +50,16 @@ pub fn check(graph: &Graph, limits: &Limits, best: Option<Row>, log: &Log) -> Re
 fn check_tree(
     graph: &Graph,
     limits: &Limits,
-    best: &Best,
+    best: &Incumbent,
     items: &[Item],
     place: usize,
     choices: &Choices,
 ) -> Result<usize, Wrong>
-    requires standing { IsStanding graph.now choices.now }
+    requires represents { RepresentsSome graph.now choices.now }
     requires measured { IsMeasured graph.now limits.now best.now }
     requires few { length items.now < 2 ^ 32 }
     requires tree { IsTreeAt items.now place }
-    ensures { (prefix : Prefix) (one rest : List Item) (tree : IsTree one) → Stands graph.now prefix choices.now
+    ensures { (prefix : Prefix) (one rest : List Item) (tree : IsTree one) → Represents graph.now prefix choices.now
         → drop place items.now ≡ one ++ rest
         → IsJudged graph.now limits.now best.now.cut (stations tree prefix) place result }
 {

@@ -3,7 +3,7 @@ ghost use Rattle.std.specs.Prelude.{◌≡◌, ℕ, suc, ◌<◌, ◌≤◌, tru
 ghost use Rattle.ci_word.specs.Numbers.{count_below};
 ghost use Rattle.ci_cut.specs.FlowGraph.{FlowGraph};
 ghost use Rattle.ci_cut.specs.Prefixes.{Prefix, is_eligible, is_next};
-ghost use Rattle.ci_check.specs.Standing.{Stands, IsNextBelow};
+ghost use Rattle.ci_check.specs.Representation.{Represents, IsNextBelow};
 
 use ci_cut::Graph;
 use ci_word::Row;
@@ -12,7 +12,7 @@ use ci_word::Row;
 #[derive(Clone, Copy)]
 pub struct Choices {
     /// The nodes taken in.
-    pub taken: Row,
+    pub included: Row,
     /// The nodes taken in, and the undecided ones.
     pub possible: Row,
     /// The eligible nodes from this number on are decided, and those below are undecided.
@@ -22,7 +22,7 @@ pub struct Choices {
 impl Choices {
     /// No choice yet.
     pub fn none(graph: &Graph) -> Choices
-        ensures { Stands graph.now [] result }
+        ensures { Represents graph.now [] result }
     {
         let mut possible = Row::empty();
         for (k, node) in graph.nodes().iter().enumerate() {
@@ -31,7 +31,7 @@ impl Choices {
             }
         }
         Choices {
-            taken: Row::empty(),
+            included: Row::empty(),
             possible,
             place: graph.nodes().len(),
         }
@@ -56,11 +56,11 @@ impl Choices {
     /// The next node is taken in.
     pub fn with(&self, node: u8) -> Choices
         ensures place { result.place ≡ node }
-        ensures stands { (graph : FlowGraph) (prefix : Prefix) → Stands graph prefix self.now
-            → IsTrue (is_next graph prefix node) → Stands graph (true ∷ prefix) result }
+        ensures represents { (graph : FlowGraph) (prefix : Prefix) → Represents graph prefix self.now
+            → IsTrue (is_next graph prefix node) → Represents graph (true ∷ prefix) result }
     {
         let mut choices = *self;
-        choices.taken.insert(node);
+        choices.included.insert(node);
         choices.place = node as usize;
         choices
     }
@@ -68,8 +68,8 @@ impl Choices {
     /// The next node is left out.
     pub fn without(&self, node: u8) -> Choices
         ensures place { result.place ≡ node }
-        ensures stands { (graph : FlowGraph) (prefix : Prefix) → Stands graph prefix self.now
-            → IsTrue (is_next graph prefix node) → Stands graph (false ∷ prefix) result }
+        ensures represents { (graph : FlowGraph) (prefix : Prefix) → Represents graph prefix self.now
+            → IsTrue (is_next graph prefix node) → Represents graph (false ∷ prefix) result }
     {
         let mut choices = *self;
         choices.possible.remove(node);

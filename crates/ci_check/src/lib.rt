@@ -2,10 +2,10 @@
 //!
 //! A search decides the eligible nodes of a graph one after the other, from the last to the first. What it has decided
 //! is a prefix. Its log says of each prefix why no set that goes on from it is a better cut, or branches on the next
-//! node. `check` looks at each item of a log by itself, and `needs_more` tells whether a search needs more branches than
-//! a budget.
+//! node. `check` looks at each item of a log by itself, and `needs_more` tells whether a search needs more branches
+//! than a budget.
 //!
-//! What a search keeps of a prefix is told as the checker tells it: `Choices`, `Best` and `is_right` serve both.
+//! What a search keeps of a prefix is told as the checker tells it: `Choices` and `is_right` serve both.
 //!
 //! The definitions of `ci_cut` say what a prefix is and what bounds the sets that go on from it (`Prefixes`), and how
 //! many prefixes are open (`Need`); those in `specs` say when a log is accepted (`Rules`).
@@ -15,7 +15,7 @@ pub use checking::{Wrong, check};
 pub use choices::Choices;
 pub use laws::each_item_has_one_prefix;
 pub use need::needs_more;
-pub use rules::{Best, is_right};
+pub use rules::is_right;
 
 mod checking;
 mod choices;

@@ -1,16 +1,16 @@
 //! How many branches a log needs.
 ghost use Rattle.std.specs.Prelude.{◌≡◌, ◌↔◌, ℕ, ◌+◌, ◌^◌, ◌<◌, ◌≤◌, length, IsTrue};
 ghost use Rattle.std.specs.FinSet as set;
-ghost use Rattle.ci_cut.specs.FlowGraph.{AreNodes};
+ghost use Rattle.ci_cut.specs.GraphRules.{AreNodes};
 ghost use Rattle.ci_cut.specs.Prefixes.{Prefix, eligible_nodes};
 ghost use Rattle.ci_cut.specs.Need.{IsOpen, NeedExceeds};
-ghost use Rattle.ci_check.specs.Standing.{Stands, IsStanding};
+ghost use Rattle.ci_check.specs.Representation.{Represents, RepresentsSome};
 ghost use Rattle.ci_cut.specs.Reached.{IsBounded, IsReachedBefore, IsReachedWith};
 ghost use Rattle.ci_check.specs.Walked.{IsWalked};
 
 use crate::choices::Choices;
 use crate::rules::{bound, settled_inputs};
-use ci_cut::{Graph, Limits, fits, gain, is_convex, outputs};
+use ci_cut::{Graph, Limits, gain_above, is_convex, outputs};
 use ci_word::Row;
 
 /// What a walk over the prefixes has found so far.
@@ -42,10 +42,10 @@ pub fn needs_more(graph: &Graph, limits: &Limits, budget: u32) -> bool
 
 /// Walks over the prefixes that go on from the choices, and stops where more are open than the budget.
 fn walk(graph: &Graph, limits: &Limits, budget: u64, choices: &Choices, before: Walked) -> Walked
-    requires standing { IsStanding graph.now choices.now }
+    requires represents { RepresentsSome graph.now choices.now }
     requires few { budget < 2 ^ 32 }
     requires within { before.open ≤ budget }
-    ensures { (prefix : Prefix) (undecided : ℕ) → Stands graph.now prefix choices.now
+    ensures { (prefix : Prefix) (undecided : ℕ) → Represents graph.now prefix choices.now
         → undecided + length prefix ≡ eligible_nodes graph.now
         → IsReachedBefore graph.now limits.now prefix before.reached
         → IsWalked graph.now limits.now budget undecided prefix before result }
@@ -53,7 +53,7 @@ fn walk(graph: &Graph, limits: &Limits, budget: u64, choices: &Choices, before: 
     let Some(node) = choices.next(graph) else {
         return Walked {
             open: before.open,
-            reached: reached_with(graph, limits, &choices.taken, before.reached),
+            reached: reached_with(graph, limits, &choices.included, before.reached),
         };
     };
     if !is_open(graph, limits, choices, before.reached) {
@@ -78,17 +78,13 @@ fn reached_with(graph: &Graph, limits: &Limits, cut: &Row, reached: i64) -> i64
     requires { AreNodes graph.now cut.now }
     ensures { IsReachedWith graph.now limits.now (set.contains cut.now) reached result }
 {
-    if !fits(graph, limits, cut) {
-        return reached;
-    }
-    let gained = gain(graph, cut);
-    if gained > reached { gained } else { reached }
+    gain_above(graph, limits, cut, reached).unwrap_or(reached)
 }
 
 /// Whether the prefix is open, where the sets before it reached this gain.
 fn is_open(graph: &Graph, limits: &Limits, choices: &Choices, reached: i64) -> bool
-    requires { IsStanding graph.now choices.now }
-    ensures { (prefix : Prefix) → Stands graph.now prefix choices.now
+    requires { RepresentsSome graph.now choices.now }
+    ensures { (prefix : Prefix) → Represents graph.now prefix choices.now
         → IsReachedBefore graph.now limits.now prefix reached
         → IsTrue result ↔ IsOpen graph.now limits.now prefix }
 {
@@ -97,14 +93,14 @@ fn is_open(graph: &Graph, limits: &Limits, choices: &Choices, reached: i64) -> b
 
 /// Whether the set that is taken in is convex, and its outputs and settled inputs are within the limits.
 fn is_bounded(graph: &Graph, limits: &Limits, choices: &Choices) -> bool
-    requires { IsStanding graph.now choices.now }
-    ensures { (prefix : Prefix) → Stands graph.now prefix choices.now
+    requires { RepresentsSome graph.now choices.now }
+    ensures { (prefix : Prefix) → Represents graph.now prefix choices.now
         → IsTrue result ↔ IsBounded graph.now limits.now prefix }
 {
-    if !is_convex(graph, &choices.taken) {
+    if !is_convex(graph, &choices.included) {
         return false;
     }
-    if outputs(graph, &choices.taken) > u32::from(limits.outputs) {
+    if outputs(graph, &choices.included) > u32::from(limits.outputs) {
         return false;
     }
     settled_inputs(graph, choices) <= u32::from(limits.inputs)

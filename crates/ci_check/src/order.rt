@@ -1,7 +1,7 @@
 //! The order of sets of nodes.
 ghost use Rattle.std.specs.Prelude.{◌↔◌, ℕ, ◌<◌, ◌≤◌, IsTrue};
 ghost use Rattle.std.specs.FinSet as set;
-ghost use Rattle.ci_check.specs.Standing.{ComesBeforeFrom};
+ghost use Rattle.ci_check.specs.Representation.{ComesBeforeFrom};
 
 use ci_word::Row;
 

@@ -1,40 +1,33 @@
 //! The rules of the items of a log.
 ghost use Rattle.std.specs.Prelude.{◌≡◌, ◌↔◌, MatchOption, IsTrue};
 ghost use Rattle.std.specs.FinSet as set;
-ghost use Rattle.ci_cut.specs.FlowGraph.{AreNodes};
+ghost use Rattle.ci_cut.specs.GraphRules.{AreNodes};
 ghost use Rattle.ci_cut.specs.Prefixes as terms;
 ghost use Rattle.ci_check.specs.Rules.{IsGood, IsAfterBest, IsBeforeBest, IsBetter, IsRight, GainsTooLittle, reason_of};
-ghost use Rattle.ci_check.specs.Standing.{Stands, IsStanding, IsMeasured};
+ghost use Rattle.ci_check.specs.Representation.{Represents, RepresentsSome, IsMeasured};
 
 use crate::choices::Choices;
 use crate::order::comes_before;
-use ci_cut::{Graph, Limits, fits, gain, inputs_from_outside, is_convex, outputs, saved_by};
+use ci_cut::{
+    Graph, Incumbent, Limits, fitting_gain, gain_above, inputs_from_outside, is_convex, outputs,
+    saved_by,
+};
 use ci_log::Item;
 use ci_word::Row;
 
-/// The best cut that is given, or none, and what it gains; with no cut its gain is 0.
-#[derive(Clone, Copy)]
-pub struct Best {
-    pub cut: Option<Row>,
-    pub gain: i64,
-}
-
 /// The best cut that is given, or none. `None` where it does not fit or has no positive gain.
-pub fn good_best(graph: &Graph, limits: &Limits, cut: Option<Row>) -> Option<Best>
+pub fn checked(graph: &Graph, limits: &Limits, cut: Option<Row>) -> Option<Incumbent>
     ensures { MatchOption result (¬ IsGood graph.now limits.now cut)
         (λ best. (best.cut ≡ cut) × IsMeasured graph.now limits.now best) }
 {
     let Some(row) = cut else {
-        return Some(Best { cut, gain: 0 });
+        return Some(Incumbent { cut, gain: 0 });
     };
-    if !are_nodes(graph, &row) || !fits(graph, limits, &row) {
+    if !are_nodes(graph, &row) {
         return None;
     }
-    let gain = gain(graph, &row);
-    if gain <= 0 {
-        return None;
-    }
-    Some(Best { cut, gain })
+    let gain = gain_above(graph, limits, &row, 0)?;
+    Some(Incumbent { cut, gain })
 }
 
 /// Whether each number of the set is a node.
@@ -52,35 +45,35 @@ fn are_nodes(graph: &Graph, cut: &Row) -> bool
 
 /// How many inputs are settled.
 pub fn settled_inputs(graph: &Graph, choices: &Choices) -> u32
-    ensures { (prefix : terms.Prefix) → Stands graph.now prefix choices.now
+    ensures { (prefix : terms.Prefix) → Represents graph.now prefix choices.now
         → result ≡ terms.settled_inputs graph.now prefix }
 {
-    inputs_from_outside(graph, &choices.possible, &choices.taken)
+    inputs_from_outside(graph, &choices.possible, &choices.included)
 }
 
 /// What a set that goes on from the choices gains at most.
 pub fn bound(graph: &Graph, choices: &Choices) -> i64
-    requires { IsStanding graph.now choices.now }
-    ensures { (prefix : terms.Prefix) → Stands graph.now prefix choices.now → result ≡ terms.bound graph.now prefix }
+    requires { RepresentsSome graph.now choices.now }
+    ensures { (prefix : terms.Prefix) → Represents graph.now prefix choices.now
+        → result ≡ terms.bound graph.now prefix }
 {
-    saved_by(graph, &choices.possible, &choices.taken)
+    saved_by(graph, &choices.possible, &choices.included)
 }
 
 /// Whether the set that the choices take in is a better cut than the best.
-fn is_better(graph: &Graph, limits: &Limits, best: &Best, cut: &Row) -> bool
+fn is_better(graph: &Graph, limits: &Limits, best: &Incumbent, cut: &Row) -> bool
     requires nodes { AreNodes graph.now cut.now }
     requires measured { IsMeasured graph.now limits.now best.now }
     ensures { IsTrue result ↔ IsBetter graph.now limits.now best.now.cut (set.contains cut.now) }
 {
-    if !fits(graph, limits, cut) {
+    let Some(gained) = fitting_gain(graph, limits, cut) else {
         return false;
-    }
-    let gained = gain(graph, cut);
+    };
     gained > best.gain || gained == best.gain && is_before_best(graph, limits, best, cut)
 }
 
 /// Whether the set comes before the best cut; without one none does.
-fn is_before_best(graph: &Graph, limits: &Limits, best: &Best, cut: &Row) -> bool
+fn is_before_best(graph: &Graph, limits: &Limits, best: &Incumbent, cut: &Row) -> bool
     requires nodes { AreNodes graph.now cut.now }
     requires measured { IsMeasured graph.now limits.now best.now }
     ensures { IsTrue result ↔ IsBeforeBest best.now.cut (set.contains cut.now) }
@@ -92,23 +85,23 @@ fn is_before_best(graph: &Graph, limits: &Limits, best: &Best, cut: &Row) -> boo
 }
 
 /// Whether the choices come after the best cut; without one all do.
-fn is_after_best(graph: &Graph, limits: &Limits, best: &Best, choices: &Choices) -> bool
-    requires standing { IsStanding graph.now choices.now }
+fn is_after_best(graph: &Graph, limits: &Limits, best: &Incumbent, choices: &Choices) -> bool
+    requires represents { RepresentsSome graph.now choices.now }
     requires measured { IsMeasured graph.now limits.now best.now }
-    ensures { (prefix : terms.Prefix) → Stands graph.now prefix choices.now
+    ensures { (prefix : terms.Prefix) → Represents graph.now prefix choices.now
         → IsTrue result ↔ IsAfterBest graph.now best.now.cut prefix }
 {
     match &best.cut {
-        Some(best) => comes_before(best, &choices.taken, choices.place, graph.nodes().len()),
+        Some(best) => comes_before(best, &choices.included, choices.place, graph.nodes().len()),
         None => true,
     }
 }
 
 /// Whether the bound is too small for a better cut.
-fn gains_too_little(graph: &Graph, limits: &Limits, best: &Best, choices: &Choices) -> bool
-    requires standing { IsStanding graph.now choices.now }
+fn gains_too_little(graph: &Graph, limits: &Limits, best: &Incumbent, choices: &Choices) -> bool
+    requires represents { RepresentsSome graph.now choices.now }
     requires measured { IsMeasured graph.now limits.now best.now }
-    ensures { (prefix : terms.Prefix) → Stands graph.now prefix choices.now
+    ensures { (prefix : terms.Prefix) → Represents graph.now prefix choices.now
         → IsTrue result ↔ GainsTooLittle graph.now best.now.cut prefix }
 {
     let bound = bound(graph, choices);
@@ -116,19 +109,25 @@ fn gains_too_little(graph: &Graph, limits: &Limits, best: &Best, choices: &Choic
 }
 
 /// Whether the item is right at the choices.
-pub fn is_right(graph: &Graph, limits: &Limits, best: &Best, choices: &Choices, item: Item) -> bool
-    requires standing { IsStanding graph.now choices.now }
+pub fn is_right(
+    graph: &Graph,
+    limits: &Limits,
+    best: &Incumbent,
+    choices: &Choices,
+    item: Item,
+) -> bool
+    requires represents { RepresentsSome graph.now choices.now }
     requires measured { IsMeasured graph.now limits.now best.now }
-    ensures { (prefix : terms.Prefix) → Stands graph.now prefix choices.now
+    ensures { (prefix : terms.Prefix) → Represents graph.now prefix choices.now
         → IsTrue result ↔ IsRight graph.now limits.now best.now.cut prefix item }
 {
     match item {
-        Item::O => outputs(graph, &choices.taken) > u32::from(limits.outputs),
-        Item::C => !is_convex(graph, &choices.taken),
+        Item::O => outputs(graph, &choices.included) > u32::from(limits.outputs),
+        Item::C => !is_convex(graph, &choices.included),
         Item::I => settled_inputs(graph, choices) > u32::from(limits.inputs),
         Item::G => gains_too_little(graph, limits, best, choices),
         Item::F => {
-            choices.next(graph).is_none() && !is_better(graph, limits, best, &choices.taken)
+            choices.next(graph).is_none() && !is_better(graph, limits, best, &choices.included)
         }
         Item::B => choices.next(graph).is_some(),
     }

@@ -1,5 +1,6 @@
 -- The terms of a set of nodes never fall below those of a set that it extends.
-use Rattle.std.proofs.Common.{◌≡◌, ℕ, zero, suc, ◌+◌, ◌-◌, ◌*◌, ◌<◌, ◌≤◌, max, ◌/◌, Bool, true, false, not, ◌&&◌, inl, inr, IsTrue, List, [], ◌∷◌, length, cond, refl, sym, ap, ◌∙◌, arith, true≢false, ℤ, ◌≤ℤ◌}
+use Rattle.std.proofs.Common.{◌≡◌, ℕ, zero, suc, ◌+◌, ◌-◌, ◌*◌, ◌<◌, ◌≤◌, max, ◌/◌, Bool, true, false, not, ◌&&◌, inl}
+use Rattle.std.proofs.Common.{inr, IsTrue, List, [], ◌∷◌, length, cond, refl, sym, ap, ◌∙◌, arith, true≢false, ℤ, ◌≤ℤ◌}
 use Rattle.std.proofs.lemmas.Bool.{and_parts, and_from, or_cases, or_left, or_right, not_from_false, false_from_ne_true}
 use Rattle.std.proofs.lemmas.Int.{ints}
 use Rattle.std.proofs.lemmas.Bool.Decides.{nat_tests}
@@ -7,14 +8,15 @@ use Rattle.ci_word.specs.Numbers.{count_below, sum_below}
 use Rattle.ci_word.proofs.NumberLaws.{some_below_iff, count_below-mono, count_below-zero, count_below-suc, sum_below-zero, sum_below-suc}
 use Rattle.ci_cut.specs.declared.graph.Source.{Source}
 use Rattle.ci_cut.specs.declared.graph.Source.TheVariants.{Entry, Made}
-use Rattle.ci_cut.specs.FlowGraph.{FlowGraph, IsFlowGraph, node_at, reads}
+use Rattle.ci_cut.specs.FlowGraph.{FlowGraph, node_at, reads}
+use Rattle.ci_cut.specs.GraphRules.{IsFlowGraph}
 use Rattle.ci_cut.specs.Walks.{Walk, arc, onward, IsConvex}
 use Rattle.ci_cut.specs.Ports.{is_outside, inputs_from, is_output, outputs, size}
 use Rattle.ci_cut.specs.Hardware.{is_chain, critical_path_delay, hardware}
 use Rattle.ci_cut.specs.Gain.{saved_by, further_words_of, software}
 use Rattle.ci_cut.proofs.PortLaws.{inputs_from-mono}
 use Rattle.ci_cut.proofs.SavedCycles.{saved_cycles-antitone, saved_cycles-members}
-use Rattle.ci_cut.proofs.Chains.{delay_along-le, critical_path_delay-reached}
+use Rattle.ci_cut.proofs.CriticalPath.{delay_along-le, critical_path_delay-reached}
 use Rattle.ci_cut.proofs.PrefixLaws.{Extends}
 
 -- a walk leads to later nodes
@@ -26,7 +28,9 @@ module _ (graph : FlowGraph) (flows : IsFlowGraph graph) (small big : ℕ → Bo
   -- a violation of convexity stays one
   pub convex_within : IsConvex graph big → IsConvex graph small
   convex_within convex a b c member there outside back =
-      λ last. convex a b c (extends.within a member) there (λ here. outside (extends.above a b member (omega (arith, walk_rises graph flows there)) here)) back (extends.within c last)
+      λ last. convex a b c (extends.within a member) there
+      (λ here. outside (extends.above a b member (omega (arith, walk_rises graph flows there)) here)) back
+      (extends.within c last)
 
   -- an output stays one, since all that reads it is later
   output_stays : (k : ℕ) → IsTrue (is_output graph small k) → IsTrue (is_output graph big k)
@@ -40,7 +44,10 @@ module _ (graph : FlowGraph) (flows : IsFlowGraph graph) (small big : ℕ → Bo
             or_right (node_at graph k).live _ ((some_below_iff (length graph.nodes) (λ j. not (big j) && reads graph j (Made k))).1 (
               found.0,
               found.1,
-              and_from _ _ (not_from_false (big found.0) (false_from_ne_true (big found.0) (λ here. outside (small found.0) reader.0 (extends.above k found.0 parts.0 (omega (arith, flows.sources_rise k found.0 reader.1)) here)))) reader.1,
+              and_from _ _ (not_from_false (big found.0)
+                  (false_from_ne_true (big found.0) (λ here. outside (small found.0) reader.0
+                  (extends.above k found.0 parts.0 (omega (arith, flows.sources_rise k found.0 reader.1))
+                  here)))) reader.1,
             ))
       ])
     where
@@ -57,7 +64,9 @@ module _ (graph : FlowGraph) (flows : IsFlowGraph graph) (small big : ℕ → Bo
   chain_stays (a ∷ b ∷ chain) is =
       let parts = and_parts (small a && reads graph a (Made b)) (is_chain graph small (b ∷ chain)) is in
       let head = and_parts (small a) (reads graph a (Made b)) parts.0 in
-      and_from (big a && reads graph a (Made b)) (is_chain graph big (b ∷ chain)) (and_from (big a) (reads graph a (Made b)) (extends.within a head.0) head.1) (chain_stays (b ∷ chain) parts.1)
+      and_from (big a && reads graph a (Made b)) (is_chain graph big (b ∷ chain))
+      (and_from (big a) (reads graph a (Made b)) (extends.within a head.0) head.1)
+      (chain_stays (b ∷ chain) parts.1)
 
   pub hardware_rises : ((k : ℕ) → IsTrue (big k) → k < length graph.nodes) → hardware graph small ≤ hardware graph big
   hardware_rises nodes =
@@ -73,7 +82,8 @@ further_rise ins more_ins outs more_outs a b = grind (arith, nat_tests)
 
 -- the latencies of further members are at least a no-op each
 module _ (pad : ℕ) where
-  step : (s t c d s' t' c' d' xa xb ya yb : ℕ) → s + d * pad ≤ t + c * pad → xa + yb * pad ≤ xb + ya * pad → s' ≡ s + xa → t' ≡ t + xb → c' ≡ c + ya → d' ≡ d + yb → s' + d' * pad ≤ t' + c' * pad
+  step : (s t c d s' t' c' d' xa xb ya yb : ℕ) → s + d * pad ≤ t + c * pad → xa + yb * pad ≤ xb + ya * pad
+      → s' ≡ s + xa → t' ≡ t + xb → c' ≡ c + ya → d' ≡ d + yb → s' + d' * pad ≤ t' + c' * pad
   step s t c d s' t' c' d' xa xb ya yb before here es et ec ed = omega (arith, ap (λ (n : ℕ). n * pad) ec, ap (λ (n : ℕ). n * pad) ed)
 
   here : (a b : Bool) (x : ℕ) → (IsTrue a → IsTrue b) → (IsTrue b → pad ≤ x) → cond a x 0 + cond b 1 0 * pad ≤ cond b x 0 + cond a 1 0 * pad
@@ -87,7 +97,8 @@ module _ (pad : ℕ) where
   latencies_rise zero few more f within least =
       omega (arith, sum_below-zero few f, ap (λ (n : ℕ). n * pad) (count_below-zero more))
   latencies_rise (suc n) few more f within least =
-      step (sum_below n few f) (sum_below n more f) (count_below n few) (count_below n more) _ _ _ _ (cond (few n) (f n) 0) (cond (more n) (f n) 0) (cond (few n) 1 0) (cond (more n) 1 0)
+      step (sum_below n few f) (sum_below n more f) (count_below n few) (count_below n more) _ _ _ _
+      (cond (few n) (f n) 0) (cond (more n) (f n) 0) (cond (few n) 1 0) (cond (more n) 1 0)
       (latencies_rise n few more f within least)
       (here (few n) (more n) (f n) (within n) (least n))
       (sum_below-suc n few f) (sum_below-suc n more f) (count_below-suc n few) (count_below-suc n more)
@@ -98,7 +109,8 @@ module _ (pad : ℕ) where
       omega (arith, ap (λ (n : ℕ). n * pad) parts)
 
 -- what the saved cycles are by a set of members and a core are no more by more members, and a core that this one extends
-module _ (graph : FlowGraph) (flows : IsFlowGraph graph) (small big : ℕ → Bool) (extends : Extends small big) (nodes : (k : ℕ) → IsTrue (big k) → k < length graph.nodes)
+module _ (graph : FlowGraph) (flows : IsFlowGraph graph) (small big : ℕ → Bool) (extends : Extends small big)
+    (nodes : (k : ℕ) → IsTrue (big k) → k < length graph.nodes)
     (few more : ℕ → Bool) (within : (k : ℕ) → IsTrue (few k) → IsTrue (more k)) (eligible : (k : ℕ) → IsTrue (more k) → IsTrue (node_at graph k).eligible) where
   outside_rises : (source : Source) → IsTrue (is_outside more source) → IsTrue (is_outside few source)
   outside_rises (Entry r) out = out
@@ -112,10 +124,13 @@ module _ (graph : FlowGraph) (flows : IsFlowGraph graph) (small big : ℕ → Bo
       let words_small : ℕ = further_words_of (inputs_from graph (is_outside more) small) (outputs graph small) in
       let words_big : ℕ = further_words_of (inputs_from graph (is_outside few) big) (outputs graph big) in
       let sizes = count_below-mono (length graph.nodes) few more (λ k _. within k) in
-      let latencies = latencies_rise graph.pad (length graph.nodes) few more (λ k. (node_at graph k).latency) within (λ k here. flows.pad_least k (eligible k here)) in
-      let first = saved_cycles-antitone graph.read graph.pad (software graph few) (hardware graph small) (hardware graph big) words_small words_big (size graph few)
+      let latencies = latencies_rise graph.pad (length graph.nodes) few more (λ k. (node_at graph k).latency) within
+      (λ k here. flows.pad_least k (eligible k here)) in
+      let first = saved_cycles-antitone graph.read graph.pad (software graph few) (hardware graph small)
+      (hardware graph big) words_small words_big (size graph few)
       flows.pad_read (hardware_rises graph flows small big extends nodes) (further_rise _ _ _ _ settled_rise (outputs_rise graph flows small big extends)) in
-      let second = saved_cycles-members graph.read graph.pad (software graph few) (software graph more) (hardware graph small) words_small (size graph few) (size graph more)
+      let second = saved_cycles-members graph.read graph.pad (software graph few) (software graph more)
+      (hardware graph small) words_small (size graph few) (size graph more)
       sizes (enough graph.pad _ _ _ _ latencies sizes) in
       along first second
     where

@@ -42,12 +42,15 @@ between : (z : ℤ) (m : ℕ) → unsigned_abs z ≤ m → (neg_ℤ (pos m) ≤�
 between z m h = (omega (arith, ints), omega (arith, ints))
 
 -- a difference of numbers that are far from the ends fits
-difference_fits : (software hardware reads : ℕ) (pads : ℤ) → software ≤ 256000 → hardware < 2 ^ 32 → reads ≤ 256 * 2 ^ 32 → unsigned_abs pads ≤ 512 * 2 ^ 32 → FitsSigned w64 (((pos software -ℤ pos hardware) -ℤ pos reads) -ℤ pads)
+difference_fits : (software hardware reads : ℕ) (pads : ℤ) → software ≤ 256000 → hardware < 2 ^ 32
+    → reads ≤ 256 * 2 ^ 32 → unsigned_abs pads ≤ 512 * 2 ^ 32
+    → FitsSigned w64 (((pos software -ℤ pos hardware) -ℤ pos reads) -ℤ pads)
 difference_fits software hardware reads pads a b c d =
     let bounds = between pads (512 * 2 ^ 32) d in
     omega (arith, ints)
 
-module _ (software hardware further read : ℕ) (software_most : software ≤ 256000) (hardware_most : hardware < 2 ^ 32) (few : further ≤ 256) (read_fits : read < 2 ^ 32) where
+module _ (software hardware further read : ℕ) (software_most : software ≤ 256000)
+    (hardware_most : hardware < 2 ^ 32) (few : further ≤ 256) (read_fits : read < 2 ^ 32) where
   reads_back_is : to_z w64 (of_z w64 (to_z w64 further *ℤ to_z w64 read)) ≡ pos (further * read)
   reads_back_is = to_z-of_z w64 _ (reads_fit further read few read_fits) ∙ reads_is further read few read_fits
 
@@ -84,7 +87,9 @@ module _ (software hardware further read : ℕ) (software_most : software ≤ 25
     pub less_pads_fits : FitsSigned w64 (to_z w64 (of_z w64 less_reads) -ℤ pads_back)
     less_pads_fits =
         rw less_pads_is
-        (difference_fits software hardware (further * read) (places_of size further *ℤ pos pad) software_most hardware_most reads_most (pads_most size further pad size_few few pad_fits))
+        (difference_fits software hardware (further * read)
+        (places_of size further *ℤ pos pad) software_most hardware_most reads_most
+        (pads_most size further pad size_few few pad_fits))
 
     -- what the code computes is the gain of these numbers
     pub gain_is : to_z w64 (of_z w64 (to_z w64 (of_z w64 less_reads) -ℤ pads_back)) ≡ saved_cycles read pad software hardware further size

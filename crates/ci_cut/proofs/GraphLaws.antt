@@ -11,7 +11,8 @@ use Rattle.std.proofs.lemmas.List.{length-append}
 use Rattle.ci_cut.specs.declared.graph.Node.{Node}
 use Rattle.ci_cut.specs.declared.graph.Source.{Source}
 use Rattle.ci_cut.specs.declared.graph.Source.TheVariants.{Entry, Made}
-use Rattle.ci_cut.specs.FlowGraph.{FlowGraph, IsFlowGraph, no_node, node_in, is_source}
+use Rattle.ci_cut.specs.FlowGraph.{FlowGraph, no_node, node_in, is_source}
+use Rattle.ci_cut.specs.GraphRules.{IsFlowGraph}
 use Rattle.ci_cut.proofs.NodeLaws.{node_in-push, each_node}
 
 -- node k is as a graph with this charge for a no-op keeps it
@@ -35,7 +36,9 @@ no_node_kept pad k = record {
 }
 
 -- nodes that are each kept are a graph
-pub flow_graph_from : (nodes : List Node) (read pad : ℕ) → length nodes ≤ 256 → pad ≤ read → ((k : ℕ) → k < length nodes → IsNodeOf pad k (node_in nodes k)) → IsFlowGraph (record { nodes = nodes; read = read; pad = pad })
+pub flow_graph_from : (nodes : List Node) (read pad : ℕ) → length nodes ≤ 256 → pad ≤ read
+    → ((k : ℕ) → k < length nodes → IsNodeOf pad k (node_in nodes k))
+    → IsFlowGraph (record { nodes = nodes; read = read; pad = pad })
 flow_graph_from nodes read pad few cheap within = record {
   few = few;
   arcs_rise = λ j k. (kept k).arcs j;
@@ -66,7 +69,8 @@ pub flow_graph_none : (read pad : ℕ) → pad ≤ read → IsFlowGraph (record 
 flow_graph_none read pad cheap = flow_graph_from [] read pad (omega arith) cheap (λ k below. absurd (omega arith))
 
 -- a graph with one node more
-pub flow_graph_push : (graph : FlowGraph) (node : Node) → IsFlowGraph graph → length graph.nodes < 256 → IsNodeOf graph.pad (length graph.nodes) node → IsFlowGraph (record graph { nodes = graph.nodes ++ node ∷ [] })
+pub flow_graph_push : (graph : FlowGraph) (node : Node) → IsFlowGraph graph → length graph.nodes < 256
+    → IsNodeOf graph.pad (length graph.nodes) node → IsFlowGraph (record graph { nodes = graph.nodes ++ node ∷ [] })
 flow_graph_push graph node flows room next =
     flow_graph_from (graph.nodes ++ node ∷ []) graph.read graph.pad (rw length-append (omega arith)) flows.pad_read
     (λ k _. elim (node_in-push graph.nodes node k) [
@@ -77,7 +81,9 @@ flow_graph_push graph node flows room next =
 -- the nodes among sources are below n, with one source more
 pub made_push : (sources : List Source) (source : Source) (n : ℕ) → ((j : ℕ) → IsTrue (list_any (is_source (Made j)) sources) → j < n) →
     ((k : ℕ) → source ≡ Made k → k < n) → (j : ℕ) → IsTrue (list_any (is_source (Made j)) (sources ++ source ∷ [])) → j < n
-made_push sources (Entry r) n old new j from = elim (or_cases _ _ (sym (list_any-append (is_source (Made j)) sources (Entry r ∷ [])) ∙ from)) [ inl before ↦ old j before | inr last ↦ absurd (cc) ]
+made_push sources (Entry r) n old new j from =
+    elim (or_cases _ _ (sym (list_any-append (is_source (Made j)) sources (Entry r ∷ [])) ∙ from))
+    [ inl before ↦ old j before | inr last ↦ absurd (cc) ]
 made_push sources (Made k) n old new j from = elim (or_cases _ _ (sym (list_any-append (is_source (Made j)) sources (Made k ∷ [])) ∙ from)) [
   | inl before ↦ old j before
   | inr last ↦ let below = new k refl in let same = or-false (nat_eq j k) in grind (arith, nat_tests)

@@ -36,7 +36,8 @@ module _ {X : Type 0} (P : X → Type 0) where
   AtLeast-split {n} [] second found = (0, n, none, found, omega arith)
   AtLeast-split {n} (item ∷ first) second found = elim (AtLeast-cases found) [
     | inl zero_ ↦ (0, 0, none, none, omega arith)
-    | inr (inl (m, is_suc, is, rest)) ↦ let parts = AtLeast-split first second rest in (suc parts.0, parts.1, counted is parts.2, parts.3, omega (arith, parts.4))
+    | inr (inl (m, is_suc, is, rest)) ↦ let parts = AtLeast-split first second rest in
+        (suc parts.0, parts.1, counted is parts.2, parts.3, omega (arith, parts.4))
     | inr (inr rest) ↦ let parts = AtLeast-split first second rest in (parts.0, parts.1, passed parts.2, parts.3, parts.4)
   ]
 

@@ -1,14 +1,17 @@
 -- The longest chains that begin at each node, found from the first node to the last.
-use Rattle.std.proofs.Common.{◌≡◌, ◌≢◌, ℕ, ◌+◌, ◌*◌, ◌<◌, ◌≤◌, max, Bool, false, List, [], ◌∷◌, length, set, get_or, slice_index, IsTrue, refl, sym, ap, ◌∙◌, subst, inl, inr, arith, replicate, length-set, get_or-set_other, get_or-set_same}
+use Rattle.std.proofs.Common.{◌≡◌, ◌≢◌, ℕ, ◌+◌, ◌*◌, ◌<◌, ◌≤◌, max, Bool, false, List, [], ◌∷◌, length, set, get_or}
+use Rattle.std.proofs.Common.{slice_index, IsTrue, refl, sym, ap, ◌∙◌, subst, inl, inr, arith, replicate, length-set}
+use Rattle.std.proofs.Common.{get_or-set_other, get_or-set_same}
 use Rattle.std.proofs.lemmas.Bool.{cases_Bool, cases_eq, cases_lt, false≢true}
 use Rattle.std.proofs.lemmas.List.{get_or-replicate, get_or_past, length-replicate}
 use Rattle.std.proofs.lemmas.List.Sums.{sum_by-cons}
 use Rattle.ci_cut.specs.declared.graph.Source.{Source}
 use Rattle.ci_cut.specs.declared.graph.Node.{Node}
-use Rattle.ci_cut.specs.FlowGraph.{FlowGraph, IsFlowGraph, node_at}
+use Rattle.ci_cut.specs.FlowGraph.{FlowGraph, node_at}
+use Rattle.ci_cut.specs.GraphRules.{IsFlowGraph}
 use Rattle.ci_cut.specs.Hardware.{is_chain, delay_along, critical_path_delay}
-use Rattle.ci_cut.specs.ChainDelays.{IsGreatestAt}
-use Rattle.ci_cut.proofs.Chains.{chain_onward, chain_parts, chain_first, delay_along-le, critical_path_delay-reached}
+use Rattle.ci_cut.specs.ChainDelays.{IsMaximumAt}
+use Rattle.ci_cut.proofs.CriticalPath.{chain_onward, chain_parts, chain_first, delay_along-le, critical_path_delay-reached}
 
 -- the delay of a chain's first node, and of the rest
 delay_along-cons : (graph : FlowGraph) (k : ℕ) (rest : List ℕ) → delay_along graph (k ∷ rest) ≡ (node_at graph k).delay + delay_along graph rest
@@ -19,8 +22,8 @@ pub record IsLongestFrom (graph : FlowGraph) (cut : ℕ → Bool) (k delay : ℕ
   pub bound : (rest : List ℕ) → IsTrue (is_chain graph cut (k ∷ rest)) → delay_along graph (k ∷ rest) ≤ delay
   pub reached : (rest : List ℕ) × IsTrue (is_chain graph cut (k ∷ rest)) × (delay_along graph (k ∷ rest) ≡ delay)
 
--- Of the nodes below n, each member has in the list the greatest delay of a chain that begins there, and the rest
--- have 0. The greatest of these delays is that of some chain. The list has a place for each node.
+-- Of the nodes below n, each member has in the list the maximum delay of a chain that begins there, and the rest
+-- have 0. The maximum of these delays is that of some chain. The list has a place for each node.
 pub record AreDelaysBelow (graph : FlowGraph) (cut : ℕ → Bool) (n : ℕ) (delays : List ℕ) (most : ℕ) : Type 0 where
   pub size : length delays ≡ 256
   pub longest : (k : ℕ) → k < n → IsTrue (cut k) → IsLongestFrom graph cut k (slice_index delays k)
@@ -48,27 +51,34 @@ none_done graph cut = record {
 }
 
 -- the delays at a node's sources, where the node and its sources are read from the graph
-pub IsGreatestAt-node : (graph : FlowGraph) (n : ℕ) (node : Node) (sources : List Source) (delays : List ℕ) (most : ℕ) → node_at graph n ≡ node → sources ≡ node.sources → IsGreatestAt delays sources most → IsGreatestAt delays (node_at graph n).sources most
-IsGreatestAt-node graph n node sources delays most is_node are_sources greatest =
-    subst (λ list. IsGreatestAt delays list most) (are_sources ∙ ap (λ m. m.sources) (sym is_node)) greatest
+pub IsMaximumAt-node : (graph : FlowGraph) (n : ℕ) (node : Node) (sources : List Source) (delays : List ℕ)
+    (most : ℕ) → node_at graph n ≡ node → sources ≡ node.sources → IsMaximumAt delays sources most
+    → IsMaximumAt delays (node_at graph n).sources most
+IsMaximumAt-node graph n node sources delays most is_node are_sources maximum =
+    subst (λ list. IsMaximumAt delays list most) (are_sources ∙ ap (λ m. m.sources) (sym is_node)) maximum
 
-module _ (graph : FlowGraph) (cut : ℕ → Bool) (kept : IsFlowGraph graph) (n : ℕ) (delays : List ℕ) (most before : ℕ) (so_far : AreDelaysBelow graph cut n delays most) (greatest : IsGreatestAt delays (node_at graph n).sources before) (member : IsTrue (cut n)) where
+module _ (graph : FlowGraph) (cut : ℕ → Bool) (kept : IsFlowGraph graph) (n : ℕ) (delays : List ℕ) (most before : ℕ)
+    (so_far : AreDelaysBelow graph cut n delays most)
+    (maximum : IsMaximumAt delays (node_at graph n).sources before) (member : IsTrue (cut n)) where
   longest_bound : (rest : List ℕ) → IsTrue (is_chain graph cut (n ∷ rest)) → delay_along graph (n ∷ rest) ≤ before + (node_at graph n).delay
   longest_bound [] is_one = omega arith
   longest_bound (m ∷ rest) is_one =
       let parts = chain_parts graph cut n m rest is_one in
       let earlier = so_far.longest m (kept.sources_rise m n parts.0) (chain_first graph cut m rest parts.1) in
-      omega (arith, delay_along-cons graph n (m ∷ rest), earlier.bound rest parts.1, greatest.bound m parts.0)
+      omega (arith, delay_along-cons graph n (m ∷ rest), earlier.bound rest parts.1, maximum.bound m parts.0)
 
   longest_reached : (rest : List ℕ) × IsTrue (is_chain graph cut (n ∷ rest)) × (delay_along graph (n ∷ rest) ≡ before + (node_at graph n).delay)
   longest_reached =
-      elim greatest.reached [
+      elim maximum.reached [
         | inl none ↦ ([], member, omega arith)
         | inr (m, reading, same) ↦
             elim (cases_Bool (cut m)) [
               | inl inside ↦
-                  let earlier = so_far.longest m (kept.sources_rise m n reading) inside in
-                  (m ∷ earlier.reached.0, chain_onward graph cut n m earlier.reached.0 member reading earlier.reached.1, omega (arith, delay_along-cons graph n (m ∷ earlier.reached.0), earlier.reached.2))
+                  let earlier = so_far.longest m (kept.sources_rise m n reading) inside in (
+                    m ∷ earlier.reached.0,
+                    chain_onward graph cut n m earlier.reached.0 member reading earlier.reached.1,
+                    omega (arith, delay_along-cons graph n (m ∷ earlier.reached.0), earlier.reached.2),
+                  )
               | inr outside ↦ ([], member, omega (arith, so_far.elsewhere m outside))
             ]
       ]
@@ -77,10 +87,10 @@ module _ (graph : FlowGraph) (cut : ℕ → Bool) (kept : IsFlowGraph graph) (n 
   longest_here : IsLongestFrom graph cut n (before + (node_at graph n).delay)
   longest_here = record { bound = longest_bound; reached = longest_reached }
 
-  -- a chain that begins earlier has at most the greatest delay so far
+  -- a chain that begins earlier has at most the maximum delay so far
   before_le : before ≤ most
   before_le =
-      elim greatest.reached [
+      elim maximum.reached [
         | inl none ↦ omega arith
         | inr (m, reading, same) ↦ omega (arith, same, so_far.bound m (kept.sources_rise m n reading))
       ]
@@ -99,7 +109,8 @@ module _ (graph : FlowGraph) (cut : ℕ → Bool) (kept : IsFlowGraph graph) (n 
         size = length-set delays n here ∙ so_far.size;
         longest = λ k below inside.
             elim (cases_eq k n) [
-              | inl same ↦ subst (λ j. IsLongestFrom graph cut j (get_or (set delays n here) j 0)) (sym same) (subst (IsLongestFrom graph cut n) (sym written) longest_here)
+              | inl same ↦ subst (λ j. IsLongestFrom graph cut j (get_or (set delays n here) j 0)) (sym same)
+                  (subst (IsLongestFrom graph cut n) (sym written) longest_here)
               | inr other ↦
                   let differs : k ≢ n = other in
                   subst (IsLongestFrom graph cut k) (sym (get_or-set_other delays n k here 0 differs)) (so_far.longest k (omega arith) inside)
@@ -123,7 +134,8 @@ module _ (graph : FlowGraph) (cut : ℕ → Bool) (kept : IsFlowGraph graph) (n 
       }
 
 -- one node more, which is no member
-pub next_outside : (graph : FlowGraph) (cut : ℕ → Bool) (n : ℕ) (delays : List ℕ) (most : ℕ) → AreDelaysBelow graph cut n delays most → cut n ≡ false → AreDelaysBelow graph cut (n + 1) delays most
+pub next_outside : (graph : FlowGraph) (cut : ℕ → Bool) (n : ℕ) (delays : List ℕ) (most : ℕ)
+    → AreDelaysBelow graph cut n delays most → cut n ≡ false → AreDelaysBelow graph cut (n + 1) delays most
 next_outside graph cut n delays most so_far outside =
     record {
       size = so_far.size;
@@ -141,16 +153,20 @@ next_outside graph cut n delays most so_far outside =
       small = omega (arith, so_far.small);
     }
 
--- with each node done, no chain of members has more than the greatest of the delays
-all_bounded : (graph : FlowGraph) (cut : ℕ → Bool) → ((k : ℕ) → IsTrue (cut k) → k < length graph.nodes) → (delays : List ℕ) (most : ℕ) → AreDelaysBelow graph cut (length graph.nodes) delays most → (chain : List ℕ) → IsTrue (is_chain graph cut chain) → delay_along graph chain ≤ most
+-- with each node done, no chain of members has more than the maximum of the delays
+all_bounded : (graph : FlowGraph) (cut : ℕ → Bool) → ((k : ℕ) → IsTrue (cut k) → k < length graph.nodes)
+    → (delays : List ℕ) (most : ℕ) → AreDelaysBelow graph cut (length graph.nodes) delays most → (chain : List ℕ)
+    → IsTrue (is_chain graph cut chain) → delay_along graph chain ≤ most
 all_bounded graph cut are_nodes delays most done [] is_one = omega arith
 all_bounded graph cut are_nodes delays most done (a ∷ rest) is_one =
     let inside = chain_first graph cut a rest is_one in
     let below = are_nodes a inside in
     omega (arith, (done.longest a below inside).bound rest is_one, done.bound a below)
 
--- the greatest of the delays is then that of the longest chain
-pub all_done : (graph : FlowGraph) (cut : ℕ → Bool) → IsFlowGraph graph → ((k : ℕ) → IsTrue (cut k) → k < length graph.nodes) → (delays : List ℕ) (most : ℕ) → AreDelaysBelow graph cut (length graph.nodes) delays most → most ≡ critical_path_delay graph cut
+-- the maximum of the delays is then that of the longest chain
+pub all_done : (graph : FlowGraph) (cut : ℕ → Bool) → IsFlowGraph graph
+    → ((k : ℕ) → IsTrue (cut k) → k < length graph.nodes) → (delays : List ℕ) (most : ℕ)
+    → AreDelaysBelow graph cut (length graph.nodes) delays most → most ≡ critical_path_delay graph cut
 all_done graph cut kept are_nodes delays most done =
     let longest = critical_path_delay-reached graph cut in
     omega (

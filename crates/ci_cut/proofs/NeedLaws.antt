@@ -1,9 +1,11 @@
 -- Open prefixes, and the gain that is reached before a prefix and behind it.
-use Rattle.std.proofs.Common.{◌≡◌, ℕ, zero, suc, ◌≤◌, Bool, true, false, true≢false, not, ◌⊎◌, inl, inr, IsTrue, [], ◌∷◌, ◌++◌, length, refl, sym, ap, ◌∙◌, subst, arith, ℤ, pos, ◌≤ℤ◌, ◌<ℤ◌}
+use Rattle.std.proofs.Common.{◌≡◌, ℕ, zero, suc, ◌≤◌, Bool, true, false, true≢false, not, ◌⊎◌, inl, inr, IsTrue, []}
+use Rattle.std.proofs.Common.{◌∷◌, ◌++◌, length, refl, sym, ap, ◌∙◌, subst, arith, ℤ, pos, ◌≤ℤ◌, ◌<ℤ◌}
 use Rattle.std.proofs.lemmas.Bool.{cases_Bool}
 use Rattle.std.proofs.lemmas.Int.{ints}
 use Rattle.ci_cut.specs.declared.graph.Limits.{Limits}
-use Rattle.ci_cut.specs.FlowGraph.{FlowGraph, IsFlowGraph}
+use Rattle.ci_cut.specs.FlowGraph.{FlowGraph}
+use Rattle.ci_cut.specs.GraphRules.{IsFlowGraph}
 use Rattle.ci_cut.specs.Gain.{Fits, gain}
 use Rattle.ci_cut.specs.ListCounts.{AtLeast}
 use Rattle.ci_cut.specs.Prefixes.{Prefix, eligible_nodes, is_next, taken, bound}
@@ -11,17 +13,20 @@ use Rattle.ci_cut.specs.Need.{IsOpen, continuations}
 use Rattle.ci_cut.specs.Reached.{IsBounded, IsReached, IsReachedBefore, IsReachedBehind, IsReachedWith}
 use Rattle.ci_cut.proofs.ListCountLaws.{AtLeast-nil, AtLeast-cases, AtLeast-split}
 use Rattle.ci_cut.proofs.PrefixLaws.{is_decided-none, completes_more, completes_earlier, whole_choice, taken_completes}
-use Rattle.ci_cut.proofs.Bounds.{completion_bound, completion_bounded, open_earlier, before_more, before_in, before_out, before_by_next}
+use Rattle.ci_cut.proofs.BoundLaws.{completion_bound, completion_bounded, open_earlier, before_more, before_in, before_out, before_by_next}
 
 -- ---- open prefixes
 
-pub continuations-more : (undecided left : ℕ) (prefix : Prefix) → undecided ≡ suc left → continuations undecided prefix ≡ (prefix ∷ (continuations left (true ∷ prefix) ++ continuations left (false ∷ prefix)))
+pub continuations-more : (undecided left : ℕ) (prefix : Prefix) → undecided ≡ suc left
+    → continuations undecided prefix ≡ (prefix
+    ∷ (continuations left (true ∷ prefix) ++ continuations left (false ∷ prefix)))
 unfolding continuations
 continuations-more undecided left prefix one_less = ap (λ (n : ℕ). continuations n prefix) one_less
 
 module _ (graph : FlowGraph) (limits : Limits) where
   -- nothing is open below a prefix that isn't
-  pub none_open : (flows : IsFlowGraph graph) (undecided n : ℕ) (prefix : Prefix) → ¬ IsOpen graph limits prefix → AtLeast (IsOpen graph limits) n (continuations undecided prefix) → n ≡ 0
+  pub none_open : (flows : IsFlowGraph graph) (undecided n : ℕ) (prefix : Prefix) → ¬ IsOpen graph limits prefix
+      → AtLeast (IsOpen graph limits) n (continuations undecided prefix) → n ≡ 0
   unfolding continuations
   none_open flows zero n prefix closed found = AtLeast-nil (IsOpen graph limits) found
   none_open flows (suc undecided) n prefix closed found = elim (AtLeast-cases (IsOpen graph limits) found) [
@@ -44,7 +49,9 @@ less_through h k = omega (arith, ints)
 
 module _ (graph : FlowGraph) (flows : IsFlowGraph graph) (limits : Limits) where
   -- the same sets in other words
-  reached_as : (First Second : (ℕ → Bool) → Type 0) (reached : ℤ) → ((cut : ℕ → Bool) → Fits graph limits cut → Second cut → First cut) → ((cut : ℕ → Bool) → Fits graph limits cut → First cut → Second cut)
+  reached_as : (First Second : (ℕ → Bool) → Type 0) (reached : ℤ)
+      → ((cut : ℕ → Bool) → Fits graph limits cut → Second cut → First cut)
+      → ((cut : ℕ → Bool) → Fits graph limits cut → First cut → Second cut)
       → IsReached graph limits First reached → IsReached graph limits Second reached
   reached_as First Second reached back there is = record {
     least = is.least;
@@ -83,7 +90,9 @@ module _ (graph : FlowGraph) (flows : IsFlowGraph graph) (limits : Limits) where
     }
 
     -- from a whole choice the one set goes on that it takes in
-    pub reached_whole : eligible_nodes graph ≤ length prefix → (after : ℤ) → IsReachedBefore graph limits prefix reached → IsReachedWith graph limits (taken graph prefix) reached after → IsReachedBehind graph limits prefix after
+    pub reached_whole : eligible_nodes graph ≤ length prefix → (after : ℤ)
+        → IsReachedBefore graph limits prefix reached
+        → IsReachedWith graph limits (taken graph prefix) reached after → IsReachedBehind graph limits prefix after
     reached_whole whole after is one = record {
       least = let least = is.least in let kept = one.kept in omega (arith, ints);
       most = λ cut fits among. elim among [

@@ -18,7 +18,9 @@ pub node_in-past : (nodes : List Node) (k : ℕ) → length nodes ≤ k → node
 node_in-past nodes k past = get_or-eq_default nodes no_node past
 
 -- with a node more at the end, each number's node is the one that it was, or the new one
-pub node_in-push : (nodes : List Node) (node : Node) (k : ℕ) → (node_in (nodes ++ node ∷ []) k ≡ node_in nodes k) ⊎ ((k ≡ length nodes) × (node_in (nodes ++ node ∷ []) k ≡ node))
+pub node_in-push : (nodes : List Node) (node : Node) (k : ℕ)
+    → (node_in (nodes ++ node ∷ []) k ≡ node_in nodes k)
+    ⊎ ((k ≡ length nodes) × (node_in (nodes ++ node ∷ []) k ≡ node))
 node_in-push nodes node k = elim (cases_order k (length nodes)) [
   | inl at_end ↦ inr (at_end, ap (λ (i : ℕ). node_in (nodes ++ node ∷ []) i) at_end ∙ get_or-append_seam nodes node [] no_node)
   | inr (inl before) ↦ inl (get_or-append nodes (node ∷ []) no_node k before)
@@ -28,7 +30,8 @@ node_in-push nodes node k = elim (cases_order k (length nodes)) [
 ]
 
 -- what holds of each node of a list, and of no node, holds at each number
-pub each_node : (nodes : List Node) (P : ℕ → Node → Type 0) → ((k : ℕ) → k < length nodes → P k (node_in nodes k)) → ((k : ℕ) → P k no_node) → (k : ℕ) → P k (node_in nodes k)
+pub each_node : (nodes : List Node) (P : ℕ → Node → Type 0) → ((k : ℕ) → k < length nodes → P k (node_in nodes k))
+    → ((k : ℕ) → P k no_node) → (k : ℕ) → P k (node_in nodes k)
 each_node nodes P within none k = elim (cases_lt k (length nodes)) [
   | inl below ↦ within k below
   | inr past ↦ subst (P k) (sym (node_in-past nodes k past)) (none k)
@@ -47,7 +50,8 @@ module _ (node_of : ℕ → Node) (n : ℕ) where
 -- ---- what code reads
 
 -- what a read of the list of nodes gives
-pub node_there : (graph : FlowGraph) (nodes : List Node) (k : ℕ) (node : Node) → nodes ≡ graph.nodes → k < length nodes → node ≡ get_or nodes k node → node_at graph k ≡ node
+pub node_there : (graph : FlowGraph) (nodes : List Node) (k : ℕ) (node : Node) → nodes ≡ graph.nodes
+    → k < length nodes → node ≡ get_or nodes k node → node_at graph k ≡ node
 node_there graph nodes k node same below read = ap (λ l. node_in l k) (sym same) ∙ node_in-within nodes k node below ∙ sym read
 
 -- no more nodes are eligible than there are

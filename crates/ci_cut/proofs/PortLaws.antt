@@ -32,7 +32,8 @@ on_side cut true k = elim (cut k) as (λ b. b ≡ beq b true) [ true ↦ refl | 
 on_side cut false k = elim (cut k) as (λ b. not b ≡ beq b false) [ true ↦ refl | false ↦ refl ]
 
 module _ (graph : FlowGraph) (cut : ℕ → Bool) (members : Bool) (k : ℕ) (has : Bool) (has_is : has ≡ cut k) where
-  read_more : (source : Source) → is_read_below (k + 1) graph (is_reader cut members) source ≡ (is_read_below k graph (is_reader cut members) source || (beq has members && reads graph k source))
+  read_more : (source : Source) → is_read_below (k + 1) graph (is_reader cut members) source
+      ≡ (is_read_below k graph (is_reader cut members) source || (beq has members && reads graph k source))
   read_more source = rw (some_below-more k (λ j. is_reader cut members j && reads graph j source), on_side cut members k, ← has_is)
 
   -- the sources of a node on that side are read
@@ -71,12 +72,18 @@ module _ (graph : FlowGraph) (readers more : ℕ → Bool) (more_read : (k : ℕ
       (found.0, found.1, and_from (more found.0) (reads graph found.0 source) (more_read found.0 parts.0) parts.1)
 
   -- where more sources count as outside, and more nodes read, there are no fewer inputs
-  pub inputs_from-mono : (outside further : Source → Bool) → ((source : Source) → IsTrue (outside source) → IsTrue (further source)) → inputs_from graph outside readers ≤ inputs_from graph further more
+  pub inputs_from-mono : (outside further : Source → Bool)
+      → ((source : Source) → IsTrue (outside source) → IsTrue (further source))
+      → inputs_from graph outside readers ≤ inputs_from graph further more
   inputs_from-mono outside further still =
       let both : (source : Source) → IsTrue (outside source && is_read_by graph readers source) → IsTrue (further source && is_read_by graph more source) =
-      λ source input. let parts = and_parts (outside source) (is_read_by graph readers source) input in and_from (further source) (is_read_by graph more source) (still source parts.0) (is_read_by-mono source parts.1) in
+      λ source input. let parts = and_parts (outside source) (is_read_by graph readers source) input in
+      and_from (further source) (is_read_by graph more source) (still source parts.0)
+      (is_read_by-mono source parts.1) in
       omega (
         arith,
-        count_below-mono 256 (λ r. outside (Entry r) && is_read_by graph readers (Entry r)) (λ r. further (Entry r) && is_read_by graph more (Entry r)) (λ r _. both (Entry r)),
-        count_below-mono (length graph.nodes) (λ k. outside (Made k) && is_read_by graph readers (Made k)) (λ k. further (Made k) && is_read_by graph more (Made k)) (λ k _. both (Made k)),
+        count_below-mono 256 (λ r. outside (Entry r) && is_read_by graph readers (Entry r))
+            (λ r. further (Entry r) && is_read_by graph more (Entry r)) (λ r _. both (Entry r)),
+        count_below-mono (length graph.nodes) (λ k. outside (Made k) && is_read_by graph readers (Made k))
+            (λ k. further (Made k) && is_read_by graph more (Made k)) (λ k _. both (Made k)),
       )

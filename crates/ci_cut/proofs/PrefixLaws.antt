@@ -1,12 +1,13 @@
 -- What a prefix decides, in which order, and which sets go on from it.
-use Rattle.std.proofs.Common.{◌≡◌, ℕ, suc, ◌+◌, ◌-◌, ◌<◌, ◌≤◌, Bool, true, false, not, ◌&&◌, ◌||◌, ◌⊎◌, inl, inr, IsTrue, [], ◌∷◌, length, refl, sym, ap, ◌∙◌, arith, true≢false, eqb-true, eq-eqb}
+use Rattle.std.proofs.Common.{◌≡◌, ℕ, suc, ◌+◌, ◌-◌, ◌<◌, ◌≤◌, Bool, true, false, not, ◌&&◌, ◌||◌, ◌⊎◌, inl, inr}
+use Rattle.std.proofs.Common.{IsTrue, [], ◌∷◌, length, refl, sym, ap, ◌∙◌, arith, true≢false, eqb-true, eq-eqb}
 use Rattle.std.proofs.lemmas.Bool.{cases_eq, cases_lt, cases_Bool, and_parts, and_from, or_cases, or_left, or_right, not_from_false, false_from_ne_true}
 use Rattle.ci_word.specs.Numbers.{count_below}
 use Rattle.ci_cut.specs.FlowGraph.{FlowGraph}
 use Rattle.ci_cut.proofs.NodeLaws.{node_in-past}
 use Rattle.ci_cut.specs.Prefixes.{Prefix, is_eligible, eligible_nodes, is_next, is_decided, taken, left_out, possible}
 use Rattle.ci_cut.specs.Reached.{Completes}
-use Rattle.ci_cut.proofs.Counts.{count_below-rises, count_below-more, nth_below}
+use Rattle.ci_cut.proofs.RisingCounts.{count_below-rises, count_below-more, nth_below}
 
 -- tests that imply each other are equal
 pub same_test : (a b : Bool) → (IsTrue a → IsTrue b) → (IsTrue b → IsTrue a) → a ≡ b
@@ -26,12 +27,16 @@ module _ (graph : FlowGraph) where
 
   -- ---- the next node
 
-  pub next_parts : (prefix : Prefix) (k : ℕ) → IsTrue (is_next graph prefix k) → IsTrue (is_eligible graph k) × (count_below k (is_eligible graph) + suc (length prefix) ≡ eligible_nodes graph)
+  pub next_parts : (prefix : Prefix) (k : ℕ) → IsTrue (is_next graph prefix k)
+      → IsTrue (is_eligible graph k) × (count_below k (is_eligible graph) + suc (length prefix)
+      ≡ eligible_nodes graph)
   next_parts prefix k next =
       let parts = and_parts _ _ next in
       (parts.0, eqb-true _ _ parts.1)
 
-  pub next_from : (prefix : Prefix) (k : ℕ) → IsTrue (is_eligible graph k) → count_below k (is_eligible graph) + suc (length prefix) ≡ eligible_nodes graph → IsTrue (is_next graph prefix k)
+  pub next_from : (prefix : Prefix) (k : ℕ) → IsTrue (is_eligible graph k)
+      → count_below k (is_eligible graph) + suc (length prefix) ≡ eligible_nodes graph
+      → IsTrue (is_next graph prefix k)
   next_from prefix k eligible count = and_from _ _ eligible (eq-eqb _ _ count)
 
   pub next_unique : (prefix : Prefix) (j k : ℕ) → IsTrue (is_next graph prefix j) → IsTrue (is_next graph prefix k) → j ≡ k
@@ -55,7 +60,9 @@ module _ (graph : FlowGraph) where
 
   -- ---- what is decided
 
-  pub is_decided-more : (test : Bool → Bool) (choice : Bool) (prefix : Prefix) (k : ℕ) → is_decided graph test (choice ∷ prefix) k ≡ ((is_next graph prefix k && test choice) || is_decided graph test prefix k)
+  pub is_decided-more : (test : Bool → Bool) (choice : Bool) (prefix : Prefix) (k : ℕ)
+      → is_decided graph test (choice ∷ prefix) k
+      ≡ ((is_next graph prefix k && test choice) || is_decided graph test prefix k)
   unfolding is_decided
   is_decided-more test choice prefix k = refl
 
@@ -64,19 +71,24 @@ module _ (graph : FlowGraph) where
   is_decided-none test k = refl
 
   -- the newest choice, or an earlier one
-  pub decided_cases : (test : Bool → Bool) (choice : Bool) (prefix : Prefix) (k : ℕ) → IsTrue (is_decided graph test (choice ∷ prefix) k) → (IsTrue (is_next graph prefix k) × IsTrue (test choice)) ⊎ IsTrue (is_decided graph test prefix k)
+  pub decided_cases : (test : Bool → Bool) (choice : Bool) (prefix : Prefix) (k : ℕ)
+      → IsTrue (is_decided graph test (choice ∷ prefix) k)
+      → (IsTrue (is_next graph prefix k) × IsTrue (test choice)) ⊎ IsTrue (is_decided graph test prefix k)
   decided_cases test choice prefix k decided = elim (or_cases _ _ (sym (is_decided-more test choice prefix k) ∙ decided)) [
     | inl newest ↦ inl (and_parts _ _ newest)
     | inr earlier ↦ inr earlier
   ]
 
-  pub decided_newest : (test : Bool → Bool) (choice : Bool) (prefix : Prefix) (k : ℕ) → IsTrue (is_next graph prefix k) → IsTrue (test choice) → IsTrue (is_decided graph test (choice ∷ prefix) k)
+  pub decided_newest : (test : Bool → Bool) (choice : Bool) (prefix : Prefix) (k : ℕ)
+      → IsTrue (is_next graph prefix k) → IsTrue (test choice) → IsTrue (is_decided graph test (choice ∷ prefix) k)
   decided_newest test choice prefix k next passes = is_decided-more test choice prefix k ∙ or_left _ _ (and_from _ _ next passes)
 
-  pub decided_earlier : (test : Bool → Bool) (choice : Bool) (prefix : Prefix) (k : ℕ) → IsTrue (is_decided graph test prefix k) → IsTrue (is_decided graph test (choice ∷ prefix) k)
+  pub decided_earlier : (test : Bool → Bool) (choice : Bool) (prefix : Prefix) (k : ℕ)
+      → IsTrue (is_decided graph test prefix k) → IsTrue (is_decided graph test (choice ∷ prefix) k)
   decided_earlier test choice prefix k earlier = is_decided-more test choice prefix k ∙ or_right _ _ earlier
 
-  pub decided_parts : (test : Bool → Bool) (prefix : Prefix) (k : ℕ) → IsTrue (is_decided graph test prefix k) → IsTrue (is_eligible graph k) × (eligible_nodes graph ≤ count_below k (is_eligible graph) + length prefix)
+  pub decided_parts : (test : Bool → Bool) (prefix : Prefix) (k : ℕ) → IsTrue (is_decided graph test prefix k)
+      → IsTrue (is_eligible graph k) × (eligible_nodes graph ≤ count_below k (is_eligible graph) + length prefix)
   decided_parts test [] k decided = absurd (true≢false (sym decided ∙ is_decided-none test k))
   decided_parts test (choice ∷ prefix) k decided = elim (decided_cases test choice prefix k decided) [
     | inl newest ↦ let next = next_parts prefix k newest.0 in (next.0, omega (arith, next.1))
@@ -84,7 +96,9 @@ module _ (graph : FlowGraph) where
   ]
 
   -- the last eligible nodes, as many as there are decisions, are taken in or left out
-  pub in_or_out : (prefix : Prefix) (k : ℕ) → IsTrue (is_eligible graph k) → eligible_nodes graph ≤ count_below k (is_eligible graph) + length prefix → IsTrue (taken graph prefix k) ⊎ IsTrue (left_out graph prefix k)
+  pub in_or_out : (prefix : Prefix) (k : ℕ) → IsTrue (is_eligible graph k)
+      → eligible_nodes graph ≤ count_below k (is_eligible graph) + length prefix
+      → IsTrue (taken graph prefix k) ⊎ IsTrue (left_out graph prefix k)
   in_or_out [] k eligible late = absurd (omega (arith, count_below-more (is_eligible graph) k (length graph.nodes) eligible (eligible_below k eligible)))
   in_or_out (choice ∷ prefix) k eligible late = elim (cases_eq (count_below k (is_eligible graph) + suc (length prefix)) (eligible_nodes graph)) [
     | inl same ↦
@@ -117,12 +131,14 @@ module _ (graph : FlowGraph) where
   ]
 
   -- the eligible nodes from a decided one on are decided
-  pub decided_above : (test : Bool → Bool) (prefix : Prefix) (k j : ℕ) → IsTrue (is_decided graph test prefix k) → k ≤ j → IsTrue (is_eligible graph j) → IsTrue (taken graph prefix j) ⊎ IsTrue (left_out graph prefix j)
+  pub decided_above : (test : Bool → Bool) (prefix : Prefix) (k j : ℕ) → IsTrue (is_decided graph test prefix k)
+      → k ≤ j → IsTrue (is_eligible graph j) → IsTrue (taken graph prefix j) ⊎ IsTrue (left_out graph prefix j)
   decided_above test prefix k j decided above eligible =
       in_or_out prefix j eligible (omega (arith, (decided_parts test prefix k decided).1, count_below-rises (is_eligible graph) k j above))
 
   -- and so are those above the next one
-  pub above_next : (prefix : Prefix) (k j : ℕ) → IsTrue (is_next graph prefix k) → k < j → IsTrue (is_eligible graph j) → IsTrue (taken graph prefix j) ⊎ IsTrue (left_out graph prefix j)
+  pub above_next : (prefix : Prefix) (k j : ℕ) → IsTrue (is_next graph prefix k) → k < j
+      → IsTrue (is_eligible graph j) → IsTrue (taken graph prefix j) ⊎ IsTrue (left_out graph prefix j)
   above_next prefix k j next above eligible =
       let parts = next_parts prefix k next in
       in_or_out prefix j eligible (omega (arith, parts.1, count_below-more (is_eligible graph) k j parts.0 above))
@@ -159,7 +175,8 @@ module _ (graph : FlowGraph) where
   }
 
   -- with the choice that the set makes for the next node
-  pub completes_more : (prefix : Prefix) (cut : ℕ → Bool) (k : ℕ) (choice : Bool) → Completes graph prefix cut → IsTrue (is_next graph prefix k) → cut k ≡ choice → Completes graph (choice ∷ prefix) cut
+  pub completes_more : (prefix : Prefix) (cut : ℕ → Bool) (k : ℕ) (choice : Bool) → Completes graph prefix cut
+      → IsTrue (is_next graph prefix k) → cut k ≡ choice → Completes graph (choice ∷ prefix) cut
   completes_more prefix cut k choice goes next chosen = record {
     has = λ j in_. elim (decided_cases graph (λ b. b) choice prefix j in_) [
       | inl newest ↦ ap cut (next_unique graph prefix j k newest.0 next) ∙ chosen ∙ newest.1
@@ -199,7 +216,8 @@ module _ (graph : FlowGraph) where
   }
 
   -- from a whole choice only the set that it takes in goes on
-  pub whole_choice : (prefix : Prefix) (cut : ℕ → Bool) → eligible_nodes graph ≤ length prefix → Completes graph prefix cut → (k : ℕ) → cut k ≡ taken graph prefix k
+  pub whole_choice : (prefix : Prefix) (cut : ℕ → Bool) → eligible_nodes graph ≤ length prefix
+      → Completes graph prefix cut → (k : ℕ) → cut k ≡ taken graph prefix k
   whole_choice prefix cut whole goes k = same_test (cut k) (taken graph prefix k) there (goes.has k)
     where
       there : IsTrue (cut k) → IsTrue (taken graph prefix k)

@@ -26,16 +26,21 @@ pads_less places (suc d) pad =
     one_more z = omega (arith, ints)
 
 -- a read more for a no-op less, which costs no more
-costs_more : (saved reads reads' pads other : ℕ) (a b : ℤ) (less more : ℕ) → less ≤ more → b ≡ a -ℤ pos pads → reads' ≡ reads + other → pads ≤ other → (((pos saved -ℤ pos more) -ℤ pos reads') -ℤ b) ≤ℤ (((pos saved -ℤ pos less) -ℤ pos reads) -ℤ a)
+costs_more : (saved reads reads' pads other : ℕ) (a b : ℤ) (less more : ℕ) → less ≤ more → b ≡ a -ℤ pos pads
+    → reads' ≡ reads + other → pads ≤ other → (((pos saved -ℤ pos more) -ℤ pos reads') -ℤ b) ≤ℤ
+    (((pos saved -ℤ pos less) -ℤ pos reads) -ℤ a)
 costs_more saved reads reads' pads other a b less more slower b_is reads_is cheap = omega (arith, ints)
 
 -- the saved cycles fall in the hardware time, and in the further words where a no-op costs no more than a read
-pub saved_cycles-antitone : (read pad latency less more fewer further members : ℕ) → pad ≤ read → less ≤ more → fewer ≤ further → saved_cycles read pad latency more further members ≤ℤ saved_cycles read pad latency less fewer members
+pub saved_cycles-antitone : (read pad latency less more fewer further members : ℕ) → pad ≤ read → less ≤ more
+    → fewer ≤ further
+    → saved_cycles read pad latency more further members ≤ℤ saved_cycles read pad latency less fewer members
 saved_cycles-antitone read pad latency less more fewer further members cheap slower words =
     let d = further - fewer in
     let places : places_of members further ≡ places_of members fewer -ℤ pos d = omega (arith, ints) in
     let reads : further * read ≡ fewer * read + d * read = split fewer d further (omega arith) in
-    costs_more latency (fewer * read) (further * read) (d * pad) (d * read) (places_of members fewer *ℤ pos pad) (places_of members further *ℤ pos pad) less more
+    costs_more latency (fewer * read) (further * read) (d * pad) (d * read) (places_of members fewer *ℤ pos pad)
+    (places_of members further *ℤ pos pad) less more
     slower
     (ap (λ z. z *ℤ pos pad) places ∙ pads_less (places_of members fewer) d pad)
     reads
@@ -48,10 +53,15 @@ saved_cycles-antitone read pad latency less more fewer further members cheap slo
     split m n k is = ap (λ (j : ℕ). j * read) is ∙ both m n
 
 -- more members with latencies of at least a no-op each save no less
-gains_more : (latency more_latency hardware reads pads : ℕ) (a b : ℤ) → latency + pads ≤ more_latency → b ≡ a -ℤ pos pads → (((pos latency -ℤ pos hardware) -ℤ pos reads) -ℤ b) ≤ℤ (((pos more_latency -ℤ pos hardware) -ℤ pos reads) -ℤ a)
+gains_more : (latency more_latency hardware reads pads : ℕ) (a b : ℤ) → latency + pads ≤ more_latency
+    → b ≡ a -ℤ pos pads → (((pos latency -ℤ pos hardware) -ℤ pos reads) -ℤ b) ≤ℤ
+    (((pos more_latency -ℤ pos hardware) -ℤ pos reads) -ℤ a)
 gains_more latency more_latency hardware reads pads a b enough b_is = omega (arith, ints)
 
-pub saved_cycles-members : (read pad latency more_latency hardware further members more : ℕ) → members ≤ more → latency + (more - members) * pad ≤ more_latency → saved_cycles read pad latency hardware further members ≤ℤ saved_cycles read pad more_latency hardware further more
+pub saved_cycles-members : (read pad latency more_latency hardware further members more : ℕ) → members ≤ more
+    → latency + (more - members) * pad ≤ more_latency
+    → saved_cycles read pad latency hardware further members ≤ℤ saved_cycles read pad more_latency
+    hardware further more
 saved_cycles-members read pad latency more_latency hardware further members more grows enough =
     let d = more - members in
     let places : places_of members further ≡ places_of more further -ℤ pos d = omega (arith, ints) in

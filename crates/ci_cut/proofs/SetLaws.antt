@@ -19,5 +19,6 @@ from_more s n k new = let more = contains-insert_nat s n k in grind (arith, nat_
 pub below_empty : (n j : ℕ) → IsTrue (set.contains {R = nat_cmp} set.empty j) → j < n
 below_empty n j h = let none = set.contains-empty nat_cmp j in cc
 
-pub below_insert : (s : set.FinSet nat_cmp) (k n : ℕ) → ((j : ℕ) → IsTrue (set.contains s j) → j < n) → k < n → (j : ℕ) → IsTrue (set.contains (set.insert s k) j) → j < n
+pub below_insert : (s : set.FinSet nat_cmp) (k n : ℕ) → ((j : ℕ) → IsTrue (set.contains s j) → j < n) → k < n
+    → (j : ℕ) → IsTrue (set.contains (set.insert s k) j) → j < n
 below_insert s k n old new j h = elim (from_more s k j h) [ inl same ↦ omega arith | inr before ↦ old j before ]

@@ -15,10 +15,14 @@ holds-empty (Entry r) = set.contains-empty nat_cmp r
 holds-empty (Made k) = set.contains-empty nat_cmp k
 
 -- a register or a node more
-pub holds-entry : (sources : SourceSet) (r : ℕ) (other : Source) → holds (record sources { registers = set.insert sources.registers r }) other ≡ (is_source other (Entry r) || holds sources other)
+pub holds-entry : (sources : SourceSet) (r : ℕ) (other : Source)
+    → holds (record sources { registers = set.insert sources.registers r }) other
+    ≡ (is_source other (Entry r) || holds sources other)
 holds-entry sources r (Entry q) = contains-insert_nat sources.registers r q
 holds-entry sources r (Made k) = refl
 
-pub holds-made : (sources : SourceSet) (k : ℕ) (other : Source) → holds (record sources { nodes = set.insert sources.nodes k }) other ≡ (is_source other (Made k) || holds sources other)
+pub holds-made : (sources : SourceSet) (k : ℕ) (other : Source)
+    → holds (record sources { nodes = set.insert sources.nodes k }) other
+    ≡ (is_source other (Made k) || holds sources other)
 holds-made sources k (Entry q) = refl
 holds-made sources k (Made j) = contains-insert_nat sources.nodes k j

@@ -3,7 +3,8 @@ use Rattle.std.proofs.Common.{◌≡◌, ℕ, ◌+◌, ◌<◌, Bool, true, fals
 use Rattle.std.specs.Ordering.{nat_cmp}
 use Rattle.std.specs.FinSet as set
 use Rattle.ci_word.specs.Numbers.{Meets}
-use Rattle.ci_cut.specs.FlowGraph.{FlowGraph, node_at, HasArc, IsFlowGraph}
+use Rattle.ci_cut.specs.FlowGraph.{FlowGraph, node_at, HasArc}
+use Rattle.ci_cut.specs.GraphRules.{IsFlowGraph}
 use Rattle.ci_cut.specs.Walks.{Walk, arc, onward, IsConvex}
 use Rattle.ci_cut.proofs.SetLaws.{contains_kept, contains_new, from_more}
 
@@ -88,10 +89,12 @@ module _ (graph : FlowGraph) (cut : set.FinSet nat_cmp) (k : ℕ) (passed before
   }
 
   -- node k is outside, and a walk leads to it
-  pub searched_passed : ¬ (IsTrue (set.contains cut k)) → Meets before cut ⊎ Meets before passed → IsSearched graph (set.contains cut) (k + 1) (set.insert passed k)
+  pub searched_passed : ¬ (IsTrue (set.contains cut k)) → Meets before cut ⊎ Meets before passed
+      → IsSearched graph (set.contains cut) (k + 1) (set.insert passed k)
   searched_passed outside some_arc = record {
     reached = λ b h. elim (from_more passed k b h) [
-      | inl same ↦ let P : ℕ → Type 0 = λ x. (x < k + 1) × (¬ (IsTrue (set.contains cut x))) × IsReached graph (set.contains cut) x in subst P (sym same) (omega arith, outside, reached_now some_arc)
+      | inl same ↦ let P : ℕ → Type 0 = λ x. (x < k + 1) × (¬ (IsTrue (set.contains cut x)))
+          × IsReached graph (set.contains cut) x in subst P (sym same) (omega arith, outside, reached_now some_arc)
       | inr old ↦ let found = searched.reached b old in (omega arith, found.1, found.2)
     ];
     complete = below_more _ _ (λ b below out is_reached. contains_kept passed k b (searched.complete b below out is_reached)) (λ _ _. contains_new passed k);
@@ -99,9 +102,12 @@ module _ (graph : FlowGraph) (cut : set.FinSet nat_cmp) (k : ℕ) (passed before
   }
 
   -- node k is outside, and no walk leads to it
-  pub searched_not_reached : ¬ (IsTrue (set.contains cut k)) → ¬ (Meets before cut) → ¬ (Meets before passed) → IsSearched graph (set.contains cut) (k + 1) passed
+  pub searched_not_reached : ¬ (IsTrue (set.contains cut k)) → ¬ (Meets before cut) → ¬ (Meets before passed)
+      → IsSearched graph (set.contains cut) (k + 1) passed
   searched_not_reached outside no_member no_passed = record {
     reached = λ b h. let found = searched.reached b h in (omega arith, found.1, found.2);
-    complete = below_more _ _ searched.complete (λ _ is_reached. elim (arc_now is_reached) [ inl from ↦ absurd (no_member from) | inr from ↦ absurd (no_passed from) ]);
+    complete = below_more _ _ searched.complete
+        (λ _ is_reached. elim (arc_now is_reached)
+        [ inl from ↦ absurd (no_member from) | inr from ↦ absurd (no_passed from) ]);
     clear = λ a b. below_more _ _ (searched.clear a b) (λ _ _ _ _ inside. outside inside);
   }

@@ -1,5 +1,6 @@
 -- The hardware time of a set of nodes: the delay of its critical path, in whole cycles.
-use Rattle.std.specs.Prelude.{ℕ, zero, suc, ◌+◌, ◌/◌, max, Bool, true, ◌&&◌, List, [], ◌∷◌, ◌++◌, length, map, filter, sum_by}
+use Rattle.std.specs.Prelude.{ℕ, zero, suc, ◌+◌, ◌/◌, max, Bool, true, ◌&&◌, List, [], ◌∷◌, ◌++◌, length, map, filter}
+use Rattle.std.specs.Prelude.{sum_by}
 use Rattle.ci_cut.specs.declared.graph.Source.TheVariants.{Made}
 use Rattle.ci_cut.specs.FlowGraph.{FlowGraph, node_at, reads}
 
@@ -18,15 +19,15 @@ is_chain graph cut (a ∷ b ∷ chain) = (cut a && reads graph a (Made b)) && is
 abbrev pub delay_along : FlowGraph → List ℕ → ℕ
 delay_along graph nodes = sum_by (λ k. (node_at graph k).delay) nodes
 
-abbrev pub greatest : List ℕ → ℕ
-greatest [] = 0
-greatest (x ∷ xs) = max x (greatest xs)
+abbrev pub maximum : List ℕ → ℕ
+maximum [] = 0
+maximum (x ∷ xs) = max x (maximum xs)
 
 -- The delay of the critical path: the greatest sum of delays along a chain. A node reads only earlier nodes, so each
 -- chain is a list of descending numbers.
 abbrev pub critical_path_delay : FlowGraph → (ℕ → Bool) → ℕ
 critical_path_delay graph cut =
-    greatest (map (delay_along graph) (filter (is_chain graph cut) (descending_lists (length graph.nodes))))
+    maximum (map (delay_along graph) (filter (is_chain graph cut) (descending_lists (length graph.nodes))))
 
 -- in cycles, rounded up, and at least one
 abbrev pub hardware : FlowGraph → (ℕ → Bool) → ℕ

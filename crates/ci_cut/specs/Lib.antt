@@ -1,4 +1,5 @@
 pub mod FlowGraph
+pub mod GraphRules
 pub mod Stored
 pub mod Walks
 pub mod Ports
@@ -10,5 +11,6 @@ pub mod Prefixes
 pub mod Need
 pub mod SourceSets
 pub mod ChainDelays
+pub mod Incumbents
 pub mod Tried
 pub mod Reached

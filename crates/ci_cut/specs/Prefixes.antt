@@ -1,6 +1,7 @@
 -- Prefixes: the choices that a search makes, in or out, for the eligible nodes from the last to the first.
 -- Such a search is that of Atasu, Pozzi and Ienne (DAC 2003); its bounds are this project's own.
-use Rattle.std.specs.Prelude.{◌≡◌, ℕ, suc, ◌+◌, ◌<◌, Bool, false, not, ◌&&◌, ◌||◌, nat_eq, ℤ, List, [], ◌∷◌, length, IsTrue}
+use Rattle.std.specs.Prelude.{◌≡◌, ℕ, suc, ◌+◌, ◌<◌, Bool, false, not, ◌&&◌, ◌||◌, nat_eq, ℤ, List, [], ◌∷◌, length}
+use Rattle.std.specs.Prelude.{IsTrue}
 use Rattle.ci_word.specs.Numbers.{count_below}
 use Rattle.ci_cut.specs.FlowGraph.{FlowGraph, node_at}
 use Rattle.ci_cut.specs.Ports.{inputs_from, is_outside}

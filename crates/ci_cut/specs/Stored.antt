@@ -27,9 +27,17 @@ coded_source = code_by (ℕ ⊎ ℕ) (coded⊎ coded_ℕ coded_ℕ) source_parts
 abbrev coded_node : Coded Node
 coded_node =
     code_by (Bool × (ℕ × (ℕ × (List Source × (set.FinSet nat_cmp × Bool)))))
-    (coded× coded_bool (coded× coded_ℕ (coded× coded_ℕ (coded× (coded_list coded_source) (coded× (set.code coded_ℕ) coded_bool)))))
+    (coded× coded_bool
+    (coded× coded_ℕ (coded× coded_ℕ (coded× (coded_list coded_source) (coded× (set.code coded_ℕ) coded_bool)))))
     (λ n. (n.eligible, (n.latency, (n.delay, (n.sources, (n.before, n.live))))))
-    (λ p. record { eligible = p.0; latency = p.1.0; delay = p.1.1.0; sources = p.1.1.1.0; before = p.1.1.1.1.0; live = p.1.1.1.1.1 })
+    (λ p. record {
+      eligible = p.0;
+      latency = p.1.0;
+      delay = p.1.1.0;
+      sources = p.1.1.1.0;
+      before = p.1.1.1.1.0;
+      live = p.1.1.1.1.1;
+    })
     (λ _. refl)
 
 abbrev pub coded_graph : Coded FlowGraph

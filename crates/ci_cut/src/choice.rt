@@ -2,21 +2,14 @@
 ghost use Rattle.std.specs.Prelude.{◌≡◌, ℕ, ◌<◌, ◌≤◌, MatchOption, IsTrue, length};
 ghost use Rattle.std.specs.FinSet as set;
 ghost use Rattle.ci_word.specs.Numbers.{count_below};
-ghost use Rattle.ci_cut.specs.FlowGraph.{AreNodes, node_at};
+ghost use Rattle.ci_cut.specs.FlowGraph.{node_at};
 ghost use Rattle.ci_cut.specs.Gain as terms;
 ghost use Rattle.ci_cut.specs.Best.{IsBest, HasNoCut};
 ghost use Rattle.ci_cut.specs.Tried.{IsBetterFrom};
 
 use crate::graph::{Graph, Limits};
-use crate::value::{fitting_ports, saved_by_ports};
+use crate::incumbent::Incumbent;
 use ci_word::Row;
-
-/// The best cut among the sets tried so far, and what it gains; with no cut its gain is 0.
-#[derive(Drop)]
-struct Reached {
-    cut: Option<Row>,
-    gain: i64,
-}
 
 /// The best cut of a graph of at most twelve eligible nodes, or `None` where no set that fits has a positive gain.
 ///
@@ -27,8 +20,8 @@ pub fn best_of_all(graph: &Graph, limits: &Limits) -> Option<Row>
     ensures { MatchOption result (HasNoCut graph.now limits.now)
         (λ cut. IsBest graph.now limits.now (set.contains cut)) }
 {
-    let reached = Reached { cut: None, gain: 0 };
-    try_below(graph, limits, graph.nodes().len(), Row::empty(), reached).cut
+    let none = Incumbent { cut: None, gain: 0 };
+    try_below(graph, limits, graph.nodes().len(), Row::empty(), none).cut
 }
 
 /// Tries the sets that differ from `cut` in nodes below `undecided` alone, those first that take the later nodes in.
@@ -37,15 +30,15 @@ fn try_below(
     limits: &Limits,
     undecided: usize,
     cut: Row,
-    reached: Reached,
-) -> Reached
+    reached: Incumbent,
+) -> Incumbent
     requires are_nodes { undecided ≤ length graph.now.nodes }
     requires decided { (k : ℕ) → IsTrue (set.contains cut k) → (undecided ≤ k) × (k < length graph.now.nodes) }
     ensures { IsBetterFrom (terms.Fits graph.now limits.now) (terms.gain graph.now) undecided (set.contains cut)
         reached result }
 {
     if undecided == 0 {
-        return better(graph, limits, cut, reached);
+        return reached.improved(graph, limits, &cut);
     }
     let node = undecided - 1;
     if !graph.nodes()[node].eligible {
@@ -55,24 +48,4 @@ fn try_below(
     with_node.insert(node as u8);
     let reached = try_below(graph, limits, node, with_node, reached);
     try_below(graph, limits, node, cut, reached)
-}
-
-/// The set, if it fits and gains more than what was reached, else what was reached.
-fn better(graph: &Graph, limits: &Limits, cut: Row, reached: Reached) -> Reached
-    requires { AreNodes graph.now cut }
-    ensures { IsBetterFrom (terms.Fits graph.now limits.now) (terms.gain graph.now) 0 (set.contains cut)
-        reached result }
-{
-    let Some(ports) = fitting_ports(graph, limits, &cut) else {
-        return reached;
-    };
-    let gain = saved_by_ports(graph, &cut, &cut, &ports);
-    if gain > reached.gain {
-        Reached {
-            cut: Some(cut),
-            gain,
-        }
-    } else {
-        reached
-    }
 }

@@ -7,13 +7,15 @@
 pub use choice::best_of_all;
 pub use convexity::is_convex;
 pub use graph::{Graph, Limits, Node, Source, Sources};
+pub use incumbent::Incumbent;
 pub use ports::{inputs, inputs_from_outside, outputs};
 pub use timing::{hardware, hardware_is_the_critical_path};
-pub use value::{fits, gain, saved_by};
+pub use value::{fits, fitting_gain, gain, gain_above, saved_by};
 
 mod choice;
 mod convexity;
 mod graph;
+mod incumbent;
 mod ports;
 #[cfg(test)]
 mod tests;

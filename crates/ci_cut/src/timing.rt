@@ -1,9 +1,10 @@
 //! The hardware time of a set of nodes.
 ghost use Rattle.std.specs.Prelude.{◌≡◌, ℕ, ◌<◌, ◌≤◌, Bool, List, IsTrue, length};
 ghost use Rattle.std.specs.FinSet as set;
-ghost use Rattle.ci_cut.specs.ChainDelays.{IsGreatestAt};
+ghost use Rattle.ci_cut.specs.ChainDelays.{IsMaximumAt};
 ghost use Rattle.ci_cut.specs.Hardware as terms;
-ghost use Rattle.ci_cut.specs.FlowGraph.{FlowGraph, IsFlowGraph, AreNodes};
+ghost use Rattle.ci_cut.specs.FlowGraph.{FlowGraph};
+ghost use Rattle.ci_cut.specs.GraphRules.{IsFlowGraph, AreNodes};
 
 use crate::graph::{Graph, Source};
 use ci_word::Row;
@@ -41,7 +42,7 @@ fn critical_path_delay(graph: &Graph, cut: &Row) -> u32
     let mut longest = 0;
     for (k, node) in graph.nodes().iter().enumerate() {
         if cut.has(k as u8) {
-            let delay = greatest_at(&delays, node.sources.as_slice()) + node.delay;
+            let delay = maximum_at(&delays, node.sources.as_slice()) + node.delay;
             delays[k] = delay;
             longest = longest.max(delay);
         }
@@ -49,15 +50,15 @@ fn critical_path_delay(graph: &Graph, cut: &Row) -> u32
     longest
 }
 
-/// The greatest of the delays at the nodes among the sources, and 0 where there is none.
-fn greatest_at(delays: &[u32; 256], sources: &[Source]) -> u32
-    ensures { IsGreatestAt delays.now sources.now result }
+/// The maximum of the delays at the nodes among the sources, and 0 where there is none.
+fn maximum_at(delays: &[u32; 256], sources: &[Source]) -> u32
+    ensures { IsMaximumAt delays.now sources.now result }
 {
-    let mut greatest = 0;
+    let mut maximum = 0;
     for source in sources {
         if let Source::Made(node) = source {
-            greatest = greatest.max(delays[*node as usize]);
+            maximum = maximum.max(delays[*node as usize]);
         }
     }
-    greatest
+    maximum
 }

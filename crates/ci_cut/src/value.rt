@@ -1,10 +1,11 @@
 //! What a set of nodes gains as an instruction, and whether it fits.
-ghost use Rattle.std.specs.Prelude.{◌≡◌, ◌↔◌, ℕ, ◌+◌, ◌≤◌, IsTrue, IsSome, IfSome, length};
+ghost use Rattle.std.specs.Prelude.{◌≡◌, ◌↔◌, ℕ, ◌+◌, ◌≤◌, ◌≤ℤ◌, ◌<ℤ◌, IsTrue, IsSome, IfSome, MatchOption, length};
 ghost use Rattle.std.specs.FinSet as set;
 ghost use Rattle.ci_word.specs.Numbers.{sum_below};
 ghost use Rattle.ci_cut.specs.Gain as terms;
 ghost use Rattle.ci_cut.specs.Ports as counts;
-ghost use Rattle.ci_cut.specs.FlowGraph.{AreNodes, node_in, node_at};
+ghost use Rattle.ci_cut.specs.FlowGraph.{node_in, node_at};
+ghost use Rattle.ci_cut.specs.GraphRules.{AreNodes};
 
 use crate::convexity::is_convex;
 use crate::graph::{Graph, Limits, Node};
@@ -40,7 +41,7 @@ pub fn saved_by(graph: &Graph, members: &Row, core: &Row) -> i64
 }
 
 /// The saved cycles, where these ports are known.
-pub(crate) fn saved_by_ports(graph: &Graph, members: &Row, core: &Row, ports: &Ports) -> i64
+fn saved_by_ports(graph: &Graph, members: &Row, core: &Row, ports: &Ports) -> i64
     requires members { AreNodes graph.now members.now }
     requires core { AreNodes graph.now core.now }
     requires inputs { ports.now.inputs
@@ -66,7 +67,7 @@ pub fn fits(graph: &Graph, limits: &Limits, cut: &Row) -> bool
 }
 
 /// The ports of the set, if it fits under the limits.
-pub(crate) fn fitting_ports(graph: &Graph, limits: &Limits, cut: &Row) -> Option<Ports>
+fn fitting_ports(graph: &Graph, limits: &Limits, cut: &Row) -> Option<Ports>
     requires { AreNodes graph.now cut.now }
     ensures fits { IsSome result ↔ terms.Fits graph.now limits.now (set.contains cut.now) }
     ensures inputs { IfSome result (λ ports. ports.inputs ≡ counts.inputs graph.now (set.contains cut.now)) }
@@ -80,6 +81,34 @@ pub(crate) fn fitting_ports(graph: &Graph, limits: &Limits, cut: &Row) -> Option
         return None;
     }
     Some(ports)
+}
+
+/// What the set gains, if it fits under the limits.
+///
+/// Each number of the set has to be a node.
+pub fn fitting_gain(graph: &Graph, limits: &Limits, cut: &Row) -> Option<i64>
+    requires { AreNodes graph.now cut.now }
+    ensures { MatchOption result (¬ terms.Fits graph.now limits.now (set.contains cut.now))
+        (λ gained. terms.Fits graph.now limits.now (set.contains cut.now)
+        × (gained ≡ terms.gain graph.now (set.contains cut.now))) }
+{
+    let ports = fitting_ports(graph, limits, cut)?;
+    Some(saved_by_ports(graph, cut, cut, &ports))
+}
+
+/// What the set gains, if it fits under the limits and gains more than `floor`.
+///
+/// Each number of the set has to be a node.
+pub fn gain_above(graph: &Graph, limits: &Limits, cut: &Row, floor: i64) -> Option<i64>
+    requires { AreNodes graph.now cut.now }
+    ensures { MatchOption result
+        (terms.Fits graph.now limits.now (set.contains cut.now)
+        → terms.gain graph.now (set.contains cut.now) ≤ℤ floor)
+        (λ gained. terms.Fits graph.now limits.now (set.contains cut.now)
+        × (gained ≡ terms.gain graph.now (set.contains cut.now)) × (floor <ℤ gained)) }
+{
+    let gained = fitting_gain(graph, limits, cut)?;
+    if gained > floor { Some(gained) } else { None }
 }
 
 /// The software latencies of the members together, in cycles.

@@ -1,5 +1,6 @@
 -- The arcs of a block are those that its rules make, and no more; and they join what a hazard keeps in order.
-use Rattle.std.specs.Prelude.{◌≡◌, ℕ, ◌+◌, ◌-◌, ◌<◌, ◌⊎◌, Bool, true, false, ◌&&◌, ◌||◌, ◌==◌, nat_lt, if◌then◌else◌, List, [], ◌∷◌, map, length, Option, Some, None, IsTrue}
+use Rattle.std.specs.Prelude.{◌≡◌, ℕ, ◌+◌, ◌-◌, ◌<◌, ◌⊎◌, Bool, true, false, ◌&&◌, ◌||◌, ◌==◌, nat_lt, if◌then◌else◌}
+use Rattle.std.specs.Prelude.{List, [], ◌∷◌, map, length, Option, Some, None, IsTrue}
 use Rattle.std.specs.Ordering.{nat_cmp}
 use Rattle.std.specs.FinSet as set
 use Rattle.std.specs.List.{list_any}
@@ -7,17 +8,20 @@ use Rattle.std.proofs.Common.{refl, sym, ap, ◌∙◌, subst, arith, inl, inr, 
 use Rattle.std.proofs.lemmas.Bool.{cases_eq, cases_lt, and_parts, and_from, or_cases, or_left, or_right, eqb-true, eq-eqb, lt-ltb, ltb-true}
 use Rattle.ci_isa.specs.declared.instruction.Insn.{Insn}
 use Rattle.ci_isa.specs.Effects.{operands, results, is_kept, without_x0, is_access, reads_register, writes_register}
-use Rattle.ci_isa.specs.Sequences.{insn_at, latest_writer, IsLastWriter}
-use Rattle.ci_isa.proofs.Writers.{latest_writer_is_last, last_writer_from}
+use Rattle.ci_isa.specs.Sequences.{nth_insn, latest_writer, IsLastWriter}
+use Rattle.ci_isa.proofs.LastWriter.{latest_writer_is_last, last_writer_from}
 use Rattle.ci_lat.specs.Latencies.{Latencies}
 use Rattle.ci_cut.specs.declared.graph.Source.{Source}
 use Rattle.ci_cut.specs.declared.graph.Source.TheVariants.{Made}
 use Rattle.ci_cut.specs.FlowGraph.{HasArc, is_source}
-use Rattle.ci_dfg.specs.BlockGraph.{source_from, source_of, has_true_arc, has_anti_arc, has_output_arc, has_memory_arc, has_control_arc, has_own_arc, ends_bundle, has_arc_from_bundle, has_arc_by_cread, has_arc_inside_bundle, has_arc_into, graph_of}
-use Rattle.ci_dfg.specs.Arcs.{IsBundle, IsArc, true_arc, anti_arc, output_arc, memory_arc, control_arc, bundle_arc, into_bundle, out_of_bundle, ArcsAreThese, GraphHasTheseArcs}
+use Rattle.ci_dfg.specs.BlockGraph.{source_from, source_of, has_true_arc, has_anti_arc, has_output_arc, has_memory_arc}
+use Rattle.ci_dfg.specs.BlockGraph.{has_control_arc, has_own_arc, ends_bundle, has_arc_from_bundle, has_arc_by_cread}
+use Rattle.ci_dfg.specs.BlockGraph.{has_arc_inside_bundle, has_arc_into, graph_of}
+use Rattle.ci_dfg.specs.Arcs.{IsBundle, IsArc, true_arc, anti_arc, output_arc, memory_arc, control_arc, bundle_arc}
+use Rattle.ci_dfg.specs.Arcs.{into_bundle, out_of_bundle, ArcsAreThese, GraphHasTheseArcs}
 use Rattle.ci_dfg.specs.Hazards.{read_after_write, write_after_read, write_after_write, HazardsAreJoined, AccessesAreJoined}
 use Rattle.ci_dfg.proofs.Bundles.{ends, ended, bundles_move_together}
-use Rattle.ci_dfg.proofs.Graphs.{contains-before, node_at_past}
+use Rattle.ci_dfg.proofs.BlockIsGraph.{contains-before, node_at_past}
 
 -- ---- what a test finds among registers
 
@@ -52,10 +56,10 @@ of_sources p f (n ∷ rest) = by_test (is_kept n) (of_sources p f rest)
 
 module _ (insns : List Insn) (j k : ℕ) where
   abbrev first : Insn
-  first = insn_at insns j
+  first = nth_insn insns j
 
   abbrev second : Insn
-  second = insn_at insns k
+  second = nth_insn insns k
 
   -- the register is one that k has from j
   abbrev is_made : ℕ → Bool
@@ -175,11 +179,13 @@ module _ (insns : List Insn) where
   from_arc : (j k : ℕ) → IsArc insns j k → IsTrue (has_arc_into insns k j)
   from_arc _ _ (true_arc j k r last reads) = by_test insns j k (inl (source_there insns j k r last reads))
   from_arc _ _ (anti_arc j k r order reads writes) =
-      by_test insns j k (inr (inl (passes_at (reads_register (insn_at insns j)) r (results (insn_at insns k)) reads (among_results insns j k r writes))))
+      by_test insns j k (inr (inl (passes_at (reads_register (nth_insn insns j)) r (results (nth_insn insns k)) reads (among_results insns j k r writes))))
   from_arc _ _ (output_arc j k r order writes again) =
-      by_test insns j k (inr (inr (inl (passes_at (writes_register (insn_at insns j)) r (results (insn_at insns k)) writes (among_results insns j k r again)))))
+      by_test insns j k
+      (inr (inr (inl (passes_at (writes_register (nth_insn insns j)) r (results (nth_insn insns k)) writes
+      (among_results insns j k r again)))))
   from_arc _ _ (memory_arc j k order one other) =
-      by_test insns j k (inr (inr (inr (inl (and_from (is_access (insn_at insns j)) (is_access (insn_at insns k)) one other)))))
+      by_test insns j k (inr (inr (inr (inl (and_from (is_access (nth_insn insns j)) (is_access (nth_insn insns k)) one other)))))
   from_arc _ _ (control_arc j k order ends) = by_test insns j k (inr (inr (inr (inr ends))))
   from_arc _ _ (bundle_arc unit bundle) = (bundles_move_together insns unit bundle).between
   from_arc _ _ (into_bundle j unit bundle before arc) = (bundles_move_together insns unit bundle).entering j before (from_arc j (unit + 1) arc)

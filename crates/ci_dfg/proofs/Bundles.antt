@@ -5,7 +5,7 @@ use Rattle.std.proofs.lemmas.Bool.{cases_eq, and_parts, and_from, or_cases, or_l
 use Rattle.ci_isa.specs.declared.instruction.Insn.{Insn}
 use Rattle.ci_isa.specs.declared.instruction.Insn.TheVariants.{Cread}
 use Rattle.ci_isa.specs.Effects.{is_unit, is_cread}
-use Rattle.ci_isa.specs.Sequences.{insn_at}
+use Rattle.ci_isa.specs.Sequences.{nth_insn}
 use Rattle.ci_dfg.specs.BlockGraph.{has_own_arc, ends_bundle, has_arc_from_bundle, has_arc_by_cread, has_arc_inside_bundle, has_arc_into}
 use Rattle.ci_dfg.specs.Arcs.{IsBundle, BundlesMoveTogether}
 
@@ -20,32 +20,32 @@ module _ (insns : List Insn) where
   -- the test of a bundle's end, both ways
   pub ends : (unit : ℕ) → IsBundle insns unit → IsTrue (ends_bundle insns (unit + 1))
   ends unit bundle =
-      and_from (is_cread (insn_at insns (unit + 1))) (is_unit (insn_at insns (unit + 1 - 1))) bundle.cread_behind
-      (ap (λ n. is_unit (insn_at insns n)) (next unit) ∙ bundle.unit_word)
+      and_from (is_cread (nth_insn insns (unit + 1))) (is_unit (nth_insn insns (unit + 1 - 1))) bundle.cread_behind
+      (ap (λ n. is_unit (nth_insn insns n)) (next unit) ∙ bundle.unit_word)
 
   pub ended : (k : ℕ) → IsTrue (ends_bundle insns k) → (unit : ℕ) × (k ≡ unit + 1) × IsBundle insns unit
   ended k is =
-      let parts = and_parts (is_cread (insn_at insns k)) (is_unit (insn_at insns (k - 1))) is in
+      let parts = and_parts (is_cread (nth_insn insns k)) (is_unit (nth_insn insns (k - 1))) is in
       elim (cases_eq k 0) [
         | inl first ↦
             let same : k - 1 ≡ k = omega (arith, first) in
-            absurd (cread_is_no_unit (insn_at insns k) parts.0 (ap (λ n. is_unit (insn_at insns n)) (sym same) ∙ parts.1))
+            absurd (cread_is_no_unit (nth_insn insns k) parts.0 (ap (λ n. is_unit (nth_insn insns n)) (sym same) ∙ parts.1))
         | inr later ↦
             let behind : k ≡ k - 1 + 1 = omega (arith, later) in
-            (k - 1, behind, record { unit_word = parts.1; cread_behind = ap (λ n. is_cread (insn_at insns n)) (sym behind) ∙ parts.0 })
+            (k - 1, behind, record { unit_word = parts.1; cread_behind = ap (λ n. is_cread (nth_insn insns n)) (sym behind) ∙ parts.0 })
       ]
 
   module _ (u : ℕ) (bundle : IsBundle insns u) where
     -- the unit word is no `cread` itself
     not_ended_by_unit : IsTrue (ends_bundle insns u) → ⊥
     not_ended_by_unit is =
-        cread_is_no_unit (insn_at insns u) (and_parts (is_cread (insn_at insns u)) (is_unit (insn_at insns (u - 1))) is).0 bundle.unit_word
+        cread_is_no_unit (nth_insn insns u) (and_parts (is_cread (nth_insn insns u)) (is_unit (nth_insn insns (u - 1))) is).0 bundle.unit_word
 
     -- the `cread` is no unit word itself
     not_ended_behind : IsTrue (ends_bundle insns (u + 1 + 1)) → ⊥
     not_ended_behind is =
-        let unit = (and_parts (is_cread (insn_at insns (u + 1 + 1))) (is_unit (insn_at insns (u + 1 + 1 - 1))) is).1 in
-        cread_is_no_unit (insn_at insns (u + 1)) bundle.cread_behind (ap (λ n. is_unit (insn_at insns n)) (sym (next (u + 1))) ∙ unit)
+        let unit = (and_parts (is_cread (nth_insn insns (u + 1 + 1))) (is_unit (nth_insn insns (u + 1 + 1 - 1))) is).1 in
+        cread_is_no_unit (nth_insn insns (u + 1)) bundle.cread_behind (ap (λ n. is_unit (nth_insn insns n)) (sym (next (u + 1))) ∙ unit)
 
     entering : (j : ℕ) → j < u → IsTrue (has_arc_into insns (u + 1) j) → IsTrue (has_arc_into insns u j)
     entering j earlier arc =

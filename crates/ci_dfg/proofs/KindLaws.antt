@@ -12,7 +12,8 @@ use Rattle.ci_word.specs.declared.arithmetic.Class.TheVariants as class
 use Rattle.ci_isa.specs.declared.instruction.Insn.{Insn}
 use Rattle.ci_isa.specs.declared.instruction.Insn.TheVariants.{Alu, AluImm, Lui}
 use Rattle.ci_isa.specs.Effects.{register_class, constant_class, class_of, is_no_op, is_zero, is_division, may_join}
-use Rattle.ci_lat.specs.Latencies.{Latencies, IsLatencyTable, HasDelay, place, latency_of, delay_of}
+use Rattle.ci_lat.specs.Latencies.{Latencies, place, latency_of, delay_of}
+use Rattle.ci_lat.specs.TableRules.{IsLatencyTable, HasDelay}
 
 -- ---- classes with a delay
 
@@ -73,14 +74,14 @@ at_any P numbers k each none =
 
 module _ (table : Latencies) (kept : IsLatencyTable table) where
   pub latency_most : (c : Class) → latency_of table c ≤ 1000
-  latency_most c = at_any (λ n. n ≤ 1000) table.software (place c) kept.greatest_latency zero-le
+  latency_most c = at_any (λ n. n ≤ 1000) table.software (place c) kept.maximum_latency zero-le
 
   pub delay_most : (c : Class) → delay_of table c ≤ 100000
-  delay_most c = at_any (λ n. n ≤ 100000) table.hardware (place c) kept.greatest_delay zero-le
+  delay_most c = at_any (λ n. n ≤ 100000) table.hardware (place c) kept.maximum_delay zero-le
 
   pub latency_least : (c : Class) → HasDelay c → 1 ≤ latency_of table c
   latency_least c delayed =
-      All-get_or (λ n. 1 ≤ n) table.software (place c) 0 (omega (arith, kept.rows_with_latency)) kept.least_latency
+      All-get_or (λ n. 1 ≤ n) table.software (place c) 0 (omega (arith, kept.rows_with_latency)) kept.minimum_latency
 
   pub pad_least : (c : Class) → HasDelay c → table.pad ≤ latency_of table c
   pad_least c delayed =

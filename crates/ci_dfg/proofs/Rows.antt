@@ -5,7 +5,7 @@ use Rattle.ci_word.specs.declared.arithmetic.Op.TheVariants.{Add}
 use Rattle.ci_word.specs.Numbers.{numbers_below}
 use Rattle.ci_isa.specs.declared.instruction.Insn.{Insn}
 use Rattle.ci_isa.specs.declared.instruction.Insn.TheVariants.{Alu, Unit, Cread}
-use Rattle.ci_isa.specs.Sequences.{insn_at, latest_writer}
+use Rattle.ci_isa.specs.Sequences.{nth_insn, latest_writer}
 use Rattle.ci_dfg.specs.BlockGraph.{has_own_arc, has_arc_into}
 use Rattle.ci_dfg.specs.Hazards.{HasHazard, read_after_write, IsJoinedBy}
 
@@ -33,7 +33,7 @@ written_twice : List Insn
 written_twice = Alu Add 5 11 12 ∷ Alu Add 5 13 14 ∷ Alu Add 6 5 15 ∷ []
 
 -- the third reads what the first writes, and has its arc from the second alone
-hazard : HasHazard 5 (insn_at written_twice 0) (insn_at written_twice 2)
+hazard : HasHazard 5 (nth_insn written_twice 0) (nth_insn written_twice 2)
 unfolding written_twice
 hazard = read_after_write refl refl
 

@@ -10,11 +10,11 @@ use Rattle.ci_isa.specs.Effects.{operands, padded, is_kept, without_x0}
 use Rattle.ci_cut.specs.declared.graph.Source.{Source}
 use Rattle.ci_cut.specs.declared.graph.Source.TheVariants.{Made}
 use Rattle.ci_cut.specs.FlowGraph.{is_source}
-use Rattle.ci_isa.specs.Sequences.{insn_at, latest_writer}
+use Rattle.ci_isa.specs.Sequences.{nth_insn, latest_writer}
 use Rattle.ci_isa.proofs.Registers.{without_padding}
-use Rattle.ci_isa.proofs.Writers.{latest_writer_is_last}
+use Rattle.ci_isa.proofs.LastWriter.{latest_writer_is_last}
 use Rattle.ci_dfg.specs.BlockGraph.{source_from, source_of, sources}
-use Rattle.ci_dfg.proofs.Instructions.{insn_there}
+use Rattle.ci_dfg.proofs.InstructionLaws.{insn_there}
 
 module _ (insns : List Insn) (k : ℕ) where
   -- one operand more
@@ -24,7 +24,8 @@ module _ (insns : List Insn) (k : ℕ) where
   sources_more found registers i within is =
       ap (λ s. s ++ map (source_of insns k) (without_x0 (get_or registers i 0 ∷ []))) is
       ∙ sym (map-append (source_of insns k) (without_x0 (take i registers)) (without_x0 (get_or registers i 0 ∷ [])))
-      ∙ ap (map (source_of insns k)) (sym (filter-append is_kept (take i registers) (get_or registers i 0 ∷ [])) ∙ ap without_x0 (sym (take_more registers i 0 within)))
+      ∙ ap (map (source_of insns k)) (sym (filter-append is_kept (take i registers) (get_or registers i 0 ∷ []))
+      ∙ ap without_x0 (sym (take_more registers i 0 within)))
 
   -- all operands of the instruction that stands there
   pub sources_all : (found : List Source) (registers : List ℕ) (i : ℕ) (insn : Insn) → length registers ≤ i
@@ -52,4 +53,4 @@ module _ (insns : List Insn) (k : ℕ) where
           omega (arith, eqb-true j writer here)
 
   pub sources_rise : (j : ℕ) → IsTrue (list_any (is_source (Made j)) (sources insns k)) → j < k
-  sources_rise j = made_rises j (without_x0 (operands (insn_at insns k)))
+  sources_rise j = made_rises j (without_x0 (operands (nth_insn insns k)))

@@ -4,15 +4,15 @@ use Rattle.std.specs.Ordering.{nat_cmp}
 use Rattle.std.specs.FinSet as set
 use Rattle.ci_isa.specs.declared.instruction.Insn.{Insn}
 use Rattle.ci_isa.specs.Effects.{ends_block, reads_register, writes_register, is_access, is_unit, is_cread}
-use Rattle.ci_isa.specs.Sequences.{insn_at, IsLastWriter}
+use Rattle.ci_isa.specs.Sequences.{nth_insn, IsLastWriter}
 use Rattle.ci_lat.specs.Latencies.{Latencies}
 use Rattle.ci_cut.specs.FlowGraph.{HasArc}
 use Rattle.ci_dfg.specs.BlockGraph.{has_arc_into, graph_of}
 
 -- a unit word, and the `cread` directly behind it
 pub record IsBundle (insns : List Insn) (unit : ℕ) : Type 0 where
-  pub unit_word : is_unit (insn_at insns unit) ≡ true
-  pub cread_behind : is_cread (insn_at insns (unit + 1)) ≡ true
+  pub unit_word : is_unit (nth_insn insns unit) ≡ true
+  pub cread_behind : is_cread (nth_insn insns (unit + 1)) ≡ true
 
 -- There is an arc from node j into node k by one of these rules, and by no other.
 -- True: k reads a register that j was the last to write. Anti: j reads a register that k writes. Output: both write one
@@ -20,16 +20,16 @@ pub record IsBundle (insns : List Insn) (unit : ℕ) : Type 0 where
 -- Bundle: the `cread` stays behind its unit word; what enters the `cread` from before the bundle enters the unit word
 -- too, and what leaves the unit word for a node behind the bundle leaves the `cread` too.
 pub data IsArc (insns : List Insn) : ℕ → ℕ → Type 0 where
-  true_arc : (j k r : ℕ) → IsLastWriter insns r k j → reads_register (insn_at insns k) r ≡ true → IsArc insns j k
+  true_arc : (j k r : ℕ) → IsLastWriter insns r k j → reads_register (nth_insn insns k) r ≡ true → IsArc insns j k
   anti_arc :
-      (j k r : ℕ) → j < k → reads_register (insn_at insns j) r ≡ true → writes_register (insn_at insns k) r ≡ true
+      (j k r : ℕ) → j < k → reads_register (nth_insn insns j) r ≡ true → writes_register (nth_insn insns k) r ≡ true
       → IsArc insns j k
   output_arc :
-      (j k r : ℕ) → j < k → writes_register (insn_at insns j) r ≡ true → writes_register (insn_at insns k) r ≡ true
+      (j k r : ℕ) → j < k → writes_register (nth_insn insns j) r ≡ true → writes_register (nth_insn insns k) r ≡ true
       → IsArc insns j k
   memory_arc :
-      (j k : ℕ) → j < k → is_access (insn_at insns j) ≡ true → is_access (insn_at insns k) ≡ true → IsArc insns j k
-  control_arc : (j k : ℕ) → j < k → ends_block (insn_at insns k) ≡ true → IsArc insns j k
+      (j k : ℕ) → j < k → is_access (nth_insn insns j) ≡ true → is_access (nth_insn insns k) ≡ true → IsArc insns j k
+  control_arc : (j k : ℕ) → j < k → ends_block (nth_insn insns k) ≡ true → IsArc insns j k
   bundle_arc : (unit : ℕ) → IsBundle insns unit → IsArc insns unit (unit + 1)
   into_bundle : (j unit : ℕ) → IsBundle insns unit → j < unit → IsArc insns j (unit + 1) → IsArc insns j unit
   out_of_bundle : (unit k : ℕ) → IsBundle insns unit → unit + 1 < k → IsArc insns unit k → IsArc insns (unit + 1) k

@@ -1,12 +1,14 @@
 -- The data-flow graph of a basic block: its nodes are the instructions in order, numbered from 0.
-use Rattle.std.specs.Prelude.{ℕ, ◌+◌, ◌-◌, Bool, true, not, ◌&&◌, ◌||◌, ◌==◌, nat_lt, List, map, length, Option, Some, None}
+use Rattle.std.specs.Prelude.{ℕ, ◌+◌, ◌-◌, Bool, true, not, ◌&&◌, ◌||◌, ◌==◌, nat_lt, List, map, length, Option, Some}
+use Rattle.std.specs.Prelude.{None}
 use Rattle.std.specs.Ordering.{nat_cmp}
 use Rattle.std.specs.List.{list_any}
 use Rattle.std.specs.FinSet as set
 use Rattle.ci_word.specs.Numbers.{numbers_below, set_below, some_below}
 use Rattle.ci_isa.specs.declared.instruction.Insn.{Insn}
-use Rattle.ci_isa.specs.Effects.{operands, results, without_x0, reads_register, writes_register, is_access, ends_block, is_unit, is_cread, class_of, may_join}
-use Rattle.ci_isa.specs.Sequences.{insn_at, latest_writer}
+use Rattle.ci_isa.specs.Effects.{operands, results, without_x0, reads_register, writes_register, is_access, ends_block}
+use Rattle.ci_isa.specs.Effects.{is_unit, is_cread, class_of, may_join}
+use Rattle.ci_isa.specs.Sequences.{nth_insn, latest_writer}
 use Rattle.ci_lat.specs.Latencies.{Latencies, latency_of, delay_of}
 use Rattle.ci_cut.specs.declared.graph.Source.{Source}
 use Rattle.ci_cut.specs.declared.graph.Source.TheVariants.{Entry, Made}
@@ -26,7 +28,7 @@ module _ (insns : List Insn) where
 
   -- the sources of node k's operands, in their order; x0 has none
   abbrev pub sources : ℕ → List Source
-  sources k = map (source_of k) (without_x0 (operands (insn_at insns k)))
+  sources k = map (source_of k) (without_x0 (operands (nth_insn insns k)))
 
   -- ---- arcs into node k from an earlier node j
 
@@ -36,19 +38,19 @@ module _ (insns : List Insn) where
 
   -- anti: j reads a register that k writes
   abbrev pub has_anti_arc : ℕ → ℕ → Bool
-  has_anti_arc k j = list_any (reads_register (insn_at insns j)) (results (insn_at insns k))
+  has_anti_arc k j = list_any (reads_register (nth_insn insns j)) (results (nth_insn insns k))
 
   -- output: both write the same register
   abbrev pub has_output_arc : ℕ → ℕ → Bool
-  has_output_arc k j = list_any (writes_register (insn_at insns j)) (results (insn_at insns k))
+  has_output_arc k j = list_any (writes_register (nth_insn insns j)) (results (nth_insn insns k))
 
   -- memory: both are loads or stores
   abbrev pub has_memory_arc : ℕ → ℕ → Bool
-  has_memory_arc k j = is_access (insn_at insns j) && is_access (insn_at insns k)
+  has_memory_arc k j = is_access (nth_insn insns j) && is_access (nth_insn insns k)
 
   -- control: k ends the block
   abbrev pub has_control_arc : ℕ → ℕ → Bool
-  has_control_arc k j = ends_block (insn_at insns k)
+  has_control_arc k j = ends_block (nth_insn insns k)
 
   abbrev pub has_own_arc : ℕ → ℕ → Bool
   has_own_arc k j =
@@ -56,7 +58,7 @@ module _ (insns : List Insn) where
 
   -- node k is the `cread` of the unit word directly before it, with which it forms a bundle
   abbrev pub ends_bundle : ℕ → Bool
-  ends_bundle k = is_cread (insn_at insns k) && is_unit (insn_at insns (k - 1))
+  ends_bundle k = is_cread (nth_insn insns k) && is_unit (nth_insn insns (k - 1))
 
   -- bundle: what has to stay behind the unit word has to stay behind its `cread`
   abbrev pub has_arc_from_bundle : ℕ → ℕ → Bool
@@ -78,21 +80,21 @@ module _ (insns : List Insn) where
   -- a node behind k writes the register
   abbrev pub is_written_after : ℕ → ℕ → Bool
   is_written_after k register =
-      some_below (length insns) (λ j. nat_lt k j && writes_register (insn_at insns j) register)
+      some_below (length insns) (λ j. nat_lt k j && writes_register (nth_insn insns j) register)
 
   -- Node k's value is live after the block: its register is, and no later node writes it.
   abbrev pub is_live : set.FinSet nat_cmp → ℕ → Bool
   is_live live_out k =
-      list_any (λ r. set.contains live_out r && not (is_written_after k r)) (without_x0 (results (insn_at insns k)))
+      list_any (λ r. set.contains live_out r && not (is_written_after k r)) (without_x0 (results (nth_insn insns k)))
 
   -- ---- the graph
 
   module _ (live_out : set.FinSet nat_cmp) (table : Latencies) where
     abbrev pub node_of : ℕ → Node
     node_of k = record {
-      eligible = may_join (insn_at insns k);
-      latency = latency_of table (class_of (insn_at insns k));
-      delay = delay_of table (class_of (insn_at insns k));
+      eligible = may_join (nth_insn insns k);
+      latency = latency_of table (class_of (nth_insn insns k));
+      delay = delay_of table (class_of (nth_insn insns k));
       sources = sources k;
       before = set_below k (has_arc_into k);
       live = is_live live_out k;

@@ -2,7 +2,8 @@
 use Rattle.std.proofs.Common.{◌≡◌, ℕ, ◌+◌, ◌*◌, ◌<◌, ◌≤◌, ◌^◌, List, [], ◌∷◌, ◌++◌, length, refl, ap, sym, subst, arith, append_assoc, length-append, add-zero}
 use Rattle.std.proofs.lemmas.List.Concat.{flat_map-append}
 use Rattle.byteorder.specs.Numbers.{little_number-reads_back}
-use Rattle.ci_elf.specs.Fields.{field, e_entry, e_phoff, e_phnum, e_shoff, e_shnum, p_type, p_offset, p_vaddr, p_filesz, p_memsz, sh_type, sh_flags, sh_addr, sh_offset, sh_size}
+use Rattle.ci_elf.specs.Fields.{field, e_entry, e_phoff, e_phnum, e_shoff, e_shnum, p_type, p_offset, p_vaddr, p_filesz}
+use Rattle.ci_elf.specs.Fields.{p_memsz, sh_type, sh_flags, sh_addr, sh_offset, sh_size}
 use Rattle.ci_elf.specs.Frames.{words, file_header, frame_of}
 use Rattle.ci_elf.specs.FrameImages.{FitFrame, values_offset}
 use Rattle.ci_elf.proofs.WordLaws.{StandAt, words_stand, words_in_front, words_behind, words_inside, length_words}

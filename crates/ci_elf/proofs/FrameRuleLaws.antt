@@ -5,13 +5,18 @@ use Rattle.ci_elf.specs.declared.segments.Segment.{Segment}
 use Rattle.ci_elf.specs.declared.ranges.Range.{Range}
 use Rattle.ci_elf.specs.Fields.{e_phnum, e_shnum, is_symbol_table, is_text}
 use Rattle.ci_reading.specs.Broken.{each_below}
-use Rattle.ci_elf.specs.Rules.{Rule, NamesNoInterpreter, HasFilePart, IsPlaced, MemoryIsApart, MemoryIsBounded, HasSymbols, TextIsLoaded, TextIsAlone, TextIsUnshared, TextIsBounded, EntryIsText, Holds, KeepsRules, rules, file_header_rules, kind_rules, table_rules, segment_rules, memory_rules, section_rules, sharing_rules}
+use Rattle.ci_elf.specs.Rules.{Rule, NamesNoInterpreter, HasFilePart, IsPlaced, MemoryIsApart, MemoryIsBounded}
+use Rattle.ci_elf.specs.Rules.{HasSymbols, TextIsLoaded, TextIsAlone, TextIsUnshared, TextIsBounded, EntryIsText, Holds}
+use Rattle.ci_elf.specs.Rules.{KeepsRules, rules, file_header_rules, kind_rules, table_rules, segment_rules}
+use Rattle.ci_elf.specs.Rules.{memory_rules, section_rules, sharing_rules}
 use Rattle.ci_elf.proofs.RangeLaws.{text_from}
 use Rattle.ci_reading.proofs.BrokenLaws.{kept_each}
 use Rattle.ci_elf.proofs.CheckLaws.{keeps_append}
 use Rattle.ci_elf.proofs.ReadingLaws.{kept_stages}
 use Rattle.ci_elf.proofs.FrameHeaderLaws.{IsLoad, HasFrameHeaders}
-use Rattle.ci_elf.proofs.FrameMeaningLaws.{below_two, below_four, loaded, text_is_loadable, segments_are, no_symbols, empty_is_no_text, constants_are_no_text, values_are_no_text, only_text, ranges_are}
+use Rattle.ci_elf.proofs.FrameMeaningLaws.{below_two, below_four, loaded, text_is_loadable, segments_are, no_symbols}
+use Rattle.ci_elf.proofs.FrameMeaningLaws.{empty_is_no_text, constants_are_no_text, values_are_no_text, only_text}
+use Rattle.ci_elf.proofs.FrameMeaningLaws.{ranges_are}
 
 abbrev segment_list : ℕ → List Rule
 segment_list n = NamesNoInterpreter n ∷ HasFilePart n ∷ IsPlaced n ∷ []

@@ -1,5 +1,7 @@
 -- What the segments of an image load from its file.
-use Rattle.std.proofs.Common.{◌≡◌, ◌≢◌, ℕ, suc, zero, ◌+◌, ◌-◌, ◌<◌, ◌≤◌, ◌⊎◌, inl, inr, List, [], ◌∷◌, ◌++◌, length, take, drop, get_or, refl, sym, ◌∙◌, ap, subst, arith, length-append, length-take, length-drop, le-leb, lt-ltb, true≢false, append_assoc}
+use Rattle.std.proofs.Common.{◌≡◌, ◌≢◌, ℕ, suc, zero, ◌+◌, ◌-◌, ◌<◌, ◌≤◌, ◌⊎◌, inl, inr, List, [], ◌∷◌, ◌++◌, length}
+use Rattle.std.proofs.Common.{take, drop, get_or, refl, sym, ◌∙◌, ap, subst, arith, length-append, length-take}
+use Rattle.std.proofs.Common.{length-drop, le-leb, lt-ltb, true≢false, append_assoc}
 use Rattle.std.proofs.lemmas.List.{append-nil, take_rest, drop_all, drop-drop}
 use borrow.Rule.Slice.PartMut.{put_mid}
 use Rattle.byteorder.specs.Endian.{little_bytes}
@@ -14,8 +16,9 @@ use Rattle.std.proofs.lemmas.List.Sorted.{Contains-permutation, IsPermutation-sy
 use Rattle.ci_elf.specs.declared.segments.Segment.{Segment}
 use Rattle.ci_elf.specs.Checks.{IsLastBefore}
 use Rattle.ci_elf.specs.SectionChecks.{AreLaidOut}
-use Rattle.ci_elf.specs.Executables.{Executable, IsLoaded, IsTextWord, IsWellFormed, ShareNoMemory, with_word, has_in_file, place_of}
-use Rattle.ci_elf.specs.Places.{IsSound, IsLoadedFrom}
+use Rattle.ci_elf.specs.Executables.{Executable, IsLoaded, IsTextWord, IsWellFormed, ShareNoMemory, has_in_file, place_of}
+use Rattle.ci_elf.specs.TextChanges.{with_word}
+use Rattle.ci_elf.specs.LoadedPlaces.{IsSound, IsLoadedFrom}
 use Rattle.ci_elf.proofs.RangeLaws.{range_holding}
 use Rattle.ci_elf.proofs.SegmentLaws.{both}
 use Rattle.ci_elf.proofs.RangeLaws.{left_of}
@@ -61,7 +64,8 @@ loader segments address candidate s layout last c loads =
 pub layout_permuted : (xs ys : List Segment) → IsPermutation xs ys → AreLaidOut xs → AreLaidOut ys
 layout_permuted xs ys moved layout = record {
   filled = λ s c. layout.filled s (Contains-permutation ys xs s (IsPermutation-sym xs ys moved) c);
-  one = λ s t c d. layout.one s t (Contains-permutation ys xs s (IsPermutation-sym xs ys moved) c) (Contains-permutation ys xs t (IsPermutation-sym xs ys moved) d);
+  one = λ s t c d. layout.one s t (Contains-permutation ys xs s (IsPermutation-sym xs ys moved) c)
+      (Contains-permutation ys xs t (IsPermutation-sym xs ys moved) d);
 }
 
 -- of two elements of a list one stands before the other, or they are one
@@ -89,7 +93,8 @@ module _ (image : Executable) (formed : IsWellFormed image) where
   layout_of = record { filled = formed.filled; one = one }
 
   -- what loads a byte is one segment
-  pub only_loader : (address : ℕ) (s : Segment) → Contains image.segments s → IsTrue (has_in_file s address) → (t : Segment) → Contains image.segments t → IsTrue (has_in_file t address) → t ≡ s
+  pub only_loader : (address : ℕ) (s : Segment) → Contains image.segments s → IsTrue (has_in_file s address)
+      → (t : Segment) → Contains image.segments t → IsTrue (has_in_file t address) → t ≡ s
   only_loader address s c loads t d others = elim (cases_lt s.address t.address) [
     | inl l ↦ sym (one s t c d (omega arith) (omega (arith, loaded_to s address loads, loaded_from t address others, formed.filled s c)))
     | inr l ↦ one t s d c l (omega (arith, loaded_to t address others, loaded_from s address loads, formed.filled t d))
@@ -198,7 +203,8 @@ pub written :
 written bytes new place word within is =
     let rest : drop 4 (take (length bytes - place) (drop place bytes)) ≡ drop (place + 4) bytes =
     ap (drop 4) (take_rest bytes place) ∙ drop-drop 4 place bytes in
-    let none : drop (length bytes - place) (drop place bytes) ≡ [] = drop_all (length bytes - place) (drop place bytes) (omega (arith, length-drop place bytes)) in
+    let none : drop (length bytes - place) (drop place bytes) ≡ [] =
+    drop_all (length bytes - place) (drop place bytes) (omega (arith, length-drop place bytes)) in
     rw (is, rest, none, append-nil (drop (place + 4) bytes)) (sym (append_assoc (take place bytes) (little_bytes 4 word) (drop (place + 4) bytes)))
 
 pub length_with_word : (bytes : List ℕ) (place word : ℕ) → place + 4 ≤ length bytes → length (with_word bytes place word) ≡ length bytes

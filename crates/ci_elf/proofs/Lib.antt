@@ -1,4 +1,5 @@
 pub mod FieldLaws
+pub mod HeaderFields
 pub mod CheckLaws
 pub mod SegmentLaws
 pub mod PartLaws

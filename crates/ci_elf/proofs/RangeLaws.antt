@@ -1,5 +1,6 @@
 -- The ranges of the text: below the top of memory, apart from each other, and in which of them an address lies.
-use Rattle.std.proofs.Common.{◌≡◌, ℕ, suc, zero, ◌+◌, ◌-◌, ◌*◌, ◌/◌, ◌<◌, ◌≤◌, ◌⊎◌, inl, inr, Bool, true, false, cond, ◌&&◌, nat_lt, List, [], ◌∷◌, ◌++◌, length, get_or, refl, sym, ◌∙◌, ap, subst, arith}
+use Rattle.std.proofs.Common.{◌≡◌, ℕ, suc, zero, ◌+◌, ◌-◌, ◌*◌, ◌/◌, ◌<◌, ◌≤◌, ◌⊎◌, inl, inr, Bool, true, false, cond}
+use Rattle.std.proofs.Common.{◌&&◌, nat_lt, List, [], ◌∷◌, ◌++◌, length, get_or, refl, sym, ◌∙◌, ap, subst, arith}
 use Rattle.std.specs.Prelude.{IsTrue}
 use Rattle.std.specs.List.{AllPairs, Any}
 use Rattle.std.proofs.lemmas.Bool.Decides.{nat_tests}
@@ -15,7 +16,8 @@ use Rattle.ci_elf.specs.declared.ranges.Range.{Range}
 use Rattle.ci_elf.specs.Fields.{e_phnum, e_shnum, is_text, is_loadable, sh_addr, sh_offset, sh_size, p_vaddr, p_memsz}
 use Rattle.ci_reading.specs.Broken.{each_below, those_below}
 use Rattle.ci_elf.specs.Executables.{range_of, has_words, ranges_of, end_of, has_byte, HoldsAddress, InText, IsAscending}
-use Rattle.ci_elf.specs.Rules.{NamesNoInterpreter, HasFilePart, IsPlaced, HasSymbols, TextIsLoaded, TextIsAlone, Holds, FitsMemory, IsLoadedBy, IsAlone, KeepsRules, segment_rules, memory_rules, section_rules}
+use Rattle.ci_elf.specs.Rules.{NamesNoInterpreter, HasFilePart, IsPlaced, HasSymbols, TextIsLoaded, TextIsAlone, Holds}
+use Rattle.ci_elf.specs.Rules.{FitsMemory, IsLoadedBy, IsAlone, KeepsRules, segment_rules, memory_rules, section_rules}
 use Rattle.ci_reading.proofs.BrokenLaws.{kept_at, contained_those}
 use Rattle.ci_elf.proofs.PairLaws.{pairs_permuted}
 use Rattle.ci_elf.proofs.SegmentLaws.{apart_means, has_memory, both}
@@ -28,7 +30,9 @@ left_of false b h = h
 -- ---- lists of those that pass a test
 
 module _ {A : Type 0} (R : A → A → Type 0) (test : ℕ → Bool) (f : ℕ → A) where
-  pairs_step : (b : Bool) (n : ℕ) → AllPairs R (those_below n test f) → (b ≡ true → (k : ℕ) (d : A) → k < length (those_below n test f) → R (get_or (those_below n test f) k d) (f n))
+  pairs_step : (b : Bool) (n : ℕ) → AllPairs R (those_below n test f)
+      → (b ≡ true → (k : ℕ) (d : A) → k < length (those_below n test f)
+      → R (get_or (those_below n test f) k d) (f n))
       → AllPairs R (those_below n test f ++ cond b (f n ∷ []) [])
   pairs_step true n all here = all_pairs_push R (those_below n test f) (f n) all (here refl)
   pairs_step false n all here = rw append-nil all

@@ -9,9 +9,12 @@ use Rattle.ci_elf.specs.declared.faults.ElfFault.TheVariants.{NoMemory}
 use Rattle.ci_elf.specs.declared.ranges.Range.{Range}
 use Rattle.ci_elf.specs.declared.segments.Segment.{Segment}
 use Rattle.ci_elf.specs.Fields.{e_entry, e_phnum, e_shnum, is_loadable, p_offset, p_vaddr, p_filesz, p_memsz}
-use Rattle.ci_elf.specs.Executables.{Executable, IsImageOf, IsWellFormed, ShareNoMemory, IsAscending, IsTextWord, LoadsRange, range_of, has_words, ranges_of, segment_of, segments_of, symbols_of}
+use Rattle.ci_elf.specs.Executables.{Executable, IsImageOf, IsWellFormed, ShareNoMemory, IsAscending, IsTextWord}
+use Rattle.ci_elf.specs.Executables.{LoadsRange, range_of, has_words, ranges_of, segment_of, segments_of, symbols_of}
 use Rattle.ci_elf.specs.Checks.{SegmentFits}
-use Rattle.ci_elf.specs.Rules.{Rule, NamesNoInterpreter, HasFilePart, IsPlaced, MemoryIsBounded, TextIsBounded, EntryIsText, Holds, LiesIn, KeepsRules, BreaksFirst, IsReadAs, rules, file_header_rules, kind_rules, table_rules, segment_rules, memory_rules, section_rules, sharing_rules}
+use Rattle.ci_elf.specs.Rules.{Rule, NamesNoInterpreter, HasFilePart, IsPlaced, MemoryIsBounded, TextIsBounded}
+use Rattle.ci_elf.specs.Rules.{EntryIsText, Holds, LiesIn, KeepsRules, BreaksFirst, IsReadAs, rules, file_header_rules}
+use Rattle.ci_elf.specs.Rules.{kind_rules, table_rules, segment_rules, memory_rules, section_rules, sharing_rules}
 use Rattle.ci_reading.proofs.BrokenLaws.{kept_at, contained_those, those_contain, those_pairs}
 use Rattle.ci_elf.proofs.CheckLaws.{keeps_append}
 use Rattle.ci_elf.proofs.SegmentLaws.{apart_means, fits_to, has_memory}
@@ -71,7 +74,8 @@ module _ (bytes : List ℕ) where
       contained_those (has_words bytes) (range_of bytes) (e_shnum bytes) range
       (Contains-permutation ranges (ranges_of bytes) range (IsPermutation-sym (ranges_of bytes) ranges moved) c)
 
-  module _ (placed : KeepsRules bytes (segment_rules bytes)) (memory : KeepsRules bytes (memory_rules bytes)) (sections : KeepsRules bytes (section_rules bytes))
+  module _ (placed : KeepsRules bytes (segment_rules bytes)) (memory : KeepsRules bytes (memory_rules bytes))
+      (sections : KeepsRules bytes (section_rules bytes))
       (ranges : List Range) (moved : IsPermutation (ranges_of bytes) ranges) where
     file_part : (k : ℕ) → k < e_phnum bytes → is_loadable bytes k ≡ true → LiesIn bytes (p_offset bytes k) (p_filesz bytes k)
     file_part k h is = (kept_at (Holds bytes) (e_phnum bytes) k (λ n. NamesNoInterpreter n ∷ HasFilePart n ∷ IsPlaced n ∷ []) h placed).1.0 is

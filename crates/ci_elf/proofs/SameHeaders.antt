@@ -1,7 +1,11 @@
 -- The headers and symbols of a file stay where its text alone is changed.
-use Rattle.std.proofs.Common.{lit≤, add-zero, ◌==◌, ◌&&◌, nat_lt, bit_and, ◌≡◌, ℕ, ◌+◌, ◌*◌, ◌<◌, ◌≤◌, inl, inr, true, cond, List, [], ◌∷◌, length, get_or, refl, ◌∙◌, ap, arith}
+use Rattle.std.proofs.Common.{lit≤, add-zero, ◌==◌, ◌&&◌, nat_lt, bit_and, ◌≡◌, ℕ, ◌+◌, ◌*◌, ◌<◌, ◌≤◌, inl, inr, true}
+use Rattle.std.proofs.Common.{cond, List, [], ◌∷◌, length, get_or, refl, ◌∙◌, ap, arith}
 use Rattle.std.proofs.lemmas.Bool.{cases_Bool}
-use Rattle.ci_elf.specs.Fields.{field, e_entry, e_phoff, e_shoff, e_flags, e_phentsize, e_phnum, e_shentsize, e_shnum, program_header, p_type, p_offset, p_vaddr, p_filesz, p_memsz, is_loadable, section_header, sh_type, sh_flags, sh_addr, sh_offset, sh_size, sh_entsize, is_symbol_table, is_text, st_value}
+use Rattle.ci_elf.specs.Fields.{field, e_entry, e_phoff, e_shoff, e_flags, e_phentsize, e_phnum, e_shentsize, e_shnum}
+use Rattle.ci_elf.specs.Fields.{program_header, p_type, p_offset, p_vaddr, p_filesz, p_memsz, is_loadable}
+use Rattle.ci_elf.specs.Fields.{section_header, sh_type, sh_flags, sh_addr, sh_offset, sh_size, sh_entsize}
+use Rattle.ci_elf.specs.Fields.{is_symbol_table, is_text, st_value}
 use Rattle.ci_elf.specs.Executables.{Executable, IsImageOf, symbol_count, symbols_in, symbols_of}
 use Rattle.ci_elf.specs.Rules.{KeepsRules, IsApartFrom, IsAlone, rules}
 use Rattle.ci_elf.specs.TextChanges.{ChangeText}

@@ -10,7 +10,8 @@ use Rattle.std.proofs.lemmas.List.{get_or-append-add}
 use Rattle.ci_elf.specs.declared.segments.Segment.{Segment}
 use Rattle.ci_elf.specs.declared.sections.Section.{Section}
 use Rattle.ci_elf.specs.declared.parts.Part.{Part}
-use Rattle.ci_elf.specs.Fields.{e_phoff, e_phnum, e_shoff, e_shnum, is_loadable, is_text, is_symbol_table, p_vaddr, p_memsz, p_filesz, sh_offset, sh_size, sh_type, sh_flags}
+use Rattle.ci_elf.specs.Fields.{e_phoff, e_phnum, e_shoff, e_shnum, is_loadable, is_text, is_symbol_table, p_vaddr}
+use Rattle.ci_elf.specs.Fields.{p_memsz, p_filesz, sh_offset, sh_size, sh_type, sh_flags}
 use Rattle.ci_elf.specs.Executables.{segment_of, segments_of}
 use Rattle.ci_reading.specs.Broken.{each_below}
 use Rattle.ci_elf.specs.Rules.{NamesNoInterpreter, HasFilePart, IsPlaced, MemoryIsApart, Holds, IsLoadedBy, IsAlone, KeepsRules, segment_rules, memory_rules}

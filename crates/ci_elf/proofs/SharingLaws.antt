@@ -1,5 +1,6 @@
 -- Segments share a byte of text just where their file parts, from their first bytes of text on, overlap.
-use Rattle.std.proofs.Common.{◌≡◌, ℕ, ◌+◌, ◌^◌, ◌<◌, ◌≤◌, ◌⊎◌, inl, inr, min, max, Bool, true, false, List, [], ◌∷◌, ◌++◌, length, get_or, refl, sym, ◌∙◌, ap, subst, arith, length-append}
+use Rattle.std.proofs.Common.{◌≡◌, ℕ, ◌+◌, ◌^◌, ◌<◌, ◌≤◌, ◌⊎◌, inl, inr, min, max, Bool, true, false, List, [], ◌∷◌}
+use Rattle.std.proofs.Common.{◌++◌, length, get_or, refl, sym, ◌∙◌, ap, subst, arith, length-append}
 use Rattle.std.specs.Prelude.{IsTrue}
 use Rattle.std.proofs.lemmas.Bool.{cases_lt}
 use Rattle.std.proofs.lemmas.List.{get_or_append_left}
@@ -93,7 +94,8 @@ from_text_more bytes texts n parts p so_far here = record {
   many = rw (length-append, so_far.many) (omega arith);
   each = λ k h. elim (cases_lt k n) [
     | inl l ↦
-        let at : part_at (parts ++ p ∷ []) k ≡ part_at parts k = get_or_append_left parts (p ∷ []) (record { start = 0; end = 0 }) k (omega (arith, so_far.many)) in
+        let at : part_at (parts ++ p ∷ []) k ≡ part_at parts k =
+        get_or_append_left parts (p ∷ []) (record { start = 0; end = 0 }) k (omega (arith, so_far.many)) in
         rw at (so_far.each k l)
     | inr l ↦
         let last : k ≡ length parts = omega (arith, so_far.many) in

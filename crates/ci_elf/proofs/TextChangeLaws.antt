@@ -5,7 +5,11 @@ use Rattle.std.specs.List.{AllByRecursion}
 use Rattle.ci_reading.specs.Broken.{each_below}
 use Rattle.ci_elf.specs.Fields.{e_phnum, e_shnum, is_loadable, is_symbol_table, is_text}
 use Rattle.ci_elf.specs.Executables.{Executable, IsImageOf, ranges_of, segments_of}
-use Rattle.ci_elf.specs.Rules.{Rule, HasFileHeader, HasMagic, FieldIs, HasNoCompressedCode, HasProgramEntrySize, HasSectionEntrySize, HasProgramTable, HasSectionTable, NamesNoInterpreter, HasFilePart, IsPlaced, MemoryIsApart, MemoryIsBounded, HasSymbols, TextIsLoaded, TextIsAlone, TextIsUnshared, TextIsBounded, EntryIsText, Holds, IsLoadedBy, IsAlone, KeepsRules, rules, segment_rules, memory_rules, section_rules, sharing_rules}
+use Rattle.ci_elf.specs.Rules.{Rule, HasFileHeader, HasMagic, FieldIs, HasNoCompressedCode, HasProgramEntrySize}
+use Rattle.ci_elf.specs.Rules.{HasSectionEntrySize, HasProgramTable, HasSectionTable, NamesNoInterpreter, HasFilePart}
+use Rattle.ci_elf.specs.Rules.{IsPlaced, MemoryIsApart, MemoryIsBounded, HasSymbols, TextIsLoaded, TextIsAlone}
+use Rattle.ci_elf.specs.Rules.{TextIsUnshared, TextIsBounded, EntryIsText, Holds, IsLoadedBy, IsAlone, KeepsRules}
+use Rattle.ci_elf.specs.Rules.{rules, segment_rules, memory_rules, section_rules, sharing_rules}
 use Rattle.ci_elf.specs.TextChanges.{TextMayChange}
 use Rattle.ci_reading.proofs.BrokenLaws.{kept_append, kept_each}
 use Rattle.ci_elf.proofs.ReadingLaws.{header_stage, last_stage}

@@ -6,7 +6,9 @@ use Rattle.ci_elf.specs.declared.ranges.Range.{Range}
 use Rattle.ci_reading.specs.Broken.{each_below}
 use Rattle.ci_elf.specs.Fields.{e_entry, e_phnum, e_shnum, is_loadable, is_text, sh_offset, sh_size}
 use Rattle.ci_elf.specs.Executables.{Executable, IsImageOf, IsTextWord, IsWellFormed, has_in_file, place_of, range_of, segment_of, segments_of}
-use Rattle.ci_elf.specs.Rules.{Rule, Holds, IsLoadedBy, KeepsRules, MemoryIsBounded, HasSymbols, TextIsLoaded, TextIsAlone, TextIsUnshared, IsAlone, Within, rules, segment_rules, memory_rules, section_rules, sharing_rules}
+use Rattle.ci_elf.specs.Rules.{Rule, Holds, IsLoadedBy, KeepsRules, MemoryIsBounded, HasSymbols, TextIsLoaded}
+use Rattle.ci_elf.specs.Rules.{TextIsAlone, TextIsUnshared, IsAlone, Within, rules, segment_rules, memory_rules}
+use Rattle.ci_elf.specs.Rules.{section_rules, sharing_rules}
 use Rattle.ci_elf.specs.TextChanges.{IsTextPlace}
 use Rattle.ci_reading.proofs.BrokenLaws.{those_contain, kept_at, kept_front, kept_back}
 use Rattle.ci_elf.proofs.ImageLaws.{loads_between, place_found, only_loader}

@@ -1,5 +1,7 @@
 -- Places of words: that a word of the text has one, that two words have two, and how a place is found.
-use Rattle.std.proofs.Common.{Bool, ◌≡◌, ℕ, suc, zero, ◌+◌, ◌-◌, ◌*◌, ◌/◌, ◌%◌, ◌<◌, ◌≤◌, ◌^◌, inl, inr, true, false, ap, sym, ◌∙◌, refl, arith, List, [], ◌∷◌, ◌++◌, length, length-append, take, get_or, Option, Some, None, eq-eqb}
+use Rattle.std.proofs.Common.{Bool, ◌≡◌, ℕ, suc, zero, ◌+◌, ◌-◌, ◌*◌, ◌/◌, ◌%◌, ◌<◌, ◌≤◌, ◌^◌, inl, inr, true, false}
+use Rattle.std.proofs.Common.{ap, sym, ◌∙◌, refl, arith, List, [], ◌∷◌, ◌++◌, length, length-append, take, get_or}
+use Rattle.std.proofs.Common.{Option, Some, None, eq-eqb}
 use Rattle.std.specs.Prelude.{◌==◌, ◌||◌, MatchOption, is_some, if◌then◌else◌}
 use Rattle.std.specs.Option.{option_map}
 use Rattle.std.proofs.lemmas.Bool.{cases_Bool, cases_lt, eqb-true, ne_eqb}

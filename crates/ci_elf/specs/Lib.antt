@@ -1,7 +1,7 @@
 pub mod Fields
 pub mod Executables
 pub mod Rules
-pub mod Places
+pub mod LoadedPlaces
 pub mod Checks
 pub mod Parts
 pub mod SectionChecks

@@ -1,10 +1,12 @@
 -- Parts of a file or of memory, for private contracts.
-use Rattle.std.specs.Prelude.{◌≡◌, ℕ, ◌+◌, ◌-◌, ◌*◌, ◌^◌, ◌<◌, ◌≤◌, min, max, if◌then◌else◌, IsTrue, List, [], ◌∷◌, ◌++◌, length}
+use Rattle.std.specs.Prelude.{◌≡◌, ℕ, ◌+◌, ◌-◌, ◌*◌, ◌^◌, ◌<◌, ◌≤◌, min, max, if◌then◌else◌, IsTrue, List, [], ◌∷◌}
+use Rattle.std.specs.Prelude.{◌++◌, length}
 use Rattle.std.specs.List.{AllPairs}
 use Rattle.std.specs.List.Sorted.{IsNonDecreasingBy}
 use Rattle.std.specs.Prelude.{slice_index_or}
 use Rattle.ci_elf.specs.declared.parts.Part.{Part}
-use Rattle.ci_elf.specs.Fields.{e_phoff, e_phnum, e_shoff, e_shnum, is_loadable, p_vaddr, p_memsz, p_offset, p_filesz, is_text, is_symbol_table, sh_offset, sh_size}
+use Rattle.ci_elf.specs.Fields.{e_phoff, e_phnum, e_shoff, e_shnum, is_loadable, p_vaddr, p_memsz, p_offset, p_filesz}
+use Rattle.ci_elf.specs.Fields.{is_text, is_symbol_table, sh_offset, sh_size}
 use Rattle.ci_reading.specs.Broken.{each_below}
 
 abbrev pub part : ℕ → ℕ → Part

@@ -1,5 +1,6 @@
 -- What is known of ranges of text while they are read, and what is kept of them, for private contracts.
-use Rattle.std.specs.Prelude.{◌≡◌, ◌<◌, ◌^◌, length, take, slice_index, ℕ, ◌+◌, ◌-◌, ◌*◌, ◌/◌, List, Option, Some, None, if◌then◌else◌}
+use Rattle.std.specs.Prelude.{◌≡◌, ◌<◌, ◌^◌, length, take, slice_index, ℕ, ◌+◌, ◌-◌, ◌*◌, ◌/◌, List, Option, Some, None}
+use Rattle.std.specs.Prelude.{if◌then◌else◌}
 use Rattle.ci_elf.specs.declared.ranges.Range.{Range}
 use Rattle.ci_elf.specs.declared.sections.Section.{Section}
 use Rattle.ci_elf.specs.Executables.{IsAscending, has_words, range_of}

@@ -1,9 +1,13 @@
 -- The rules that an executable file keeps, in the order in which they are tested, and the fault of each.
-use Rattle.std.specs.Prelude.{◌≡◌, ◌≢◌, ℕ, ◌+◌, ◌*◌, ◌%◌, ◌<◌, ◌≤◌, List, [], ◌∷◌, ◌++◌, length, take, Result, Ok, Err, IsTrue}
+use Rattle.std.specs.Prelude.{◌≡◌, ◌≢◌, ℕ, ◌+◌, ◌*◌, ◌%◌, ◌<◌, ◌≤◌, List, [], ◌∷◌, ◌++◌, length, take, Result, Ok, Err}
+use Rattle.std.specs.Prelude.{IsTrue}
 use Rattle.std.specs.List.{AllByRecursion, sum_by}
 use Rattle.ci_elf.specs.declared.faults.ElfFault.{ElfFault}
-use Rattle.ci_elf.specs.declared.faults.ElfFault.TheVariants.{Short, NotElf, WrongKind, BadSegment, Overlap, SharedText, BadSection, EntryNotText, TooLarge, NoMemory}
-use Rattle.ci_elf.specs.Fields.{field, e_entry, e_phoff, e_shoff, e_flags, e_phentsize, e_phnum, e_shentsize, e_shnum, program_header, p_type, p_offset, p_vaddr, p_filesz, p_memsz, is_loadable, sh_addr, sh_offset, sh_size, sh_entsize, is_symbol_table, is_text}
+use Rattle.ci_elf.specs.declared.faults.ElfFault.TheVariants.{Short, NotElf, WrongKind, BadSegment, Overlap, SharedText}
+use Rattle.ci_elf.specs.declared.faults.ElfFault.TheVariants.{BadSection, EntryNotText, TooLarge, NoMemory}
+use Rattle.ci_elf.specs.Fields.{field, e_entry, e_phoff, e_shoff, e_flags, e_phentsize, e_phnum, e_shentsize, e_shnum}
+use Rattle.ci_elf.specs.Fields.{program_header, p_type, p_offset, p_vaddr, p_filesz, p_memsz, is_loadable, sh_addr}
+use Rattle.ci_elf.specs.Fields.{sh_offset, sh_size, sh_entsize, is_symbol_table, is_text}
 use Rattle.ci_reading.specs.Broken.{IsFirstBroken, each_below}
 use Rattle.ci_elf.specs.Executables.{Executable, IsImageOf, segments_of, ranges_of, IsTextWord}
 

@@ -2,9 +2,10 @@
 ghost use Rattle.std.specs.Prelude.{◌≡◌, ◌+◌, ◌≤◌, length, MatchOption, IsTrue};
 ghost use Rattle.std.specs.List.{Contains};
 ghost use Rattle.std.specs.List.Sorted.{IsNonDecreasingBy};
-ghost use Rattle.ci_elf.specs.Executables.{has_in_file, with_word};
+ghost use Rattle.ci_elf.specs.Executables.{has_in_file};
+ghost use Rattle.ci_elf.specs.TextChanges.{with_word};
 ghost use Rattle.ci_elf.specs.SectionChecks.{AreLaidOut};
-ghost use Rattle.ci_elf.specs.Places.{IsLoadedFrom};
+ghost use Rattle.ci_elf.specs.LoadedPlaces.{IsLoadedFrom};
 
 use crate::fields::word_at;
 use crate::memory::{by_address, segment_before};
@@ -28,7 +29,7 @@ pub struct Image {
 
 impl Model for Image {
     ghost use Rattle.ci_elf.specs.Executables.{Executable, executable};
-    ghost use Rattle.ci_elf.specs.Places.{IsSound};
+    ghost use Rattle.ci_elf.specs.LoadedPlaces.{IsSound};
 
     ghost Value = { Executable };
 
@@ -40,7 +41,7 @@ impl Model for Image {
 
 /// Where in the file the byte at an address stands, if a segment loads it, of segments in the order
 /// of their addresses.
-fn place_in(segments: &[Segment], address: u32) -> Option<usize>
+fn loaded_place(segments: &[Segment], address: u32) -> Option<usize>
     requires order { IsNonDecreasingBy (λ segment. segment.address) segments.now }
     requires layout { AreLaidOut segments.now }
     ensures { MatchOption result ((s : _) → Contains segments.now s → ¬ IsTrue (has_in_file s address))
@@ -65,7 +66,8 @@ fn write_word(bytes: &mut [u8], place: usize, word: u32)
 
 impl Image {
     ghost use Rattle.std.specs.Prelude.{◌≡◌, ℕ, ◌+◌, ◌≤◌, ◌↔◌, length, Some, IfOk, IfSome, IsTrue};
-    ghost use Rattle.ci_elf.specs.Executables.{executable, place_of, text_word, with_word};
+    ghost use Rattle.ci_elf.specs.Executables.{executable, place_of, text_word};
+    ghost use Rattle.ci_elf.specs.TextChanges.{with_word};
     ghost use Rattle.ci_elf.specs.Executables.{InText, IsLoaded, IsTextWord, IsWellFormed};
 
     /// The image of these parts.
@@ -141,7 +143,7 @@ impl Image {
         ensures found { IfSome result (λ byte. IsLoaded self.now address byte) }
         ensures only { (byte : ℕ) → IsLoaded self.now address byte → result ≡ Some byte }
     {
-        let place = place_in(&self.by_address, address)?;
+        let place = loaded_place(&self.by_address, address)?;
         Some(self.bytes[place])
     }
 
@@ -151,7 +153,7 @@ impl Image {
         ensures place { result ≡ place_of self.now.segments address }
         ensures within { result + 4 ≤ length self.now.bytes }
     {
-        match place_in(&self.by_address, address) {
+        match loaded_place(&self.by_address, address) {
             Some(place) => place,
             None => unreachable!(),
         }

@@ -2,7 +2,9 @@
 ghost use Rattle.std.specs.Prelude.{◌≡◌, ◌+◌, ◌<◌, ◌≤◌, ◌++◌, [], ◌∷◌, length, IfOk, OnOk};
 ghost use Rattle.std.specs.List.Sorted.{IsPermutation};
 ghost use Rattle.ci_elf.specs.Executables.{IsAscending, ranges_of, segments_of};
-ghost use Rattle.ci_elf.specs.Rules.{EntryIsText, IsReadAs, KeepsRules, MemoryIsBounded, TextIsBounded, file_header_rules, kind_rules, memory_rules, section_rules, segment_rules, sharing_rules, table_rules};
+ghost use Rattle.ci_elf.specs.Rules.{EntryIsText, IsReadAs, KeepsRules, MemoryIsBounded, TextIsBounded};
+ghost use Rattle.ci_elf.specs.Rules.{file_header_rules, kind_rules, memory_rules, section_rules, segment_rules};
+ghost use Rattle.ci_elf.specs.Rules.{sharing_rules, table_rules};
 ghost use Rattle.ci_elf.specs.Checks.{HasTables, IsTestOf};
 
 use crate::fields::entry;

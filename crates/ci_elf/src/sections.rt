@@ -5,10 +5,12 @@ ghost use Rattle.std.specs.List.Sorted.{IsNonDecreasingBy};
 ghost use Rattle.ci_elf.specs.declared.segments.Segment.{Segment as LoadedSegment};
 ghost use Rattle.ci_elf.specs.Fields.{e_shnum, sh_entsize};
 ghost use Rattle.ci_elf.specs.Executables.{segments_of};
-ghost use Rattle.ci_elf.specs.Rules.{HasSymbols, TextIsAlone, TextIsLoaded, KeepsRules, memory_rules, section_rules, segment_rules};
+ghost use Rattle.ci_elf.specs.Rules.{HasSymbols, TextIsAlone, TextIsLoaded, KeepsRules, memory_rules, section_rules};
+ghost use Rattle.ci_elf.specs.Rules.{segment_rules};
 ghost use Rattle.ci_elf.specs.Checks.{HasTables, IsTestOf};
 ghost use Rattle.ci_elf.specs.Parts.{IsFirstMeeting, part, parts_below, symbols_at, tables_of, text_of};
-ghost use Rattle.ci_elf.specs.SectionChecks.{AreLaidOut, AreSurroundings, HoldsSection, IsTable, section_of, symbol_section, text_section};
+ghost use Rattle.ci_elf.specs.SectionChecks.{AreLaidOut, AreSurroundings, HoldsSection, IsTable, section_of};
+ghost use Rattle.ci_elf.specs.SectionChecks.{symbol_section, text_section};
 
 use crate::coverage::{coverage, next_covered};
 use crate::fields::{
@@ -53,7 +55,7 @@ impl Section {
 }
 
 /// Section `n`.
-#[tactic(auto, unfolding(crate::specs::Fields::sh_addr, crate::specs::Fields::sh_offset, crate::specs::Fields::sh_size))]
+#[tactic(auto, unfolding(crate::proofs::HeaderFields::section_fields))]
 fn section_at(bytes: &[u8], n: u32) -> Section
     requires tables { HasTables bytes.now }
     requires exists { n < e_shnum bytes.now }

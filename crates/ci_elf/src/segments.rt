@@ -65,7 +65,7 @@ impl Segment {
     }
 }
 
-#[tactic(auto, unfolding(crate::specs::Fields::is_loadable, crate::specs::Fields::p_offset, crate::specs::Fields::p_vaddr, crate::specs::Fields::p_filesz, crate::specs::Fields::p_memsz))]
+#[tactic(auto, unfolding(crate::proofs::HeaderFields::segment_fields))]
 /// Loadable segment `n`, where program header `n` is one and has memory.
 pub(crate) fn segment_at(bytes: &[u8], n: u32) -> Option<Segment>
     requires tables { HasTables bytes.now }

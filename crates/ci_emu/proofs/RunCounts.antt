@@ -1,5 +1,6 @@
 -- What is counted over a run, after one step more and after an end.
-use Rattle.std.proofs.Common.{◌≡◌, ℕ, zero, suc, ◌+◌, ◌<◌, ap, sym, subst, ◌∙◌, refl, arith, Option, Some, None, inl, inr, add-zero, add-one, add-suc, lt-suc_self}
+use Rattle.std.proofs.Common.{◌≡◌, ℕ, zero, suc, ◌+◌, ◌<◌, ap, sym, subst, ◌∙◌, refl, arith, Option, Some, None, inl}
+use Rattle.std.proofs.Common.{inr, add-zero, add-one, add-suc, lt-suc_self}
 use Rattle.std.specs.Prelude.{Bool, true, false, ◌==◌, ◌&&◌, is_none, if◌then◌else◌, ◌↔◌, ◌⊎◌}
 use Rattle.std.specs.List.{list_any}
 use Rattle.std.specs.Ordering.{nat_cmp}
@@ -10,8 +11,11 @@ use Rattle.ci_word.proofs.NumberLaws.{count_below-zero, count_below-suc, sum_bel
 use Rattle.ci_machine.specs.declared.ends.End.{End}
 use Rattle.ci_machine.specs.Programs.{Program, State}
 use Rattle.ci_machine.specs.Outcomes.{from_end}
-use Rattle.ci_machine.specs.Steps.{Meaning, step, touched}
-use Rattle.ci_machine.specs.Runs.{Latencies, after, before_step, is_made, steps_made, cost, entries, step_cost, jalr_target, LeavesTextFor}
+use Rattle.ci_machine.specs.Steps.{Meaning, step}
+use Rattle.ci_machine.specs.Touches.{touched}
+use Rattle.ci_machine.specs.Runs.{Latencies, after, before_step, is_made, steps_made, cost, step_cost}
+use Rattle.ci_machine.specs.RunEvents.{entries, jalr_target}
+use Rattle.ci_machine.specs.Touches.{LeavesTextFor}
 use Rattle.ci_machine.proofs.TestLaws.{by_end}
 use Rattle.ci_machine.proofs.RunLaws.{ends_stay}
 use Rattle.ci_emu.specs.declared.profile.Profile.{Profile}

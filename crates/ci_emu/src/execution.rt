@@ -30,16 +30,16 @@ pub(crate) fn execute(alloc: Global, state: &mut State, insn: &Insn) -> Result<O
     match *insn {
         Insn::Alu { op, rd, rs1, rs2 } => {
             let value = alu(op, state.register(rs1), state.register(rs2));
-            Ok(give(state, rd, value))
+            Ok(write_back(state, rd, value))
         }
         Insn::AluImm { op, rd, rs1, imm } => {
             let value = alu(op, state.register(rs1), word(imm));
-            Ok(give(state, rd, value))
+            Ok(write_back(state, rd, value))
         }
-        Insn::Lui { rd, upper } => Ok(give(state, rd, upper)),
+        Insn::Lui { rd, upper } => Ok(write_back(state, rd, upper)),
         Insn::Auipc { rd, upper } => {
             let value = state.pc().wrapping_add(upper);
-            Ok(give(state, rd, value))
+            Ok(write_back(state, rd, value))
         }
         Insn::Jal { rd, offset } => {
             let target = state.pc().wrapping_add(word(offset));
@@ -73,7 +73,7 @@ pub(crate) fn execute(alloc: Global, state: &mut State, insn: &Insn) -> Result<O
             let to = address(state, rs1, offset);
             Ok(store(state, width, rs2, to))
         }
-        Insn::Fence { .. } => Ok(go_on(state)),
+        Insn::Fence { .. } => Ok(advance(state)),
         Insn::Ecall => call(alloc, state),
         Insn::Ebreak => Ok(Outcome::Ended(End::Break)),
         Insn::Illegal { word } => Ok(Outcome::Ended(End::Illegal(word))),
@@ -96,7 +96,7 @@ pub(crate) fn address(state: &State, rs1: Reg, offset: i32) -> u32
 }
 
 /// On at the next instruction.
-fn go_on(state: &mut State) -> Outcome
+fn advance(state: &mut State) -> Outcome
     ensures outcome { LeadsTo (state_of state.old) (onward (state_of state.old).pc (state_of state.old).core)
         (state_of state.new) result }
     ensures program { program_of state.new ≡ program_of state.old }
@@ -107,14 +107,14 @@ fn go_on(state: &mut State) -> Outcome
 }
 
 /// The register takes the value, and on at the next instruction.
-fn give(state: &mut State, rd: Reg, value: u32) -> Outcome
+fn write_back(state: &mut State, rd: Reg, value: u32) -> Outcome
     ensures outcome { LeadsTo (state_of state.old)
         (onward (state_of state.old).pc (with_register (state_of state.old).core rd value))
         (state_of state.new) result }
     ensures program { program_of state.new ≡ program_of state.old }
 {
     state.set_register(rd, value);
-    go_on(state)
+    advance(state)
 }
 
 /// On at the target, where that is a multiple of four.
@@ -172,7 +172,7 @@ fn branch(state: &mut State, cond: Cond, rs1: Reg, rs2: Reg, offset: i32) -> Out
         let target = state.pc().wrapping_add(word(offset));
         go_to(state, target)
     } else {
-        go_on(state)
+        advance(state)
     }
 }
 
@@ -217,7 +217,7 @@ fn load(state: &mut State, kind: LoadKind, rd: Reg, address: u32) -> Outcome
 {
     let width = width_of(kind);
     match state.load(address, width) {
-        Ok(n) => give(state, rd, extend(kind, n)),
+        Ok(n) => write_back(state, rd, extend(kind, n)),
         Err(_) => Outcome::Ended(End::Access(address, width)),
     }
 }
@@ -233,7 +233,7 @@ fn store(state: &mut State, width: Width, rs2: Reg, address: u32) -> Outcome
 {
     let value = state.register(rs2);
     match state.store(address, width, value) {
-        Ok(()) => go_on(state),
+        Ok(()) => advance(state),
         Err(_) => Outcome::Ended(End::Access(address, width)),
     }
 }
@@ -247,7 +247,7 @@ fn call(alloc: Global, state: &mut State) -> Result<Outcome, AllocError>
     ensures program { program_of state.new ≡ program_of state.old }
 {
     match state.environment_call(alloc)? {
-        Call::Goes => Ok(go_on(state)),
+        Call::Goes => Ok(advance(state)),
         Call::Exit(code) => Ok(Outcome::Ended(End::Exit(code))),
     }
 }

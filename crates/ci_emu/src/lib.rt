@@ -8,8 +8,8 @@ pub use runs::run;
 pub use steps::{Outcome, step};
 
 mod counts;
+mod decode_cache;
 mod execution;
-mod lines;
 mod profile;
 mod runs;
 mod steps;

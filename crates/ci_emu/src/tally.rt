@@ -1,21 +1,24 @@
 //! What is counted while a run is made.
-ghost use Rattle.std.specs.Prelude.{◌≡◌, ◌+◌, ◌<◌, ◌≤◌, ◌^◌, ◌==◌, ◌⊎◌, ◌↔◌, ℕ, Some, find, if◌then◌else◌, IfOk, OnOk, OnErr, IfSome};
+ghost use Rattle.std.specs.Prelude.{◌≡◌, ◌+◌, ◌<◌, ◌≤◌, ◌^◌, ◌==◌, ◌⊎◌, ◌↔◌, ℕ, Some, find, if◌then◌else◌, IfOk, OnOk};
+ghost use Rattle.std.specs.Prelude.{OnErr, IfSome};
 ghost use Rattle.std.specs.BTreeSet.{IsOrdered};
 ghost use Rattle.std.specs.Option.{option_map};
 ghost use Rattle.std.specs.Ordering.{nat_cmp};
 ghost use Rattle.ci_machine.specs.Programs.{in_text};
 ghost use Rattle.ci_machine.specs.Runs.{after, latency};
 ghost use Rattle.ci_machine.specs.States.{program_of, state_of};
-ghost use Rattle.ci_machine.specs.Steps.{Meaning, IsPlain, moved};
+ghost use Rattle.ci_machine.specs.Steps.{Meaning, IsPlain};
+ghost use Rattle.ci_machine.specs.Touches.{moved};
 ghost use Rattle.ci_emu.specs.Counting.{first_touch, target_of, IsStepCounted, Led};
 ghost use Rattle.ci_elf.specs.Executables.{IsTextWord};
-ghost use Rattle.ci_emu.specs.Profiles.{count_at, latencies_of};
+ghost use Rattle.ci_emu.specs.Profiles.{count_at};
+ghost use Rattle.ci_emu.specs.TableLatencies.{latencies_of};
 ghost use Rattle.ci_emu.specs.Fetched.{IsFetched, IsPlainInsn};
 ghost use Rattle.ci_emu.specs.Steps.{IsPlainStep, IsReached};
 
 use crate::counts::Counts;
+use crate::decode_cache::{DecodeCache, Decoded};
 use crate::execution::{address, execute, width_of};
-use crate::lines::{Line, Lines};
 use crate::profile::Profile;
 use crate::steps::{Outcome, fetch_word};
 use ci_elf::Range;
@@ -34,7 +37,7 @@ pub(crate) struct Tally {
     pub(crate) touched: Option<(u32, u32)>,
     pub(crate) targets: BTreeSet<u32>,
     /// The words that were decoded before.
-    lines: Lines,
+    cache: DecodeCache,
     /// The number of the range of text from which the last step was fetched.
     last: usize,
 }
@@ -50,13 +53,13 @@ impl Tally {
         ensures fresh { IfOk result IsFresh }
     {
         let counts = Counts::new(alloc, text)?;
-        let lines = Lines::new(alloc, counts.len())?;
+        let cache = DecodeCache::new(alloc, counts.len())?;
         Ok(Tally {
             counts,
             cost: 0,
             touched: None,
             targets: BTreeSet::new(alloc),
-            lines,
+            cache,
             last: 0,
         })
     }
@@ -83,15 +86,15 @@ impl Tally {
 }
 
 /// How long the instruction takes by the table, in cycles. A word that is none takes no time.
-fn latency(table: &Table, line: &Line) -> u32
-    requires { IsPlainInsn line.now.insn }
-    ensures value { result ≡ latency (latencies_of table.now) line.now.insn }
+fn latency(table: &Table, decoded: &Decoded) -> u32
+    requires { IsPlainInsn decoded.now.insn }
+    ensures value { result ≡ latency (latencies_of table.now) decoded.now.insn }
     ensures greatest { result ≤ 1000 }
 {
-    match line.insn {
+    match decoded.insn {
         Insn::Illegal { .. } => 0,
-        Insn::AluImm { .. } if line.class == Class::Free => table.pad(),
-        _ => table.latency(line.class),
+        Insn::AluImm { .. } if decoded.class == Class::Free => table.pad(),
+        _ => table.latency(decoded.class),
     }
 }
 
@@ -147,13 +150,19 @@ fn note(targets: &mut BTreeSet<u32>, target: u32) -> Result<(), AllocError>
     Ok(())
 }
 
-/// Counts the step that begins at the pc, and gives the line of its instruction, if it fetches one.
-fn enter(counts: &mut Counts, lines: &mut Lines, last: &mut usize, state: &State) -> Option<Line>
+/// Counts the step that begins at the pc, and gives its decoded instruction, if it fetches one.
+fn enter(
+    counts: &mut Counts,
+    cache: &mut DecodeCache,
+    last: &mut usize,
+    state: &State,
+) -> Option<Decoded>
     requires text { counts.old.places ≡ (program_of state.now).text }
     requires room { IsTextWord (program_of state.now).text (state_of state.now).pc
         → count_at counts.old (state_of state.now).pc < 2 ^ 32 }
-    ensures fetched { IsFetched (program_of state.now) (state_of state.now) (option_map (λ line. line.insn) result) }
-    ensures plain { IfSome result (λ line. IsPlainInsn line.insn) }
+    ensures fetched { IsFetched (program_of state.now) (state_of state.now)
+        (option_map (λ decoded. decoded.insn) result) }
+    ensures plain { IfSome result (λ decoded. IsPlainInsn decoded.insn) }
     ensures text { counts.new.places ≡ counts.old.places }
     ensures counted { (address : ℕ) → IsTextWord (program_of state.now).text address → count_at counts.new address
         ≡ count_at counts.old address + (if (state_of state.now).pc == address then 1 else 0) }
@@ -162,7 +171,7 @@ fn enter(counts: &mut Counts, lines: &mut Lines, last: &mut usize, state: &State
         Some(place) => {
             counts.add(place);
             let word = fetch_word(state)?;
-            Some(lines.line(place, word))
+            Some(cache.get(place, word))
         }
         None => None,
     }
@@ -190,13 +199,13 @@ pub(crate) fn counted_step(
     ensures program { program_of state.new ≡ program_of state.old }
     ensures text { tally.new.counts.places ≡ tally.old.counts.places }
 {
-    let Some(line) = enter(&mut tally.counts, &mut tally.lines, &mut tally.last, state) else {
+    let Some(decoded) = enter(&mut tally.counts, &mut tally.cache, &mut tally.last, state) else {
         return Ok(Outcome::Ended(End::Fetch(state.pc())));
     };
-    tally.cost += u64::from(latency(table, &line));
-    tally.touched = first_touch(tally.touched, state, &line.insn);
-    let outcome = execute(alloc, state, &line.insn)?;
-    if let Some(target) = target(state, &line.insn, outcome) {
+    tally.cost += u64::from(latency(table, &decoded));
+    tally.touched = first_touch(tally.touched, state, &decoded.insn);
+    let outcome = execute(alloc, state, &decoded.insn)?;
+    if let Some(target) = target(state, &decoded.insn, outcome) {
         note(&mut tally.targets, target)?;
     }
     Ok(outcome)

@@ -7,7 +7,8 @@ use Rattle.std.specs.FinMap.{get, get-insert, get-remove, get_tied, same_map, sl
 use Rattle.ci_io.specs.Outcomes.{Files, with_file}
 
 -- what a name has, put there again, answers at each name as before
-get-again : (files : Files) (name : List ℕ) (content : Option (List ℕ)) → get files name ≡ content → (q : List ℕ) → cond (eq_by_cmp (slice_cmp nat_cmp) q name) content (get files q) ≡ get files q
+get-again : (files : Files) (name : List ℕ) (content : Option (List ℕ)) → get files name ≡ content → (q : List ℕ)
+    → cond (eq_by_cmp (slice_cmp nat_cmp) q name) content (get files q) ≡ get files q
 get-again files name content has q =
     elim (eq_by_cmp (slice_cmp nat_cmp) q name) as (λ b. eq_by_cmp (slice_cmp nat_cmp) q name ≡ b → cond b content (get files q) ≡ get files q) [
       | true ↦ λ same. sym has ∙ get_tied nat_list_cmp_total files q name ((Equal-is (slice_cmp nat_cmp q name)).0 same)

@@ -28,7 +28,8 @@ pub record MemoryOutput : Type 0 where
 abbrev pub memory_shelf_code : Coded MemoryShelf
 memory_shelf_code =
     code_by (Files × (ℕ × (ℕ × (ℕ × List ℕ))))
-    (coded× (map.code (coded_list coded_ℕ) (coded_list coded_ℕ)) (coded× coded_ℕ (coded× coded_ℕ (coded× coded_ℕ (coded_list coded_ℕ)))))
+    (coded× (map.code (coded_list coded_ℕ) (coded_list coded_ℕ))
+    (coded× coded_ℕ (coded× coded_ℕ (coded× coded_ℕ (coded_list coded_ℕ)))))
     (λ s. (s.files, (s.read_faults, (s.write_faults, (s.calls.made, s.calls.failing)))))
     (λ p. record {
       files = p.0;

@@ -1,5 +1,6 @@
 //! A shelf and a sink in memory that fail at the calls that they are told.
-ghost use Rattle.std.specs.Prelude.{true, ◌≡◌, ◌≢◌, ◌≤◌, ◌↔◌, ◌++◌, [], ℕ, List, Option, Some, IfOk, OnOk, IsErrOf, vec_len};
+ghost use Rattle.std.specs.Prelude.{true, ◌≡◌, ◌≢◌, ◌≤◌, ◌↔◌, ◌++◌, [], ℕ, List, Option, Some, IfOk, OnOk, IsErrOf};
+ghost use Rattle.std.specs.Prelude.{vec_len};
 ghost use Rattle.std.specs.FinMap as map;
 ghost use Rattle.ci_io.specs.Counts.{raised, IsNextToFail, one_more_call};
 ghost use Rattle.ci_io.specs.Maps.{files_of};

@@ -1,5 +1,6 @@
 //! A shelf of files.
-ghost use Rattle.std.specs.Prelude.{◌≡◌, ◌≢◌, ℕ, ◌≤◌, Bool, IsTrue, List, Option, None, Some, IfSome, IfOk, OnOk, OnErr, IsErrOf, vec_len};
+ghost use Rattle.std.specs.Prelude.{◌≡◌, ◌≢◌, ℕ, ◌≤◌, Bool, IsTrue, List, Option, None, Some, IfSome, IfOk, OnOk};
+ghost use Rattle.std.specs.Prelude.{OnErr, IsErrOf, vec_len};
 ghost use Rattle.std.specs.Option.{option_map};
 ghost use Rattle.ci_io.specs.Outcomes.{ShelfState, Rises, with_file};
 ghost use Rattle.ci_io.specs.Reads.{IsReadOf};

@@ -1,5 +1,6 @@
 -- Lists of registers: what they are without x0, the test of a register, and the set.
-use Rattle.std.proofs.Common.{◌≡◌, ℕ, zero, suc, ◌+◌, ◌-◌, ◌<◌, Bool, false, List, [], ◌∷◌, ◌++◌, length, get_or, take, refl, sym, ap, ◌∙◌, arith, inl, inr, append-nil}
+use Rattle.std.proofs.Common.{◌≡◌, ℕ, zero, suc, ◌+◌, ◌-◌, ◌<◌, Bool, false, List, [], ◌∷◌, ◌++◌, length, get_or, take}
+use Rattle.std.proofs.Common.{refl, sym, ap, ◌∙◌, arith, inl, inr, append-nil}
 use Rattle.std.specs.Prelude.{not, ◌==◌, ◌&&◌, ◌||◌, if◌then◌else◌, replicate}
 use Rattle.std.specs.List.{list_any}
 use Rattle.std.specs.Ordering.{nat_cmp, eq_by_cmp}
@@ -11,7 +12,9 @@ use Rattle.std.proofs.lemmas.List.{take_more}
 use Rattle.std.proofs.lemmas.List.Elements.{filter-append}
 use Rattle.ci_word.proofs.NumberLaws.{same_numbers}
 use Rattle.ci_isa.specs.declared.instruction.Insn.{Insn}
-use Rattle.ci_isa.specs.Effects.{operands, results, padded, is_kept, without_x0, is_among, reads_register, writes_register, set_without_x0, registers_read, registers_written}
+use Rattle.ci_isa.specs.Effects.{operands, results, padded, is_kept, without_x0, is_among, reads_register}
+use Rattle.ci_isa.specs.Effects.{writes_register}
+use Rattle.ci_isa.specs.RegisterSets.{set_without_x0, registers_read, registers_written}
 
 -- ---- x0
 
@@ -51,7 +54,9 @@ without_padding count registers =
 -- ---- the set
 
 -- the set of one number more
-pub from_list_more : (numbers : List ℕ) (i : ℕ) (row : set.FinSet nat_cmp) → i < length numbers → row ≡ set.from_list (take i numbers) → set.insert row (get_or numbers i 0) ≡ set.from_list (take (i + 1) numbers)
+pub from_list_more : (numbers : List ℕ) (i : ℕ) (row : set.FinSet nat_cmp) → i < length numbers
+    → row ≡ set.from_list (take i numbers) → set.insert row (get_or numbers i 0)
+    ≡ set.from_list (take (i + 1) numbers)
 from_list_more numbers i row within is =
     ap (λ (s : set.FinSet nat_cmp). set.insert s (get_or numbers i 0)) is
     ∙ sym (set.from_list_push nat_cmp_total set.nat_cmp-IsAntisymmetric (take i numbers) (get_or numbers i 0))

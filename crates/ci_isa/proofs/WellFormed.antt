@@ -14,9 +14,12 @@ use Rattle.ci_isa.specs.declared.instruction.LoadKind.TheVariants.{B, H, W, Bu, 
 use Rattle.ci_isa.specs.declared.instruction.Width.{Width}
 use Rattle.ci_isa.specs.declared.instruction.Width.TheVariants.{Byte, Half, Word}
 use Rattle.ci_isa.specs.declared.instruction.Insn.{Insn}
-use Rattle.ci_isa.specs.declared.instruction.Insn.TheVariants.{Alu, AluImm, Lui, Auipc, Jal, Jalr, Branch, Load, Store, Fence, Ecall, Ebreak, Unit, Cread, Illegal}
-use Rattle.ci_isa.specs.Fields.{field, opcode, rd_field, funct3, rs1_field, rs2_field, funct7, immediate_format, store_format, branch_format, upper_format, jump_format, immediate, signed_immediate}
-use Rattle.ci_isa.specs.Table.{operation_codes, condition_code, load_code, store_code, ConstantForm, SignedImmediate, ShiftAmount, NoForm, constant_form, HoldsConstant, IsWellFormed}
+use Rattle.ci_isa.specs.declared.instruction.Insn.TheVariants.{Alu, AluImm, Lui, Auipc, Jal, Jalr, Branch, Load, Store}
+use Rattle.ci_isa.specs.declared.instruction.Insn.TheVariants.{Fence, Ecall, Ebreak, Unit, Cread, Illegal}
+use Rattle.ci_isa.specs.Fields.{field, opcode, rd_field, funct3, rs1_field, rs2_field, funct7, immediate_format}
+use Rattle.ci_isa.specs.Fields.{store_format, branch_format, upper_format, jump_format, immediate, signed_immediate}
+use Rattle.ci_isa.specs.Table.{operation_codes, condition_code, load_code, store_code, ConstantForm, SignedImmediate}
+use Rattle.ci_isa.specs.Table.{ShiftAmount, NoForm, constant_form, HoldsConstant, IsWellFormed}
 use Rattle.ci_isa.specs.FieldBounds.{IsOfWidth, IsEven, ConstantFits, FieldsFit}
 
 -- ---- numbers in two's complement
@@ -40,8 +43,14 @@ bits_of width above (pos n) fits =
 bits_of width above (negsuc n) fits =
     let whole = double width above in
     let small : n < 2 ^ (width - 1) = omega (arith, ints, fits.0) in
-    let large : 2 ^ (width - 1) ≤ 2 ^ width - suc n = omega arith in
-    (2 ^ width - suc n, record { below = omega arith; meaning = rw (le-ltb (2 ^ width - suc n) (2 ^ (width - 1)) large) (omega (arith, ints)); even = λ e. omega arith })
+    let large : 2 ^ (width - 1) ≤ 2 ^ width - suc n = omega arith in (
+      2 ^ width - suc n,
+      record {
+        below = omega arith;
+        meaning = rw (le-ltb (2 ^ width - suc n) (2 ^ (width - 1)) large) (omega (arith, ints));
+        even = λ e. omega arith;
+      },
+    )
 
 -- and back: what n stands for is of the width, and even where n is
 of_width : (width n : ℕ) → 0 < width → n < 2 ^ width → IsOfWidth width (signed_of_width width n)
@@ -186,7 +195,8 @@ branch_held n fits even =
           ap (signed_of_width 13) same ∙ bits.1.meaning,
     )
   where
-    pieces : (w m : ℕ) → m < 2 ^ 13 → m % 2 ≡ 0 → rd_field w ≡ m / 2 % 16 * 2 + m / 2048 % 2 → funct7 w ≡ m / 4096 * 64 + m / 32 % 64 → immediate branch_format w ≡ m
+    pieces : (w m : ℕ) → m < 2 ^ 13 → m % 2 ≡ 0 → rd_field w ≡ m / 2 % 16 * 2 + m / 2048 % 2
+        → funct7 w ≡ m / 4096 * 64 + m / 32 % 64 → immediate branch_format w ≡ m
     pieces w m below even at_b at_f =
         let a : field w 31 31 ≡ m / 4096 = omega arith in
         let b : field w 7 7 ≡ m / 2048 % 2 = omega arith in
@@ -206,7 +216,9 @@ jump_held n fits even =
           ap (signed_of_width 21) same ∙ bits.1.meaning,
     )
   where
-    pieces : (w m : ℕ) → m < 2 ^ 21 → m % 2 ≡ 0 → field w 31 12 ≡ m / 2 ^ 20 * 2 ^ 19 + m / 2 % 1024 * 2 ^ 9 + m / 2048 % 2 * 2 ^ 8 + m / 4096 % 256 → immediate jump_format w ≡ m
+    pieces : (w m : ℕ) → m < 2 ^ 21 → m % 2 ≡ 0
+        → field w 31 12 ≡ m / 2 ^ 20 * 2 ^ 19 + m / 2 % 1024 * 2 ^ 9 + m / 2048 % 2 * 2 ^ 8 + m / 4096 % 256
+        → immediate jump_format w ≡ m
     pieces w m below even at_u =
         let a : field w 31 31 ≡ m / 2 ^ 20 = omega arith in
         let b : field w 19 12 ≡ m / 4096 % 256 = omega arith in
@@ -225,12 +237,15 @@ constant_held NoForm code n h_code fits = absurd fits
 
 -- ---- what fits is well formed
 
-upper_word : (code rd upper : ℕ) → code < 2 ^ 7 → rd < 32 → upper < 2 ^ 32 → upper % 2 ^ 12 ≡ 0 → (w : ℕ) × ((w < 2 ^ 32) × ((opcode w ≡ code) × (rd_field w ≡ rd) × (immediate upper_format w ≡ upper)))
+upper_word : (code rd upper : ℕ) → code < 2 ^ 7 → rd < 32 → upper < 2 ^ 32 → upper % 2 ^ 12 ≡ 0
+    → (w : ℕ) × ((w < 2 ^ 32) × ((opcode w ≡ code) × (rd_field w ≡ rd) × (immediate upper_format w ≡ upper)))
 upper_word code rd upper h_code h_rd h_upper zeros =
     let made = with_upper_fields code rd (upper / 2 ^ 12) h_code h_rd (omega arith) in
     (made.0, (made.1.below, (made.1.at_opcode, made.1.at_rd, omega (arith, made.1.at_upper))))
 
-immediate_word : (code rd c rs1 : ℕ) (n : ℤ) → code < 2 ^ 7 → rd < 32 → c < 2 ^ 3 → rs1 < 32 → IsOfWidth 12 n → (w : ℕ) × ((w < 2 ^ 32) × ((opcode w ≡ code) × (funct3 w ≡ c) × (rd_field w ≡ rd) × (rs1_field w ≡ rs1) × (signed_immediate immediate_format w ≡ n)))
+immediate_word : (code rd c rs1 : ℕ) (n : ℤ) → code < 2 ^ 7 → rd < 32 → c < 2 ^ 3 → rs1 < 32 → IsOfWidth 12 n
+    → (w : ℕ) × ((w < 2 ^ 32) × ((opcode w ≡ code) × (funct3 w ≡ c) × (rd_field w ≡ rd) × (rs1_field w ≡ rs1)
+    × (signed_immediate immediate_format w ≡ n)))
 immediate_word code rd c rs1 n h_code h_rd h_c h_rs1 fits =
     let held = immediate_held n fits in
     let made = with_fields code rd c rs1 held.0 held.1 h_code h_rd h_c h_rs1 held.2 held.3 in

@@ -2,7 +2,8 @@
 -- 2.2 and 2.3).
 use Rattle.std.specs.Prelude.{◌≡◌, ℕ, ◌-◌, ◌%◌, ◌^◌, ◌<◌, ⊤, ℤ, pos, neg_ℤ, ◌≤ℤ◌, ◌<ℤ◌, unsigned_abs}
 use Rattle.ci_isa.specs.declared.instruction.Insn.{Insn}
-use Rattle.ci_isa.specs.declared.instruction.Insn.TheVariants.{Alu, AluImm, Lui, Auipc, Jal, Jalr, Branch, Load, Store, Fence, Ecall, Ebreak, Unit, Cread, Illegal}
+use Rattle.ci_isa.specs.declared.instruction.Insn.TheVariants.{Alu, AluImm, Lui, Auipc, Jal, Jalr, Branch, Load, Store}
+use Rattle.ci_isa.specs.declared.instruction.Insn.TheVariants.{Fence, Ecall, Ebreak, Unit, Cread, Illegal}
 use Rattle.ci_isa.specs.Table.{ConstantForm, SignedImmediate, ShiftAmount, NoForm, constant_form}
 
 -- a number of so many bits in two's complement

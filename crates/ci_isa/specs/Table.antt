@@ -3,7 +3,8 @@
 -- words in the opcode custom-0 and `cread` in the opcode custom-1, which are the project's own.
 use Rattle.std.specs.Prelude.{◌≡◌, ℕ, ◌/◌, ◌%◌, ◌^◌, ◌<◌, ℤ, pos}
 use Rattle.ci_word.specs.declared.arithmetic.Op.{Op}
-use Rattle.ci_word.specs.declared.arithmetic.Op.TheVariants.{Add, Sub, Sll, Slt, Sltu, Xor, Srl, Sra, Or, And, Mul, Mulh, Mulhsu, Mulhu, Div, Divu, Rem, Remu}
+use Rattle.ci_word.specs.declared.arithmetic.Op.TheVariants.{Add, Sub, Sll, Slt, Sltu, Xor, Srl, Sra, Or, And, Mul}
+use Rattle.ci_word.specs.declared.arithmetic.Op.TheVariants.{Mulh, Mulhsu, Mulhu, Div, Divu, Rem, Remu}
 use Rattle.ci_isa.specs.declared.instruction.Cond.{Cond}
 use Rattle.ci_isa.specs.declared.instruction.Cond.TheVariants.{Eq, Ne, Lt, Ge, Ltu, Geu}
 use Rattle.ci_isa.specs.declared.instruction.LoadKind.{LoadKind}
@@ -11,8 +12,10 @@ use Rattle.ci_isa.specs.declared.instruction.LoadKind.TheVariants.{B, H, W, Bu, 
 use Rattle.ci_isa.specs.declared.instruction.Width.{Width}
 use Rattle.ci_isa.specs.declared.instruction.Width.TheVariants.{Byte, Half, Word}
 use Rattle.ci_isa.specs.declared.instruction.Insn.{Insn}
-use Rattle.ci_isa.specs.declared.instruction.Insn.TheVariants.{Alu, AluImm, Lui, Auipc, Jal, Jalr, Branch, Load, Store, Fence, Ecall, Ebreak, Unit, Cread, Illegal}
-use Rattle.ci_isa.specs.Fields.{field, opcode, rd_field, funct3, rs1_field, rs2_field, funct7, immediate_format, store_format, branch_format, upper_format, jump_format, immediate, signed_immediate}
+use Rattle.ci_isa.specs.declared.instruction.Insn.TheVariants.{Alu, AluImm, Lui, Auipc, Jal, Jalr, Branch, Load, Store}
+use Rattle.ci_isa.specs.declared.instruction.Insn.TheVariants.{Fence, Ecall, Ebreak, Unit, Cread, Illegal}
+use Rattle.ci_isa.specs.Fields.{field, opcode, rd_field, funct3, rs1_field, rs2_field, funct7, immediate_format}
+use Rattle.ci_isa.specs.Fields.{store_format, branch_format, upper_format, jump_format, immediate, signed_immediate}
 
 -- ---- the codes of the operations, in funct3 and funct7
 
@@ -114,9 +117,7 @@ HasFieldsOf w (Fence bits rs1 rd) =
     (opcode w ≡ 0x0f) × (funct3 w ≡ 0) × (field w 31 20 ≡ bits) × (rs1_field w ≡ rs1) × (rd_field w ≡ rd)
 HasFieldsOf w Ecall = w ≡ 0x0000_0073
 HasFieldsOf w Ebreak = w ≡ 0x0010_0073
-HasFieldsOf w (Unit number rd rs1 rs2 rs3) = ⊥
-HasFieldsOf w (Cread rd) = ⊥
-HasFieldsOf w (Illegal word) = ⊥
+HasFieldsOf w insn = ⊥
 
 -- the same in the extended table
 abbrev pub HasFieldsOfX : ℕ → Insn → Type 0
@@ -149,8 +150,3 @@ IsWellFormed insn = (w : ℕ) × IsWordOf w insn
 abbrev pub IsInsnAt : ℕ → Insn → Type 0
 IsInsnAt w (Illegal word) = (word ≡ w) × ((insn : Insn) → ¬ Reads w insn)
 IsInsnAt w insn = Reads w insn
-
--- the same in the extended table
-abbrev pub IsInsnAtX : ℕ → Insn → Type 0
-IsInsnAtX w (Illegal word) = (word ≡ w) × ((insn : Insn) → ¬ ReadsX w insn)
-IsInsnAtX w insn = ReadsX w insn

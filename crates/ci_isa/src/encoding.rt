@@ -3,7 +3,8 @@ ghost use Rattle.std.specs.Prelude.{◌≡◌, ℕ, ◌^◌, ◌<◌, ◌↔◌,
 ghost use Rattle.ci_isa.specs.Fields as fields;
 ghost use Rattle.ci_isa.specs.Fields.{field, immediate_format, signed_immediate};
 ghost use Rattle.ci_isa.specs.declared.instruction.Insn.{Insn};
-ghost use Rattle.ci_isa.specs.Table.{operation_codes, constant_form, ShiftAmount, condition_code, load_code, store_code, Reads, ReadsX, IsWordOf, IsWellFormed};
+ghost use Rattle.ci_isa.specs.Table.{operation_codes, constant_form, ShiftAmount, condition_code, load_code};
+ghost use Rattle.ci_isa.specs.Table.{store_code, Reads, ReadsX, IsWordOf, IsWellFormed};
 
 use crate::immediates::{
     branch_high_bits, branch_low_bits, immediate_bits, jump_bits, store_high_bits, store_low_bits,
@@ -17,7 +18,7 @@ use crate::register::Reg;
 use ci_word::Op;
 
 /// The one word that stands for the instruction, which is well formed.
-#[tactic(auto, using(crate::proofs::Constants::passed))]
+#[tactic(auto, using(crate::proofs::ConstantLaws::passed))]
 pub fn encode(insn: &Insn) -> u32
     requires { IsWellFormed insn.now }
     ensures reads_back { IsWordOf result insn.now }

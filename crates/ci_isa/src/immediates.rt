@@ -1,7 +1,8 @@
 //! The immediates of the formats, taken out of a word and put into one (RISC-V Unprivileged ISA 20191213, figures 2.3
 //! and 2.4).
 ghost use Rattle.std.specs.Prelude.{◌≡◌, ℕ};
-ghost use Rattle.ci_isa.specs.Fields.{field, rd_field, funct7, immediate_format, store_format, branch_format, upper_format, jump_format, immediate, signed_immediate};
+ghost use Rattle.ci_isa.specs.Fields.{field, rd_field, funct7, immediate_format, store_format, branch_format};
+ghost use Rattle.ci_isa.specs.Fields.{upper_format, jump_format, immediate, signed_immediate};
 
 use crate::fields::{bits, sign_extended};
 

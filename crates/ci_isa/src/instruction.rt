@@ -17,8 +17,8 @@ impl Width {
     /// The width in bytes: 1, 2 or 4.
     pub fn bytes(self) -> u32
         ensures value { result ≡ width_bytes self }
-        ensures least { 1 ≤ result }
-        ensures greatest { result ≤ 4 }
+        ensures minimum { 1 ≤ result }
+        ensures maximum { result ≤ 4 }
     {
         match self {
             Width::Byte => 1,

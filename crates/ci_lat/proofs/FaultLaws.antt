@@ -47,7 +47,8 @@ module _ (document : Members) where
   unfolding causes
   first_fault-causes =
       first_fault-cons (has_unknown_key document) UnknownKey _
-      ∙ ap (cond (has_unknown_key document) (Some UnknownKey)) (first_fault-map (is_out_of_range document) OutOfRange keys_by_value _ ∙ ap (option_or out_of_range) pads)
+      ∙ ap (cond (has_unknown_key document) (Some UnknownKey))
+      (first_fault-map (is_out_of_range document) OutOfRange keys_by_value _ ∙ ap (option_or out_of_range) pads)
 
 -- the three kinds of cause, and no other
 abbrev IsCause : LatFault → Type 0

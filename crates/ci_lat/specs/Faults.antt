@@ -1,5 +1,6 @@
 -- Which bytes are a latency table, and which fault the others have.
-use Rattle.std.specs.Prelude.{◌≡◌, ℕ, Bool, true, false, not, ◌&&◌, nat_lt, List, [], ◌∷◌, ◌++◌, map, codes, Option, Some, None, unwrap_or, option_and_then, IsUtf8}
+use Rattle.std.specs.Prelude.{◌≡◌, ℕ, Bool, true, false, not, ◌&&◌, nat_lt, List, [], ◌∷◌, ◌++◌, map, codes, Option}
+use Rattle.std.specs.Prelude.{Some, None, unwrap_or, option_and_then, IsUtf8}
 use Rattle.std.specs.List.{list_any, list_all}
 use Rattle.std.specs.Str.{bytes_eq}
 use Rattle.toml.specs.Data.{Data, table, Members, no_members, member, get_member}
@@ -9,7 +10,8 @@ use Rattle.ci_lat.specs.declared.keys.Key.TheVariants.{Read, Pad, SoftwareOf, Ha
 use Rattle.ci_lat.specs.declared.faults.LatFault.{LatFault}
 use Rattle.ci_lat.specs.declared.faults.LatFault.TheVariants.{NotToml, UnknownKey, OutOfRange, PadTooLarge, NoMemory}
 use Rattle.ci_lat.specs.Latencies.{Latencies, usual}
-use Rattle.ci_lat.specs.Keys.{key_word, text_keys, software_keys, hardware_keys, keys_by_value, keys_above_pad, Kind, kind_of, number_of, is_of_kind, entry}
+use Rattle.ci_lat.specs.Keys.{key_word, text_keys, software_keys, hardware_keys, keys_by_value, keys_above_pad, Kind}
+use Rattle.ci_lat.specs.Keys.{kind_of, number_of, is_of_kind, entry}
 
 -- ---- what a document gives
 

@@ -1,5 +1,6 @@
 -- The keys of a table's text: what each is called, and which values it may have.
-use Rattle.std.specs.Prelude.{ℕ, Bool, ◌&&◌, nat_le, List, [], ◌∷◌, ◌++◌, map, codes, slice_index_or, pos, Option, Some, None, is_some, if◌then◌else◌}
+use Rattle.std.specs.Prelude.{ℕ, Bool, ◌&&◌, nat_le, List, [], ◌∷◌, ◌++◌, map, codes, slice_index_or, pos, Option, Some}
+use Rattle.std.specs.Prelude.{None, is_some, if◌then◌else◌}
 use Rattle.ci_word.specs.declared.arithmetic.Class.{Class}
 use Rattle.toml.specs.Data.{Data, integer, as_table}
 use Rattle.ci_lat.specs.declared.keys.Key.{Key}
@@ -44,7 +45,7 @@ keys_by_value = (Read ∷ Pad ∷ Software ∷ software_keys) ++ Hardware ∷ ha
 unfoldable pub keys_above_pad : List Key
 keys_above_pad = map (λ r. SoftwareOf r.class) delayed_rows ++ Read ∷ []
 
--- what may stand at a key: a table, or an integer from the least to the greatest one
+-- what may stand at a key: a table, or an integer from the minimum to the maximum one
 pub data Kind : Type 0 where
   table : Kind
   number : ℕ → ℕ → Kind
@@ -59,7 +60,7 @@ kind_of (HardwareOf c) = number 0 100000
 
 -- the number that the value is, where it is one of this kind
 abbrev pub number_of : Kind → Data → Option ℕ
-number_of (number least greatest) (integer (pos n)) = if nat_le least n && nat_le n greatest then Some n else None
+number_of (number minimum maximum) (integer (pos n)) = if nat_le minimum n && nat_le n maximum then Some n else None
 number_of _ _ = None
 
 abbrev pub is_of_kind : Kind → Data → Bool

@@ -123,12 +123,12 @@ impl Key {
     }
 }
 
-/// The integer from `least` to `greatest` that the value is.
-fn integer_within(value: &Value, least: u32, greatest: u32) -> Option<u32>
-    ensures { result ≡ number_of (number least greatest) (view value.now) }
+/// The integer from `minimum` to `maximum` that the value is.
+fn integer_within(value: &Value, minimum: u32, maximum: u32) -> Option<u32>
+    ensures { result ≡ number_of (number minimum maximum) (view value.now) }
 {
     let number = u32::try_from(value.as_integer()?).ok()?;
-    if least <= number && number <= greatest {
+    if minimum <= number && number <= maximum {
         Some(number)
     } else {
         None

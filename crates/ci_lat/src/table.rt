@@ -1,7 +1,8 @@
 //! Tables of latencies and delays.
 ghost use Rattle.std.specs.Prelude.{◌≡◌, ◌≢◌, ◌≤◌};
 ghost use Rattle.ci_word.specs.declared.arithmetic.Class.TheVariants.{Free};
-ghost use Rattle.ci_lat.specs.Latencies.{usual, latency_of, delay_of, HasDelay, IsLatencyTable};
+ghost use Rattle.ci_lat.specs.Latencies.{usual, latency_of, delay_of};
+ghost use Rattle.ci_lat.specs.TableRules.{HasDelay, IsLatencyTable};
 ghost use Rattle.ci_lat.specs.Keys.{entry};
 ghost use Rattle.ci_lat.specs.Faults.{causes, first_fault, table_of};
 ghost use Rattle.toml.specs.View.{table_view};
@@ -12,10 +13,10 @@ use ci_word::Class;
 use std::marker::Model;
 
 /// The latencies of the classes by default, in their order.
-const USUAL_SOFTWARE: [u32; 16] = [1, 1, 1, 1, 1, 1, 3, 3, 2, 1, 1, 2, 1, 32, 1, 1];
+const DEFAULT_SOFTWARE: [u32; 16] = [1, 1, 1, 1, 1, 1, 3, 3, 2, 1, 1, 2, 1, 32, 1, 1];
 
 /// The delays of the first classes by default, in their order.
-const USUAL_HARDWARE: [u32; 8] = [400, 100, 300, 0, 400, 0, 2100, 2200];
+const DEFAULT_HARDWARE: [u32; 8] = [400, 100, 300, 0, 400, 0, 2100, 2200];
 
 /// A latency table: the latency of each class of instructions, in cycles, and the delay in hardware
 /// of each class that a custom instruction may take in, in thousandths of a cycle.
@@ -28,7 +29,8 @@ pub struct Table {
 }
 
 impl Model for Table {
-    ghost use Rattle.ci_lat.specs.Latencies.{Latencies, IsLatencyTable};
+    ghost use Rattle.ci_lat.specs.Latencies.{Latencies};
+    ghost use Rattle.ci_lat.specs.TableRules.{IsLatencyTable};
     ghost use Rattle.ci_lat.specs.Stored.{latencies};
 
     ghost Value = { Latencies };
@@ -47,8 +49,8 @@ impl Table {
         Table {
             read: 1,
             pad: 0,
-            software: USUAL_SOFTWARE,
-            hardware: USUAL_HARDWARE,
+            software: DEFAULT_SOFTWARE,
+            hardware: DEFAULT_HARDWARE,
         }
     }
 
@@ -58,8 +60,8 @@ impl Table {
         requires { first_fault (causes (table_view document.now)) ≡ None }
         ensures { result ≡ table_of (table_view document.now) }
     {
-        let mut software = USUAL_SOFTWARE;
-        let mut hardware = USUAL_HARDWARE;
+        let mut software = DEFAULT_SOFTWARE;
+        let mut hardware = DEFAULT_HARDWARE;
         put_settings(document, &SOFTWARE_KEYS, &mut software);
         put_settings(document, &HARDWARE_KEYS, &mut hardware);
         Table {
@@ -73,8 +75,8 @@ impl Table {
     /// The latency of a read of the hidden register, in cycles.
     pub fn read(&self) -> u32
         ensures value { result ≡ self.now.read }
-        ensures least { 1 ≤ result }
-        ensures greatest { result ≤ 1000 }
+        ensures minimum { 1 ≤ result }
+        ensures maximum { result ≤ 1000 }
         ensures pad { self.now.pad ≤ result }
         ensures table { IsLatencyTable self.now }
     {
@@ -84,7 +86,7 @@ impl Table {
     /// The latency of a no-op that fills a place, in cycles.
     pub fn pad(&self) -> u32
         ensures value { result ≡ self.now.pad }
-        ensures greatest { result ≤ 1000 }
+        ensures maximum { result ≤ 1000 }
     {
         self.pad
     }
@@ -92,8 +94,8 @@ impl Table {
     /// The latency of the class, in cycles; 0 for `Free`.
     pub fn latency(&self, class: Class) -> u32
         ensures value { result ≡ latency_of self.now class }
-        ensures least { class ≢ Free → 1 ≤ result }
-        ensures greatest { result ≤ 1000 }
+        ensures minimum { class ≢ Free → 1 ≤ result }
+        ensures maximum { result ≤ 1000 }
         ensures pad { HasDelay class → self.now.pad ≤ result }
     {
         self.software.get(class as usize).copied().unwrap_or(0)
@@ -102,7 +104,7 @@ impl Table {
     /// The delay of the class, in thousandths of a cycle; 0 for a class without one.
     pub fn delay(&self, class: Class) -> u32
         ensures value { result ≡ delay_of self.now class }
-        ensures greatest { result ≤ 100000 }
+        ensures maximum { result ≤ 100000 }
     {
         self.hardware.get(class as usize).copied().unwrap_or(0)
     }

@@ -5,7 +5,7 @@ use std::process::Abort;
 use std::test::Fail;
 
 /// Each class with its latency and its delay by default.
-const USUAL: [(Class, u32, u32); 17] = [
+const DEFAULT: [(Class, u32, u32); 17] = [
     (Class::Add, 1, 400),
     (Class::Logic, 1, 100),
     (Class::Shift, 1, 300),
@@ -136,7 +136,7 @@ const NAMES: [(Key, &str); 8] = [
 fn is_usual(rt: &impl Abort, table: &Table) {
     assert_eq!(rt; table.read(), 1);
     assert_eq!(rt; table.pad(), 0);
-    for (class, latency, delay) in USUAL {
+    for (class, latency, delay) in DEFAULT {
         assert_eq!(rt; table.latency(class), latency);
         assert_eq!(rt; table.delay(class), delay);
     }

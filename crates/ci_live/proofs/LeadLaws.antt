@@ -7,7 +7,7 @@ use Rattle.ci_isa.specs.declared.instruction.Insn.TheVariants.{Jalr}
 use Rattle.ci_elf.specs.Executables.{Executable}
 use Rattle.ci_block.specs.declared.blocks.Next.{Next}
 use Rattle.ci_block.specs.declared.blocks.Next.TheVariants.{Stop, One, Two, Any}
-use Rattle.ci_block.specs.Blocks.{AreCounted, Counts, IsNext, ways_on}
+use Rattle.ci_block.specs.Blocks.{AreSuccessors, Counts, IsNext, ways_on}
 use Rattle.ci_block.proofs.WayLaws.{one_of_two, ways_are_leaders}
 use Rattle.ci_live.specs.Laws.{LiveOnWays}
 use Rattle.ci_live.specs.Liveness.{LeadsTo}
@@ -16,7 +16,7 @@ use Rattle.ci_live.proofs.NeededLaws.{has_sets, live_at_successor}
 use Rattle.ci_live.proofs.OneAnalysis.{block_with}
 
 -- a way on that counts is a successor
-counted : (image : Executable) (ways : List ℕ) (next : Next) (a : ℕ) → AreCounted image ways next → Counts image ways a → LeadsTo next a
+counted : (image : Executable) (ways : List ℕ) (next : Next) (a : ℕ) → AreSuccessors image ways next → Counts image ways a → LeadsTo next a
 counted image ways Stop a none counts = none a counts
 counted image ways (One b) a one counts = one.1 a counts
 counted image ways (Two b e) a two counts = elim (one_of_two b e a (subst (λ xs. Contains xs a) two.0 counts.0)) [

@@ -2,9 +2,9 @@ pub mod SetLaws
 pub mod ReachLaws
 pub mod LivenessLaws
 pub mod NumberedBlocks
-pub mod LookLaws
+pub mod TransferLaws
 pub mod SearchLaws
-pub mod LooksLaws
+pub mod VisitLaws
 pub mod EffectLaws
 pub mod PushLaws
 pub mod LiveLaws

@@ -11,12 +11,12 @@ use Rattle.ci_block.specs.Blocks.{AreInOrder}
 use Rattle.ci_live.specs.declared.flow.Flow.{Flow}
 use Rattle.ci_live.specs.declared.iteration.Found.{Found as FoundSets}
 use Rattle.ci_live.specs.Flows.{AreFlows, AreWithin, Has, IsWithin, flow_at}
-use Rattle.ci_live.specs.Found.{IsSolution, IsSound, live_at, on_ways}
+use Rattle.ci_live.specs.Found.{IsSolution, IsSound, live_at, on_edges}
 use Rattle.ci_live.specs.Liveness.{AreLiveSets, IsLive, IsLiveAfter}
 use Rattle.ci_live.specs.Sets.{set_of}
-use Rattle.ci_live.proofs.LookLaws.{on_ways_reached}
+use Rattle.ci_live.proofs.TransferLaws.{on_edges_reached}
 use Rattle.ci_live.proofs.NumberedBlocks.{block_at, leader_at, leads_iff_live_after, reached_iff_live}
-use Rattle.ci_live.proofs.ReachLaws.{on_ways_has}
+use Rattle.ci_live.proofs.ReachLaws.{on_edges_has}
 use Rattle.ci_live.proofs.SearchLaws.{Ascend}
 
 -- the set of the leader of this number
@@ -59,8 +59,8 @@ flows_within leaders blocks flows same are k =
     elim (cases_lt k (length blocks)) [
       | inl within ↦
           let at = block_at blocks k (block_of blocks k within) within in
-          subst (λ n. IsWithin n (flow_at flows k).ways) many (are.each k at.0 within at.1.1).ways.within
-      | inr past ↦ subst (λ (flow : Flow). IsWithin (length flows) flow.ways) (sym (get_or_past flows k _ (omega (arith, are.many)))) (tt, tt)
+          subst (λ n. IsWithin n (flow_at flows k).successors) many (are.each k at.0 within at.1.1).successors.within
+      | inr past ↦ subst (λ (flow : Flow). IsWithin (length flows) flow.successors) (sym (get_or_past flows k _ (omega (arith, are.many)))) (tt, tt)
     ]
 
 sound_solution : (flows : List Flow) (found : FoundSets) → IsSolution flows found → IsSound flows found
@@ -76,8 +76,8 @@ pub are_live_sets :
     → leaders ≡ map (λ (block : Block). block.leader) blocks
     → AreInOrder blocks
     → AreFlows leaders blocks (length blocks) flows → IsSolution flows found
-    → ((k : ℕ) → k < length flows → live_at after k ≡ on_ways found.live.items found.any (flow_at flows k).ways)
-    → AreLiveSets blocks (record { leaders = leaders; before_blocks = found.live.items; behind_blocks = after })
+    → ((k : ℕ) → k < length flows → live_at after k ≡ on_edges found.live.items found.any (flow_at flows k).successors)
+    → AreLiveSets blocks (record { leaders = leaders; live_in = found.live.items; live_out = after })
 are_live_sets leaders blocks flows found after same ascending are solution each =
     let rise = leaders_ascend leaders blocks same ascending in
     let many_blocks = leaders_many leaders blocks same in
@@ -101,13 +101,13 @@ are_live_sets leaders blocks flows found after same ascending are solution each 
           let led : at.0.leader ≡ leader = sym (leader_at leaders blocks same k at.0 at.1) ∙ here in
           let set_is = sym (each k (omega (arith, are.many))) ∙ set_at leaders after k leader rise within here in
           let leads = leads_iff_live_after leaders blocks same flows are r ascending k at.0 at.1 in
-          let ways = (flow_at flows k).ways in (
+          let successors = (flow_at flows k).successors in (
             λ h.
                 subst (λ l. IsLiveAfter blocks l r) led
-                (leads.0 (on_ways_reached flows found sound r ways (subst (λ s. Has s r) (sym set_is) h))),
+                (leads.0 (on_edges_reached flows found sound r successors (subst (λ s. Has s r) (sym set_is) h))),
             λ live.
                 let (j, to, reached) = leads.1 (subst (λ l. IsLiveAfter blocks l r) (sym led) live) in
                 subst (λ s. Has s r) set_is
-                (on_ways_has found.live.items found.any ways j r (λ i. sound.all i r) to ((solution.live j r).1 reached)),
+                (on_edges_has found.live.items found.any successors j r (λ i. sound.all i r) to ((solution.live j r).1 reached)),
           );
     }

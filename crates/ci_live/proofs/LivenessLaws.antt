@@ -40,7 +40,9 @@ live_from_steps blocks r P reads steps (block ∷ passed) last passed_there last
     (first_there passed (All-tail (λ (b : Block). Contains blocks b) block passed passed_there))
     follow.0
     (All-head (λ (b : Block). ¬ Write b.insns.items r) block passed unwritten)
-    (live_from_steps blocks r P reads steps passed last (All-tail (λ (b : Block). Contains blocks b) block passed passed_there) last_there follow.1 read (All-tail (λ (b : Block). ¬ Write b.insns.items r) block passed unwritten))
+    (live_from_steps blocks r P reads steps passed last
+    (All-tail (λ (b : Block). Contains blocks b) block passed passed_there) last_there follow.1 read
+    (All-tail (λ (b : Block). ¬ Write b.insns.items r) block passed unwritten))
   where
     first_there : (more : List Block) → All (λ (b : Block). Contains blocks b) more → Contains blocks (first_of more last)
     first_there [] there = last_there

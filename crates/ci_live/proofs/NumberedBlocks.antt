@@ -7,8 +7,8 @@ use Rattle.std.proofs.lemmas.List.Elements.{All-cons, All-head}
 use Rattle.ci_block.specs.declared.blocks.Block.{Block}
 use Rattle.ci_block.specs.Blocks.{AreInOrder}
 use Rattle.ci_live.specs.declared.flow.Flow.{Flow}
-use Rattle.ci_live.specs.declared.flow.Ways.{Ways}
-use Rattle.ci_live.specs.Flows.{AreFlows, AreWays, IsReached, here, further, Leads, flow_at}
+use Rattle.ci_live.specs.declared.flow.Successors.{Successors}
+use Rattle.ci_live.specs.Flows.{AreFlows, AreSuccessorNumbers, IsReached, here, further, Leads, flow_at}
 use Rattle.ci_isa.specs.Sequences.{ReadFirst, Write}
 use Rattle.ci_live.specs.Liveness.{FollowEachOther, IsLive, IsLiveAfter, IsSuccessor, LeadsTo, first_of}
 use Rattle.ci_live.proofs.LivenessLaws.{live_from_steps, live_where_read}
@@ -73,26 +73,28 @@ leader_at leaders blocks same k block (within, is) =
     ap (λ (xs : List ℕ). get_or xs k 0) same ∙ get_or-map (λ (b : Block). b.leader) blocks k block 0 within
     ∙ ap (λ (b : Block). b.leader) is
 
--- a way leads to a block that is a successor
-way_to :
+-- a successor by number is a block that is a successor
+leads_to_successor :
     (leaders : List ℕ) (blocks : List Block) → leaders ≡ map (λ (block : Block). block.leader) blocks
-    → (before : Block) (ways : Ways) → AreWays leaders before.next ways → (k : ℕ) (after : Block) → Stands blocks k after
-    → Leads ways k ↔ IsSuccessor before after
-way_to leaders blocks same before ways are k after stands =
+    → (before : Block) (successors : Successors) → AreSuccessorNumbers leaders before.next successors → (k : ℕ) (after : Block) → Stands blocks k after
+    → Leads successors k ↔ IsSuccessor before after
+leads_to_successor leaders blocks same before successors are k after stands =
     let many : length leaders ≡ length blocks = ap length same ∙ length-map blocks (λ (b : Block). b.leader) in
-    subst (λ a. Leads ways k ↔ LeadsTo before.next a) (leader_at leaders blocks same k after stands)
+    subst (λ a. Leads successors k ↔ LeadsTo before.next a) (leader_at leaders blocks same k after stands)
     (are.leads k (omega (arith, many, stands.0)))
 
-module _ (leaders : List ℕ) (blocks : List Block) (leaders_are : leaders ≡ map (λ (block : Block). block.leader) blocks) (flows : List Flow) (are : AreFlows leaders blocks (length blocks) flows) (r : ℕ) where
+module _ (leaders : List ℕ) (blocks : List Block)
+    (leaders_are : leaders ≡ map (λ (block : Block). block.leader) blocks) (flows : List Flow)
+    (are : AreFlows leaders blocks (length blocks) flows) (r : ℕ) where
   pub live_from_reached : (k : ℕ) → IsReached flows r k → (block : Block) → Stands blocks k block → IsLive blocks block.leader r
   live_from_reached _ (here k within has) block (there, is) =
-      live_where_read blocks r block (k, there, is) (((are.each k block there is).first r).0 has)
+      live_where_read blocks r block (k, there, is) (((are.each k block there is).uses r).0 has)
   live_from_reached _ (further k j within leads unwritten reached) block (there, is) =
       let flow = are.each k block there is in
       let ahead = reached_below flows r j reached in
       let at = block_at blocks j block (omega (arith, are.many)) in
-      live_where_passed blocks r block at.0.leader (k, there, is) ((way_to leaders blocks leaders_are block _ flow.ways j at.0 at.1).0 leads)
-      (λ w. unwritten ((flow.written r).1 w))
+      live_where_passed blocks r block at.0.leader (k, there, is) ((leads_to_successor leaders blocks leaders_are block _ flow.successors j at.0 at.1).0 leads)
+      (λ w. unwritten ((flow.defs r).1 w))
       (live_from_reached j reached at.0 at.1)
 
   pub reached_from_live :
@@ -102,11 +104,11 @@ module _ (leaders : List ℕ) (blocks : List Block) (leaders_are : leaders ≡ m
       → (k : ℕ) → Stands blocks k (first_of passed last) → IsReached flows r k
   reached_from_live =
       live_from_steps blocks r (λ (block : Block). (k : ℕ) → Stands blocks k block → IsReached flows r k)
-      (λ block there read k (within, is). here k (omega (arith, are.many)) (((are.each k block within is).first r).1 read))
+      (λ block there read k (within, is). here k (omega (arith, are.many)) (((are.each k block within is).uses r).1 read))
       (λ block after there (j, after_within, after_is) follows unwritten reached k (within, is).
       let flow = are.each k block within is in
-      further k j (omega (arith, are.many)) ((way_to leaders blocks leaders_are block _ flow.ways j after (after_within, after_is)).1 follows)
-      (λ has. unwritten ((flow.written r).0 has))
+      further k j (omega (arith, are.many)) ((leads_to_successor leaders blocks leaders_are block _ flow.successors j after (after_within, after_is)).1 follows)
+      (λ has. unwritten ((flow.defs r).0 has))
       (reached j (after_within, after_is)))
 
   module _ (ascending : AreInOrder blocks) where
@@ -124,7 +126,7 @@ module _ (leaders : List ℕ) (blocks : List Block) (leaders_are : leaders ≡ m
     -- and behind it
     pub leads_iff_live_after :
         (k : ℕ) (block : Block) → Stands blocks k block
-        → ((j : ℕ) × Leads (flow_at flows k).ways j × IsReached flows r j) ↔ IsLiveAfter blocks block.leader r
+        → ((j : ℕ) × Leads (flow_at flows k).successors j × IsReached flows r j) ↔ IsLiveAfter blocks block.leader r
     leads_iff_live_after k block (within, is) = (
       λ (j, leads, reached).
           let ahead = reached_below flows r j reached in
@@ -135,7 +137,7 @@ module _ (leaders : List ℕ) (blocks : List Block) (leaders_are : leaders ≡ m
             of = refl;
             successor = at.0;
             successor_there = (j, at.1.0, at.1.1);
-            follows = (way_to leaders blocks leaders_are block _ (are.each k block within is).ways j at.0 at.1).0 leads;
+            follows = (leads_to_successor leaders blocks leaders_are block _ (are.each k block within is).successors j at.0 at.1).0 leads;
             live = live_from_reached j reached at.0 at.1;
           },
       λ after.
@@ -143,8 +145,9 @@ module _ (leaders : List ℕ) (blocks : List Block) (leaders_are : leaders ≡ m
           let s = after.successor_there in
           let same : b.0 ≡ k = one_number blocks ascending b.0 k after.block block (b.1, b.2) (within, is) after.of in (
             s.0,
-            subst (λ n. Leads (flow_at flows n).ways s.0) same
-                ((way_to leaders blocks leaders_are after.block _ (are.each b.0 after.block b.1 b.2).ways s.0 after.successor (s.1, s.2)).1 after.follows),
+            subst (λ n. Leads (flow_at flows n).successors s.0) same
+                ((leads_to_successor leaders blocks leaders_are after.block _
+                (are.each b.0 after.block b.1 b.2).successors s.0 after.successor (s.1, s.2)).1 after.follows),
             (reached_iff_live s.0 after.successor (s.1, s.2)).1 after.live,
           ),
     )

@@ -1,12 +1,13 @@
 -- Live sets that are found step by step, for private contracts.
-use Rattle.std.specs.Prelude.{◌≡◌, ℕ, ◌-◌, ◌<◌, ◌≤◌, ◌↔◌, Bool, List, length, Option, Some, None, slice_index, slice_index_or, MatchBool}
+use Rattle.std.specs.Prelude.{◌≡◌, ℕ, ◌-◌, ◌<◌, ◌≤◌, ◌↔◌, Bool, List, length, Option, Some, None, slice_index}
+use Rattle.std.specs.Prelude.{slice_index_or, MatchBool}
 use Rattle.std.specs.FinSet as set
 use Rattle.std.specs.List.{sum_by}
 use Rattle.std.specs.Ordering.{nat_cmp}
 use Rattle.ci_word.specs.Numbers.{count_below}
 use Rattle.ci_live.specs.declared.flow.Flow.{Flow}
-use Rattle.ci_live.specs.declared.flow.Ways.{Ways}
-use Rattle.ci_live.specs.declared.flow.Ways.TheVariants.{Named, Anywhere}
+use Rattle.ci_live.specs.declared.flow.Successors.{Successors}
+use Rattle.ci_live.specs.declared.flow.Successors.TheVariants.{Named, Anywhere}
 use Rattle.ci_live.specs.declared.iteration.Found.{Found as FoundSets}
 use Rattle.ci_live.specs.Flows.{Has, IsReached, flow_at}
 
@@ -14,15 +15,15 @@ use Rattle.ci_live.specs.Flows.{Has, IsReached, flow_at}
 abbrev pub live_at : List (set.FinSet nat_cmp) → ℕ → set.FinSet nat_cmp
 live_at live k = slice_index_or live k set.empty
 
--- what is live on one way on, or on none
-abbrev pub on_way : List (set.FinSet nat_cmp) → Option ℕ → set.FinSet nat_cmp
-on_way live None = set.empty
-on_way live (Some k) = live_at live k
+-- what is live at one successor, or at none
+abbrev pub on_edge : List (set.FinSet nat_cmp) → Option ℕ → set.FinSet nat_cmp
+on_edge live None = set.empty
+on_edge live (Some k) = live_at live k
 
--- what is live behind a block with these ways on, where `any` has what is live at some block
-abbrev pub on_ways : List (set.FinSet nat_cmp) → set.FinSet nat_cmp → Ways → set.FinSet nat_cmp
-on_ways live any (Named first second) = set.union (on_way live first) (on_way live second)
-on_ways live any Anywhere = any
+-- what is live behind a block with these successors, where `any` has what is live at some block
+abbrev pub on_edges : List (set.FinSet nat_cmp) → set.FinSet nat_cmp → Successors → set.FinSet nat_cmp
+on_edges live any (Named first second) = set.union (on_edge live first) (on_edge live second)
+on_edges live any Anywhere = any
 
 -- What was found is right: each register is live where it was found, and `any` has those that were found at some block
 -- and are live at some block.
@@ -35,11 +36,11 @@ pub record IsSound (flows : List Flow) (found : FoundSets) : Type 0 where
 -- what is live behind block k, as far as it was found, and not written by it
 abbrev pub passed_at : List Flow → FoundSets → ℕ → set.FinSet nat_cmp
 passed_at flows found k =
-    set.difference (on_ways found.live.items found.any (flow_at flows k).ways) (flow_at flows k).written
+    set.difference (on_edges found.live.items found.any (flow_at flows k).successors) (flow_at flows k).defs
 
 -- what block k needs, as far as it was found: what it reads first, and what it passes
 abbrev pub needed_at : List Flow → FoundSets → ℕ → set.FinSet nat_cmp
-needed_at flows found k = set.union (flow_at flows k).first (passed_at flows found k)
+needed_at flows found k = set.union (flow_at flows k).uses (passed_at flows found k)
 
 -- what block k needs that was not found at it
 abbrev pub missing_at : List Flow → FoundSets → ℕ → set.FinSet nat_cmp
@@ -53,17 +54,18 @@ IsClosed flows found k = (r : ℕ) → ¬ Has (missing_at flows found k) r
 abbrev pub room : FoundSets → ℕ
 room found = sum_by (λ live. 256 - count_below 256 (set.contains live)) found.live.items
 
--- a look at block k found something, or there was nothing to find
-abbrev pub IsLook : List Flow → FoundSets → FoundSets → ℕ → Bool → Type 0
-IsLook flows before after k grew = MatchBool grew (room after < room before) ((before ≡ after) × IsClosed flows after k)
+-- the transfer of block k found something, or there was nothing to find
+abbrev pub IsTransfer : List Flow → FoundSets → FoundSets → ℕ → Bool → Type 0
+IsTransfer flows before after k changes =
+    MatchBool changes (room after < room before) ((before ≡ after) × IsClosed flows after k)
 
--- looks at these blocks found something at those that are listed, or there was nothing to find
-pub record AreLooks (flows : List Flow) (before after : FoundSets) (order grown : List ℕ) : Type 0 where
+-- visits of these blocks changed those that are listed, or there was nothing to find
+pub record AreVisits (flows : List Flow) (before after : FoundSets) (order changed : List ℕ) : Type 0 where
   pub sound : IsSound flows after
   pub less : room after ≤ room before
-  pub some : 0 < length grown → room after < room before
-  pub none : length grown ≡ 0 → before ≡ after
-  pub closed : length grown ≡ 0 → (k : ℕ) → k < length order → IsClosed flows after (slice_index order k)
+  pub some : 0 < length changed → room after < room before
+  pub none : length changed ≡ 0 → before ≡ after
+  pub closed : length changed ≡ 0 → (k : ℕ) → k < length order → IsClosed flows after (slice_index order k)
 
 -- the sets are what is live at each block
 pub record IsSolution (flows : List Flow) (found : FoundSets) : Type 0 where

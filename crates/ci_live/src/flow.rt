@@ -2,7 +2,7 @@
 ghost use Rattle.std.specs.Prelude.{◌≡◌, ℕ, ◌<◌, ◌↔◌, length, map, slice_index, IfOk, MatchOption};
 ghost use Rattle.std.specs.List.{AllPairs, Contains};
 ghost use Rattle.ci_isa.specs.Sequences.{ReadFirst, Write};
-ghost use Rattle.ci_live.specs.Flows.{AreFlows, AreWays, Has};
+ghost use Rattle.ci_live.specs.Flows.{AreFlows, AreSuccessorNumbers, Has};
 
 use ci_block::{Block, Next};
 use ci_isa::{Insn, reads, writes};
@@ -11,7 +11,7 @@ use std::alloc::{AllocError, Global};
 
 /// The blocks that a block leads to, by their numbers.
 #[derive(Clone, Copy)]
-pub(crate) enum Ways {
+pub(crate) enum Successors {
     /// At most two blocks.
     Named(Option<usize>, Option<usize>),
     /// Each block, behind a JALR.
@@ -22,10 +22,10 @@ pub(crate) enum Ways {
 #[derive(Clone, Copy)]
 pub(crate) struct Flow {
     /// The registers that it reads before it writes them.
-    pub(crate) first: Row,
+    pub(crate) uses: Row,
     /// The registers that it writes.
-    pub(crate) written: Row,
-    pub(crate) ways: Ways,
+    pub(crate) defs: Row,
+    pub(crate) successors: Successors,
 }
 
 /// The number of the block that begins at an address, if there is one.
@@ -38,35 +38,35 @@ pub(crate) fn find(leaders: &[u32], address: u32) -> Option<usize>
 }
 
 /// The blocks that are successors.
-fn ways_of(leaders: &[u32], next: Next) -> Ways
+fn successors_of(leaders: &[u32], next: Next) -> Successors
     requires { AllPairs (λ a b. a < b) leaders.now }
-    ensures { AreWays leaders.now next result }
+    ensures { AreSuccessorNumbers leaders.now next result }
 {
     match next {
-        Next::Stop => Ways::Named(None, None),
-        Next::One(address) => Ways::Named(find(leaders, address), None),
+        Next::Stop => Successors::Named(None, None),
+        Next::One(address) => Successors::Named(find(leaders, address), None),
         Next::Two(target, following) => {
-            Ways::Named(find(leaders, target), find(leaders, following))
+            Successors::Named(find(leaders, target), find(leaders, following))
         }
-        Next::Any => Ways::Anywhere,
+        Next::Any => Successors::Anywhere,
     }
 }
 
 /// The registers that the instructions read before they write them, and those that they write.
 fn effects(insns: &[Insn]) -> (Row, Row)
-    ensures first { (r : ℕ) → Has result.0 r ↔ ReadFirst insns.now r }
-    ensures written { (r : ℕ) → Has result.1 r ↔ Write insns.now r }
+    ensures uses { (r : ℕ) → Has result.0 r ↔ ReadFirst insns.now r }
+    ensures defs { (r : ℕ) → Has result.1 r ↔ Write insns.now r }
 {
-    let mut first = Row::empty();
-    let mut written = Row::empty();
+    let mut uses = Row::empty();
+    let mut defs = Row::empty();
     for place in (0..insns.len()).rev() {
         let insn = &insns[place];
         let operands = reads(insn);
         let results = writes(insn);
-        first = operands.union(&first.difference(&results));
-        written = results.union(&written);
+        uses = operands.union(&uses.difference(&results));
+        defs = results.union(&defs);
     }
-    (first, written)
+    (uses, defs)
 }
 
 /// The flow of each block.
@@ -80,11 +80,11 @@ pub(crate) fn flows(
 {
     let mut flows = Vec::new(alloc);
     for block in blocks {
-        let (first, written) = effects(&block.insns);
+        let (uses, defs) = effects(&block.insns);
         flows.push(Flow {
-            first,
-            written,
-            ways: ways_of(leaders, block.next),
+            uses,
+            defs,
+            successors: successors_of(leaders, block.next),
         })?;
     }
     Ok(flows)

@@ -2,10 +2,10 @@
 ghost use Rattle.std.specs.Prelude.{◌≡◌, ℕ, ◌<◌, ◌≤◌, length, IfOk, IfSome, OnOk};
 ghost use Rattle.std.specs.List.{All, Contains};
 ghost use Rattle.ci_live.specs.Flows.{AreWithin, IsWithin};
-ghost use Rattle.ci_live.specs.Found.{AreLooks, IsLook, IsSolution, IsSound};
-ghost use Rattle.ci_live.specs.Found.{missing_at, on_way as what_is_on, on_ways, room};
+ghost use Rattle.ci_live.specs.Found.{AreVisits, IsTransfer, IsSolution, IsSound};
+ghost use Rattle.ci_live.specs.Found.{missing_at, on_edge as what_is_on, on_edges, room};
 
-use crate::flow::{Flow, Ways};
+use crate::flow::{Flow, Successors};
 use crate::predecessors::Predecessors;
 use ci_word::Row;
 use std::alloc::{AllocError, Global};
@@ -19,28 +19,28 @@ pub(crate) struct Found {
     pub(crate) any: Row,
 }
 
-/// What was found on one way on.
-fn on_way(live: &[Row], way: Option<usize>) -> Row
-    requires { IfSome way (λ k. k < length live.now) }
-    ensures { result ≡ what_is_on live.now way }
+/// What was found at one successor, if there is one.
+fn on_edge(live: &[Row], successor: Option<usize>) -> Row
+    requires { IfSome successor (λ k. k < length live.now) }
+    ensures { result ≡ what_is_on live.now successor }
 {
-    match way {
+    match successor {
         Some(number) => live[number],
         None => Row::empty(),
     }
 }
 
 impl Found {
-    /// What was found behind a block with these ways on.
-    pub(crate) fn after(&self, ways: Ways) -> Row
-        requires { IsWithin (length self.now.live.items) ways }
-        ensures { result ≡ on_ways self.now.live.items self.now.any ways }
+    /// What was found behind a block with these successors.
+    pub(crate) fn after(&self, successors: Successors) -> Row
+        requires { IsWithin (length self.now.live.items) successors }
+        ensures { result ≡ on_edges self.now.live.items self.now.any successors }
     {
-        match ways {
-            Ways::Named(first, second) => {
-                on_way(&self.live, first).union(&on_way(&self.live, second))
+        match successors {
+            Successors::Named(first, second) => {
+                on_edge(&self.live, first).union(&on_edge(&self.live, second))
             }
-            Ways::Anywhere => self.any,
+            Successors::Anywhere => self.any,
         }
     }
 
@@ -52,17 +52,17 @@ impl Found {
         ensures { result ≡ missing_at flows.now self.now number }
     {
         let flow = &flows[number];
-        let passed = self.after(flow.ways).difference(&flow.written);
-        flow.first.union(&passed).difference(&self.live[number])
+        let passed = self.after(flow.successors).difference(&flow.defs);
+        flow.uses.union(&passed).difference(&self.live[number])
     }
 
-    /// Looks at one block, and says whether something was found.
-    fn look(&mut self, flows: &[Flow], number: usize) -> bool
+    /// Puts in what is missing at one block, and says whether something was.
+    fn transfer(&mut self, flows: &[Flow], number: usize) -> bool
         requires number { number < length flows.now }
         requires flows { AreWithin flows.now }
         requires sound { IsSound flows.now self.old }
         ensures sound { IsSound flows.now self.new }
-        ensures look { IsLook flows.now self.old self.new number result }
+        ensures transfer { IsTransfer flows.now self.old self.new number result }
     {
         let missing = self.missing(flows, number);
         if missing.count() == 0 {
@@ -74,8 +74,8 @@ impl Found {
     }
 }
 
-/// Looks at blocks in this order, and lists those where something was found.
-fn look_at(
+/// The transfer of blocks in this order; it lists those that it changed.
+fn visit(
     alloc: Global,
     flows: &[Flow],
     found: &mut Found,
@@ -84,19 +84,19 @@ fn look_at(
     requires order { All (λ k. k < length flows.now) order.now }
     requires flows { AreWithin flows.now }
     requires sound { IsSound flows.now found.old }
-    ensures { IfOk result (λ grown. AreLooks flows.now found.old found.new order.now grown.items) }
+    ensures { IfOk result (λ changed. AreVisits flows.now found.old found.new order.now changed.items) }
 {
-    let mut grown = Vec::new(alloc);
+    let mut changed = Vec::new(alloc);
     for number in order {
-        if found.look(flows, *number) {
-            grown.push(*number)?;
+        if found.transfer(flows, *number) {
+            changed.push(*number)?;
         }
     }
-    Ok(grown)
+    Ok(changed)
 }
 
-/// Follows what was found at some blocks to all blocks that it can reach.
-fn follow(
+/// Propagates what was found at some blocks to all blocks that it can reach.
+fn propagate(
     alloc: Global,
     flows: &[Flow],
     predecessors: &Predecessors,
@@ -109,12 +109,12 @@ fn follow(
     ensures sound { OnOk result (IsSound flows.now found.new) }
     ensures less { OnOk result (room found.new ≤ room found.old) }
 {
-    let mut grown = first;
+    let mut changed = first;
     let mut seen = Row::empty();
-    while !grown.is_empty() {
-        let pending = predecessors.of_all(alloc, &grown, found.any != seen)?;
+    while !changed.is_empty() {
+        let pending = predecessors.of_all(alloc, &changed, found.any != seen)?;
         seen = found.any;
-        grown = look_at(alloc, flows, found, &pending)?;
+        changed = visit(alloc, flows, found, &pending)?;
     }
     Ok(())
 }
@@ -143,7 +143,7 @@ fn nothing(alloc: Global, flows: &[Flow]) -> Result<Found, AllocError>
 
 /// What is live at each block.
 ///
-/// A look at all blocks that finds nothing ends the search.
+/// A visit of all blocks that finds nothing ends the search.
 pub(crate) fn solve(alloc: Global, flows: &[Flow]) -> Result<Found, AllocError>
     requires { AreWithin flows.now }
     ensures { IfOk result (IsSolution flows.now) }
@@ -152,10 +152,10 @@ pub(crate) fn solve(alloc: Global, flows: &[Flow]) -> Result<Found, AllocError>
     let order = descending(alloc, flows.len())?;
     let mut found = nothing(alloc, flows)?;
     loop {
-        let grown = look_at(alloc, flows, &mut found, &order)?;
-        if grown.is_empty() {
+        let changed = visit(alloc, flows, &mut found, &order)?;
+        if changed.is_empty() {
             return Ok(found);
         }
-        follow(alloc, flows, &predecessors, &mut found, grown)?;
+        propagate(alloc, flows, &predecessors, &mut found, changed)?;
     }
 }

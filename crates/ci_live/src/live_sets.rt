@@ -3,7 +3,7 @@ ghost use Rattle.std.specs.Prelude.{◌≡◌, ℕ, ◌<◌, length, map, IfOk};
 ghost use Rattle.std.specs.List.{Contains};
 ghost use Rattle.ci_block.specs.Blocks.{AreInOrder};
 ghost use Rattle.ci_live.specs.Flows.{AreWithin, flow_at};
-ghost use Rattle.ci_live.specs.Found.{IsSolution, live_at, on_ways};
+ghost use Rattle.ci_live.specs.Found.{IsSolution, live_at, on_edges};
 ghost use Rattle.ci_live.specs.Liveness.{AreLiveSets};
 ghost use Rattle.ci_live.specs.Sets.{after_block, at_leader};
 
@@ -23,7 +23,8 @@ pub struct LiveSets {
 }
 
 impl Model for LiveSets {
-    ghost use Rattle.ci_live.specs.Sets.{Sets, coded_sets};
+    ghost use Rattle.ci_live.specs.Sets.{Sets};
+    ghost use Rattle.ci_live.specs.StoredSets.{coded_sets};
 
     ghost Value = { Sets };
 
@@ -31,11 +32,11 @@ impl Model for LiveSets {
 
     ghost view = { λ s. record {
       leaders = s.leaders.items;
-      before_blocks = s.at.items;
-      behind_blocks = s.after.items;
+      live_in = s.at.items;
+      live_out = s.after.items;
     } };
 
-    ghost use Rattle.ci_live.specs.Sets.{AreByLeader};
+    ghost use Rattle.ci_live.specs.StoredSets.{AreByLeader};
 
     ghost invariant = { λ s. AreByLeader s.leaders.items s.at.items s.after.items };
 }
@@ -81,11 +82,11 @@ fn sets_after(alloc: Global, flows: &[Flow], found: &Found) -> Result<Vec<Row>, 
     requires found { IsSolution flows.now found.now }
     ensures many { IfOk result (λ after. length after.items ≡ length flows.now) }
     ensures each { IfOk result (λ after. (k : ℕ) → k < length flows.now
-        → live_at after.items k ≡ on_ways found.now.live.items found.now.any (flow_at flows.now k).ways) }
+        → live_at after.items k ≡ on_edges found.now.live.items found.now.any (flow_at flows.now k).successors) }
 {
     let mut after = Vec::new(alloc);
     for flow in flows {
-        after.push(found.after(flow.ways))?;
+        after.push(found.after(flow.successors))?;
     }
     Ok(after)
 }

@@ -1,10 +1,10 @@
-//! The blocks whose live sets may grow where another one's has grown.
+//! The blocks whose live sets may grow where another one's has changed.
 //!
-//! They only say where to look next: that nothing is missing is seen by a look at all blocks in the end.
+//! They only say where to look next: that nothing is missing is seen by a visit of all blocks in the end.
 ghost use Rattle.std.specs.Prelude.{◌≡◌, ℕ, ◌<◌, length, IfOk, OnOk};
 ghost use Rattle.std.specs.List.{All};
 
-use crate::flow::{Flow, Ways};
+use crate::flow::{Flow, Successors};
 use std::alloc::{AllocError, Global};
 
 /// A block leads to another one, by their numbers.
@@ -27,12 +27,12 @@ pub(crate) struct Predecessors {
     ghost jumps_below: { All (λ from. from < count) from_jumps.items },
 }
 
-/// Adds the arc from a block on one of its ways, if there is one.
-fn add_arc(arcs: &mut Vec<Arc>, from: usize, way: Option<usize>) -> Result<(), AllocError>
+/// Adds the arc from a block on one of its successors, if there is one.
+fn add_arc(arcs: &mut Vec<Arc>, from: usize, successor: Option<usize>) -> Result<(), AllocError>
     ensures { OnOk result ((count : ℕ) → from < count → All (λ arc. arc.from < count) arcs.old.items
         → All (λ arc. arc.from < count) arcs.new.items) }
 {
-    if let Some(to) = way {
+    if let Some(to) = successor {
         arcs.push(Arc { from, to })?;
     }
     Ok(())
@@ -46,12 +46,12 @@ impl Predecessors {
         let mut arcs = Vec::new(alloc);
         let mut from_jumps = Vec::new(alloc);
         for (from, flow) in flows.iter().enumerate() {
-            match flow.ways {
-                Ways::Named(first, second) => {
+            match flow.successors {
+                Successors::Named(first, second) => {
                     add_arc(&mut arcs, from, first)?;
                     add_arc(&mut arcs, from, second)?;
                 }
-                Ways::Anywhere => from_jumps.push(from)?,
+                Successors::Anywhere => from_jumps.push(from)?,
             }
         }
         arcs.sort_unstable_by_key(|arc| arc.to);

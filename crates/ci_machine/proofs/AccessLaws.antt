@@ -1,5 +1,7 @@
 -- What accesses read and write, at addresses in a row.
-use Rattle.std.proofs.Common.{◌≡◌, ℕ, zero, suc, ◌+◌, ◌-◌, ◌*◌, ◌%◌, ◌/◌, ◌^◌, ◌<◌, ◌≤◌, Bool, true, false, cond, List, [], ◌∷◌, ◌++◌, length, get_or, set, refl, sym, ◌∙◌, ap, subst, arith, eqb, Option, Some, None, is_some, ◌⊎◌, inl, inr, ◌≢◌, lit≤, drop, find}
+use Rattle.std.proofs.Common.{◌≡◌, ℕ, zero, suc, ◌+◌, ◌-◌, ◌*◌, ◌%◌, ◌/◌, ◌^◌, ◌<◌, ◌≤◌, Bool, true, false, cond, List}
+use Rattle.std.proofs.Common.{[], ◌∷◌, ◌++◌, length, get_or, set, refl, sym, ◌∙◌, ap, subst, arith, eqb, Option, Some}
+use Rattle.std.proofs.Common.{None, is_some, ◌⊎◌, inl, inr, ◌≢◌, lit≤, drop, find}
 use Rattle.std.proofs.lemmas.List.{drop_more, length-set, get_or-set_same, get_or-set_other}
 use borrow.Author.Tests.{eqb-true, eqb-false}
 use Rattle.std.specs.Option.{option_map}
@@ -259,7 +261,8 @@ length-bytes_of_number (suc k) n = ap (λ (m : ℕ). suc m) (length-bytes_of_num
 -- ---- the first of several addresses with a property
 
 -- the addresses from one of them on
-addresses_from : (count i address : ℕ) → i < count → addresses (count - i) (address + i) ≡ (address + i) % 2 ^ 32 ∷ addresses (count - (i + 1)) (address + (i + 1))
+addresses_from : (count i address : ℕ) → i < count
+    → addresses (count - i) (address + i) ≡ (address + i) % 2 ^ 32 ∷ addresses (count - (i + 1)) (address + (i + 1))
 addresses_from count i address within =
     let e : count - i ≡ suc (count - (i + 1)) = omega arith in
     let next : address + i + 1 ≡ address + (i + 1) = omega arith in

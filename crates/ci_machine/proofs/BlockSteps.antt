@@ -11,14 +11,15 @@ use Rattle.ci_machine.specs.declared.ends.End.{End}
 use Rattle.ci_machine.specs.Cores.{Core, register}
 use Rattle.ci_machine.specs.Accesses.{addresses, number_of_bytes, bytes_at, with_bytes}
 use Rattle.ci_machine.specs.Outcomes.{Outcome, Next, Ended, reached, continued, at_start}
-use Rattle.ci_machine.specs.Actions.{Units, act, acted, accessed, address_from, stored}
+use Rattle.ci_machine.specs.Actions.{Units, act, accessed, address_from, stored}
+use Rattle.ci_machine.specs.Agreement.{acted}
 use Rattle.ci_machine.specs.Agreement.{act_all, AreActions, LeavesText, AllLeaveText}
 use Rattle.ci_machine.specs.Programs.{Program, State, in_text}
 use Rattle.ci_machine.specs.Steps.{Meaning, insn_in, fetched, following, control, then_onward, stepped, step}
 use Rattle.ci_machine.specs.Runs.{after}
 use Rattle.ci_machine.specs.Blocks.{StandAt, HaveSameText, IsRunOf}
 use Rattle.ci_machine.proofs.TestLaws.{neither_first, neither_second, both_first, both_second}
-use Rattle.ci_machine.proofs.Effects.{keeps, AgreeAt, same_bytes}
+use Rattle.ci_machine.proofs.InstructionFrame.{keeps, AgreeAt, same_bytes}
 
 -- ---- the first step of a run
 
@@ -55,12 +56,15 @@ pub text_stays : (text : ℕ → Bool) (units : Units) (insn : Insn) (core : Cor
     → (acted units insn core).state.memory a ≡ core.memory a
 text_stays text units (Store width rs1 rs2 offset) core a clear is = after_store (bytes_at core.memory (accessed (Store width rs1 rs2 offset) core))
   where
-    after_store : (bytes : Option (List ℕ)) → (reached core (stored core width (address_from core rs1 offset) (register core rs2) bytes)).state.memory a ≡ core.memory a
+    after_store : (bytes : Option (List ℕ)) →
+        (reached core (stored core width (address_from core rs1 offset) (register core rs2) bytes)).state.memory a
+        ≡ core.memory a
     after_store None = refl
     after_store (Some bytes) = not_stored text (accessed (Store width rs1 rs2 offset) core) _ core.memory a clear is
 text_stays text units insn core a clear is = ap (λ memory. memory a) ((keeps units insn core).memory refl)
 
-text_agrees : (program : Program) (left right : ℕ → Option ℕ) (places : List ℕ) → HaveSameText program left right → list_all (in_text program) places ≡ true → AgreeAt places left right
+text_agrees : (program : Program) (left right : ℕ → Option ℕ) (places : List ℕ) → HaveSameText program left right
+    → list_all (in_text program) places ≡ true → AgreeAt places left right
 text_agrees program left right [] same all = tt
 text_agrees program left right (place ∷ places) same all =
     (same place (both_first (in_text program place) _ all), text_agrees program left right places same (both_second (in_text program place) _ all))
@@ -110,7 +114,8 @@ module _ (meaning : Meaning) (program : Program) (memory : ℕ → Option ℕ) w
       by_outcome (act meaning.units insn state.core) refl made
       (λ next. block_steps insns next)
     where
-      by_outcome : (o : Outcome Core) → act meaning.units insn state.core ≡ o → step meaning program state ≡ then_onward state.pc (act meaning.units insn state.core)
+      by_outcome : (o : Outcome Core) → act meaning.units insn state.core ≡ o
+          → step meaning program state ≡ then_onward state.pc (act meaning.units insn state.core)
           → ((next : State) → StandAt meaning program memory next.pc insns → HaveSameText program memory next.core.memory → AreActions insns
           → AllLeaveText meaning.units (in_text program) insns (at_start next.core)
           → IsRunOf insns next.pc (after meaning program (length insns) next) (act_all meaning.units insns (at_start next.core)))

@@ -15,12 +15,16 @@ use Rattle.ci_machine.specs.Outcomes.{Next, Ended, reached, at_start}
 use Rattle.ci_machine.specs.Actions.{Units, address_from}
 use Rattle.ci_machine.specs.Agreement.{reads, writes, AgreeOutside, AgreeOn, AreRelated}
 use Rattle.ci_machine.specs.Programs.{Program, State, at_pc, lies_in, stack_start, stack_end}
-use Rattle.ci_machine.specs.Calls.{bad_file, bad_address, no_such_call, answering, range_at, read_length, read_into, read_call, written_from, is_output, write_call, may_end_at, with_heap_end, heap_call, numbered_call, moved_range}
-use Rattle.ci_machine.specs.Steps.{control, onward, directed, then_onward, following, is_taken, even, moved}
+use Rattle.ci_machine.specs.Calls.{bad_file, bad_address, no_such_call, answering, range_at, read_length, read_into}
+use Rattle.ci_machine.specs.Calls.{read_call, written_from, is_output, write_call, may_end_at, with_heap_end, heap_call}
+use Rattle.ci_machine.specs.Calls.{numbered_call}
+use Rattle.ci_machine.specs.Touches.{moved_range}
+use Rattle.ci_machine.specs.Steps.{control, onward, directed, then_onward, following, is_taken, even}
+use Rattle.ci_machine.specs.Touches.{moved}
 use Rattle.ci_machine.specs.Blocks.{AreRelatedAt, HaveSameLayout, IsMapped}
 use Rattle.ci_machine.proofs.TestLaws.{by_test, either_first}
 use Rattle.ci_machine.proofs.RegisterLaws.{register_kept, register_written, operands_agree, first_there, second_there}
-use Rattle.ci_machine.proofs.Effects.{same_bytes, same_stores, outside_text}
+use Rattle.ci_machine.proofs.InstructionFrame.{same_bytes, same_stores, outside_text}
 
 -- ---- cores behind a write
 
@@ -84,11 +88,13 @@ same_mapped left right (place ∷ places) same =
     both (Some byte) None = refl
     both (Some byte) (Some bytes) = refl
 
-module _ (text : ℕ → Bool) (left right : Core) (outside : AgreeOutside text left right) (mapped_left : IsMapped text left.memory) (mapped_right : IsMapped text right.memory) where
+module _ (text : ℕ → Bool) (left right : Core) (outside : AgreeOutside text left right)
+    (mapped_left : IsMapped text left.memory) (mapped_right : IsMapped text right.memory) where
   pub mapped_alike : (a : ℕ) → is_some (left.memory a) ≡ is_some (right.memory a)
   mapped_alike a = by_test (text a) (λ is. mapped_left a is ∙ sym (mapped_right a is)) (λ none. ap is_some (outside.memory a none))
 
-  same_range : (a n : ℕ) → (is_some (range_at left.memory a n) ≡ true → list_any text (addresses n a) ≡ false) → range_at left.memory a n ≡ range_at right.memory a n
+  same_range : (a n : ℕ) → (is_some (range_at left.memory a n) ≡ true → list_any text (addresses n a) ≡ false)
+      → range_at left.memory a n ≡ range_at right.memory a n
   same_range a n clear = tested (nat_le (a + n) (2 ^ 32)) clear
     where
       same_if : (l r : Option (List ℕ)) → is_some l ≡ is_some r → (is_some l ≡ true → l ≡ r) → l ≡ r
@@ -139,7 +145,9 @@ module _ (text set : ℕ → Bool) (old new : Program) (layout : HaveSameLayout 
         same_range text left right outside mapped_left mapped_right (register left 11) n (there (range_at left.memory (register left 11) n) refl)
         ∙ (λ i. range_at right.memory (x11 i) (same i))
       where
-        there : (range : Option (List ℕ)) → range_at left.memory (register left 11) n ≡ range → is_some (range_at left.memory (register left 11) n) ≡ true → list_any text (addresses n (register left 11)) ≡ false
+        there : (range : Option (List ℕ)) → range_at left.memory (register left 11) n ≡ range
+            → is_some (range_at left.memory (register left 11) n) ≡ true
+            → list_any text (addresses n (register left 11)) ≡ false
         there None is some = let never : is_some {T = List ℕ} None ≡ true = ap is_some (sym is) ∙ some in cc
         there (Some bytes) is some = rw is at clear
 
@@ -190,7 +198,8 @@ module _ (text set : ℕ → Bool) (old new : Program) (layout : HaveSameLayout 
 
     abbrev may_end : ℕ → ℕ → ℕ → Bool
     may_end start size address =
-        nat_le start address && nat_le address 0xffff0000 && (nat_le address stack_start || nat_le stack_end start) && nat_le (size + (address - start)) 67108864
+        nat_le start address && nat_le address 0xffff0000 && (nat_le address stack_start || nat_le stack_end start)
+        && nat_le (size + (address - start)) 67108864
 
     heap : AreRelated text (with_answer set) (at_start (heap_call old left)) (at_start (heap_call new right))
     heap =
@@ -215,7 +224,8 @@ module _ (text set : ℕ → Bool) (old new : Program) (layout : HaveSameLayout 
             subst (λ end. AreRelated text (with_answer set)
             (at_start (answering (with_heap_end left (register left 10)) (register left 10))) (at_start (answering (with_heap_end right end) end)))
             x10
-            (written_too text set (with_heap_end left (register left 10)) (with_heap_end right (register left 10)) (ended (register left 10)) agree 10 (register left 10) (register left 10) refl)
+            (written_too text set (with_heap_end left (register left 10)) (with_heap_end right (register left 10))
+            (ended (register left 10)) agree 10 (register left 10) (register left 10) refl)
         tested false false same = answered left.heap_end right.heap_end outside.heap_end
         tested true false same = cc
         tested false true same = cc
@@ -257,12 +267,15 @@ module _ (text set : ℕ → Bool) (old new : Program) (layout : HaveSameLayout 
 
 -- ---- control
 
-module _ (text set : ℕ → Bool) (units : Units) (old new : Program) (layout : HaveSameLayout old new) (left right : Core) (mapped_left : IsMapped text left.memory)
+module _ (text set : ℕ → Bool) (units : Units) (old new : Program) (layout : HaveSameLayout old new)
+    (left right : Core) (mapped_left : IsMapped text left.memory)
     (mapped_right : IsMapped text right.memory) (outside : AgreeOutside text left right) (agree : AgreeOn set left right) where
-  read_agrees : (registers : List ℕ) (r : ℕ) → ((q : ℕ) → is_among registers q ≡ true → set q ≡ true) → list_any (λ n. n == r) registers ≡ true → register left r ≡ register right r
+  read_agrees : (registers : List ℕ) (r : ℕ) → ((q : ℕ) → is_among registers q ≡ true → set q ≡ true)
+      → list_any (λ n. n == r) registers ≡ true → register left r ≡ register right r
   read_agrees registers r covered there = operands_agree registers left right r (λ q is. agree q (covered q is)) there
 
-  pub control_frame : (insn : Insn) (pc : ℕ) → ends_block insn ≡ true → ((r : ℕ) → reads units insn r ≡ true → set r ≡ true) → list_any text (moved insn left) ≡ false
+  pub control_frame : (insn : Insn) (pc : ℕ) → ends_block insn ≡ true
+      → ((r : ℕ) → reads units insn r ≡ true → set r ≡ true) → list_any text (moved insn left) ≡ false
       → AreRelatedAt text (λ r. set r || writes insn r)
       (reached (at_pc pc left) (control old insn pc left)) (reached (at_pc pc right) (control new insn pc right))
   control_frame (Auipc rd upper) pc ends covered clear =
@@ -287,11 +300,15 @@ module _ (text set : ℕ → Bool) (units : Units) (old new : Program) (layout :
           → AreRelatedAt text (λ r. set r || is_among [] r)
           (reached (at_pc pc left) (if l then directed (operation Add pc (word_of offset)) left else onward pc left))
           (reached (at_pc pc right) (if r then directed (operation Add pc (word_of offset)) right else onward pc right))
-      tested true true same = both_directed text (λ r. set r || is_among [] r) (at_pc pc left) (at_pc pc right) (operation Add pc (word_of offset)) left right outside (as_before text set left right outside agree)
-      tested false false same = both_next text (λ r. set r || is_among [] r) (at_pc pc left) (at_pc pc right) (following pc) left right (as_before text set left right outside agree)
+      tested true true same = both_directed text (λ r. set r || is_among [] r) (at_pc pc left) (at_pc pc right)
+          (operation Add pc (word_of offset)) left right outside (as_before text set left right outside agree)
+      tested false false same = both_next text (λ r. set r || is_among [] r) (at_pc pc left) (at_pc pc right)
+          (following pc) left right (as_before text set left right outside agree)
       tested true false same = cc
       tested false true same = cc
-  control_frame (Fence bits rs1 rd) pc ends covered clear = both_next text _ (at_pc pc left) (at_pc pc right) (following pc) left right (as_before text set left right outside agree)
+  control_frame (Fence bits rs1 rd) pc ends covered clear =
+      both_next text _ (at_pc pc left) (at_pc pc right) (following pc) left right
+      (as_before text set left right outside agree)
   control_frame Ecall pc ends covered clear =
       let calls = 10 ∷ 11 ∷ 12 ∷ 17 ∷ [] in
       let x10 = read_agrees calls 10 covered refl in

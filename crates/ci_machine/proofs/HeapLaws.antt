@@ -1,9 +1,10 @@
 -- What memory is after the heap's end moved.
-use Rattle.std.proofs.Common.{◌≡◌, ℕ, ◌+◌, ◌-◌, ◌^◌, ◌<◌, ◌≤◌, Bool, true, false, Option, Some, None, cond, List, [], ◌∷◌, length, get_or, refl, ap, sym, ◌∙◌, arith, ◌⊎◌, inl, inr}
+use Rattle.std.proofs.Common.{◌≡◌, ℕ, ◌+◌, ◌-◌, ◌^◌, ◌<◌, ◌≤◌, Bool, true, false, Option, Some, None, cond, List, []}
+use Rattle.std.proofs.Common.{◌∷◌, length, get_or, refl, ap, sym, ◌∙◌, arith, ◌⊎◌, inl, inr}
 use Rattle.std.proofs.lemmas.Bool.Decides.{nat_tests}
 use Rattle.std.proofs.lemmas.List.{get_or_past}
 use Rattle.ci_machine.specs.declared.parts.Part.{Part}
-use Rattle.ci_machine.specs.Programs.{lies_in, greatest_end}
+use Rattle.ci_machine.specs.Programs.{lies_in, maximum_end}
 use Rattle.ci_machine.specs.Parts.{holds, byte_in, AreLoaded, IsApart, IsLaidOut, place_of, places, heap_end_in, segments_in, with_heap_moved}
 use Rattle.ci_machine.proofs.PartLaws.{passed, lies_in-bounds}
 
@@ -11,8 +12,8 @@ outside : (start end address : ℕ) → (address < start) ⊎ (end ≤ address) 
 outside start end address (inl h) = grind (arith, nat_tests)
 outside start end address (inr h) = grind (arith, nat_tests)
 
--- nothing lies behind the greatest end
-pub byte_in-past : (parts : List Part) (x : ℕ) → greatest_end (places parts) ≤ x → byte_in parts x ≡ None
+-- nothing lies behind the maximum end
+pub byte_in-past : (parts : List Part) (x : ℕ) → maximum_end (places parts) ≤ x → byte_in parts x ≡ None
 unfolding byte_in places
 byte_in-past [] x past = refl
 byte_in-past (p ∷ ps) x past =
@@ -70,14 +71,14 @@ not_heap stack heap segments apart x h = unheld (holds heap x) _ _ (apart.0 x h)
 -- what is known of parts after the heap, the second of them, ends elsewhere
 pub record IsMoved (old new : List Part) (loaded end : ℕ) : Type 0 where
   pub apart : IsApart new
-  pub within : greatest_end (places new) ≤ 2 ^ 32
+  pub within : maximum_end (places new) ≤ 2 ^ 32
   pub laid_out : IsLaidOut (places new) loaded
   pub bytes : byte_in new ≡ with_heap_moved (heap_end_in (places old)) end (byte_in old)
   pub heap_end : heap_end_in (places new) ≡ end
   pub segments : segments_in (places new) ≡ segments_in (places old)
 
 module _ (stack heap new : Part) (segments : List Part) (loaded end : ℕ) (apart : IsApart (stack ∷ heap ∷ segments))
-    (laid : AreLoaded (place_of stack) (place_of heap) (places segments) loaded) (within : greatest_end (places (stack ∷ heap ∷ segments)) ≤ 2 ^ 32)
+    (laid : AreLoaded (place_of stack) (place_of heap) (places segments) loaded) (within : maximum_end (places (stack ∷ heap ∷ segments)) ≤ 2 ^ 32)
     (begins : new.start ≡ heap.start) (ends : heap.start + length new.bytes.items ≡ end) (top : end ≤ 0xffff0000)
     (kept : (k : ℕ) → k < length new.bytes.items → get_or new.bytes.items k 0 ≡ get_or heap.bytes.items k 0)
     (clear : (x : ℕ) → holds stack x ≡ true → lies_in heap.start end x ≡ false) where

@@ -1,5 +1,6 @@
 -- The text in the memory in which a run opens.
-use Rattle.std.proofs.Common.{◌≡◌, ℕ, zero, suc, ◌+◌, ◌-◌, ◌*◌, ◌%◌, ◌^◌, ◌<◌, ◌≤◌, inl, inr, refl, ap, sym, subst, ◌∙◌, arith, List, [], ◌∷◌, map, Some, None, is_some}
+use Rattle.std.proofs.Common.{◌≡◌, ℕ, zero, suc, ◌+◌, ◌-◌, ◌*◌, ◌%◌, ◌^◌, ◌<◌, ◌≤◌, inl, inr, refl, ap, sym, subst, ◌∙◌}
+use Rattle.std.proofs.Common.{arith, List, [], ◌∷◌, map, Some, None, is_some}
 use Rattle.std.specs.Prelude.{Bool, true, false, ◌==◌, ◌&&◌, max, if◌then◌else◌, IsTrue, slice_index, slice_index_or}
 use Rattle.std.specs.List.{list_all, Contains}
 use Rattle.std.specs.Option.{option_map}
@@ -11,10 +12,11 @@ use Rattle.ci_elf.specs.Executables.{Executable, InText, IsTextWord, IsWellForme
 use Rattle.ci_elf.proofs.ImageLaws.{contained_later, loaded_from, loaded_to, loads_between, contains_tail, place_found, layout_of}
 use Rattle.ci_machine.specs.Accesses.{addresses, bytes_at, number_of_bytes}
 use Rattle.ci_machine.specs.Parts.{bytes_from}
-use Rattle.ci_machine.specs.Programs.{extent_of, greatest_end, heap_start, in_text, lies_in, loaded_byte, loaded_memory, loaded_program, opening}
+use Rattle.ci_machine.specs.Programs.{extent_of, maximum_end, heap_start, in_text, lies_in, loaded_byte, loaded_memory, loaded_program, opening}
 use Rattle.ci_machine.specs.Steps.{Meaning, word_at, insn_in, following}
 use Rattle.ci_isa.specs.declared.instruction.Insn.{Insn}
-use Rattle.ci_machine.specs.Runs.{after, LeavesTextFor}
+use Rattle.ci_machine.specs.Runs.{after}
+use Rattle.ci_machine.specs.Touches.{LeavesTextFor}
 use Rattle.ci_machine.specs.Blocks.{StandAt}
 use Rattle.ci_machine.specs.Texts.{HasText, IsFileInsn, AreFileInsns}
 use Rattle.ci_machine.proofs.TestLaws.{by_test}
@@ -80,10 +82,10 @@ module _ (file : Executable) (formed : IsWellFormed file) where
       let loads = loads_between l.0 address (omega (arith, l.2.from, h.from)) (omega (arith, l.2.to, h.to)) in
       ap is_some (loaded_is l.0 l.1 address loads)
 
-  ends_above : (segments : List Segment) (s : Segment) → Contains segments s → s.address + s.memory_size ≤ greatest_end (map extent_of segments)
+  ends_above : (segments : List Segment) (s : Segment) → Contains segments s → s.address + s.memory_size ≤ maximum_end (map extent_of segments)
   ends_above [] s c = absurd (omega (arith, c.1))
   ends_above (t ∷ ts) s (zero, lt, is) =
-      subst (λ (r : Segment). r.address + r.memory_size ≤ max (t.address + t.memory_size) (greatest_end (map extent_of ts))) is (omega arith)
+      subst (λ (r : Segment). r.address + r.memory_size ≤ max (t.address + t.memory_size) (maximum_end (map extent_of ts))) is (omega arith)
   ends_above (t ∷ ts) s (suc k, lt, is) = omega (arith, ends_above ts s (k, omega arith, is))
 
   text_below : (address : ℕ) → InText file.ranges address → address < heap_start (loaded_program file)

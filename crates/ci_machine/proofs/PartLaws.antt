@@ -1,9 +1,10 @@
 -- What memory in parts has at an address, also after a write into one part.
-use Rattle.std.proofs.Common.{◌≡◌, ℕ, zero, suc, ◌+◌, ◌-◌, ◌<◌, ◌≤◌, Bool, true, false, cond, List, [], ◌∷◌, length, get_or, set, refl, sym, ◌∙◌, ap, subst, arith, Option, Some, None, max, drop}
+use Rattle.std.proofs.Common.{◌≡◌, ℕ, zero, suc, ◌+◌, ◌-◌, ◌<◌, ◌≤◌, Bool, true, false, cond, List, [], ◌∷◌, length}
+use Rattle.std.proofs.Common.{get_or, set, refl, sym, ◌∙◌, ap, subst, arith, Option, Some, None, max, drop}
 use Rattle.std.proofs.lemmas.List.{drop_more, drop_all, get_or_read}
 use Rattle.std.proofs.lemmas.Bool.Decides.{nat_tests}
 use Rattle.ci_machine.specs.declared.parts.Part.{Part}
-use Rattle.ci_machine.specs.Programs.{Extent, lies_in, greatest_end}
+use Rattle.ci_machine.specs.Programs.{Extent, lies_in, maximum_end}
 use Rattle.ci_machine.specs.Parts.{holds, byte_in, IsApart, IsFound, place_of, places}
 
 -- ---- tests
@@ -109,16 +110,16 @@ module _ (part new : Part) (begins : new.start ≡ part.start) (ends : length ne
   places-set (p ∷ ps) zero lt is = ap (λ (s : Extent). s ∷ places ps) (same_place ∙ ap place_of is)
   places-set (p ∷ ps) (suc i) lt is = ap (λ (s : List Extent). place_of p ∷ s) (places-set ps i (omega arith) is)
 
--- no part goes past the greatest end
+-- no part goes past the maximum end
 pub end_of_part : (parts : List Part) (i : ℕ) (part : Part) → i < length parts → part ≡ get_or parts i part
-    → part.start + length part.bytes.items ≤ greatest_end (places parts)
+    → part.start + length part.bytes.items ≤ maximum_end (places parts)
 unfolding places
 end_of_part [] i part lt is = absurd (omega arith)
 end_of_part (p ∷ ps) zero part lt is =
-    let P : Part → Type 0 = λ q. q.start + length q.bytes.items ≤ greatest_end (places (p ∷ ps)) in
-    subst P (sym is) (greater_left (p.start + length p.bytes.items) (greatest_end (places ps)))
+    let P : Part → Type 0 = λ q. q.start + length q.bytes.items ≤ maximum_end (places (p ∷ ps)) in
+    subst P (sym is) (greater_left (p.start + length p.bytes.items) (maximum_end (places ps)))
 end_of_part (p ∷ ps) (suc i) part lt is =
-    greater_right (p.start + length p.bytes.items) (greatest_end (places ps)) (part.start + length part.bytes.items)
+    greater_right (p.start + length p.bytes.items) (maximum_end (places ps)) (part.start + length part.bytes.items)
     (end_of_part ps i part (omega arith) is)
 
 -- ---- a search through the parts
@@ -140,4 +141,5 @@ pub byte_in-found : (parts : List Part) (i x : ℕ) (part : Part) (byte : ℕ) �
     → part ≡ get_or parts i part → byte ≡ get_or part.bytes.items (x - part.start) byte → Some byte ≡ byte_in parts x
 byte_in-found parts i x part byte apart found is read =
     let inside = lies_in-bounds part.start (part.start + length part.bytes.items) x (found.here part is) in
-    ap Some (get_or_read part.bytes.items (x - part.start) byte (omega arith) read 0) ∙ sym (byte_in_part parts i part apart found.below is x (found.here part is))
+    ap Some (get_or_read part.bytes.items (x - part.start) byte (omega arith) read 0)
+    ∙ sym (byte_in_part parts i part apart found.below is x (found.here part is))

@@ -1,10 +1,11 @@
 -- What memory is after a write into the part that was found.
-use Rattle.std.proofs.Common.{◌≡◌, ℕ, ◌+◌, ◌-◌, ◌^◌, ◌≤◌, Bool, true, Option, Some, cond, List, [], length, get_or, set, refl, ap, sym, ◌∙◌, arith, subst, false, IsTrue, ◌↔◌}
+use Rattle.std.proofs.Common.{◌≡◌, ℕ, ◌+◌, ◌-◌, ◌^◌, ◌≤◌, Bool, true, Option, Some, cond, List, [], length, get_or, set}
+use Rattle.std.proofs.Common.{refl, ap, sym, ◌∙◌, arith, subst, false, IsTrue, ◌↔◌}
 use Rattle.ci_machine.specs.declared.parts.Part.{Part}
 use Rattle.ci_isa.specs.declared.instruction.Width.{Width}
 use Rattle.ci_isa.specs.Effects.{width_bytes}
 use Rattle.ci_machine.specs.Accesses.{addresses, bytes_of_number, with_bytes}
-use Rattle.ci_machine.specs.Programs.{Extent, greatest_end, lies_in}
+use Rattle.ci_machine.specs.Programs.{Extent, maximum_end, lies_in}
 use Rattle.ci_machine.specs.Parts.{holds, byte_in, overwritten, with_number, IsApart, IsFound, IsLaidOut, places}
 use Rattle.ci_machine.proofs.PartLaws.{absorbed, byte_in_part, byte_in-set, IsApart-set, places-set, lies_in-bounds, end_of_part}
 use Rattle.ci_machine.proofs.AccessLaws.{over, over-overwritten, length_overwritten, length-bytes_of_number}
@@ -22,13 +23,13 @@ pub record IsStored (old new : List Part) (x : ℕ) (width : Width) (value : ℕ
   pub bytes : byte_in new ≡ with_number (byte_in old) x width value result
 
 -- what is kept of a memory whose parts lie where they lay
-pub within_still : (old new : List Part) → places new ≡ places old → greatest_end (places old) ≤ 2 ^ 32 → greatest_end (places new) ≤ 2 ^ 32
-within_still old new same h = let P : List Extent → Type 0 = λ ss. greatest_end ss ≤ 2 ^ 32 in subst P (sym same) h
+pub within_still : (old new : List Part) → places new ≡ places old → maximum_end (places old) ≤ 2 ^ 32 → maximum_end (places new) ≤ 2 ^ 32
+within_still old new same h = let P : List Extent → Type 0 = λ ss. maximum_end ss ≤ 2 ^ 32 in subst P (sym same) h
 
 pub laid_out_still : (old new : List Part) (loaded : ℕ) → places new ≡ places old → IsLaidOut (places old) loaded → IsLaidOut (places new) loaded
 laid_out_still old new loaded same h = let P : List Extent → Type 0 = λ ss. IsLaidOut ss loaded in subst P (sym same) h
 
-module _ (parts : List Part) (i x : ℕ) (part new : Part) (apart : IsApart parts) (within : greatest_end (places parts) ≤ 2 ^ 32)
+module _ (parts : List Part) (i x : ℕ) (part new : Part) (apart : IsApart parts) (within : maximum_end (places parts) ≤ 2 ^ 32)
     (found : IsFound parts i x) (is : part ≡ get_or parts i part) (begins : new.start ≡ part.start) where
   module _ (bytes : List ℕ) (same : new.bytes.items ≡ overwritten part.bytes.items (x - part.start) bytes) where
     same_length : length new.bytes.items ≡ length part.bytes.items

@@ -20,7 +20,8 @@ first_there r more = grind (arith, nat_tests)
 pub second_there : (a r : ℕ) (more : List ℕ) → list_any (λ n. n == r) (a ∷ r ∷ more) ≡ true
 second_there a r more = grind (arith, nat_tests)
 
-pub operands_agree : (registers : List ℕ) (left right : Core) (r : ℕ) → AgreeOn (is_among registers) left right → list_any (λ n. n == r) registers ≡ true → register left r ≡ register right r
+pub operands_agree : (registers : List ℕ) (left right : Core) (r : ℕ) → AgreeOn (is_among registers) left right
+    → list_any (λ n. n == r) registers ≡ true → register left r ≡ register right r
 operands_agree registers left right r agree there = grind (arith, nat_tests, agree r)
 
 -- ---- lists of registers
@@ -39,7 +40,8 @@ values_agree (r ∷ more) left right agree =
     let rest = values_agree more left right (λ q is. agree q (first_or_more r more q ∙ either_second (is_among (r ∷ []) q) _ is)) in
     λ i. first i ∷ rest i
 
-pub registers_kept : (registers values : List ℕ) (core : Core) (q : ℕ) → is_among registers q ≡ false → register (with_registers core registers values) q ≡ register core q
+pub registers_kept : (registers values : List ℕ) (core : Core) (q : ℕ) → is_among registers q ≡ false
+    → register (with_registers core registers values) q ≡ register core q
 registers_kept [] values core q other = refl
 registers_kept (r ∷ more) values core q other =
     let none = sym (first_or_more r more q) ∙ other in

@@ -1,5 +1,7 @@
 -- The memory in which a run opens: a stack of zeros, a heap without bytes, and the segments of a file.
-use Rattle.std.proofs.Common.{◌≡◌, ℕ, suc, ◌+◌, ◌-◌, ◌*◌, ◌/◌, ◌<◌, ◌≤◌, ◌⊎◌, inl, inr, Bool, true, false, cond, List, [], ◌∷◌, ◌++◌, map, length, get_or, take, refl, sym, ◌∙◌, ap, subst, arith, Option, Some, None}
+use Rattle.std.proofs.Common.{◌≡◌, ℕ, suc, ◌+◌, ◌-◌, ◌*◌, ◌/◌, ◌<◌, ◌≤◌, ◌⊎◌, inl, inr, Bool, true, false, cond, List}
+use Rattle.std.proofs.Common.{[], ◌∷◌, ◌++◌, map, length, get_or, take, refl, sym, ◌∙◌, ap, subst, arith, Option, Some}
+use Rattle.std.proofs.Common.{None}
 use Rattle.std.proofs.lemmas.Bool.{cases_Bool}
 use Rattle.std.proofs.lemmas.Bool.Decides.{nat_tests}
 use Rattle.std.proofs.lemmas.List.Sums.{sum_by-cons}
@@ -11,7 +13,8 @@ use Rattle.ci_elf.specs.declared.segments.Segment.{Segment}
 use Rattle.ci_elf.specs.Executables.{Executable, IsWellFormed, ShareNoMemory}
 use Rattle.ci_elf.proofs.ImageLaws.{contains_tail}
 use Rattle.ci_machine.specs.declared.parts.Part.{Part}
-use Rattle.ci_machine.specs.Programs.{extent_of, greatest_end, heap_start, lies_in, loaded_byte, loaded_memory, loaded_program, loaded_size, stack_start, stack_end}
+use Rattle.ci_machine.specs.Programs.{extent_of, maximum_end, heap_start, lies_in, loaded_byte, loaded_memory}
+use Rattle.ci_machine.specs.Programs.{loaded_program, loaded_size, stack_start, stack_end}
 use Rattle.ci_machine.specs.Parts.{byte_in, holds, IsApart, IsLaidOut, places}
 use Rattle.ci_machine.specs.Loading.{AreOpening, IsLoaded}
 use Rattle.ci_machine.proofs.PartLaws.{held_same, lies_in-bounds}
@@ -20,7 +23,7 @@ use Rattle.ci_machine.proofs.PartLaws.{held_same, lies_in-bounds}
 
 ends_below : (segments : List Segment) (top : ℕ)
     → ((s : Segment) → Contains segments s → s.address + s.memory_size ≤ top)
-    → greatest_end (map extent_of segments) ≤ top
+    → maximum_end (map extent_of segments) ≤ top
 ends_below [] top each = omega arith
 ends_below (s ∷ ss) top each =
     omega (arith, each s (0, omega arith, refl), ends_below ss top (λ t c. each t (contains_tail s ss t c)))
@@ -144,7 +147,7 @@ empty_holds : (heap : Part) (start x : ℕ) → IsZeros heap start 0 → holds h
 empty_holds heap start x is = let many = is.many in grind (arith, nat_tests)
 
 module _ (file : Executable) (formed : IsWellFormed file) where
-  pub segments_end : greatest_end (map extent_of file.segments) ≤ 0xffff0000
+  pub segments_end : maximum_end (map extent_of file.segments) ≤ 0xffff0000
   segments_end = ends_below file.segments 0xffff0000 formed.below_top
 
   pub segments_fit : loaded_size (map extent_of file.segments) ≤ 67108864
@@ -167,8 +170,8 @@ module _ (file : Executable) (formed : IsWellFormed file) where
   unfolding byte_in IsApart places IsLaidOut
   opening_from stack heap parts stack_is heap_is all =
       let there : places parts ≡ map extent_of file.segments = places_loaded file.bytes file.segments parts all in
-      let end : greatest_end (places parts) ≤ 0xffff0000 = rw there segments_end in
-      let begins : heap.start ≡ (greatest_end (places parts) + 15) / 16 * 16 = rw there heap_is.begins in
+      let end : maximum_end (places parts) ≤ 0xffff0000 = rw there segments_end in
+      let begins : heap.start ≡ (maximum_end (places parts) + 15) / 16 * 16 = rw there heap_is.begins in
       record {
         apart = (
           λ x h. rw (empty_holds heap _ x heap_is)

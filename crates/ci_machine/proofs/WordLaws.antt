@@ -1,5 +1,6 @@
 -- States of words lead to states of words.
-use Rattle.std.proofs.Common.{◌≡◌, ℕ, zero, suc, ◌+◌, ◌-◌, ◌*◌, ◌/◌, ◌%◌, ◌^◌, ◌<◌, ◌≤◌, inl, inr, refl, sym, subst, arith, lit<, pow-suc, List, [], ◌∷◌, ◌++◌, take, drop, Option, Some, None, ℤ, pos, negsuc}
+use Rattle.std.proofs.Common.{◌≡◌, ℕ, zero, suc, ◌+◌, ◌-◌, ◌*◌, ◌/◌, ◌%◌, ◌^◌, ◌<◌, ◌≤◌, inl, inr, refl, sym, subst}
+use Rattle.std.proofs.Common.{arith, lit<, pow-suc, List, [], ◌∷◌, ◌++◌, take, drop, Option, Some, None, ℤ, pos, negsuc}
 use Rattle.std.specs.List.{Contains}
 use Rattle.std.specs.Option.{option_map}
 use Rattle.std.specs.Prelude.{Bool, true, false, ◌==◌, nat_le, nat_lt, if◌then◌else◌}
@@ -21,7 +22,8 @@ use Rattle.ci_machine.specs.Cores.{Core, first_hidden, hidden, register, with_re
 use Rattle.ci_machine.specs.Accesses.{addresses, joined, bytes_at, with_bytes, number_of_bytes, bytes_of_number, load_width, extended}
 use Rattle.ci_machine.specs.Outcomes.{Outcome, Next, Ended, Reached, reached, continued, from_end}
 use Rattle.ci_machine.specs.Agreement.{act_all}
-use Rattle.ci_machine.specs.Actions.{Units, act, acted, address_from, loaded, stored}
+use Rattle.ci_machine.specs.Actions.{Units, act, address_from, loaded, stored}
+use Rattle.ci_machine.specs.Agreement.{acted}
 use Rattle.ci_elf.specs.FrameImages.{AreWords}
 use Rattle.ci_elf.specs.Executables.{Executable, InText, IsWellFormed}
 use Rattle.ci_elf.specs.declared.segments.Segment.{Segment}
@@ -29,8 +31,11 @@ use Rattle.ci_isa.specs.Table.{IsInsnAt}
 use Rattle.ci_machine.specs.declared.ends.End.{End}
 use Rattle.ci_machine.specs.declared.ends.End.TheVariants as ends
 use Rattle.ci_machine.specs.Programs.{Program, State, at_pc, lies_in, stack_start, stack_end, loaded_byte, loaded_memory, opening}
-use Rattle.ci_machine.specs.Calls.{bad_file, bad_address, no_such_call, answering, range_at, read_length, read_into, read_call, written_from, is_output, write_call, may_end_at, with_heap_end, heap_call, call}
-use Rattle.ci_machine.specs.Steps.{Meaning, IsPlain, word_at, fetched, following, onward, directed, is_taken, even, then_onward, control, execute, stepped, step}
+use Rattle.ci_machine.specs.Calls.{bad_file, bad_address, no_such_call, answering, range_at, read_length, read_into}
+use Rattle.ci_machine.specs.Calls.{read_call, written_from, is_output, write_call, may_end_at, with_heap_end, heap_call}
+use Rattle.ci_machine.specs.Calls.{call}
+use Rattle.ci_machine.specs.Steps.{Meaning, IsPlain, word_at, fetched, following, onward, directed, is_taken, even}
+use Rattle.ci_machine.specs.Steps.{then_onward, control, execute, stepped, step}
 use Rattle.ci_machine.specs.Runs.{after}
 use Rattle.ci_machine.specs.Words.{IsWord, AreBytes, MapsBytes, HoldsWords, IsOfWords, MakesWords, GivesWords}
 use Rattle.ci_machine.proofs.StartLaws.{segments_end}

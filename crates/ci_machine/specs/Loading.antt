@@ -3,7 +3,8 @@ use Rattle.std.specs.Prelude.{◌≡◌, ℕ, ◌+◌, ◌^◌, ◌<◌, ◌≤�
 use Rattle.ci_elf.specs.Executables.{Executable}
 use Rattle.ci_elf.specs.declared.segments.Segment.{Segment}
 use Rattle.ci_machine.specs.declared.parts.Part.{Part}
-use Rattle.ci_machine.specs.Programs.{extent_of, greatest_end, heap_start, loaded_byte, loaded_memory, loaded_program, loaded_size}
+use Rattle.ci_machine.specs.Programs.{extent_of, maximum_end, heap_start, loaded_byte, loaded_memory, loaded_program}
+use Rattle.ci_machine.specs.Programs.{loaded_size}
 use Rattle.ci_machine.specs.Parts.{byte_in, heap_end_in, IsApart, IsLaidOut, places, segments_in}
 
 -- the file has the bytes that the segment loads
@@ -19,7 +20,7 @@ pub record IsLoaded (bytes : List ℕ) (segment : Segment) (part : Part) : Type 
 -- the parts are those of the memory in which a run of the file opens
 pub record AreOpening (file : Executable) (parts : List Part) : Type 0 where
   pub apart : IsApart parts
-  pub within : greatest_end (places parts) ≤ 2 ^ 32
+  pub within : maximum_end (places parts) ≤ 2 ^ 32
   pub laid_out : IsLaidOut (places parts) (loaded_size (map extent_of file.segments))
   pub bytes : byte_in parts ≡ loaded_memory file.bytes file.segments
   pub segments : segments_in (places parts) ≡ map extent_of file.segments

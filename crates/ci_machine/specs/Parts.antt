@@ -1,5 +1,6 @@
 -- Memory in parts: bytes side by side, from an address on.
-use Rattle.std.specs.Prelude.{◌≡◌, ℕ, suc, zero, ◌+◌, ◌-◌, ◌*◌, ◌/◌, ◌<◌, ◌≤◌, Bool, true, if◌then◌else◌, List, [], ◌∷◌, Option, Some, None, length, slice_index, slice_index_or, slice_set, map}
+use Rattle.std.specs.Prelude.{◌≡◌, ℕ, suc, zero, ◌+◌, ◌-◌, ◌*◌, ◌/◌, ◌<◌, ◌≤◌, Bool, true, if◌then◌else◌, List, [], ◌∷◌}
+use Rattle.std.specs.Prelude.{Option, Some, None, length, slice_index, slice_index_or, slice_set, map}
 use Rattle.std.proofs.Props.{props}
 use native.Mathlib.Nat.{ℕ_set}
 use native.Mathlib.Bridge.{le_prop}
@@ -8,7 +9,7 @@ use Rattle.ci_machine.specs.declared.parts.Part.{Part}
 use Rattle.ci_isa.specs.declared.instruction.Width.{Width}
 use Rattle.ci_isa.specs.Effects.{width_bytes}
 use Rattle.ci_machine.specs.Accesses.{addresses, bytes_at, bytes_of_number, with_bytes}
-use Rattle.ci_machine.specs.Programs.{Extent, Program, lies_in, stack_start, stack_end, greatest_end, loaded_size}
+use Rattle.ci_machine.specs.Programs.{Extent, Program, lies_in, stack_start, stack_end, maximum_end, loaded_size}
 
 -- the address is one of the part's
 abbrev pub holds : Part → ℕ → Bool
@@ -47,7 +48,7 @@ places parts = map place_of parts
 pub record AreLoaded (stack heap : Extent) (segments : List Extent) (loaded : ℕ) : Type 0 where
   pub stack_begins : stack.address ≡ stack_start
   pub stack_ends : stack.address + stack.size ≡ stack_end
-  pub heap_begins : heap.address ≡ (greatest_end segments + 15) / 16 * 16
+  pub heap_begins : heap.address ≡ (maximum_end segments + 15) / 16 * 16
   pub heap_ends : heap.address + heap.size ≤ 0xffff0000
   pub counted : loaded ≡ loaded_size segments
   pub fits : loaded ≤ 67108864

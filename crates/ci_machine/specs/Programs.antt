@@ -1,5 +1,6 @@
 -- A program, where it lies in memory, and the state in which its run opens.
-use Rattle.std.specs.Prelude.{ℕ, ◌+◌, ◌-◌, ◌*◌, ◌/◌, Bool, ◌==◌, ◌&&◌, nat_le, nat_lt, max, if◌then◌else◌, List, [], ◌∷◌, map, Option, Some, None, slice_index}
+use Rattle.std.specs.Prelude.{ℕ, ◌+◌, ◌-◌, ◌*◌, ◌/◌, Bool, ◌==◌, ◌&&◌, nat_le, nat_lt, max, if◌then◌else◌, List, []}
+use Rattle.std.specs.Prelude.{◌∷◌, map, Option, Some, None, slice_index}
 use Rattle.ci_elf.specs.declared.ranges.Range.{Range}
 use Rattle.ci_elf.specs.declared.segments.Segment.{Segment}
 use Rattle.ci_elf.specs.Executables.{Executable}
@@ -58,13 +59,13 @@ abbrev pub loaded_size : List Extent → ℕ
 loaded_size [] = stack_end - stack_start
 loaded_size (segment ∷ segments) = segment.size + loaded_size segments
 
-abbrev pub greatest_end : List Extent → ℕ
-greatest_end [] = 0
-greatest_end (segment ∷ segments) = max (segment.address + segment.size) (greatest_end segments)
+abbrev pub maximum_end : List Extent → ℕ
+maximum_end [] = 0
+maximum_end (segment ∷ segments) = max (segment.address + segment.size) (maximum_end segments)
 
 -- the heap begins behind the last segment, at a multiple of 16
 abbrev pub heap_start : Program → ℕ
-heap_start program = (greatest_end program.segments + 15) / 16 * 16
+heap_start program = (maximum_end program.segments + 15) / 16 * 16
 
 -- ---- states
 

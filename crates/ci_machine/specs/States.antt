@@ -48,4 +48,5 @@ bytes_of core address width = bytes_at core.memory (addresses (width_bytes width
 
 -- the core after a store, which changes nothing where a byte is not mapped
 abbrev pub after_store : Core → ℕ → Width → ℕ → Core
-after_store core address width value = (reached core (stored core width address value (bytes_of core address width))).state
+after_store core address width value =
+    (reached core (stored core width address value (bytes_of core address width))).state

@@ -1,5 +1,5 @@
 //! The environment calls (RISC-V Unprivileged ISA 20191213, section 2.8; their numbers and answers are those of Linux).
-#![tactic(auto, unfolding(crate::specs::States::state_of, crate::specs::States::core_of, crate::specs::States::program_of))]
+#![tactic(auto, unfolding(crate::proofs::StateViews::views))]
 
 use crate::state::{Call, State};
 use std::alloc::{AllocError, Global};
@@ -15,7 +15,8 @@ const NO_SUCH_CALL: u32 = 0xffffffda;
 
 impl State {
     ghost use Rattle.std.specs.Prelude.{◌≡◌, ◌++◌, Option, Some, None, OnOk, OnErr, IfOk, is_some, min, length, ◌==◌};
-    ghost use Rattle.ci_machine.specs.Calls.{answering, bad_address, bad_file, heap_call, no_such_call, read_call, write_call};
+    ghost use Rattle.ci_machine.specs.Calls.{answering, bad_address, bad_file, heap_call, no_such_call, read_call};
+    ghost use Rattle.ci_machine.specs.Calls.{write_call};
     ghost use Rattle.ci_machine.specs.Cores.{register};
     ghost use Rattle.ci_machine.specs.States.{called, end_of, state_of, program_of};
 

@@ -1,12 +1,17 @@
 //! Memory: one vector of bytes for the stack, one for the heap, and one a segment.
-ghost use Rattle.std.specs.Prelude.{◌≡◌, ℕ, ◌+◌, ◌-◌, ◌*◌, ◌/◌, ◌%◌, ◌^◌, ◌<◌, ◌≤◌, Bool, true, false, ◌&&◌, ◌==◌, if◌then◌else◌, Option, Some, None, IfSome, IfOk, OnErr, MatchOption, is_some, length, slice_index_or, List, [], ◌∷◌, IsTrue, ◌↔◌, slice_index, is_ok, replicate, nat_le, ◌||◌};
+ghost use Rattle.std.specs.Prelude.{◌≡◌, ℕ, ◌+◌, ◌-◌, ◌*◌, ◌/◌, ◌%◌, ◌^◌, ◌<◌, ◌≤◌, Bool, true, false, ◌&&◌, ◌==◌};
+ghost use Rattle.std.specs.Prelude.{if◌then◌else◌, Option, Some, None, IfSome, IfOk, OnErr, MatchOption, is_some};
+ghost use Rattle.std.specs.Prelude.{length, slice_index_or, List, [], ◌∷◌, IsTrue, ◌↔◌, slice_index, is_ok, replicate};
+ghost use Rattle.std.specs.Prelude.{nat_le, ◌||◌};
 ghost use Rattle.std.specs.Option.{option_map};
 ghost use Rattle.ci_isa.specs.Effects.{width_bytes};
 ghost use Rattle.ci_machine.specs.Accesses.{addresses, bytes_at, bytes_of_number, number_of_bytes, with_bytes};
 ghost use Rattle.ci_elf.specs.declared.ranges.Range.{Range};
-ghost use Rattle.ci_machine.specs.Programs.{greatest_end, stack_end, stack_start};
+ghost use Rattle.ci_machine.specs.Programs.{maximum_end, stack_end, stack_start};
 ghost use Rattle.ci_machine.specs.Calls.{may_end_at, range_at};
-ghost use Rattle.ci_machine.specs.Parts.{IsFound, bytes_in, heap_end_in, program_in, segments_in, with_heap_moved, holds, byte_in, overwritten, with_number, IsApart, IsApart-prop, places, IsLaidOut, IsLaidOut-prop};
+ghost use Rattle.ci_machine.specs.Parts.{IsFound, bytes_in, heap_end_in, program_in, segments_in, with_heap_moved};
+ghost use Rattle.ci_machine.specs.Parts.{holds, byte_in, overwritten, with_number, IsApart, IsApart-prop, places};
+ghost use Rattle.ci_machine.specs.Parts.{IsLaidOut, IsLaidOut-prop};
 
 use crate::bytes::{bytes_of, number_at, put_number};
 use crate::parts::Part;
@@ -36,7 +41,7 @@ pub(crate) struct Memory {
     /// How many bytes the segments and the stack take.
     pub(crate) loaded: u32,
     ghost apart: { IsApart parts.items } by { IsApart-prop parts.items },
-    ghost within: { greatest_end (places parts.items) ≤ 2 ^ 32 },
+    ghost within: { maximum_end (places parts.items) ≤ 2 ^ 32 },
     ghost laid_out: { IsLaidOut (places parts.items) loaded } by { IsLaidOut-prop (places parts.items) loaded },
 }
 
@@ -270,7 +275,8 @@ fn is_clear(start: u32, end: u32) -> bool
 /// Shortens the bytes, or lengthens them by zeros. They stay as they are where there is no memory.
 pub(crate) fn resize(bytes: &mut Vec<u8>, size: usize) -> Result<(), AllocError>
     ensures size { length bytes.new.items ≡ (if is_ok result then size else length bytes.old.items) }
-    ensures kept { (k : ℕ) → k < length bytes.new.items → slice_index bytes.new.items k ≡ slice_index bytes.old.items k }
+    ensures kept { (k : ℕ) → k < length bytes.new.items
+        → slice_index bytes.new.items k ≡ slice_index bytes.old.items k }
 {
     bytes.resize(size, 0)
 }

@@ -1,9 +1,9 @@
 //! The state in which a run opens.
-#![tactic(auto, unfolding(crate::specs::States::state_of, crate::specs::States::core_of, crate::specs::States::program_of))]
+#![tactic(auto, unfolding(crate::proofs::StateViews::views))]
 
 ghost use Rattle.std.specs.Prelude.{◌≡◌, ℕ, ◌+◌, ◌*◌, ◌/◌, ◌<◌, ◌≤◌, IfOk, length, map, slice_index};
 ghost use Rattle.std.specs.List.{AllZip};
-ghost use Rattle.ci_machine.specs.Programs.{extent_of, greatest_end, loaded_size as loaded_size_of};
+ghost use Rattle.ci_machine.specs.Programs.{extent_of, maximum_end, loaded_size as loaded_size_of};
 ghost use Rattle.ci_machine.specs.Loading.{AreOpening, IsInFile, IsLoaded};
 
 use crate::memory::{Memory, STACK_END, STACK_START, resize};
@@ -69,8 +69,8 @@ fn segment_parts(alloc: Global, image: &Image) -> Result<Vec<Part>, AllocError>
 
 /// Where the heap begins: behind the last segment, at a multiple of 16.
 fn heap_start(segments: &[Segment]) -> u32
-    requires { greatest_end (map extent_of segments.now) ≤ 0xffff0000 }
-    ensures { result ≡ (greatest_end (map extent_of segments.now) + 15) / 16 * 16 }
+    requires { maximum_end (map extent_of segments.now) ≤ 0xffff0000 }
+    ensures { result ≡ (maximum_end (map extent_of segments.now) + 15) / 16 * 16 }
 {
     let mut end = 0;
     for segment in segments {

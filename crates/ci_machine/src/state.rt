@@ -1,5 +1,5 @@
 //! The state of a machine.
-#![tactic(auto, unfolding(crate::specs::States::state_of, crate::specs::States::core_of, crate::specs::States::program_of))]
+#![tactic(auto, unfolding(crate::proofs::StateViews::views))]
 
 ghost use Rattle.std.specs.Prelude.{◌≡◌, ℕ, ◌≤◌, length, slice_index};
 

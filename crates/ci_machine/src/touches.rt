@@ -1,5 +1,5 @@
 //! Which byte of the text an instruction touches first.
-#![tactic(auto, unfolding(crate::specs::States::state_of, crate::specs::States::core_of, crate::specs::States::program_of))]
+#![tactic(auto, unfolding(crate::proofs::StateViews::views))]
 
 use crate::state::State;
 use ci_isa::Width;
@@ -8,7 +8,8 @@ impl State {
     ghost use Rattle.std.specs.Prelude.{◌≡◌, ◌+◌, ◌-◌, ◌≤◌, find, length};
     ghost use Rattle.ci_isa.specs.Effects.{width_bytes};
     ghost use Rattle.ci_machine.specs.Accesses.{addresses};
-    ghost use Rattle.ci_machine.specs.Calls.{moved_by_call, moved_range, read_length};
+    ghost use Rattle.ci_machine.specs.Calls.{read_length};
+    ghost use Rattle.ci_machine.specs.Touches.{moved_by_call, moved_range};
     ghost use Rattle.ci_machine.specs.Programs.{in_text};
     ghost use Rattle.ci_machine.specs.States.{state_of, program_of};
 

@@ -4,7 +4,8 @@ use Rattle.std.specs.FinMap as map
 use Rattle.std.specs.FinSet as set
 use Rattle.ci_region.specs.BoundedMap.{BoundedMap, used}
 use Rattle.ci_cut.specs.declared.graph.Limits.{Limits}
-use Rattle.ci_cut.specs.FlowGraph.{FlowGraph, IsFlowGraph}
+use Rattle.ci_cut.specs.FlowGraph.{FlowGraph}
+use Rattle.ci_cut.specs.GraphRules.{IsFlowGraph}
 use Rattle.ci_cut.specs.Best.{IsBest, HasNoCut}
 use Rattle.ci_log.specs.declared.flattening.Child.{Child}
 use Rattle.ci_log.specs.declared.flattening.LogNode.{LogNode}
@@ -14,7 +15,7 @@ use Rattle.ci_cut.specs.Prefixes.{eligible_nodes}
 use Rattle.ci_cut.specs.ListCounts.{AtLeast}
 use Rattle.ci_cut.specs.Need.{IsOpen, IsNeed, NeedExceeds, continuations}
 use Rattle.ci_check.specs.Rules.{Given}
-use Rattle.ci_check.specs.Standing.{Stands, IsMeasured}
+use Rattle.ci_check.specs.Representation.{Represents, IsMeasured}
 use Rattle.ci_check.proofs.Acceptance.{accepted_is_best}
 use Rattle.ci_cut.proofs.NeedLaws.{reached_none}
 use Rattle.ci_search.specs.declared.searching.Searched.{Searched}
@@ -26,11 +27,13 @@ module _ (graph : FlowGraph) (flows : IsFlowGraph graph) (limits : Limits) where
   pub none_measured : IsMeasured graph limits (record { cut = None; gain = pos 0 })
   none_measured = record { good = tt; gain_is = refl }
 
-  pub none_ready : (choices : Choices) → Stands graph [] choices → IsReady graph limits choices (record { cut = None; gain = pos 0 }) []
-  none_ready choices stands = record { stands = stands; after_best = tt; reached = reached_none graph limits }
+  pub none_ready : (choices : Choices) → Represents graph [] choices → IsReady graph limits choices (record { cut = None; gain = pos 0 }) []
+  none_ready choices represents = record { represents = represents; after_best = tt; reached = reached_none graph limits }
 
   module _ (before after : BoundedMap LogNode) where
-    log_of : (searched : Searched) → IsSearched graph limits [] (record { cut = None; gain = pos 0 }) before after searched → HasLog graph limits searched.best.cut before after searched.root
+    log_of : (searched : Searched) → IsSearched graph limits []
+        (record { cut = None; gain = pos 0 }) before after searched
+        → HasLog graph limits searched.best.cut before after searched.root
     log_of searched is = record {
       items = is.items;
       tree = is.tree;
@@ -61,11 +64,17 @@ module _ (graph : FlowGraph) (flows : IsFlowGraph graph) (limits : Limits) where
     pub spent_is : (searched : Option Searched) (budget : ℕ)
         → MatchOption searched (IsSpentAt graph limits [] before after) (IsSearched graph limits [] (record { cut = None; gain = pos 0 }) before after)
         → IsSpent (answer_of searched budget) ↔ NeedExceeds graph limits (free before)
-    spent_is None budget (same, found) = (λ _. subst (λ (n : ℕ). AtLeast (IsOpen graph limits) (suc (free before)) (continuations n [])) all_undecided found, λ _. tt)
+    spent_is None budget (same, found) = (
+      λ _. subst (λ (n : ℕ). AtLeast (IsOpen graph limits) (suc (free before))
+          (continuations n [])) all_undecided found,
+      λ _. tt,
+    )
     spent_is (Some searched) budget is = (
       λ spent. absurd (not_spent searched.best.cut searched.root spent),
       λ needed.
-          let fewer = is.walked.all (omega (arith, is.within, is.same_capacity)) (suc (free before)) (subst (λ (n : ℕ). AtLeast (IsOpen graph limits) (suc (free before)) (continuations n [])) (sym all_undecided) needed) in
+          let fewer = is.walked.all (omega (arith, is.within, is.same_capacity)) (suc (free before))
+          (subst (λ (n : ℕ). AtLeast (IsOpen graph limits) (suc (free before)) (continuations n []))
+          (sym all_undecided) needed) in
           absurd (omega (arith, fewer, is.walked.is_open, is.within, is.same_capacity)),
     )
 
@@ -77,7 +86,8 @@ module _ (graph : FlowGraph) (flows : IsFlowGraph graph) (limits : Limits) where
     optimal_is (Some searched) budget is =
         by_cut searched.best.cut (accepted_is_best graph flows limits searched.best.cut is.items (log_of searched is).accepted)
       where
-        by_cut : (cut : Given) → MatchOption cut (HasNoCut graph limits) (λ cut. IsBest graph limits (set.contains cut)) → IsOptimal graph limits (found_at cut searched.root)
+        by_cut : (cut : Given) → MatchOption cut (HasNoCut graph limits)
+            (λ cut. IsBest graph limits (set.contains cut)) → IsOptimal graph limits (found_at cut searched.root)
         by_cut None best = best
         by_cut (Some cut) best = best
 
@@ -102,5 +112,6 @@ module _ (graph : FlowGraph) (flows : IsFlowGraph graph) (limits : Limits) where
         subst (IsNeed graph limits) count (record {
           at_least = subst (λ (n : ℕ). AtLeast (IsOpen graph limits) is.walked.count (continuations n [])) all_undecided is.walked.found;
           no_more = λ n has.
-              is.walked.all (omega (arith, is.within, is.same_capacity)) n (subst (λ (m : ℕ). AtLeast (IsOpen graph limits) n (continuations m [])) (sym all_undecided) has);
+              is.walked.all (omega (arith, is.within, is.same_capacity)) n
+              (subst (λ (m : ℕ). AtLeast (IsOpen graph limits) n (continuations m [])) (sym all_undecided) has);
         })

@@ -1,28 +1,31 @@
 -- Logs that grow, and what their items show.
-use Rattle.std.proofs.Common.{◌≡◌, ℕ, ◌<◌, ◌≤◌, Bool, true, false, true≢false, ◌⊎◌, inl, inr, IsTrue, List, [], ◌∷◌, ◌++◌, length, Some, None, refl, sym, ap, ◌∙◌, subst, arith, ℤ, pos, ◌≤ℤ◌, ◌<ℤ◌}
+use Rattle.std.proofs.Common.{◌≡◌, ℕ, ◌<◌, ◌≤◌, Bool, true, false, true≢false, ◌⊎◌, inl, inr, IsTrue, List, [], ◌∷◌}
+use Rattle.std.proofs.Common.{◌++◌, length, Some, None, refl, sym, ap, ◌∙◌, subst, arith, ℤ, pos, ◌≤ℤ◌, ◌<ℤ◌}
 use Rattle.std.proofs.lemmas.Bool.{cases_lt, cases_order}
 use Rattle.std.proofs.lemmas.Int.{ints}
 use Rattle.std.specs.Ordering.{nat_cmp}
 use Rattle.std.specs.FinSet as set
 use Rattle.ci_cut.specs.declared.graph.Limits.{Limits}
-use Rattle.ci_cut.specs.FlowGraph.{FlowGraph, IsFlowGraph}
+use Rattle.ci_cut.specs.FlowGraph.{FlowGraph}
+use Rattle.ci_cut.specs.GraphRules.{IsFlowGraph}
 use Rattle.ci_cut.specs.Gain.{gain}
 use Rattle.ci_cut.specs.Best.{ComesBefore}
 use Rattle.ci_log.specs.declared.log.Item.{Item}
 use Rattle.ci_log.specs.declared.log.Item.TheVariants.{B, O, C, I, G, F}
 use Rattle.ci_log.specs.Trees.{IsLeaf, leaf, branch}
-use Rattle.ci_check.specs.declared.rules.Best.{Best}
+use Rattle.ci_cut.specs.declared.incumbent.Incumbent.{Incumbent}
 use Rattle.ci_cut.specs.Prefixes.{Prefix, eligible_nodes, is_next, taken, bound}
 use Rattle.ci_cut.specs.Need.{IsOpen}
 use Rattle.ci_check.specs.Rules.{Given, best_gain, IsGood, IsAfterBest, IsBeforeBest, IsBetter, IsRight, stations, IsRightAt}
-use Rattle.ci_check.specs.Standing.{IsMeasured}
+use Rattle.ci_check.specs.Representation.{IsMeasured}
 use Rattle.ci_cut.specs.Reached.{Completes, IsReachedBefore, IsReachedWith}
 use Rattle.ci_cut.proofs.PrefixLaws.{completes_earlier, taken_completes}
-use Rattle.ci_cut.proofs.Bounds.{before_more, before_in, before_out, before_by_next}
+use Rattle.ci_cut.proofs.BoundLaws.{before_more, before_in, before_out, before_by_next}
 use Rattle.ci_cut.proofs.NeedLaws.{compare_gains}
 use Rattle.ci_cut.proofs.NeedLaws.{open_by_bound, bound_of_open}
 use Rattle.ci_check.proofs.Acceptance.{all_both, before_completions}
-use Rattle.ci_search.specs.Searched.{IsBar, IsClosing, IsBetterOf, IsLater, IsPassed, IsLogged}
+use Rattle.ci_cut.specs.Incumbents.{IsImproved}
+use Rattle.ci_search.specs.Searched.{Prunes, IsPruning, IsLater, IsPassed, IsLogged}
 
 -- ---- orders
 
@@ -58,7 +61,7 @@ at_most m n not_less = elim (cases_lt n m) [ inl less ↦ absurd (not_less less)
 module _ (graph : FlowGraph) (flows : IsFlowGraph graph) (limits : Limits) where
   -- ---- the best cut so far, and later ones
 
-  pub gain_least : (best : Best) → IsMeasured graph limits best → pos 0 ≤ℤ best.gain
+  pub gain_least : (best : Incumbent) → IsMeasured graph limits best → pos 0 ≤ℤ best.gain
   gain_least best is = by_cut best.cut is.good is.gain_is
     where
       by_cut : (cut : Given) → IsGood graph limits cut → best.gain ≡ best_gain graph cut → pos 0 ≤ℤ best.gain
@@ -66,43 +69,45 @@ module _ (graph : FlowGraph) (flows : IsFlowGraph graph) (limits : Limits) where
       by_cut (Some cut) good gains = subst (λ (z : ℤ). pos 0 ≤ℤ z) (sym gains) (le_of_less good.1)
 
   -- a later best cut gains no less
-  pub later_gain : (best : Best) → IsMeasured graph limits best → (later : Given) → IsLater graph best later → best.gain ≤ℤ best_gain graph later
+  pub later_gain : (best : Incumbent) → IsMeasured graph limits best → (later : Given) → IsLater graph best later → best.gain ≤ℤ best_gain graph later
   later_gain best is later (inl same) = le_same (is.gain_is ∙ ap (best_gain graph) (sym same))
   later_gain best is later (inr more) = le_of_less more
 
   -- what is later than the second of two best cuts is later than the first
-  pub later_earlier : (before after : Best) → IsMeasured graph limits after → (after ≡ before) ⊎ (before.gain <ℤ after.gain) → (later : Given)
+  pub later_earlier : (before after : Incumbent) → IsMeasured graph limits after → (after ≡ before) ⊎ (before.gain <ℤ after.gain) → (later : Given)
       → IsLater graph after later → IsLater graph before later
-  later_earlier before after is (inl same) later later_is = subst (λ (b : Best). IsLater graph b later) same later_is
+  later_earlier before after is (inl same) later later_is = subst (λ (b : Incumbent). IsLater graph b later) same later_is
   later_earlier before after is (inr more) later later_is = inr (less_le more (later_gain after is later later_is))
 
   -- ---- items that rule out what goes on
 
-  module _ (best : Best) (is : IsMeasured graph limits best) (prefix : Prefix) where
-    pub bar_right : (item : Item) → IsBar item → IsRight graph limits best.cut prefix item → (later : Given) → IsLater graph best later → IsRight graph limits later prefix item
-    bar_right B bar right later later_is = absurd bar
-    bar_right O bar right later later_is = right
-    bar_right C bar right later later_is = right
-    bar_right I bar right later later_is = right
-    bar_right G bar right later (inl same) = subst (λ (g : Given). IsRight graph limits g prefix G) (sym same) right
-    bar_right G bar (inl less) later (inr more) = inl (less_less (subst (λ (z : ℤ). bound graph prefix <ℤ z) (sym is.gain_is) less) more)
-    bar_right G bar (inr (same, after)) later (inr more) = inl (subst (λ (z : ℤ). z <ℤ best_gain graph later) (is.gain_is ∙ sym same) more)
-    bar_right F bar right later later_is = absurd bar
+  module _ (best : Incumbent) (is : IsMeasured graph limits best) (prefix : Prefix) where
+    pub pruning_right : (item : Item) → Prunes item → IsRight graph limits best.cut prefix item → (later : Given)
+        → IsLater graph best later → IsRight graph limits later prefix item
+    pruning_right B bar right later later_is = absurd bar
+    pruning_right O bar right later later_is = right
+    pruning_right C bar right later later_is = right
+    pruning_right I bar right later later_is = right
+    pruning_right G bar right later (inl same) = subst (λ (g : Given). IsRight graph limits g prefix G) (sym same) right
+    pruning_right G bar (inl less) later (inr more) = inl (less_less (subst (λ (z : ℤ). bound graph prefix <ℤ z) (sym is.gain_is) less) more)
+    pruning_right G bar (inr (same, after)) later (inr more) = inl (subst (λ (z : ℤ). z <ℤ best_gain graph later) (is.gain_is ∙ sym same) more)
+    pruning_right F bar right later later_is = absurd bar
 
     module _ (reached : IsReachedBefore graph limits prefix best.gain) where
-      pub bar_closes : (item : Item) → IsBar item → IsRight graph limits best.cut prefix item → ¬ IsOpen graph limits prefix
+      pub bar_closes : (item : Item) → Prunes item → IsRight graph limits best.cut prefix item → ¬ IsOpen graph limits prefix
       bar_closes B bar right is_open = absurd bar
       bar_closes O bar right is_open = absurd (omega (arith, is_open.outputs_within, right))
       bar_closes C bar right is_open = right is_open.convex
       bar_closes I bar right is_open = absurd (omega (arith, is_open.inputs_within, right))
       bar_closes G bar (inl less) is_open =
-          not_less_le (bound_of_open graph flows limits prefix best.gain reached is_open) (le_of_less (subst (λ (z : ℤ). bound graph prefix <ℤ z) (sym is.gain_is) less))
+          not_less_le (bound_of_open graph flows limits prefix best.gain reached is_open)
+          (le_of_less (subst (λ (z : ℤ). bound graph prefix <ℤ z) (sym is.gain_is) less))
       bar_closes G bar (inr (same, after)) is_open =
           not_less_le (bound_of_open graph flows limits prefix best.gain reached is_open) (le_same (same ∙ sym is.gain_is))
       bar_closes F bar right is_open = absurd bar
 
-      pub open_without_bars : IsAfterBest graph best.cut prefix → IsClosing graph limits best.cut prefix None → IsOpen graph limits prefix
-      open_without_bars after none = open_by_bound graph flows limits prefix best.gain reached
+      pub open_unless_pruned : IsAfterBest graph best.cut prefix → IsPruning graph limits best.cut prefix None → IsOpen graph limits prefix
+      open_unless_pruned after none = open_by_bound graph flows limits prefix best.gain reached
           (record {
             convex = λ a b c in_a to_b out_b to_c in_c. none C tt (λ convex. convex a b c in_a to_b out_b to_c in_c);
             outputs_within = at_most _ _ (none O tt);
@@ -114,7 +119,7 @@ module _ (graph : FlowGraph) (flows : IsFlowGraph graph) (limits : Limits) where
             | inr (inr more) ↦ more
           ])
 
-    pub bar_is_leaf : (item : Item) → IsBar item → IsLeaf item
+    pub bar_is_leaf : (item : Item) → Prunes item → IsLeaf item
     bar_is_leaf B bar = bar
     bar_is_leaf O bar = tt
     bar_is_leaf C bar = tt
@@ -122,13 +127,14 @@ module _ (graph : FlowGraph) (flows : IsFlowGraph graph) (limits : Limits) where
     bar_is_leaf G bar = tt
     bar_is_leaf F bar = tt
 
-    pub logged_bar : IsAfterBest graph best.cut prefix → (item : Item) → IsBar item → IsRight graph limits best.cut prefix item → IsLogged graph limits prefix best best (item ∷ [])
+    pub logged_bar : IsAfterBest graph best.cut prefix → (item : Item) → Prunes item
+        → IsRight graph limits best.cut prefix item → IsLogged graph limits prefix best best (item ∷ [])
     logged_bar after item bar right = record {
       measured = is;
       grows = inl refl;
       passed = passed_of best.cut after;
       tree = leaf (bar_is_leaf item bar);
-      right = λ later later_is. (bar_right item bar right later later_is, tt);
+      right = λ later later_is. (pruning_right item bar right later later_is, tt);
     }
       where
         passed_of : (cut : Given) → IsAfterBest graph cut prefix → IsPassed graph prefix cut
@@ -137,14 +143,14 @@ module _ (graph : FlowGraph) (flows : IsFlowGraph graph) (limits : Limits) where
 
   -- ---- whole choices
 
-  module _ (before after : Best) (is : IsMeasured graph limits before) (cut : set.FinSet nat_cmp) (prefix : Prefix)
-      (same_taken : set.contains cut ≡ taken graph prefix) (after_before : IsAfterBest graph before.cut prefix) where
+  module _ (before after : Incumbent) (is : IsMeasured graph limits before) (cut : set.FinSet nat_cmp) (prefix : Prefix)
+      (same_included : set.contains cut ≡ taken graph prefix) (after_before : IsAfterBest graph before.cut prefix) where
     -- a set that comes behind the best cut so far isn't before it
     not_before : (best : Given) → IsAfterBest graph best prefix → IsBeforeBest best (set.contains cut) → ⊥
     not_before None behind first = first
     not_before (Some best) behind first =
         one_first first (before_completions graph flows limits (set.contains best) (set.contains cut) prefix behind
-        (subst (Completes graph prefix) (sym same_taken) (taken_completes graph prefix)))
+        (subst (Completes graph prefix) (sym same_included) (taken_completes graph prefix)))
 
     -- the set is no better than a best cut that gains as much, and no less than the set
     no_better : (later : Given) → gain graph (set.contains cut) ≤ℤ best_gain graph later → ¬ IsBeforeBest later (set.contains cut)
@@ -160,9 +166,9 @@ module _ (graph : FlowGraph) (flows : IsFlowGraph graph) (limits : Limits) where
       | inr (same, first) ↦ not_less_le less (le_same same)
     ]
 
-    whole_right : IsBetterOf graph limits before cut after → (later : Given) → IsLater graph after later → ¬ IsBetter graph limits later (set.contains cut)
+    whole_right : IsImproved graph limits before cut after → (later : Given) → IsLater graph after later → ¬ IsBetter graph limits later (set.contains cut)
     whole_right (inl (same, most)) later later_is better =
-        by_later (subst (λ (b : Best). IsLater graph b later) same later_is)
+        by_later (subst (λ (b : Incumbent). IsLater graph b later) same later_is)
       where
         by_later : IsLater graph before later → ⊥
         by_later (inl is_same) =
@@ -176,14 +182,14 @@ module _ (graph : FlowGraph) (flows : IsFlowGraph graph) (limits : Limits) where
     whole_right (inr (is_cut, fits, gains, more)) later (inr gains_more) better =
         gains_less later (subst (λ (z : ℤ). z <ℤ best_gain graph later) gains gains_more) better
 
-    whole_measured : IsBetterOf graph limits before cut after → IsMeasured graph limits after
+    whole_measured : IsImproved graph limits before cut after → IsMeasured graph limits after
     whole_measured (inl (same, most)) = subst (IsMeasured graph limits) (sym same) is
     whole_measured (inr (is_cut, fits, gains, more)) = record {
       good = subst (IsGood graph limits) (sym is_cut) (fits, subst (λ (z : ℤ). pos 0 <ℤ z) gains (le_less (gain_least before is) more));
       gain_is = gains ∙ ap (best_gain graph) (sym is_cut);
     }
 
-    whole_grows : IsBetterOf graph limits before cut after → (after ≡ before) ⊎ (before.gain <ℤ after.gain)
+    whole_grows : IsImproved graph limits before cut after → (after ≡ before) ⊎ (before.gain <ℤ after.gain)
     whole_grows (inl (same, most)) = inl same
     whole_grows (inr (is_cut, fits, gains, more)) = inr more
 
@@ -191,26 +197,26 @@ module _ (graph : FlowGraph) (flows : IsFlowGraph graph) (limits : Limits) where
     passed_before None behind = tt
     passed_before (Some best) behind = inl behind
 
-    whole_passed : IsBetterOf graph limits before cut after → IsPassed graph prefix after.cut
-    whole_passed (inl (same, most)) = subst (λ (b : Best). IsPassed graph prefix b.cut) (sym same) (passed_before before.cut after_before)
+    whole_passed : IsImproved graph limits before cut after → IsPassed graph prefix after.cut
+    whole_passed (inl (same, most)) = subst (λ (b : Incumbent). IsPassed graph prefix b.cut) (sym same) (passed_before before.cut after_before)
     whole_passed (inr (is_cut, fits, gains, more)) =
-        subst (IsPassed graph prefix) (sym is_cut) (inr (subst (Completes graph prefix) (sym same_taken) (taken_completes graph prefix)))
+        subst (IsPassed graph prefix) (sym is_cut) (inr (subst (Completes graph prefix) (sym same_included) (taken_completes graph prefix)))
 
-    pub logged_whole : eligible_nodes graph ≤ length prefix → IsBetterOf graph limits before cut after → IsLogged graph limits prefix before after (F ∷ [])
+    pub logged_whole : eligible_nodes graph ≤ length prefix → IsImproved graph limits before cut after → IsLogged graph limits prefix before after (F ∷ [])
     logged_whole whole better = record {
       measured = whole_measured better;
       grows = whole_grows better;
       passed = whole_passed better;
       tree = leaf tt;
-      right = λ later later_is. ((whole, subst (λ (s : ℕ → Bool). ¬ IsBetter graph limits later s) same_taken (whole_right better later later_is)), tt);
+      right = λ later later_is. ((whole, subst (λ (s : ℕ → Bool). ¬ IsBetter graph limits later s) same_included (whole_right better later later_is)), tt);
     }
 
-    pub reached_with_whole : IsBetterOf graph limits before cut after → IsReachedWith graph limits (taken graph prefix) before.gain after.gain
-    reached_with_whole better = subst (λ (s : ℕ → Bool). IsReachedWith graph limits s before.gain after.gain) same_taken (of better)
+    pub reached_with_whole : IsImproved graph limits before cut after → IsReachedWith graph limits (taken graph prefix) before.gain after.gain
+    reached_with_whole better = subst (λ (s : ℕ → Bool). IsReachedWith graph limits s before.gain after.gain) same_included (of better)
       where
-        of : IsBetterOf graph limits before cut after → IsReachedWith graph limits (set.contains cut) before.gain after.gain
+        of : IsImproved graph limits before cut after → IsReachedWith graph limits (set.contains cut) before.gain after.gain
         of (inl (same, most)) =
-            subst (λ (b : Best). IsReachedWith graph limits (set.contains cut) before.gain b.gain) (sym same)
+            subst (λ (b : Incumbent). IsReachedWith graph limits (set.contains cut) before.gain b.gain) (sym same)
             (record { kept = le_same refl; most = most; found = inl refl })
         of (inr (is_cut, fits, gains, more)) = record { kept = le_of_less more; most = λ _. le_same (sym gains); found = inr (fits, sym gains) }
 
@@ -235,16 +241,16 @@ module _ (graph : FlowGraph) (flows : IsFlowGraph graph) (limits : Limits) where
     ]
     passed_behind (Some best) good (inr goes) = inr (completes_earlier graph prefix (set.contains best) false goes)
 
-    module _ (before between after : Best) (in_items out_items : List Item) (first : IsLogged graph limits (true ∷ prefix) before between in_items)
+    module _ (before between after : Incumbent) (in_items out_items : List Item) (first : IsLogged graph limits (true ∷ prefix) before between in_items)
         (second : IsLogged graph limits (false ∷ prefix) between after out_items) where
       both_grow : (after ≡ before) ⊎ (before.gain <ℤ after.gain)
       both_grow = elim first.grows [
         | inl same ↦ elim second.grows [
           | inl same_too ↦ inl (same_too ∙ same)
-          | inr more ↦ inr (subst (λ (b : Best). b.gain <ℤ after.gain) same more)
+          | inr more ↦ inr (subst (λ (b : Incumbent). b.gain <ℤ after.gain) same more)
         ]
         | inr more ↦ inr (elim second.grows [
-          | inl same ↦ subst (λ (b : Best). before.gain <ℤ b.gain) (sym same) more
+          | inl same ↦ subst (λ (b : Incumbent). before.gain <ℤ b.gain) (sym same) more
           | inr more_too ↦ less_less more more_too
         ])
       ]

@@ -2,7 +2,8 @@
 use Rattle.std.proofs.Common.{◌≡◌, ℕ, suc, ◌+◌, ◌<◌, ◌≤◌, true, false, IsTrue, [], ◌∷◌, ◌++◌, length, refl, sym, ◌∙◌, subst, arith, ℤ}
 use Rattle.ci_region.specs.BoundedMap.{BoundedMap, used}
 use Rattle.ci_cut.specs.declared.graph.Limits.{Limits}
-use Rattle.ci_cut.specs.FlowGraph.{FlowGraph, IsFlowGraph}
+use Rattle.ci_cut.specs.FlowGraph.{FlowGraph}
+use Rattle.ci_cut.specs.GraphRules.{IsFlowGraph}
 use Rattle.ci_log.specs.declared.log.Item.{Item}
 use Rattle.ci_log.specs.declared.log.Item.TheVariants.{B, F}
 use Rattle.ci_log.specs.declared.flattening.Child.{Child}
@@ -10,20 +11,21 @@ use Rattle.ci_log.specs.declared.flattening.Child.TheVariants.{Leaf}
 use Rattle.ci_log.specs.declared.flattening.LogNode.{LogNode}
 use Rattle.ci_log.proofs.RegionTreeLaws.{at_leaf}
 use Rattle.ci_check.specs.declared.choices.Choices.{Choices}
-use Rattle.ci_check.specs.declared.rules.Best.{Best}
+use Rattle.ci_cut.specs.declared.incumbent.Incumbent.{Incumbent}
 use Rattle.ci_cut.specs.Prefixes.{Prefix, eligible_nodes, is_next}
 use Rattle.ci_cut.specs.ListCounts.{AtLeast, counted, passed}
 use Rattle.ci_cut.specs.Need.{IsOpen, continuations}
 use Rattle.ci_check.specs.Rules.{IsRight}
-use Rattle.ci_check.specs.Standing.{Stands, IsMeasured}
+use Rattle.ci_check.specs.Representation.{Represents, IsMeasured}
 use Rattle.ci_check.specs.Walked.{IsWalked}
-use Rattle.ci_check.proofs.StandingLaws.{same_taken}
+use Rattle.ci_check.proofs.ChoiceLaws.{same_included}
 use Rattle.ci_cut.proofs.ListCountLaws.{AtLeast-left, AtLeast-both, AtLeast-fewer}
 use Rattle.ci_cut.proofs.NeedLaws.{reached_whole, reached_in, reached_between, continuations-more}
 use Rattle.ci_check.proofs.WalkedLaws.{walked_whole, walked_closed, walked_both}
 use Rattle.ci_search.specs.declared.searching.Searched.{Searched}
 use Rattle.ci_search.specs.Answered.{free}
-use Rattle.ci_search.specs.Searched.{undecided, IsReady, IsBar, IsBetterOf, IsSpentAt}
+use Rattle.ci_cut.specs.Incumbents.{IsImproved}
+use Rattle.ci_search.specs.Searched.{undecided, IsReady, Prunes, IsSpentAt}
 use Rattle.ci_search.specs.Trees.{IsSearched}
 use Rattle.ci_search.specs.Branches.{AreTreesOf, IsBranch}
 use Rattle.ci_search.proofs.LogLaws.{bar_closes, logged_bar, bar_is_leaf, logged_whole, reached_with_whole, after_in, after_between, logged_branch}
@@ -41,27 +43,31 @@ one_later prefix left budget start end before after walked within other last is 
   reached = λ _. walked.reached within;
 }
 
-module _ (graph : FlowGraph) (limits : Limits) (prefix : Prefix) (choices : Choices) (best : Best) (ready : IsReady graph limits choices best prefix) (is : IsMeasured graph limits best)
+module _ (graph : FlowGraph) (limits : Limits) (prefix : Prefix) (choices : Choices) (best : Incumbent)
+    (ready : IsReady graph limits choices best prefix) (is : IsMeasured graph limits best)
     (region : BoundedMap LogNode) where
   flows : IsFlowGraph graph
-  flows = ready.stands.kept
+  flows = ready.represents.kept
 
   -- ---- leaves
 
-  pub searched_whole : used region ≤ region.capacity → eligible_nodes graph ≤ length prefix → (after : Best) → IsBetterOf graph limits best choices.taken after
+  pub searched_whole : used region ≤ region.capacity → eligible_nodes graph ≤ length prefix → (after : Incumbent)
+      → IsImproved graph limits best choices.included after
       → IsSearched graph limits prefix best region region (record { best = after; root = Leaf F })
   searched_whole within whole after better = record {
     items = F ∷ [];
     tree = at_leaf tt;
     same_capacity = refl;
     within = within;
-    logged = logged_whole graph flows limits best after is choices.taken prefix (same_taken graph prefix choices ready.stands) ready.after_best whole better;
+    logged = logged_whole graph flows limits best after is choices.included prefix
+        (same_included graph prefix choices ready.represents) ready.after_best whole better;
     walked = walked_whole graph flows limits region.capacity prefix (undecided graph prefix) (omega arith) _ _ refl
         (reached_whole graph flows limits prefix best.gain whole after.gain ready.reached
-        (reached_with_whole graph flows limits best after is choices.taken prefix (same_taken graph prefix choices ready.stands) ready.after_best better));
+        (reached_with_whole graph flows limits best after is choices.included prefix
+        (same_included graph prefix choices ready.represents) ready.after_best better));
   }
 
-  pub searched_bar : used region ≤ region.capacity → (item : Item) → IsBar item → IsRight graph limits best.cut prefix item
+  pub searched_bar : used region ≤ region.capacity → (item : Item) → Prunes item → IsRight graph limits best.cut prefix item
       → IsSearched graph limits prefix best region region (record { best = best; root = Leaf item })
   searched_bar within item bar right = record {
     items = item ∷ [];
@@ -76,9 +82,9 @@ module _ (graph : FlowGraph) (limits : Limits) (prefix : Prefix) (choices : Choi
   -- ---- a branch
 
   module _ (node : ℕ) (next : IsTrue (is_next graph prefix node)) (some : length prefix < eligible_nodes graph) where
-    pub ready_in : (with_node : Choices) → Stands graph (true ∷ prefix) with_node → IsReady graph limits with_node best (true ∷ prefix)
-    ready_in with_node stands = record {
-      stands = stands;
+    pub ready_in : (with_node : Choices) → Represents graph (true ∷ prefix) with_node → IsReady graph limits with_node best (true ∷ prefix)
+    ready_in with_node represents = record {
+      represents = represents;
       after_best = after_in graph flows limits prefix node next best.cut ready.after_best;
       reached = reached_in graph flows limits prefix best.gain ready.reached;
     }
@@ -86,19 +92,28 @@ module _ (graph : FlowGraph) (limits : Limits) (prefix : Prefix) (choices : Choi
     one_less : undecided graph prefix ≡ suc (undecided graph (true ∷ prefix))
     one_less = omega arith
 
-    more_open : (n : ℕ) → AtLeast (IsOpen graph limits) n (prefix ∷ (continuations (undecided graph (true ∷ prefix)) (true ∷ prefix) ++ continuations (undecided graph (false ∷ prefix)) (false ∷ prefix)))
+    more_open : (n : ℕ) → AtLeast (IsOpen graph limits) n
+        (prefix ∷ (continuations (undecided graph (true ∷ prefix)) (true ∷ prefix)
+        ++ continuations (undecided graph (false ∷ prefix)) (false ∷ prefix)))
         → AtLeast (IsOpen graph limits) n (continuations (undecided graph prefix) prefix)
     more_open n = subst (AtLeast (IsOpen graph limits) n) (sym (continuations-more (undecided graph prefix) (undecided graph (true ∷ prefix)) prefix one_less))
 
     pub spent_in : (after : BoundedMap LogNode) → IsSpentAt graph limits (true ∷ prefix) region after → IsSpentAt graph limits prefix region after
-    spent_in after (same, found) = (same, more_open _ (passed (AtLeast-left (IsOpen graph limits) found (continuations (undecided graph (false ∷ prefix)) (false ∷ prefix)))))
+    spent_in after (same, found) = (
+      same,
+      more_open _
+          (passed (AtLeast-left (IsOpen graph limits) found
+          (continuations (undecided graph (false ∷ prefix)) (false ∷ prefix)))),
+    )
 
     module _ (between : BoundedMap LogNode) (in_found : Searched) (first : IsSearched graph limits (true ∷ prefix) best region between in_found) where
-      pub ready_out : (without_node : Choices) → Stands graph (false ∷ prefix) without_node → IsReady graph limits without_node in_found.best (false ∷ prefix)
-      ready_out without_node stands = record {
-        stands = stands;
+      pub ready_out : (without_node : Choices) → Represents graph (false ∷ prefix) without_node
+          → IsReady graph limits without_node in_found.best (false ∷ prefix)
+      ready_out without_node represents = record {
+        represents = represents;
         after_best = after_between graph flows limits prefix node next in_found.best.cut first.logged.passed;
-        reached = reached_between graph flows limits prefix in_found.best.gain node next (first.walked.reached (omega (arith, first.within, first.same_capacity)));
+        reached = reached_between graph flows limits prefix in_found.best.gain node next
+            (first.walked.reached (omega (arith, first.within, first.same_capacity)));
       }
 
       -- what is left once the first tree is given back
@@ -108,14 +123,18 @@ module _ (graph : FlowGraph) (limits : Limits) (prefix : Prefix) (choices : Choi
           ∙ (λ i. record { values = region.values; capacity = (same i).capacity })
           ∙ (λ i. record { values = region.values; capacity = first.same_capacity i })
 
-      pub spent_out : (after last : BoundedMap LogNode) → IsSpentAt graph limits (false ∷ prefix) between after → last ≡ region → IsSpentAt graph limits prefix region last
+      pub spent_out : (after last : BoundedMap LogNode) → IsSpentAt graph limits (false ∷ prefix) between after
+          → last ≡ region → IsSpentAt graph limits prefix region last
       spent_out after last (same, found) back = (
         back,
-        more_open _ (passed (AtLeast-fewer (IsOpen graph limits) (AtLeast-both (IsOpen graph limits) (continuations (undecided graph (false ∷ prefix)) (false ∷ prefix)) first.walked.found found)
+        more_open _ (passed (AtLeast-fewer (IsOpen graph limits)
+            (AtLeast-both (IsOpen graph limits) (continuations (undecided graph (false ∷ prefix)) (false ∷ prefix))
+            first.walked.found found)
             (suc (free region)) (omega (arith, first.walked.is_open, first.same_capacity)))),
       )
 
-      module _ (after : BoundedMap LogNode) (out_found : Searched) (second : IsSearched graph limits (false ∷ prefix) in_found.best between after out_found) where
+      module _ (after : BoundedMap LogNode) (out_found : Searched)
+          (second : IsSearched graph limits (false ∷ prefix) in_found.best between after out_found) where
         pub trees : AreTreesOf after in_found.root out_found.root first.items second.items region.values
         trees = record { between = between.values; out_tree = second.tree; in_tree = first.tree }
 
@@ -125,10 +144,14 @@ module _ (graph : FlowGraph) (limits : Limits) (prefix : Prefix) (choices : Choi
             ∙ (λ i. record { values = region.values; capacity = second.same_capacity i })
             ∙ (λ i. record { values = region.values; capacity = first.same_capacity i })
 
-        pub spent_here : IsOpen graph limits prefix → used after ≡ after.capacity → (last : BoundedMap LogNode) → last ≡ region → IsSpentAt graph limits prefix region last
+        pub spent_here : IsOpen graph limits prefix → used after ≡ after.capacity → (last : BoundedMap LogNode)
+            → last ≡ region → IsSpentAt graph limits prefix region last
         spent_here is_open full last back = (
           back,
-          more_open _ (AtLeast-fewer (IsOpen graph limits) (counted is_open (AtLeast-both (IsOpen graph limits) (continuations (undecided graph (false ∷ prefix)) (false ∷ prefix)) first.walked.found second.walked.found))
+          more_open _ (AtLeast-fewer (IsOpen graph limits)
+              (counted is_open (AtLeast-both (IsOpen graph limits)
+              (continuations (undecided graph (false ∷ prefix)) (false ∷ prefix)) first.walked.found
+              second.walked.found))
               (suc (free region)) (omega (arith, first.walked.is_open, second.walked.is_open, first.same_capacity, second.same_capacity))),
         )
 

@@ -19,7 +19,8 @@ free region = region.capacity - used region
 
 -- The tree of the root lies in the region, beside all that the region held before. Its items in preorder are a log that
 -- is accepted for the best cut, or for none.
-pub record HasLog (graph : FlowGraph) (limits : Limits) (best : Given) (before after : BoundedMap LogNode) (root : Child)
+pub record HasLog (graph : FlowGraph) (limits : Limits) (best : Given)
+    (before after : BoundedMap LogNode) (root : Child)
     : Type 0 where
   pub items : List Item
   pub tree : IsTreeIn after.values root items before.values

@@ -8,7 +8,8 @@ use Rattle.ci_log.specs.declared.flattening.LogNode.{LogNode}
 use Rattle.ci_log.specs.RegionTrees.{Slots, IsTreeIn}
 
 -- two trees that lie beside each other, and their items
-pub record AreTreesOf (region : BoundedMap LogNode) (taken left_out : Child) (in_items out_items : List Item) (rest : Slots)
+pub record AreTreesOf (region : BoundedMap LogNode) (taken left_out : Child)
+    (in_items out_items : List Item) (rest : Slots)
     : Type 0 where
   pub between : Slots
   pub out_tree : IsTreeIn region.values left_out out_items between

@@ -1,23 +1,21 @@
 -- For private contracts only: what a search has found at a prefix.
-use Rattle.std.specs.Prelude.{◌≡◌, ℕ, suc, ◌-◌, ◌<ℤ◌, ◌≤ℤ◌, ◌⊎◌, List, length, Option, Some, None}
+use Rattle.std.specs.Prelude.{◌≡◌, ℕ, suc, ◌-◌, ◌<ℤ◌, ◌⊎◌, List, length, Option, Some, None}
 use Rattle.std.specs.List.{AllByRecursion}
-use Rattle.std.specs.Ordering.{nat_cmp}
 use Rattle.std.specs.FinSet as set
 use Rattle.ci_region.specs.BoundedMap.{BoundedMap}
 use Rattle.ci_cut.specs.declared.graph.Limits.{Limits}
 use Rattle.ci_cut.specs.FlowGraph.{FlowGraph}
-use Rattle.ci_cut.specs.Gain.{Fits, gain}
 use Rattle.ci_log.specs.declared.log.Item.{Item}
 use Rattle.ci_log.specs.declared.log.Item.TheVariants.{B, O, C, I, G, F}
 use Rattle.ci_log.specs.declared.flattening.LogNode.{LogNode}
 use Rattle.ci_log.specs.Trees.{IsTree}
 use Rattle.ci_check.specs.declared.choices.Choices.{Choices}
-use Rattle.ci_check.specs.declared.rules.Best.{Best}
+use Rattle.ci_cut.specs.declared.incumbent.Incumbent.{Incumbent}
 use Rattle.ci_cut.specs.Prefixes.{Prefix, eligible_nodes, IsBefore}
 use Rattle.ci_cut.specs.ListCounts.{AtLeast}
 use Rattle.ci_cut.specs.Need.{IsOpen, continuations}
 use Rattle.ci_check.specs.Rules.{Given, best_gain, IsAfterBest, IsRight, stations, IsRightAt}
-use Rattle.ci_check.specs.Standing.{Stands, IsMeasured}
+use Rattle.ci_check.specs.Representation.{Represents, IsMeasured}
 use Rattle.ci_cut.specs.Reached.{Completes, IsReachedBefore}
 use Rattle.ci_search.specs.Answered.{free}
 
@@ -25,39 +23,33 @@ use Rattle.ci_search.specs.Answered.{free}
 abbrev pub undecided : FlowGraph → Prefix → ℕ
 undecided graph prefix = eligible_nodes graph - length prefix
 
--- the choices stand for the prefix, and the best cut so far is that of the sets before it
-pub record IsReady (graph : FlowGraph) (limits : Limits) (choices : Choices) (best : Best) (prefix : Prefix) : Type 0 where
-  pub stands : Stands graph prefix choices
+-- the choices represent the prefix, and the best cut so far is that of the sets before it
+pub record IsReady (graph : FlowGraph) (limits : Limits) (choices : Choices) (best : Incumbent)
+    (prefix : Prefix) : Type 0 where
+  pub represents : Represents graph prefix choices
   pub after_best : IsAfterBest graph best.cut prefix
   pub reached : IsReachedBefore graph limits prefix best.gain
 
 -- ---- leaves
 
 -- an item that rules out each set that goes on from a prefix where nodes are undecided
-abbrev pub IsBar : Item → Type 0
-IsBar B = ⊥
-IsBar O = Unit {0}
-IsBar C = Unit {0}
-IsBar I = Unit {0}
-IsBar G = Unit {0}
-IsBar F = ⊥
+abbrev pub Prunes : Item → Type 0
+Prunes B = ⊥
+Prunes O = Unit {0}
+Prunes C = Unit {0}
+Prunes I = Unit {0}
+Prunes G = Unit {0}
+Prunes F = ⊥
 
 -- the item that is found is right at the prefix; where none is found, none is
-abbrev pub IsClosing : FlowGraph → Limits → Given → Prefix → Option Item → Type 0
-IsClosing graph limits best prefix None = (item : Item) → IsBar item → ¬ IsRight graph limits best prefix item
-IsClosing graph limits best prefix (Some item) = IsBar item × IsRight graph limits best prefix item
-
--- the set where it fits and gains more, and else the best cut so far
-abbrev pub IsBetterOf : FlowGraph → Limits → Best → set.FinSet nat_cmp → Best → Type 0
-IsBetterOf graph limits before cut after =
-    ((after ≡ before) × (Fits graph limits (set.contains cut) → gain graph (set.contains cut) ≤ℤ before.gain))
-    ⊎ ((after.cut ≡ Some cut) × Fits graph limits (set.contains cut) × (after.gain ≡ gain graph (set.contains cut))
-    × (before.gain <ℤ after.gain))
+abbrev pub IsPruning : FlowGraph → Limits → Given → Prefix → Option Item → Type 0
+IsPruning graph limits best prefix None = (item : Item) → Prunes item → ¬ IsRight graph limits best prefix item
+IsPruning graph limits best prefix (Some item) = Prunes item × IsRight graph limits best prefix item
 
 -- ---- the log of a prefix
 
 -- this is the best cut so far, or a later one that gains more
-abbrev pub IsLater : FlowGraph → Best → Given → Type 0
+abbrev pub IsLater : FlowGraph → Incumbent → Given → Type 0
 IsLater graph best later = (later ≡ best.cut) ⊎ (best.gain <ℤ best_gain graph later)
 
 -- the best cut comes before the prefix, or goes on from it
@@ -68,7 +60,8 @@ IsPassed graph prefix (Some cut) =
 
 -- From one best cut to another the sets that go on from the prefix were passed. The items are right for the latter, and
 -- for each that gains more.
-pub record IsLogged (graph : FlowGraph) (limits : Limits) (prefix : Prefix) (before after : Best) (items : List Item)
+pub record IsLogged (graph : FlowGraph) (limits : Limits) (prefix : Prefix) (before after : Incumbent)
+    (items : List Item)
     : Type 0 where
   pub measured : IsMeasured graph limits after
   pub grows : (after ≡ before) ⊎ (before.gain <ℤ after.gain)

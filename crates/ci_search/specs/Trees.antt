@@ -7,7 +7,7 @@ use Rattle.ci_log.specs.declared.log.Item.{Item}
 use Rattle.ci_log.specs.declared.flattening.Child.{Child}
 use Rattle.ci_log.specs.declared.flattening.LogNode.{LogNode}
 use Rattle.ci_log.specs.RegionTrees.{IsTreeIn}
-use Rattle.ci_check.specs.declared.rules.Best.{Best}
+use Rattle.ci_cut.specs.declared.incumbent.Incumbent.{Incumbent}
 use Rattle.ci_cut.specs.Prefixes.{Prefix}
 use Rattle.ci_check.specs.Rules.{Given}
 use Rattle.ci_check.specs.Walked.{IsWalked}
@@ -18,7 +18,7 @@ use Rattle.ci_search.specs.Searched.{undecided, IsLogged}
 
 -- The tree is new in the region, its items are the log of the prefix, and its slots are as many as the open prefixes
 -- from this one on.
-pub record IsSearched (graph : FlowGraph) (limits : Limits) (prefix : Prefix) (best : Best)
+pub record IsSearched (graph : FlowGraph) (limits : Limits) (prefix : Prefix) (best : Incumbent)
     (before after : BoundedMap LogNode) (searched : Searched) : Type 0 where
   pub items : List Item
   pub tree : IsTreeIn after.values searched.root items before.values

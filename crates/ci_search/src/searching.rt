@@ -4,16 +4,16 @@ ghost use Rattle.std.specs.FinMap as map;
 ghost use Rattle.ci_region.specs.BoundedMap.{used};
 ghost use Rattle.ci_cut.specs.Prefixes.{Prefix, eligible_nodes};
 ghost use Rattle.ci_cut.specs.Need.{IsNeed, NeedExceeds};
-ghost use Rattle.ci_check.specs.Standing.{IsMeasured};
+ghost use Rattle.ci_check.specs.Representation.{IsMeasured};
 ghost use Rattle.ci_log.specs.declared.flattening.LogNode.{LogNode};
 ghost use Rattle.ci_search.specs.Answered.{free, IsAnswer, IsSpent, IsOptimal};
 ghost use Rattle.ci_search.specs.Searched.{IsReady, IsSpentAt};
 ghost use Rattle.ci_search.specs.Trees.{IsSearched, answer_of};
 
-use crate::leaves::{better_of, closing_item};
+use crate::leaves::pruning_item;
 use crate::trees::{branch, give_back};
-use ci_check::{Best, Choices};
-use ci_cut::{Graph, Limits};
+use ci_check::Choices;
+use ci_cut::{Graph, Incumbent, Limits};
 use ci_log::{Child, Item, LogNode};
 use ci_region::Region;
 use ci_word::Row;
@@ -56,7 +56,7 @@ pub fn search(graph: &Graph, limits: &Limits, region: &mut Region<LogNode>) -> F
     ensures slots { ¬ IsSpent result → IsNeed graph.now limits.now (used region.new - used region.old) }
 {
     let budget = region.capacity() - region.used();
-    let none = Best { cut: None, gain: 0 };
+    let none = Incumbent { cut: None, gain: 0 };
     let searched = search_from(graph, limits, region, &Choices::none(graph), &none);
     answer_of(searched, budget)
 }
@@ -78,7 +78,7 @@ fn answer_of(searched: Option<Searched>, budget: u32) -> Found
 #[derive(Clone, Copy)]
 struct Searched {
     /// The best cut so far.
-    best: Best,
+    best: Incumbent,
     /// The tree of the prefix.
     root: Child,
 }
@@ -89,7 +89,7 @@ fn search_from(
     limits: &Limits,
     region: &mut Region<LogNode>,
     choices: &Choices,
-    best: &Best,
+    best: &Incumbent,
 ) -> Option<Searched>
     requires measured { IsMeasured graph.now limits.now best.now }
     requires ready { (prefix : Prefix) × IsReady graph.now limits.now choices.now best.now prefix }
@@ -100,11 +100,11 @@ fn search_from(
 {
     let Some(node) = choices.next(graph) else {
         return Some(Searched {
-            best: better_of(graph, limits, best, &choices.taken),
+            best: best.improved(graph, limits, &choices.included),
             root: Child::Leaf(Item::F),
         });
     };
-    if let Some(item) = closing_item(graph, limits, best, choices) {
+    if let Some(item) = pruning_item(graph, limits, best, choices) {
         return Some(Searched {
             best: *best,
             root: Child::Leaf(item),

@@ -1,9 +1,11 @@
 -- Laws of the sets of numbers below a bound, and of what is counted and summed over them.
-use Rattle.std.specs.Prelude.{◌≡◌, ℕ, suc, zero, ◌+◌, ◌*◌, ◌<◌, ◌≤◌, Bool, true, false, not, ◌&&◌, ◌||◌, if◌then◌else◌, List, [], ◌∷◌, ◌++◌, IsTrue, ◌↔◌, nat_lt, nat_eq, length, Contains}
+use Rattle.std.specs.Prelude.{◌≡◌, ℕ, suc, zero, ◌+◌, ◌*◌, ◌<◌, ◌≤◌, Bool, true, false, not, ◌&&◌, ◌||◌, if◌then◌else◌}
+use Rattle.std.specs.Prelude.{List, [], ◌∷◌, ◌++◌, IsTrue, ◌↔◌, nat_lt, nat_eq, length, Contains}
 use Rattle.std.specs.Ordering.{nat_cmp}
 use Rattle.std.specs.Cmp.{nat_cmp_total, unsigned_tied}
 use Rattle.std.specs.FinSet as set
-use Rattle.std.proofs.Common.{refl, sym, ap, ◌∙◌, inl, inr, arith, lit<, zero-le, le_refl, lt-suc_self, add-zero, add-one, add-suc, add_assoc, get_or, append-nil, length-append, true≢false}
+use Rattle.std.proofs.Common.{refl, sym, ap, ◌∙◌, inl, inr, arith, lit<, zero-le, le_refl, lt-suc_self, add-zero}
+use Rattle.std.proofs.Common.{add-one, add-suc, add_assoc, get_or, append-nil, length-append, true≢false}
 use Rattle.std.proofs.lemmas.Bool.{le-ltb, lt-ltb, ltb-true, and_parts, and_from, cases_eq, cond_both, false_from_ne_true, or_cases, or_left, or_right}
 use Rattle.std.proofs.Math.ListN.{get_or-append}
 use Rattle.std.proofs.Math.Seq.{get_or-append_seam}
@@ -138,7 +140,8 @@ count_below-same (suc n) p q agree =
     λ i. count_below-same n p q (λ k h. agree k (omega arith)) i + (if agree n (lt-suc_self n) i then 1 else 0)
 
 -- tests that agree below n, and values that agree where the test passes
-pub sum_below-same : (n : ℕ) (p q : ℕ → Bool) (f g : ℕ → ℕ) → ((k : ℕ) → k < n → p k ≡ q k) → ((k : ℕ) → k < n → IsTrue (p k) → f k ≡ g k) → sum_below n p f ≡ sum_below n q g
+pub sum_below-same : (n : ℕ) (p q : ℕ → Bool) (f g : ℕ → ℕ) → ((k : ℕ) → k < n → p k ≡ q k)
+    → ((k : ℕ) → k < n → IsTrue (p k) → f k ≡ g k) → sum_below n p f ≡ sum_below n q g
 unfolding sum_below
 sum_below-same zero p q f g agree same = refl
 sum_below-same (suc n) p q f g agree same =
@@ -168,7 +171,8 @@ count_below-mono (suc n) p q implies =
     omega arith
 
 -- where each number that passes the first test passes the second, and its value does not fall, the sum does not fall
-pub sum_below-mono : (n : ℕ) (p q : ℕ → Bool) (f g : ℕ → ℕ) → ((k : ℕ) → k < n → IsTrue (p k) → IsTrue (q k)) → ((k : ℕ) → k < n → IsTrue (p k) → f k ≤ g k) → sum_below n p f ≤ sum_below n q g
+pub sum_below-mono : (n : ℕ) (p q : ℕ → Bool) (f g : ℕ → ℕ) → ((k : ℕ) → k < n → IsTrue (p k) → IsTrue (q k))
+    → ((k : ℕ) → k < n → IsTrue (p k) → f k ≤ g k) → sum_below n p f ≤ sum_below n q g
 unfolding sum_below
 sum_below-mono zero p q f g implies rise = zero-le
 sum_below-mono (suc n) p q f g implies rise =
@@ -255,7 +259,9 @@ len-set_below (suc n) p = len_one_more (len-set_below n p) (p n)
     absent : set.contains (set_below n p) n ≡ false
     absent = contains-set_below n p n ∙ ap (λ b. b && p n) (le-ltb n n (le_refl n))
 
-    len_one_more : set.len (set_below n p) ≡ count_below n p → (b : Bool) → set.len (set.from_list {R = nat_cmp} (numbers_below n p ++ (if b then n ∷ [] else []))) ≡ count_below n p + (if b then 1 else 0)
+    len_one_more : set.len (set_below n p) ≡ count_below n p → (b : Bool)
+        → set.len (set.from_list {R = nat_cmp} (numbers_below n p ++ (if b then n ∷ [] else [])))
+        ≡ count_below n p + (if b then 1 else 0)
     len_one_more before true =
         ap set.len (set.from_list_push nat_cmp_total set.nat_cmp-IsAntisymmetric (numbers_below n p) n)
         ∙ set.len-insert nat_cmp_total (set_below n p) n

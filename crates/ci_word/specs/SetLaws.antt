@@ -11,10 +11,12 @@ use Rattle.ci_word.specs.Numbers.{numbers_below, set_below}
 last_number : (n k : ℕ) (b : Bool) → list_any (λ y. nat_eq y k) (if b then n ∷ [] else []) ≡ (nat_eq n k && b)
 last_number n k b = grind (arith, nat_tests)
 
-one_number_more : (n : ℕ) (p : ℕ → Bool) (k : ℕ) → ((nat_lt k n && p k) || (nat_eq n k && p n)) ≡ (nat_lt k (suc n) && p k)
+one_number_more : (n : ℕ) (p : ℕ → Bool) (k : ℕ)
+    → ((nat_lt k n && p k) || (nat_eq n k && p n)) ≡ (nat_lt k (suc n) && p k)
 one_number_more n p k = grind (arith, nat_tests)
 
-pub list_any-numbers_below : (n : ℕ) (p : ℕ → Bool) (k : ℕ) → list_any (λ y. nat_eq y k) (numbers_below n p) ≡ (nat_lt k n && p k)
+pub list_any-numbers_below : (n : ℕ) (p : ℕ → Bool) (k : ℕ)
+    → list_any (λ y. nat_eq y k) (numbers_below n p) ≡ (nat_lt k n && p k)
 unfolding numbers_below
 list_any-numbers_below zero p k = ap (λ b. b && p k) (sym (le-ltb k 0 zero-le))
 list_any-numbers_below (suc n) p k =

@@ -1,5 +1,6 @@
 -- For the model of `Row` alone: a set of numbers below 256 as the bits of four words of 64.
-use Rattle.std.specs.Prelude.{◌≡◌, ℕ, suc, zero, ◌+◌, ◌*◌, ◌/◌, ◌%◌, ◌^◌, ◌<◌, Bool, nat_eq, if◌then◌else◌, List, [], ◌∷◌, length, slice_index}
+use Rattle.std.specs.Prelude.{◌≡◌, ℕ, suc, zero, ◌+◌, ◌*◌, ◌/◌, ◌%◌, ◌^◌, ◌<◌, Bool, nat_eq, if◌then◌else◌, List, []}
+use Rattle.std.specs.Prelude.{◌∷◌, length, slice_index}
 use Rattle.std.specs.Ordering.{nat_cmp}
 use Rattle.std.specs.FinSet as set
 use Rattle.std.specs.Int.{bit_at}
@@ -14,8 +15,8 @@ abbrev pub numbers_in : List ℕ → set.FinSet nat_cmp
 numbers_in words = set_below 256 (is_in words)
 
 -- four words of 64 bits
-abbrev pub AreWords : List ℕ → Type 0
-AreWords words = (length words ≡ 4) × ((k : ℕ) → slice_index words k < 2 ^ 64)
+abbrev pub AreRowWords : List ℕ → Type 0
+AreRowWords words = (length words ≡ 4) × ((k : ℕ) → slice_index words k < 2 ^ 64)
 
 -- the number whose bits below w are those that pass the test
 unfoldable pub number_of : ℕ → (ℕ → Bool) → ℕ

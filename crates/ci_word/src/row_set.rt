@@ -22,11 +22,11 @@ impl Model for Row {
 
     ghost coded = { set.code coded_ℕ };
 
-    ghost use Rattle.ci_word.specs.Words.{numbers_in, words_of, AreWords};
+    ghost use Rattle.ci_word.specs.Words.{numbers_in, words_of, AreRowWords};
 
     ghost view = { λ row. numbers_in row.words };
 
-    ghost invariant = { λ row. AreWords row.words };
+    ghost invariant = { λ row. AreRowWords row.words };
 
     ghost inverse = { λ numbers. record { words = words_of numbers } };
 

@@ -11,7 +11,9 @@ pub loop-segment-preserved : goal.loop-segment-preserved
 loop-segment-preserved c =
     let image = c.args.image.now in
     let i = c.loop-segment.segment-index in
-    let words : Adds c.loop-segment.marks c.mark_from_segment.new.marks (IsFromDataWords image (first_word (segment_at image.segments i)) (end_word (segment_at image.segments i))) =
+    let words : Adds c.loop-segment.marks c.mark_from_segment.new.marks
+    (IsFromDataWords image (first_word (segment_at image.segments i))
+    (end_word (segment_at image.segments i))) =
     subst (λ ss. Adds c.loop-segment.marks c.mark_from_segment.new.marks (IsFromDataWords image (first_word (segment_at ss i)) (end_word (segment_at ss i))))
     c.segments-segment-items.ensures.value c.mark_from_segment.ensures in
     added_both c.args.marks.now c.loop-segment.marks c.mark_from_segment.new.marks (IsFromSegments image i)

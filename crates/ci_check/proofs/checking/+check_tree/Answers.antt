@@ -6,8 +6,8 @@ use Rattle.ci_log.specs.declared.log.Item.TheVariants.{B}
 use Rattle.ci_log.specs.Trees.{IsTree}
 use Rattle.ci_cut.specs.Prefixes.{Prefix, is_next}
 use Rattle.ci_check.specs.Rules.{IsRight}
-use Rattle.ci_check.specs.Standing.{Stands}
-use Rattle.ci_check.proofs.StandingLaws.{next_from_below, all_decided}
+use Rattle.ci_check.specs.Representation.{Represents}
+use Rattle.ci_check.proofs.ChoiceLaws.{next_from_below, all_decided}
 use Rattle.ci_check.proofs.TreeWalk.{tree_within, first_item, wrong_here, right_alone, SubTrees, sub_trees, behind_first, judged_by_first, judged_by_second}
 use Rattle.ci_check.proofs.checking.+check_tree.Goals as goal
 use Rattle.ci_check.proofs.checking.+check_tree.Goals.{In-Some}
@@ -22,21 +22,27 @@ pub overflow_add-place : goal.overflow_add-place
 overflow_add-place t c = omega (arith, tree_within c.args.items.now c.args.place c.requires.tree)
 
 pub returns-then-not-is_right : goal.returns-then-not-is_right
-returns-then-not-is_right t c prefix one rest tree stands splits =
+returns-then-not-is_right t c prefix one rest tree represents splits =
     let items = c.args.items.now in
     let place = c.args.place in
     let within = tree_within items place c.requires.tree in
-    let wrong = not_from_Decides _ (c.is_right.ensures prefix stands) c.if-not-is_right.true in
-    (0, rw c.reason_of.ensures (wrong_here c.args.graph.now c.args.limits.now c.args.best.now.cut tree prefix (get_or items place B) (drop (place + 1) items) rest (first_item items one rest place within splits) wrong), omega arith)
+    let wrong = not_from_Decides _ (c.is_right.ensures prefix represents) c.if-not-is_right.true in (
+      0,
+      rw c.reason_of.ensures (wrong_here c.args.graph.now c.args.limits.now c.args.best.now.cut tree prefix
+          (get_or items place B) (drop (place + 1) items) rest (first_item items one rest place within splits) wrong),
+      omega arith,
+    )
 
 pub returns-in_default : goal.returns-in_default
-returns-in_default t c prefix one rest tree stands splits =
+returns-in_default t c prefix one rest tree represents splits =
     let items = c.args.items.now in
     let place = c.args.place in
     let within = tree_within items place c.requires.tree in
-    let right = (c.is_right.ensures prefix stands).0 c.if-not-is_right.false in
-    let judged = right_alone c.args.graph.now c.args.limits.now c.args.best.now.cut tree prefix (get_or items place B) (drop (place + 1) items) rest c.args.choices.now.place (first_item items one rest place within splits) right
-    c.in_default.ensures (all_decided c.args.graph.now prefix c.args.choices.now stands) in
+    let right = (c.is_right.ensures prefix represents).0 c.if-not-is_right.false in
+    let judged = right_alone c.args.graph.now c.args.limits.now c.args.best.now.cut tree prefix
+    (get_or items place B) (drop (place + 1) items) rest c.args.choices.now.place
+    (first_item items one rest place within splits) right
+    c.in_default.ensures (all_decided c.args.graph.now prefix c.args.choices.now represents) in
     (judged.0, omega (arith, judged.1))
 
 -- what is known at a branch: the next node, the trees below, and that the item is right
@@ -45,53 +51,66 @@ record Branch (t : ℕ) (c : In-Some t) (prefix : Prefix) {one : List Item} (tre
   parts : SubTrees tree prefix (drop (c.args.place + 1) c.args.items.now) rest
   right : IsRight c.args.graph.now c.args.limits.now c.args.best.now.cut prefix B
 
-branch_at : (t : ℕ) (c : In-Some t) (prefix : Prefix) (one rest : List Item) (tree : IsTree one) → Stands c.args.graph.now prefix c.args.choices.now → drop c.args.place c.args.items.now ≡ one ++ rest → Branch t c prefix tree rest
-branch_at t c prefix one rest tree stands splits = record {
-  next = next_from_below c.args.graph.now prefix c.args.choices.now stands c.in-Some.node c.in-Some.ensures.1;
+branch_at : (t : ℕ) (c : In-Some t) (prefix : Prefix) (one rest : List Item) (tree : IsTree one)
+    → Represents c.args.graph.now prefix c.args.choices.now → drop c.args.place c.args.items.now ≡ one ++ rest
+    → Branch t c prefix tree rest
+branch_at t c prefix one rest tree represents splits = record {
+  next = next_from_below c.args.graph.now prefix c.args.choices.now represents c.in-Some.node c.in-Some.ensures.1;
   parts = sub_trees tree prefix (get_or c.args.items.now c.args.place B) (drop (c.args.place + 1) c.args.items.now) rest
       (first_item c.args.items.now one rest c.args.place (tree_within c.args.items.now c.args.place c.requires.tree) splits) c.in-Some.ensures.0;
-  right = subst (λ (item : Item). IsRight c.args.graph.now c.args.limits.now c.args.best.now.cut prefix item) c.in-Some.ensures.0 ((c.is_right.ensures prefix stands).0 c.if-not-is_right.false);
+  right = subst (λ (item : Item). IsRight c.args.graph.now c.args.limits.now c.args.best.now.cut prefix item)
+      c.in-Some.ensures.0 ((c.is_right.ensures prefix represents).0 c.if-not-is_right.false);
 }
 
 pub check_tree-requires : goal.check_tree-requires
 check_tree-requires t c =
-    let prefix = c.requires.standing.0 in
-    let stands = c.requires.standing.1 in
+    let prefix = c.requires.represents.0 in
+    let represents = c.requires.represents.1 in
     let here = c.requires.tree in
-    let b = branch_at t (goal.at.check_tree-requires t c).In-Some prefix here.one here.rest here.tree stands here.is_split in (
+    let b = branch_at t (goal.at.check_tree-requires t c).In-Some prefix here.one here.rest here.tree represents here.is_split in (
       omega (arith, c.in-Some.ensures.1.below, c.with.ensures.place),
       (
-        (true ∷ prefix, c.with.ensures.stands c.args.graph.now prefix stands b.next),
-        (c.requires.measured, (c.requires.few, record { one = b.parts.first; rest = b.parts.second ++ here.rest; is_split = b.parts.is_tail; tree = b.parts.first_tree })),
+        (true ∷ prefix, c.with.ensures.represents c.args.graph.now prefix represents b.next),
+        (
+          c.requires.measured,
+          (c.requires.few, record { one = b.parts.first; rest = b.parts.second ++ here.rest; is_split = b.parts.is_tail; tree = b.parts.first_tree }),
+        ),
       ),
     )
 
 pub returns-in_err-end : goal.returns-in_err-end
-returns-in_err-end t c prefix one rest tree stands splits =
-    let b = branch_at t (goal.at.returns-in_err-end t c).In-Some prefix one rest tree stands splits in
-    let first = c.in_err-end.ensures (true ∷ prefix) b.parts.first (b.parts.second ++ rest) b.parts.first_tree (c.with.ensures.stands c.args.graph.now prefix stands b.next) b.parts.is_tail in
+returns-in_err-end t c prefix one rest tree represents splits =
+    let b = branch_at t (goal.at.returns-in_err-end t c).In-Some prefix one rest tree represents splits in
+    let first = c.in_err-end.ensures (true ∷ prefix) b.parts.first (b.parts.second ++ rest) b.parts.first_tree
+    (c.with.ensures.represents c.args.graph.now prefix represents b.next) b.parts.is_tail in
     let p = err_from_is_err_and c.from_residual.result c.from_residual.ensures.1 in
-    rw (p.1, p.2) (judged_by_first c.args.graph.now c.args.limits.now c.args.best.now.cut tree prefix _ rest b.parts b.right c.args.place c.in_err-end.field-0.0 first)
+    rw (p.1, p.2)
+    (judged_by_first c.args.graph.now c.args.limits.now c.args.best.now.cut tree prefix _ rest b.parts b.right
+    c.args.place c.in_err-end.field-0.0 first)
 
 pub check_tree-requires-2 : goal.check_tree-requires-2
 check_tree-requires-2 t c =
-    let prefix = c.requires.standing.0 in
-    let stands = c.requires.standing.1 in
+    let prefix = c.requires.represents.0 in
+    let represents = c.requires.represents.1 in
     let here = c.requires.tree in
-    let b = branch_at t (goal.at.check_tree-requires-2 t c).In-Some prefix here.one here.rest here.tree stands here.is_split in
-    let first = c.in_ok-end.ensures (true ∷ prefix) b.parts.first (b.parts.second ++ here.rest) b.parts.first_tree (c.with.ensures.stands c.args.graph.now prefix stands b.next) b.parts.is_tail in
+    let b = branch_at t (goal.at.check_tree-requires-2 t c).In-Some prefix here.one here.rest here.tree represents here.is_split in
+    let first = c.in_ok-end.ensures (true ∷ prefix) b.parts.first (b.parts.second ++ here.rest) b.parts.first_tree
+    (c.with.ensures.represents c.args.graph.now prefix represents b.next) b.parts.is_tail in
     let behind = behind_first c.args.items.now here.rest (c.args.place + 1) c.in_ok-end.end b.parts first.1 in (
       omega (arith, c.in-Some.ensures.1.below, c.without.ensures.place),
       (
-        (false ∷ prefix, c.without.ensures.stands c.args.graph.now prefix stands b.next),
+        (false ∷ prefix, c.without.ensures.represents c.args.graph.now prefix represents b.next),
         (c.requires.measured, (c.requires.few, record { one = b.parts.second; rest = here.rest; is_split = behind; tree = b.parts.second_tree })),
       ),
     )
 
 pub returns : goal.returns
-returns t c prefix one rest tree stands splits =
-    let b = branch_at t (goal.at.returns t c).In-Some prefix one rest tree stands splits in
-    let first = c.in_ok-end.ensures (true ∷ prefix) b.parts.first (b.parts.second ++ rest) b.parts.first_tree (c.with.ensures.stands c.args.graph.now prefix stands b.next) b.parts.is_tail in
-    let second = c.check_tree-2.ensures (false ∷ prefix) b.parts.second rest b.parts.second_tree (c.without.ensures.stands c.args.graph.now prefix stands b.next)
+returns t c prefix one rest tree represents splits =
+    let b = branch_at t (goal.at.returns t c).In-Some prefix one rest tree represents splits in
+    let first = c.in_ok-end.ensures (true ∷ prefix) b.parts.first (b.parts.second ++ rest) b.parts.first_tree
+    (c.with.ensures.represents c.args.graph.now prefix represents b.next) b.parts.is_tail in
+    let second = c.check_tree-2.ensures (false ∷ prefix) b.parts.second rest b.parts.second_tree
+    (c.without.ensures.represents c.args.graph.now prefix represents b.next)
     (behind_first c.args.items.now rest (c.args.place + 1) c.in_ok-end.end b.parts first.1) in
-    judged_by_second c.args.graph.now c.args.limits.now c.args.best.now.cut tree prefix _ rest b.parts b.right c.args.place c.in_ok-end.end c.check_tree-2.result first second
+    judged_by_second c.args.graph.now c.args.limits.now c.args.best.now.cut tree prefix _ rest b.parts b.right
+    c.args.place c.in_ok-end.end c.check_tree-2.result first second

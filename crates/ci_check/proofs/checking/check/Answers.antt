@@ -8,12 +8,17 @@ use Rattle.ci_check.proofs.TreeWalk.{not_all}
 use Rattle.ci_check.proofs.checking.check.Goals as goal
 
 -- the first wrong item of the whole log
-wrong_of : (c : goal.After-from_residual) (tree : IsTree c.args.log.now) → IsFirstWrongIn c.args.graph.now c.args.limits.now c.args.best (stations tree []) c.in_err-check_tree.field-0.0.item c.in_err-check_tree.field-0.0.reason
+wrong_of : (c : goal.After-from_residual) (tree : IsTree c.args.log.now)
+    → IsFirstWrongIn c.args.graph.now c.args.limits.now c.args.best
+    (stations tree []) c.in_err-check_tree.field-0.0.item c.in_err-check_tree.field-0.0.reason
 wrong_of c tree =
     let judged = c.in_err-check_tree.ensures [] c.args.log.now [] tree c.none.ensures (c.items.ensures.items ∙ sym (append-nil c.args.log.now)) in
     let number : judged.0 ≡ c.in_err-check_tree.field-0.0.item = omega (arith, judged.2) in
-    subst (λ (best : Given). IsFirstWrongIn c.args.graph.now c.args.limits.now best (stations tree []) c.in_err-check_tree.field-0.0.item c.in_err-check_tree.field-0.0.reason) c.in-Some.ensures.0
-    (subst (λ (n : ℕ). IsFirstWrongIn c.args.graph.now c.args.limits.now c.in-Some.best.cut (stations tree []) n c.in_err-check_tree.field-0.0.reason) number judged.1)
+    subst (λ (best : Given). IsFirstWrongIn c.args.graph.now c.args.limits.now best
+    (stations tree []) c.in_err-check_tree.field-0.0.item c.in_err-check_tree.field-0.0.reason)
+    c.in-Some.ensures.0
+    (subst (λ (n : ℕ). IsFirstWrongIn c.args.graph.now c.args.limits.now c.in-Some.best.cut
+    (stations tree []) n c.in_err-check_tree.field-0.0.reason) number judged.1)
 
 pub returns-in_err-check_tree-clause-accepted : goal.returns-in_err-check_tree-clause-accepted
 returns-in_err-check_tree-clause-accepted c =
@@ -25,7 +30,11 @@ returns-in_err-check_tree-clause-accepted c =
 pub returns-in_err-check_tree-clause-wrong : goal.returns-in_err-check_tree-clause-wrong
 returns-in_err-check_tree-clause-wrong c =
     let p = err_from_is_err_and c.from_residual.result c.from_residual.ensures.1 in
-    rw (p.1, p.2) (inr (subst (IsGood c.args.graph.now c.args.limits.now) c.in-Some.ensures.0 c.in-Some.ensures.1.good, (c.items.ensures.log.is_tree, wrong_of c c.items.ensures.log.is_tree)))
+    rw (p.1, p.2)
+    (inr (
+      subst (IsGood c.args.graph.now c.args.limits.now) c.in-Some.ensures.0 c.in-Some.ensures.1.good,
+      (c.items.ensures.log.is_tree, wrong_of c c.items.ensures.log.is_tree),
+    ))
 
 accepted_of : (c : goal.In_ok-check_tree) → IsAccepted c.args.graph.now c.args.limits.now c.args.best c.args.log.now
 accepted_of c =

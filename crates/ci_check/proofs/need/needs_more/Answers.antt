@@ -11,9 +11,19 @@ returns c =
     let graph = c.args.graph.now in
     let limits = c.args.limits.now in
     let walked = c.walk-all.ensures [] (eligible_nodes graph) c.none.ensures (omega arith) (reached_none graph limits) in (
-      λ e. AtLeast-fewer (IsOpen graph limits) walked.found (suc c.args.budget) (omega (arith, ltb-true _ _ e, walked.is_open, c.from.ensures, c.from-2.ensures)),
+      λ e. AtLeast-fewer (IsOpen graph limits) walked.found (suc c.args.budget)
+          (omega (arith, ltb-true _ _ e, walked.is_open, c.from.ensures, c.from-2.ensures)),
       λ needed. elim (cases_lt c.from-2.result c.walk-all.result.open) [
         | inl over ↦ lt-ltb _ _ over
-        | inr within ↦ absurd (omega (arith, walked.all (omega (arith, within, c.from.ensures, c.from-2.ensures)) (suc c.args.budget) needed, walked.is_open, within, c.from.ensures, c.from-2.ensures))
+        | inr within ↦
+            absurd (omega (
+              arith,
+              walked.all (omega (arith, within, c.from.ensures, c.from-2.ensures))
+                  (suc c.args.budget) needed,
+              walked.is_open,
+              within,
+              c.from.ensures,
+              c.from-2.ensures,
+            ))
       ],
     )

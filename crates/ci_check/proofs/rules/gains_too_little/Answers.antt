@@ -6,18 +6,18 @@ use Rattle.ci_check.proofs.GainTests.{of_z_same, above_by_tests, decides_at_same
 use Rattle.ci_check.proofs.rules.gains_too_little.Goals as goal
 
 pub returns-then-bound-best-2 : goal.returns-then-bound-best-2
-returns-then-bound-best-2 c prefix stands =
+returns-then-bound-best-2 c prefix represents =
     let bounded : SFits w64 c.bound-bound.result = search rules in
     let gained : SFits w64 c.args.best.now.gain = search rules in
     let same = of_z_same _ _ bounded gained c.if-bound-best-2.true in
     decides_at_same (bound c.args.graph.now prefix) (best_gain c.args.graph.now c.args.best.now.cut) (IsAfterBest c.args.graph.now c.args.best.now.cut prefix) _
-    (sym (c.bound-bound.ensures prefix stands) ∙ same ∙ c.requires.measured.gain_is)
-    (c.is_after_best.ensures prefix stands)
+    (sym (c.bound-bound.ensures prefix represents) ∙ same ∙ c.requires.measured.gain_is)
+    (c.is_after_best.ensures prefix represents)
 
 pub returns-else-bound-best-2 : goal.returns-else-bound-best-2
-returns-else-bound-best-2 c prefix stands =
+returns-else-bound-best-2 c prefix represents =
     let bounded : SFits w64 c.bound-bound.result = search rules in
     let gained : SFits w64 c.args.best.now.gain = search rules in
     decides_above (bound c.args.graph.now prefix) (best_gain c.args.graph.now c.args.best.now.cut) (IsAfterBest c.args.graph.now c.args.best.now.cut prefix) _
-    (above_by_tests _ _ bounded gained c.if-bound-best.false c.if-bound-best-2.false (c.bound-bound.ensures prefix stands) c.requires.measured.gain_is)
+    (above_by_tests _ _ bounded gained c.if-bound-best.false c.if-bound-best-2.false (c.bound-bound.ensures prefix represents) c.requires.measured.gain_is)
     (ne_eqb _ _ c.if-bound-best-2.false)

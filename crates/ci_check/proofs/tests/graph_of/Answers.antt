@@ -11,4 +11,6 @@ loop-part-preserved g c =
     let count : c.len-in-loop-part.result ≡ length nodes = omega (arith, c.len-in-loop-part.ensures, c.loop-part.nodes.ok.0) in
     let room = c.len.ensures in
     rw c.in_ok-push.ensures.items
-    (flow_graph_push (record { nodes = nodes; read = 1; pad = 0 }) c.in_ok-node_of.field-0 c.loop-part.invariant (omega (arith, c.loop-part.nodes.ok.0)) (subst (λ (n : ℕ). IsNodeOf 0 n c.in_ok-node_of.field-0) count c.in_ok-node_of.ensures))
+    (flow_graph_push (record { nodes = nodes; read = 1; pad = 0 }) c.in_ok-node_of.field-0 c.loop-part.invariant
+    (omega (arith, c.loop-part.nodes.ok.0)) (subst
+    (λ (n : ℕ). IsNodeOf 0 n c.in_ok-node_of.field-0) count c.in_ok-node_of.ensures))

@@ -1,9 +1,9 @@
 use Rattle.std.proofs.Common.{◌-◌, ◌<◌, length, arith, sym, ◌∙◌}
-use Rattle.ci_cut.proofs.Tries.{better_without, better_with, eligible_read, decided_with}
+use Rattle.ci_cut.proofs.BestOfTries.{improved_for_one, better_without, better_with, eligible_read, decided_with}
 use Rattle.ci_cut.proofs.choice.+try_below.Goals as goal
 
 pub returns-then-undecided-eq0 : goal.returns-then-undecided-eq0
-returns-then-undecided-eq0 t c = rw c.if-undecided-eq0.true c.better.ensures
+returns-then-undecided-eq0 t c = rw c.if-undecided-eq0.true (improved_for_one _ _ _ _ _ c.improved.ensures)
 
 pub returns-then-not-nodes-node : goal.returns-then-not-nodes-node
 returns-then-not-nodes-node t c =

@@ -4,7 +4,10 @@ use Rattle.std.proofs.lemmas.Bool.Decides.{not_from_Decides}
 use Rattle.ci_cut.proofs.NodeLaws.{node_there}
 use Rattle.ci_cut.proofs.WalkLaws.{searched_none, violated, searched_member, searched_passed, searched_not_reached}
 use Rattle.ci_cut.proofs.convexity.is_convex.Goals as goal
-use Rattle.ci_cut.proofs.convexity.is_convex.Goals.{then-has+else-meets, else-has+then-meets-2, then-meets-2-via-then-meets-2, then-meets-2-via-else-meets-2+then-meets-3, else-has+else-meets-2+else-meets-3}
+use Rattle.ci_cut.proofs.convexity.is_convex.Goals.{then-has+else-meets, else-has+then-meets-2}
+use Rattle.ci_cut.proofs.convexity.is_convex.Goals.{then-meets-2-via-then-meets-2}
+use Rattle.ci_cut.proofs.convexity.is_convex.Goals.{then-meets-2-via-else-meets-2+then-meets-3}
+use Rattle.ci_cut.proofs.convexity.is_convex.Goals.{else-has+else-meets-2+else-meets-3}
 
 pub loop-k-init : goal.loop-k-init
 loop-k-init c = rw c.empty-passed.ensures (searched_none _ _)
@@ -23,7 +26,8 @@ loop-k-preserved c =
     let so_far = c.loop-k.invariant in
     elim c.if-has.branch [
       | then-has+else-meets w ↦
-          rw w.passed-is (searched_member _ _ _ _ _ flows here so_far (sym c.has.ensures.value ∙ w.if-has.true) (not_from_Decides _ w.meets.ensures.value w.if-meets.false))
+          rw w.passed-is (searched_member _ _ _ _ _ flows here so_far (sym c.has.ensures.value ∙ w.if-has.true)
+          (not_from_Decides _ w.meets.ensures.value w.if-meets.false))
       | else-has+then-meets-2 w ↦
           let outside : ¬ (IsTrue (set.contains c.args.cut.now c.loop-k.k)) = λ member. let value = c.has.ensures.value in let no = w.if-has.false in cc in
           rw (w.passed-is, w.insert.ensures) (searched_passed _ _ _ _ _ flows here so_far outside (elim w.then-meets-2.branch [
@@ -32,5 +36,7 @@ loop-k-preserved c =
           ]))
       | else-has+else-meets-2+else-meets-3 w ↦
           let outside : ¬ (IsTrue (set.contains c.args.cut.now c.loop-k.k)) = λ member. let value = c.has.ensures.value in let no = w.if-has.false in cc in
-          rw w.passed-is (searched_not_reached _ _ _ _ _ flows here so_far outside (not_from_Decides _ w.meets-else-has.ensures.value w.if-meets-2.false) (not_from_Decides _ w.meets-else-meets-2.ensures.value w.if-meets-3.false))
+          rw w.passed-is (searched_not_reached _ _ _ _ _ flows here so_far outside
+          (not_from_Decides _ w.meets-else-has.ensures.value w.if-meets-2.false)
+          (not_from_Decides _ w.meets-else-meets-2.ensures.value w.if-meets-3.false))
     ]

@@ -21,4 +21,5 @@ loop-part-preserved c =
     ]
 
 pub returns : goal.returns
-returns c = extended_all c.args.sorted.now c.requires c.loop-part.part-index c.loop-part.coverage.items c.loop-part.end c.loop-part-test.false c.loop-part.invariant
+returns c = extended_all c.args.sorted.now c.requires c.loop-part.part-index c.loop-part.coverage.items
+    c.loop-part.end c.loop-part-test.false c.loop-part.invariant

@@ -10,7 +10,8 @@ returns-in_err-expect_field c =
 
 pub returns-in_err-expect_field-2 : goal.returns-in_err-expect_field-2
 returns-in_err-expect_field-2 c =
-    handed_on c.args.bytes.now ((FieldIs 2 16 2 ∷ []) ++ ((FieldIs 2 18 243 ∷ []) ++ ((FieldIs 4 20 1 ∷ [])))) _ _ c.from_residual-in_err-expect_field-2.ensures.1
+    handed_on c.args.bytes.now ((FieldIs 2 16 2 ∷ []) ++ ((FieldIs 2 18 243 ∷ []) ++ ((FieldIs 4 20 1 ∷ [])))) _ _
+    c.from_residual-in_err-expect_field-2.ensures.1
     (fault_behind c.args.bytes.now (FieldIs 2 16 2 ∷ []) ((FieldIs 2 18 243 ∷ []) ++ ((FieldIs 4 20 1 ∷ []))) _ c.in_ok-expect_field.ensures
     (fault_in_front c.args.bytes.now (FieldIs 2 18 243 ∷ []) ((FieldIs 4 20 1 ∷ [])) _ c.in_err-expect_field-2.ensures))
 

@@ -14,4 +14,5 @@ loop-number-preserved c =
     ∙ pushed_more (little_bytes 2) c.args.numbers.now c.loop-number.number-index c.args.bytes.now.items _ c.loop-number-test.true c.loop-number.invariant
 
 pub returns : goal.returns
-returns c = c.loop-number.invariant ∙ ap (λ l. c.args.bytes.now.items ++ halves l) (pushed_all c.args.numbers.now c.loop-number.number-index c.loop-number-test.false)
+returns c = c.loop-number.invariant ∙ ap (λ l. c.args.bytes.now.items ++ halves l)
+    (pushed_all c.args.numbers.now c.loop-number.number-index c.loop-number-test.false)

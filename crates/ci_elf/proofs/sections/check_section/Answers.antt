@@ -6,11 +6,14 @@ use Rattle.ci_elf.proofs.sections.check_section.Goals as goal
 pub returns-in_err-check_symbols : goal.returns-in_err-check_symbols
 returns-in_err-check_symbols c =
     handed_on c.args.bytes.now ((HasSymbols c.args.n ∷ []) ++ ((TextIsLoaded c.args.n ∷ []) ++ ((TextIsAlone c.args.n ∷ [])))) _ _ c.from_residual.ensures.1
-    (fault_in_front c.args.bytes.now (HasSymbols c.args.n ∷ []) ((TextIsLoaded c.args.n ∷ []) ++ ((TextIsAlone c.args.n ∷ []))) _ c.in_err-check_symbols.ensures)
+    (fault_in_front c.args.bytes.now (HasSymbols c.args.n ∷ [])
+    ((TextIsLoaded c.args.n ∷ []) ++ ((TextIsAlone c.args.n ∷ []))) _ c.in_err-check_symbols.ensures)
 
 pub returns-in_err-check_loaded : goal.returns-in_err-check_loaded
 returns-in_err-check_loaded c =
-    handed_on c.args.bytes.now ((HasSymbols c.args.n ∷ []) ++ ((TextIsLoaded c.args.n ∷ []) ++ ((TextIsAlone c.args.n ∷ [])))) _ _ c.from_residual-in_err-check_loaded.ensures.1
+    handed_on c.args.bytes.now ((HasSymbols c.args.n ∷ [])
+    ++ ((TextIsLoaded c.args.n ∷ []) ++ ((TextIsAlone c.args.n ∷ [])))) _ _
+    c.from_residual-in_err-check_loaded.ensures.1
     (fault_behind c.args.bytes.now (HasSymbols c.args.n ∷ []) ((TextIsLoaded c.args.n ∷ []) ++ ((TextIsAlone c.args.n ∷ []))) _ c.in_ok-check_symbols.ensures
     (fault_in_front c.args.bytes.now (TextIsLoaded c.args.n ∷ []) ((TextIsAlone c.args.n ∷ [])) _ c.in_err-check_loaded.ensures))
 

@@ -6,7 +6,8 @@ use Rattle.ci_elf.proofs.segments.check_segment.Goals as goal
 pub returns-in_err-check_no_interpreter : goal.returns-in_err-check_no_interpreter
 returns-in_err-check_no_interpreter c =
     handed_on c.args.bytes.now ((NamesNoInterpreter c.args.n ∷ []) ++ ((HasFilePart c.args.n ∷ IsPlaced c.args.n ∷ []))) _ _ c.from_residual.ensures.1
-    (fault_in_front c.args.bytes.now (NamesNoInterpreter c.args.n ∷ []) ((HasFilePart c.args.n ∷ IsPlaced c.args.n ∷ [])) _ c.in_err-check_no_interpreter.ensures)
+    (fault_in_front c.args.bytes.now (NamesNoInterpreter c.args.n ∷ [])
+    ((HasFilePart c.args.n ∷ IsPlaced c.args.n ∷ [])) _ c.in_err-check_no_interpreter.ensures)
 
 pub returns : goal.returns
 returns c =

@@ -11,7 +11,9 @@ loop-k-init c = rw each_below_none (sym (append-nil _))
 pub loop-k-preserved : goal.loop-k-preserved
 loop-k-preserved c =
     rw (each_below_more c.loop-k.k (λ k. field 4 (c.args.offset + 16 * k + 4) c.args.bytes.now ∷ []), ← c.word_at.ensures)
-    (c.in_ok-push.ensures.items ∙ ap (λ l. l ++ c.word_at.result ∷ []) c.loop-k.invariant ∙ append_assoc c.args.symbols.now.items (values_at c.args.bytes.now c.args.offset c.loop-k.k) (c.word_at.result ∷ []))
+    (c.in_ok-push.ensures.items ∙ ap (λ l. l ++ c.word_at.result ∷ []) c.loop-k.invariant
+    ∙ append_assoc c.args.symbols.now.items (values_at c.args.bytes.now c.args.offset c.loop-k.k)
+    (c.word_at.result ∷ []))
 
 pub returns : goal.returns
 returns c =

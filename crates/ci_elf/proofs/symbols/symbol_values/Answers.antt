@@ -17,7 +17,8 @@ push_symbols-requires-clause-whole c =
 
 pub loop-n-preserved : goal.loop-n-preserved
 loop-n-preserved c =
-    c.in_ok-push_symbols.ensures ∙ ap (λ l. l ++ symbols_here c.args.bytes.now c.loop-n.n) c.loop-n.invariant ∙ sym (each_below_more c.loop-n.n (symbols_here c.args.bytes.now))
+    c.in_ok-push_symbols.ensures ∙ ap (λ l. l ++ symbols_here c.args.bytes.now c.loop-n.n) c.loop-n.invariant
+    ∙ sym (each_below_more c.loop-n.n (symbols_here c.args.bytes.now))
 
 pub returns : goal.returns
 unfolding symbols_of

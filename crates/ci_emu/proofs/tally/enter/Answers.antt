@@ -27,11 +27,11 @@ pub returns-in_ok-word-in-Some-clause-fetched : goal.returns-in_ok-word-in-Some-
 returns-in_ok-word-in-Some-clause-fetched c =
     let state = state_of c.args.state.now in
     let at = word (goal.at.returns-in_ok-word-in-Some-clause-fetched c).In-Some in
-    fetched_is (program_of c.args.state.now) state c.line.result.word c.line.result.insn (eq-eqb (state.pc % 4) 0 at.0) at.1
-    (sym c.fetch_word.ensures ∙ c.in_ok-word-in-Some.was ∙ ap Some (sym c.line.ensures)) c.line.result.decoded
+    fetched_is (program_of c.args.state.now) state c.get.result.word c.get.result.insn (eq-eqb (state.pc % 4) 0 at.0) at.1
+    (sym c.fetch_word.ensures ∙ c.in_ok-word-in-Some.was ∙ ap Some (sym c.get.ensures)) c.get.result.decoded
 
 pub returns-in_ok-word-in-Some-clause-plain : goal.returns-in_ok-word-in-Some-clause-plain
-returns-in_ok-word-in-Some-clause-plain c = plain_at c.line.result.word c.line.result.insn c.line.result.decoded
+returns-in_ok-word-in-Some-clause-plain c = plain_at c.get.result.word c.get.result.insn c.get.result.decoded
 
 pub returns-in_ok-word-in-Some-clause-counted : goal.returns-in_ok-word-in-Some-clause-counted
 returns-in_ok-word-in-Some-clause-counted c =

@@ -2,7 +2,7 @@ use Rattle.std.proofs.Common.{◌≡◌, ℕ, ◌+◌, ◌-◌, ◌↔◌, sym, 
 use Rattle.std.proofs.Math.Seq.{drop-length}
 use Rattle.std.specs.FinSet as set
 use Rattle.ci_isa.specs.declared.instruction.Insn.{Insn}
-use Rattle.ci_isa.specs.Effects.{registers_read}
+use Rattle.ci_isa.specs.RegisterSets.{registers_read}
 use Rattle.ci_isa.specs.Sequences.{ReadFirst, Write}
 use Rattle.ci_live.specs.Flows.{Has}
 use Rattle.ci_live.proofs.SetLaws.{has_none}
@@ -14,12 +14,12 @@ pub loop-place-init : goal.loop-place-init
 loop-place-init c =
     let none : drop (length c.args.insns.now) c.args.insns.now ≡ [] = drop-length c.args.insns.now in
     record {
-      first = λ r. (
-        λ has. absurd (has_none r (subst (λ s. Has s r) c.empty-first.ensures has)),
+      uses = λ r. (
+        λ has. absurd (has_none r (subst (λ s. Has s r) c.empty-uses.ensures has)),
         λ f. absurd (nothing_read r (subst (λ xs. ReadFirst xs r) none f)),
       );
-      written = λ r. (
-        λ has. absurd (has_none r (subst (λ s. Has s r) c.empty-written.ensures has)),
+      defs = λ r. (
+        λ has. absurd (has_none r (subst (λ s. Has s r) c.empty-defs.ensures has)),
         λ w. absurd (nothing_written r (subst (λ xs. Write xs r) none w)),
       );
     }
@@ -31,17 +31,17 @@ loop-place-preserved c =
     let k : ℕ = c.loop-place.place - 1 in
     let next : k + 1 ≡ c.loop-place.place = omega arith in
     record {
-      first =
+      uses =
           λ r.
           subst (λ s. Has s r ↔ ReadFirst (drop k insns) r)
-          (sym (c.union-first.ensures.value ∙ (λ i. set.union (c.reads-operands.ensures i) (c.difference.ensures.value i))
-          ∙ ap (λ t. set.union (registers_read insn) (set.difference c.loop-place.first t)) c.writes-results.ensures))
-          (read_before insns k insn (omega arith) c.index-insns-place.is r c.loop-place.first
-          (subst (λ n. Has c.loop-place.first r ↔ ReadFirst (drop n insns) r) (sym next) (c.loop-place.invariant.first r)));
-      written =
+          (sym (c.union-uses.ensures.value ∙ (λ i. set.union (c.reads-operands.ensures i) (c.difference.ensures.value i))
+          ∙ ap (λ t. set.union (registers_read insn) (set.difference c.loop-place.uses t)) c.writes-results.ensures))
+          (read_before insns k insn (omega arith) c.index-insns-place.is r c.loop-place.uses
+          (subst (λ n. Has c.loop-place.uses r ↔ ReadFirst (drop n insns) r) (sym next) (c.loop-place.invariant.uses r)));
+      defs =
           λ r.
           subst (λ s. Has s r ↔ Write (drop k insns) r)
-          (sym (c.union-written.ensures.value ∙ ap (λ t. set.union t c.loop-place.written) c.writes-results.ensures))
-          (written_before insns k insn (omega arith) c.index-insns-place.is r c.loop-place.written
-          (subst (λ n. Has c.loop-place.written r ↔ Write (drop n insns) r) (sym next) (c.loop-place.invariant.written r)));
+          (sym (c.union-defs.ensures.value ∙ ap (λ t. set.union t c.loop-place.defs) c.writes-results.ensures))
+          (written_before insns k insn (omega arith) c.index-insns-place.is r c.loop-place.defs
+          (subst (λ n. Has c.loop-place.defs r ↔ Write (drop n insns) r) (sym next) (c.loop-place.invariant.defs r)));
     }

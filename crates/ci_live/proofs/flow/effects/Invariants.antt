@@ -5,6 +5,6 @@ use Rattle.ci_live.proofs.flow.effects.Given as goal
 
 abbrev pub invariant-loop-place : goal.invariant-loop-place
 invariant-loop-place l = record {
-  first : (r : ℕ) → Has l.first r ↔ ReadFirst (drop l.place l.insns) r;
-  written : (r : ℕ) → Has l.written r ↔ Write (drop l.place l.insns) r;
+  uses : (r : ℕ) → Has l.uses r ↔ ReadFirst (drop l.place l.insns) r;
+  defs : (r : ℕ) → Has l.defs r ↔ Write (drop l.place l.insns) r;
 }

@@ -11,7 +11,7 @@ loop-block-preserved c =
     (flows_more c.args.leaders.now c.args.blocks.now c.loop-block.block-index c.loop-block.flows.items c.block-item.result _ c.loop-block-test.true
     (sym c.block-item.is) c.loop-block.invariant
     (record {
-      first = λ r. subst (λ insns. Has c.effects-first.result.0 r ↔ ReadFirst insns r) c.deref.ensures.value (c.effects-first.ensures.first r);
-      written = λ r. subst (λ insns. Has c.effects-first.result.1 r ↔ Write insns r) c.deref.ensures.value (c.effects-first.ensures.written r);
-      ways = c.ways_of.ensures;
+      uses = λ r. subst (λ insns. Has c.effects-uses.result.0 r ↔ ReadFirst insns r) c.deref.ensures.value (c.effects-uses.ensures.uses r);
+      defs = λ r. subst (λ insns. Has c.effects-uses.result.1 r ↔ Write insns r) c.deref.ensures.value (c.effects-uses.ensures.defs r);
+      successors = c.successors_of.ensures;
     }))

@@ -1,5 +1,5 @@
 use Rattle.std.proofs.Common.{◌∙◌, ap, replicate, length}
-use Rattle.ci_live.proofs.LookLaws.{nothing_found}
+use Rattle.ci_live.proofs.TransferLaws.{nothing_found}
 use Rattle.ci_live.proofs.iteration.nothing.Goals as goal
 
 pub returns : goal.returns

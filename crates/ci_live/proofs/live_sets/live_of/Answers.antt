@@ -1,7 +1,7 @@
 use Rattle.std.proofs.Common.{◌≡◌, ℕ, ◌<◌, List, length, subst, sym, ap, ◌∙◌}
 use Rattle.ci_live.specs.declared.flow.Flow.{Flow}
 use Rattle.ci_live.specs.Flows.{AreFlows, AreWithin, flow_at}
-use Rattle.ci_live.specs.Found.{IsSolution, live_at, on_ways}
+use Rattle.ci_live.specs.Found.{IsSolution, live_at, on_edges}
 use Rattle.ci_live.proofs.LiveLaws.{are_live_sets, flows_within, leaders_ascend, leaders_many}
 use Rattle.ci_live.proofs.SearchLaws.{Ascend}
 use Rattle.ci_live.proofs.live_sets.live_of.Goals as goal
@@ -24,7 +24,8 @@ sets_after-requires-clause-flows c =
 pub invariant_of-result : goal.invariant_of-result
 invariant_of-result c =
     let same = c.in_ok-leaders.ensures in
-    let flows = ap (λ (xs : List Flow). length xs) c.deref-2.ensures.value ∙ c.in_ok-flows.ensures.many ∙ sym (leaders_many c.in_ok-leaders.leaders.items c.args.blocks.now same) in
+    let flows = ap (λ (xs : List Flow). length xs) c.deref-2.ensures.value ∙ c.in_ok-flows.ensures.many
+    ∙ sym (leaders_many c.in_ok-leaders.leaders.items c.args.blocks.now same) in
     record {
       ascending = leaders_ascend c.in_ok-leaders.leaders.items c.args.blocks.now same c.requires;
       many_at = c.in_ok-found.ensures.many ∙ flows;
@@ -38,10 +39,11 @@ pub returns : goal.returns
 returns c =
     are_live_sets c.in_ok-leaders.leaders.items c.args.blocks.now c.in_ok-flows.flows.items c.in_ok-found.found c.in_ok-after.after.items
     c.in_ok-leaders.ensures c.requires
-    (subst (λ (leaders : List ℕ). AreFlows leaders c.args.blocks.now (length c.args.blocks.now) c.in_ok-flows.flows.items) c.deref.ensures.value c.in_ok-flows.ensures)
+    (subst (λ (leaders : List ℕ). AreFlows leaders c.args.blocks.now
+    (length c.args.blocks.now) c.in_ok-flows.flows.items) c.deref.ensures.value c.in_ok-flows.ensures)
     (subst (λ (flows : List Flow). IsSolution flows c.in_ok-found.found) c.deref-2.ensures.value c.in_ok-found.ensures)
     (subst
     (λ (flows : List Flow).
     (k : ℕ) → k < length flows
-    → live_at c.in_ok-after.after.items k ≡ on_ways c.in_ok-found.found.live.items c.in_ok-found.found.any (flow_at flows k).ways)
+    → live_at c.in_ok-after.after.items k ≡ on_edges c.in_ok-found.found.live.items c.in_ok-found.found.any (flow_at flows k).successors)
     c.deref-3.ensures.value c.in_ok-after.ensures.each)

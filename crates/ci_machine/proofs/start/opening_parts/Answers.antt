@@ -1,6 +1,6 @@
 use Rattle.std.proofs.Common.{◌+◌, ◌*◌, ◌/◌, ◌∙◌, List, ap, map}
 use Rattle.ci_elf.specs.declared.segments.Segment.{Segment}
-use Rattle.ci_machine.specs.Programs.{extent_of, greatest_end}
+use Rattle.ci_machine.specs.Programs.{extent_of, maximum_end}
 use Rattle.ci_machine.proofs.StartLaws.{segments_end, opening_pushed}
 use Rattle.ci_machine.proofs.start.opening_parts.Goals as goal
 
@@ -16,7 +16,7 @@ returns c =
     (record { begins = stack.start; many = stack.size; zeros = stack.zeros })
     (record {
       begins = heap.start ∙ c.heap_start.ensures
-          ∙ ap (λ (ss : List Segment). (greatest_end (map extent_of ss) + 15) / 16 * 16) c.segments.ensures.value;
+          ∙ ap (λ (ss : List Segment). (maximum_end (map extent_of ss) + 15) / 16 * 16) c.segments.ensures.value;
       many = heap.size;
       zeros = heap.zeros;
     })

@@ -5,28 +5,29 @@ use Rattle.ci_log.specs.RegionTrees.{IsTreeIn}
 use Rattle.ci_cut.specs.Prefixes.{Prefix, eligible_nodes, is_next}
 use Rattle.ci_search.specs.Searched.{IsReady}
 use Rattle.ci_search.specs.Trees.{IsSearched}
-use Rattle.ci_check.proofs.StandingLaws.{taken_are_nodes, all_decided, next_from_below, some_undecided}
-use Rattle.ci_search.proofs.LogLaws.{open_without_bars}
-use Rattle.ci_search.proofs.SearchLaws.{searched_whole, searched_bar, ready_in, spent_in, ready_out, given_in, spent_out, trees, given_both, spent_here, searched_branch}
+use Rattle.ci_check.proofs.ChoiceLaws.{included_are_nodes, all_decided, next_from_below, some_undecided}
+use Rattle.ci_search.proofs.LogLaws.{open_unless_pruned}
+use Rattle.ci_search.proofs.SearchLaws.{searched_whole, searched_bar, ready_in, spent_in, ready_out, given_in}
+use Rattle.ci_search.proofs.SearchLaws.{spent_out, trees, given_both, spent_here, searched_branch}
 use Rattle.ci_search.proofs.searching.+search_from.Goals as goal
 use Rattle.ci_search.proofs.searching.+search_from.Goals.{In-Some, After-with, In_ok-taken, In-Some-search_from}
 
-pub better_of-requires-clause-nodes : goal.better_of-requires-clause-nodes
-better_of-requires-clause-nodes t c =
+pub improved-requires : goal.improved-requires
+improved-requires t c =
     let ready = c.requires.ready in
-    taken_are_nodes c.args.graph.now ready.0 c.args.choices.now ready.1.stands
+    included_are_nodes c.args.graph.now ready.0 c.args.choices.now ready.1.represents
 
 pub returns-in_default : goal.returns-in_default
 returns-in_default t c prefix ready =
     let graph = c.args.graph.now in
     searched_whole graph c.args.limits.now prefix c.args.choices.now c.args.best.now ready c.requires.measured c.args.region.now c.requires.within
-    (all_decided graph prefix c.args.choices.now ready.stands c.in_default.ensures) c.better_of.result c.better_of.ensures
+    (all_decided graph prefix c.args.choices.now ready.represents c.in_default.ensures) c.improved.result c.improved.ensures
 
-pub returns-in-Some-closing_item : goal.returns-in-Some-closing_item
-returns-in-Some-closing_item t c prefix ready =
-    let closing = c.in-Some-closing_item.ensures prefix ready.stands in
+pub returns-in-Some-pruning_item : goal.returns-in-Some-pruning_item
+returns-in-Some-pruning_item t c prefix ready =
+    let closing = c.in-Some-pruning_item.ensures prefix ready.represents in
     searched_bar c.args.graph.now c.args.limits.now prefix c.args.choices.now c.args.best.now ready c.requires.measured c.args.region.now c.requires.within
-    c.in-Some-closing_item.item closing.0 closing.1
+    c.in-Some-pruning_item.item closing.0 closing.1
 
 -- ---- where a node is undecided
 
@@ -39,8 +40,8 @@ record IsAt (t : ℕ) (c : In-Some t) (prefix : Prefix) : Type 0 where
 at_node : (t : ℕ) (c : In-Some t) (prefix : Prefix) → IsReady c.args.graph.now c.args.limits.now c.args.choices.now c.args.best.now prefix → IsAt t c prefix
 at_node t c prefix ready = record {
   ready = ready;
-  next = next_from_below c.args.graph.now prefix c.args.choices.now ready.stands c.in-Some.node c.in-Some.ensures;
-  some = some_undecided c.args.graph.now prefix c.args.choices.now ready.stands c.in-Some.node c.in-Some.ensures;
+  next = next_from_below c.args.graph.now prefix c.args.choices.now ready.represents c.in-Some.node c.in-Some.ensures;
+  some = some_undecided c.args.graph.now prefix c.args.choices.now ready.represents c.in-Some.node c.in-Some.ensures;
 }
 
 pub search_from-requires : goal.search_from-requires
@@ -54,8 +55,9 @@ search_from-requires t c =
         (
           (
             true ∷ ready.0,
-            ready_in graph c.args.limits.now ready.0 c.args.choices.now c.args.best.now ready.1 c.requires.measured c.args.region.now c.in-Some.node here.next here.some
-                c.with.result (c.with.ensures.stands graph ready.0 ready.1.stands here.next),
+            ready_in graph c.args.limits.now ready.0 c.args.choices.now c.args.best.now ready.1 c.requires.measured
+                c.args.region.now c.in-Some.node here.next here.some
+                c.with.result (c.with.ensures.represents graph ready.0 ready.1.represents here.next),
           ),
           c.requires.within,
         ),
@@ -66,9 +68,13 @@ pub returns-in_err-taken : goal.returns-in_err-taken
 returns-in_err-taken t c prefix ready =
     let here = at_node t (goal.at.returns-in_err-taken t c).In-Some prefix ready in
     let graph = c.args.graph.now in
-    rw c.from_residual.ensures (spent_in graph c.args.limits.now prefix c.args.choices.now c.args.best.now ready c.requires.measured c.args.region.now c.in-Some.node here.next here.some c.search_from.new.region
-    (c.in_err-taken.ensures (true ∷ prefix) (ready_in graph c.args.limits.now prefix c.args.choices.now c.args.best.now ready c.requires.measured c.args.region.now c.in-Some.node here.next here.some
-    c.with.result (c.with.ensures.stands graph prefix ready.stands here.next))))
+    rw c.from_residual.ensures
+    (spent_in graph c.args.limits.now prefix c.args.choices.now c.args.best.now ready c.requires.measured
+    c.args.region.now c.in-Some.node here.next here.some c.search_from.new.region
+    (c.in_err-taken.ensures (true ∷ prefix)
+    (ready_in graph c.args.limits.now prefix c.args.choices.now c.args.best.now ready c.requires.measured
+    c.args.region.now c.in-Some.node here.next here.some
+    c.with.result (c.with.ensures.represents graph prefix ready.represents here.next))))
 
 -- ---- once the sets with the node were passed
 
@@ -76,8 +82,10 @@ first_at : (t : ℕ) (c : In_ok-taken t) (prefix : Prefix) (ready : IsReady c.ar
     → IsTrue (is_next c.args.graph.now prefix c.in-Some.node) → length prefix < eligible_nodes c.args.graph.now
     → IsSearched c.args.graph.now c.args.limits.now (true ∷ prefix) c.args.best.now c.args.region.now c.search_from.new.region c.in_ok-taken.taken
 first_at t c prefix ready next some =
-    c.in_ok-taken.ensures (true ∷ prefix) (ready_in c.args.graph.now c.args.limits.now prefix c.args.choices.now c.args.best.now ready c.requires.measured c.args.region.now c.in-Some.node next some
-    c.with.result (c.with.ensures.stands c.args.graph.now prefix ready.stands next))
+    c.in_ok-taken.ensures (true ∷ prefix)
+    (ready_in c.args.graph.now c.args.limits.now prefix c.args.choices.now c.args.best.now ready
+    c.requires.measured c.args.region.now c.in-Some.node next some
+    c.with.result (c.with.ensures.represents c.args.graph.now prefix ready.represents next))
 
 pub search_from-requires-2 : goal.search_from-requires-2
 search_from-requires-2 t c =
@@ -91,8 +99,9 @@ search_from-requires-2 t c =
         (
           (
             false ∷ ready.0,
-            ready_out graph c.args.limits.now ready.0 c.args.choices.now c.args.best.now ready.1 c.requires.measured c.args.region.now c.in-Some.node here.next here.some
-                c.search_from.new.region c.in_ok-taken.taken first c.without.result (c.without.ensures.stands graph ready.0 ready.1.stands here.next),
+            ready_out graph c.args.limits.now ready.0 c.args.choices.now c.args.best.now ready.1 c.requires.measured
+                c.args.region.now c.in-Some.node here.next here.some
+                c.search_from.new.region c.in_ok-taken.taken first c.without.result (c.without.ensures.represents graph ready.0 ready.1.represents here.next),
           ),
           first.within,
         ),
@@ -106,9 +115,16 @@ give_back-requires t c =
     let limits = c.args.limits.now in
     let here = at_node t (goal.at.give_back-requires t c).In-Some ready.0 ready.1 in
     let first = first_at t (goal.at.give_back-requires t c).In_ok-taken ready.0 ready.1 here.next here.some in
-    let spent = c.in_default-search_from.ensures (false ∷ ready.0) (ready_out graph limits ready.0 c.args.choices.now c.args.best.now ready.1 c.requires.measured c.args.region.now c.in-Some.node here.next here.some
-    c.search_from.new.region c.in_ok-taken.taken first c.without.result (c.without.ensures.stands graph ready.0 ready.1.stands here.next)) in
-    (first.items, c.args.region.now.values, subst (λ (m : BoundedMap LogNode). IsTreeIn m.values c.in_ok-taken.taken.root first.items c.args.region.now.values) (sym spent.0) first.tree)
+    let spent = c.in_default-search_from.ensures (false ∷ ready.0)
+    (ready_out graph limits ready.0 c.args.choices.now c.args.best.now ready.1 c.requires.measured
+    c.args.region.now c.in-Some.node here.next here.some
+    c.search_from.new.region c.in_ok-taken.taken first c.without.result (c.without.ensures.represents graph ready.0 ready.1.represents here.next)) in (
+      first.items,
+      c.args.region.now.values,
+      subst
+          (λ (m : BoundedMap LogNode). IsTreeIn m.values c.in_ok-taken.taken.root first.items
+          c.args.region.now.values) (sym spent.0) first.tree,
+    )
 
 pub returns-in_default-search_from : goal.returns-in_default-search_from
 returns-in_default-search_from t c prefix ready =
@@ -116,8 +132,10 @@ returns-in_default-search_from t c prefix ready =
     let limits = c.args.limits.now in
     let here = at_node t (goal.at.returns-in_default-search_from t c).In-Some prefix ready in
     let first = first_at t (goal.at.returns-in_default-search_from t c).In_ok-taken prefix ready here.next here.some in
-    let spent = c.in_default-search_from.ensures (false ∷ prefix) (ready_out graph limits prefix c.args.choices.now c.args.best.now ready c.requires.measured c.args.region.now c.in-Some.node here.next here.some
-    c.search_from.new.region c.in_ok-taken.taken first c.without.result (c.without.ensures.stands graph prefix ready.stands here.next)) in
+    let spent = c.in_default-search_from.ensures (false ∷ prefix)
+    (ready_out graph limits prefix c.args.choices.now c.args.best.now ready c.requires.measured
+    c.args.region.now c.in-Some.node here.next here.some
+    c.search_from.new.region c.in_ok-taken.taken first c.without.result (c.without.ensures.represents graph prefix ready.represents here.next)) in
     let given = c.give_back.ensures first.items c.args.region.now.values
     (subst (λ (m : BoundedMap LogNode). IsTreeIn m.values c.in_ok-taken.taken.root first.items c.args.region.now.values) (sym spent.0) first.tree) in
     let back = given_in graph limits prefix c.args.choices.now c.args.best.now ready c.requires.measured c.args.region.now c.in-Some.node here.next here.some
@@ -130,10 +148,14 @@ returns-in_default-search_from t c prefix ready =
 second_at : (t : ℕ) (c : In-Some-search_from t) (prefix : Prefix) (ready : IsReady c.args.graph.now c.args.limits.now c.args.choices.now c.args.best.now prefix)
     → (next : IsTrue (is_next c.args.graph.now prefix c.in-Some.node)) → (some : length prefix < eligible_nodes c.args.graph.now)
     → (first : IsSearched c.args.graph.now c.args.limits.now (true ∷ prefix) c.args.best.now c.args.region.now c.search_from.new.region c.in_ok-taken.taken)
-    → IsSearched c.args.graph.now c.args.limits.now (false ∷ prefix) c.in_ok-taken.taken.best c.search_from.new.region c.search_from-2.new.region c.in-Some-search_from.left_out
+    → IsSearched c.args.graph.now c.args.limits.now
+    (false ∷ prefix) c.in_ok-taken.taken.best c.search_from.new.region c.search_from-2.new.region
+    c.in-Some-search_from.left_out
 second_at t c prefix ready next some first =
-    c.in-Some-search_from.ensures (false ∷ prefix) (ready_out c.args.graph.now c.args.limits.now prefix c.args.choices.now c.args.best.now ready c.requires.measured c.args.region.now c.in-Some.node next some
-    c.search_from.new.region c.in_ok-taken.taken first c.without.result (c.without.ensures.stands c.args.graph.now prefix ready.stands next))
+    c.in-Some-search_from.ensures (false ∷ prefix)
+    (ready_out c.args.graph.now c.args.limits.now prefix c.args.choices.now c.args.best.now ready
+    c.requires.measured c.args.region.now c.in-Some.node next some
+    c.search_from.new.region c.in_ok-taken.taken first c.without.result (c.without.ensures.represents c.args.graph.now prefix ready.represents next))
 
 pub branch-region-requires : goal.branch-region-requires
 branch-region-requires t c =
@@ -144,7 +166,8 @@ branch-region-requires t c =
       first.items,
       second.items,
       c.args.region.now.values,
-      trees c.args.graph.now c.args.limits.now ready.0 c.args.choices.now c.args.best.now ready.1 c.requires.measured c.args.region.now c.in-Some.node here.next here.some
+      trees c.args.graph.now c.args.limits.now ready.0 c.args.choices.now c.args.best.now ready.1
+          c.requires.measured c.args.region.now c.in-Some.node here.next here.some
           c.search_from.new.region c.in_ok-taken.taken first c.search_from-2.new.region c.in-Some-search_from.left_out second,
     )
 
@@ -155,14 +178,19 @@ returns-in_err-root t c prefix ready =
     let here = at_node t (goal.at.returns-in_err-root t c).In-Some prefix ready in
     let first = first_at t (goal.at.returns-in_err-root t c).In_ok-taken prefix ready here.next here.some in
     let second = second_at t (goal.at.returns-in_err-root t c).In-Some-search_from prefix ready here.next here.some first in
-    let is_open = open_without_bars graph ready.stands.kept limits c.args.best.now c.requires.measured prefix ready.reached ready.after_best (c.in_default-closing_item.ensures prefix ready.stands) in
+    let is_open = open_unless_pruned graph ready.represents.kept limits c.args.best.now c.requires.measured prefix
+    ready.reached ready.after_best (c.in_default-pruning_item.ensures prefix ready.represents) in
     let undone = c.in_err-root.ensures in
     let both = trees graph limits prefix c.args.choices.now c.args.best.now ready c.requires.measured c.args.region.now c.in-Some.node here.next here.some
     c.search_from.new.region c.in_ok-taken.taken first c.search_from-2.new.region c.in-Some-search_from.left_out second in
     let back = given_both graph limits prefix c.args.choices.now c.args.best.now ready c.requires.measured c.args.region.now c.in-Some.node here.next here.some
-    c.search_from.new.region c.in_ok-taken.taken first c.search_from-2.new.region c.in-Some-search_from.left_out second c.branch-region.new.region (undone.given _ _ _ both) in
-    rw c.from_residual-in_err-root.ensures (spent_here graph limits prefix c.args.choices.now c.args.best.now ready c.requires.measured c.args.region.now c.in-Some.node here.next here.some
-    c.search_from.new.region c.in_ok-taken.taken first c.search_from-2.new.region c.in-Some-search_from.left_out second is_open undone.full c.branch-region.new.region back)
+    c.search_from.new.region c.in_ok-taken.taken first c.search_from-2.new.region c.in-Some-search_from.left_out
+    second c.branch-region.new.region (undone.given _ _ _ both) in
+    rw c.from_residual-in_err-root.ensures
+    (spent_here graph limits prefix c.args.choices.now c.args.best.now ready c.requires.measured
+    c.args.region.now c.in-Some.node here.next here.some
+    c.search_from.new.region c.in_ok-taken.taken first c.search_from-2.new.region c.in-Some-search_from.left_out
+    second is_open undone.full c.branch-region.new.region back)
 
 pub returns : goal.returns
 returns t c prefix ready =
@@ -171,6 +199,8 @@ returns t c prefix ready =
     let here = at_node t (goal.at.returns t c).In-Some prefix ready in
     let first = first_at t (goal.at.returns t c).In_ok-taken prefix ready here.next here.some in
     let second = second_at t (goal.at.returns t c).In-Some-search_from prefix ready here.next here.some first in
-    let is_open = open_without_bars graph ready.stands.kept limits c.args.best.now c.requires.measured prefix ready.reached ready.after_best (c.in_default-closing_item.ensures prefix ready.stands) in
+    let is_open = open_unless_pruned graph ready.represents.kept limits c.args.best.now c.requires.measured prefix
+    ready.reached ready.after_best (c.in_default-pruning_item.ensures prefix ready.represents) in
     searched_branch graph limits prefix c.args.choices.now c.args.best.now ready c.requires.measured c.args.region.now c.in-Some.node here.next here.some
-    c.search_from.new.region c.in_ok-taken.taken first c.search_from-2.new.region c.in-Some-search_from.left_out second is_open c.branch-region.new.region c.in_ok-root.root c.in_ok-root.ensures
+    c.search_from.new.region c.in_ok-taken.taken first c.search_from-2.new.region c.in-Some-search_from.left_out
+    second is_open c.branch-region.new.region c.in_ok-root.root c.in_ok-root.ensures

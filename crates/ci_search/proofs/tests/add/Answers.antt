@@ -17,10 +17,12 @@ loop-source-preserved g c = record {
     | in-Made+else-assert-5 w ↦ rw (w.before-is, w.insert.ensures) (below_insert _ _ _ c.loop-source.invariant.arcs (omega arith))
     | in_default w ↦ rw w.before-is c.loop-source.invariant.arcs
   ];
-  made = rw c.in_ok-push.ensures.ok (made_push c.loop-source.sources (get_or c.args.part.1.now c.loop-source.source-index (Entry 0)) c.len-count.result c.loop-source.invariant.made (λ k is. elim c.match-source.branch [
-    | in-Made+else-assert-5 w ↦ let same : w.in-Made.node ≡ k = (cc) in omega arith
-    | in_default w ↦ absurd (w.in_default.not-Made k is)
-  ]));
+  made = rw c.in_ok-push.ensures.ok (made_push c.loop-source.sources
+      (get_or c.args.part.1.now c.loop-source.source-index (Entry 0)) c.len-count.result
+      c.loop-source.invariant.made (λ k is. elim c.match-source.branch [
+        | in-Made+else-assert-5 w ↦ let same : w.in-Made.node ≡ k = (cc) in omega arith
+        | in_default w ↦ absurd (w.in_default.not-Made k is)
+      ]));
 }
 
 pub returns : goal.returns

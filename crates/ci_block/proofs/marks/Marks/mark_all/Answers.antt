@@ -15,5 +15,6 @@ loop-address-preserved c =
 
 pub returns : goal.returns
 returns c =
-    let all : take c.loop-address.address-index c.args.addresses.now ≡ c.args.addresses.now = take_all c.loop-address.address-index c.args.addresses.now (omega arith) in
+    let all : take c.loop-address.address-index c.args.addresses.now ≡ c.args.addresses.now =
+    take_all c.loop-address.address-index c.args.addresses.now (omega arith) in
     subst (λ xs. Adds c.args.self.now c.loop-address.self (λ a. Contains xs a)) all c.loop-address.invariant

@@ -1,5 +1,5 @@
-use Rattle.ci_check.proofs.StandingLaws.{stands_with}
+use Rattle.ci_check.proofs.ChoiceLaws.{represents_with}
 use Rattle.ci_check.proofs.choices.Choices.with.Goals as goal
 
-pub returns-clause-stands : goal.returns-clause-stands
-returns-clause-stands c graph prefix stands next = stands_with graph prefix c.args.self.now stands c.args.node next _ c.insert.ensures
+pub returns-clause-represents : goal.returns-clause-represents
+returns-clause-represents c graph prefix represents next = represents_with graph prefix c.args.self.now represents c.args.node next _ c.insert.ensures

@@ -1,13 +1,13 @@
 use Rattle.std.proofs.Common.{◌≡◌, sym, ap, subst, get_or, arith}
 use Rattle.std.specs.List.{Contains}
 use Rattle.std.specs.Prelude.{Some}
-use Rattle.ci_elf.specs.Places.{IsLoadedFrom, IsSound}
+use Rattle.ci_elf.specs.LoadedPlaces.{IsLoadedFrom, IsSound}
 use Rattle.ci_elf.specs.SectionChecks.{AreLaidOut}
 use Rattle.ci_elf.proofs.ImageLaws.{byte_in_file, is_loaded, layout_by_address, not_loaded, only_byte}
 use Rattle.ci_elf.proofs.image.Image.loaded_byte.Goals as goal
 
-pub place_in-requires-clause-layout : goal.place_in-requires-clause-layout
-place_in-requires-clause-layout c = subst AreLaidOut (sym c.deref.ensures.value) (layout_by_address _ _ c.self.invariant)
+pub loaded_place-requires-clause-layout : goal.loaded_place-requires-clause-layout
+loaded_place-requires-clause-layout c = subst AreLaidOut (sym c.deref.ensures.value) (layout_by_address _ _ c.self.invariant)
 
 pub returns-in_err-place-clause-only : goal.returns-in_err-place-clause-only
 returns-in_err-place-clause-only c byte loaded =

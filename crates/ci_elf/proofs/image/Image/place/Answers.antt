@@ -1,12 +1,12 @@
 use Rattle.std.proofs.Common.{sym, subst}
 use Rattle.std.specs.List.{Contains}
-use Rattle.ci_elf.specs.Places.{IsLoadedFrom, IsSound}
+use Rattle.ci_elf.specs.LoadedPlaces.{IsLoadedFrom, IsSound}
 use Rattle.ci_elf.specs.SectionChecks.{AreLaidOut}
 use Rattle.ci_elf.proofs.ImageLaws.{layout_by_address, place_is, word_in_file, word_is_loaded}
 use Rattle.ci_elf.proofs.image.Image.place.Goals as goal
 
-pub place_in-requires-clause-layout : goal.place_in-requires-clause-layout
-place_in-requires-clause-layout c = subst AreLaidOut (sym c.deref.ensures.value) (layout_by_address _ _ c.self.invariant)
+pub loaded_place-requires-clause-layout : goal.loaded_place-requires-clause-layout
+loaded_place-requires-clause-layout c = subst AreLaidOut (sym c.deref.ensures.value) (layout_by_address _ _ c.self.invariant)
 
 pub unreachable-requires : goal.unreachable-requires
 unreachable-requires c =

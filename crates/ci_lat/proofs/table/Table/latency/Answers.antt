@@ -12,6 +12,7 @@ pub returns-clause-pad : goal.returns-clause-pad
 returns-clause-pad c below =
     let value : c.unwrap_or.result ≡ get_or c.self.inside.software (place c.args.class) 0 = search rules in
     let pad : c.self.inside.pad ≡ c.args.self.now.pad = ap (λ t. t.pad) c.self.view_is in
-    let least : c.self.inside.pad ≤ get_or c.self.inside.software (place c.args.class) 0 =
-    at_front (λ n. c.self.inside.pad ≤ n) 8 c.self.inside.software (place c.args.class) c.self.invariant.pad_below_latency below (omega (arith, c.self.told.0)) in
-    rw (value, ← pad) least
+    let minimum : c.self.inside.pad ≤ get_or c.self.inside.software (place c.args.class) 0 =
+    at_front (λ n. c.self.inside.pad ≤ n) 8 c.self.inside.software
+    (place c.args.class) c.self.invariant.pad_below_latency below (omega (arith, c.self.told.0)) in
+    rw (value, ← pad) minimum

@@ -6,7 +6,8 @@ use Rattle.ci_live.proofs.live_sets.LiveSets.after.Goals as goal
 
 pub returns : goal.returns
 returns c =
-    let (below, here) = subst (λ leaders. (c.in-Some.number < length leaders) × (get_or leaders c.in-Some.number 0 ≡ c.args.leader)) c.deref.ensures.value c.in-Some.ensures in
+    let (below, here) = subst (λ leaders. (c.in-Some.number < length leaders)
+    × (get_or leaders c.in-Some.number 0 ≡ c.args.leader)) c.deref.ensures.value c.in-Some.ensures in
     c.index.ensures ∙ get_or_default c.self.inside.after.items c.in-Some.number _ _ (omega (arith, below, c.self.invariant.many_after))
     ∙ set_at c.self.inside.leaders.items c.self.inside.after.items c.in-Some.number c.args.leader c.self.invariant.ascending below here
     ∙ ap (λ (s : Sets). after_block s c.args.leader) c.self.view_is

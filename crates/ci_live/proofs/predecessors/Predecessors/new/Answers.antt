@@ -14,7 +14,8 @@ loop-from-preserved c =
           record {
             arcs =
                 subst (λ v. All (λ (arc : Arc). arc.from < n) v.items) (sym w.arcs-is)
-                (w.in_ok-add_arc-in-Named-2.ensures n c.loop-from-test.true (w.in_ok-add_arc-in-Named.ensures n c.loop-from-test.true c.loop-from.invariant.arcs));
+                (w.in_ok-add_arc-in-Named-2.ensures n c.loop-from-test.true
+                (w.in_ok-add_arc-in-Named.ensures n c.loop-from-test.true c.loop-from.invariant.arcs));
             jumps = subst (λ v. All (λ from. from < n) v.items) (sym w.from_jumps-is) c.loop-from.invariant.jumps;
           }
       | in-Anywhere+in_ok-push-in-Anywhere w ↦

@@ -7,4 +7,5 @@ use Rattle.ci_machine.proofs.memory.Memory.byte.Goals as goal
 pub returns : goal.returns
 returns c =
     let P : List Part → Type 0 = λ ps. IsFound ps c.in_ok-index.index c.args.address in
-    byte_in-found _ _ _ c.index-part.result.now _ c.args.self.now.apart (subst P c.deref.ensures.value c.in_ok-index.ensures.some) c.index-part.ensures c.index.ensures
+    byte_in-found _ _ _ c.index-part.result.now _ c.args.self.now.apart
+    (subst P c.deref.ensures.value c.in_ok-index.ensures.some) c.index-part.ensures c.index.ensures

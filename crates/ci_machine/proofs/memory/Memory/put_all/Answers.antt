@@ -22,8 +22,11 @@ loop-left-preserved c = record {
       let next : c.args.address + c.loop-left.left ≡ c.args.address + (c.loop-left.left - 1) + 1 = omega arith in
       let i : c.loop-left.left ≡ c.loop-left.left - 1 + 1 = omega arith in
       let later = c.loop-left.invariant.written
-      ∙ ap (λ (a : ℕ). with_bytes (byte_in c.args.self.now.parts.items) (addresses (length c.args.bytes.now - c.loop-left.left) a) (drop c.loop-left.left c.args.bytes.now)) next
-      ∙ ap (λ (j : ℕ). with_bytes (byte_in c.args.self.now.parts.items) (addresses (length c.args.bytes.now - c.loop-left.left) (c.args.address + (c.loop-left.left - 1) + 1)) (drop j c.args.bytes.now)) i in
+      ∙ ap (λ (a : ℕ). with_bytes (byte_in c.args.self.now.parts.items)
+      (addresses (length c.args.bytes.now - c.loop-left.left) a) (drop c.loop-left.left c.args.bytes.now)) next
+      ∙ ap (λ (j : ℕ). with_bytes (byte_in c.args.self.now.parts.items)
+      (addresses (length c.args.bytes.now - c.loop-left.left) (c.args.address + (c.loop-left.left - 1) + 1))
+      (drop j c.args.bytes.now)) i in
       c.put.ensures.written ∙ with_bytes-before _ _ _ _ _ _ _ _ e lt refl later;
   places = c.put.ensures.places ∙ c.loop-left.invariant.places;
   loaded = c.put.ensures.loaded ∙ c.loop-left.invariant.loaded;

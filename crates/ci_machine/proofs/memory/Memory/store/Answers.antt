@@ -12,7 +12,8 @@ invariant_of-self c =
     let P : List Part → Type 0 = λ ps. IsFound ps c.in-Some.index c.args.address in
     let found = subst P c.deref.ensures.value c.in-Some.ensures.some in
     let w = stored c.args.self.now.parts.items c.in-Some.index c.args.address c.index_mut-part.result.now c.put_in.new.part
-    c.args.self.now.apart c.args.self.now.within found c.index_mut-part.ensures.value c.put_in.ensures.start c.put_in.result c.args.width c.args.value c.put_in.ensures.bytes c.put_in.ensures.fits in
+    c.args.self.now.apart c.args.self.now.within found c.index_mut-part.ensures.value c.put_in.ensures.start
+    c.put_in.result c.args.width c.args.value c.put_in.ensures.bytes c.put_in.ensures.fits in
     record {
       apart = w.apart;
       within = within_still _ _ w.places c.args.self.now.within;
@@ -31,21 +32,24 @@ returns-then-put_in-clause-written c =
     let P : List Part → Type 0 = λ ps. IsFound ps c.in-Some.index c.args.address in
     let found = subst P c.deref.ensures.value c.in-Some.ensures.some in
     (stored c.args.self.now.parts.items c.in-Some.index c.args.address c.index_mut-part.result.now c.put_in.new.part
-    c.args.self.now.apart c.args.self.now.within found c.index_mut-part.ensures.value c.put_in.ensures.start c.put_in.result c.args.width c.args.value c.put_in.ensures.bytes c.put_in.ensures.fits).bytes
+    c.args.self.now.apart c.args.self.now.within found c.index_mut-part.ensures.value c.put_in.ensures.start
+    c.put_in.result c.args.width c.args.value c.put_in.ensures.bytes c.put_in.ensures.fits).bytes
 
 pub returns-then-put_in-clause-places : goal.returns-then-put_in-clause-places
 returns-then-put_in-clause-places c =
     let P : List Part → Type 0 = λ ps. IsFound ps c.in-Some.index c.args.address in
     let found = subst P c.deref.ensures.value c.in-Some.ensures.some in
     (stored c.args.self.now.parts.items c.in-Some.index c.args.address c.index_mut-part.result.now c.put_in.new.part
-    c.args.self.now.apart c.args.self.now.within found c.index_mut-part.ensures.value c.put_in.ensures.start c.put_in.result c.args.width c.args.value c.put_in.ensures.bytes c.put_in.ensures.fits).places
+    c.args.self.now.apart c.args.self.now.within found c.index_mut-part.ensures.value c.put_in.ensures.start
+    c.put_in.result c.args.width c.args.value c.put_in.ensures.bytes c.put_in.ensures.fits).places
 
 pub returns-else-put_in-clause-mapped : goal.returns-else-put_in-clause-mapped
 returns-else-put_in-clause-mapped c =
     let P : List Part → Type 0 = λ ps. IsFound ps c.in-Some.index c.args.address in
     let found = subst P c.deref.ensures.value c.in-Some.ensures.some in
     let same = (stored c.args.self.now.parts.items c.in-Some.index c.args.address c.index_mut-part.result.now c.put_in.new.part
-    c.args.self.now.apart c.args.self.now.within found c.index_mut-part.ensures.value c.put_in.ensures.start c.put_in.result c.args.width c.args.value c.put_in.ensures.bytes c.put_in.ensures.fits).bytes
+    c.args.self.now.apart c.args.self.now.within found c.index_mut-part.ensures.value c.put_in.ensures.start
+    c.put_in.result c.args.width c.args.value c.put_in.ensures.bytes c.put_in.ensures.fits).bytes
     ∙ ap (with_number (byte_in c.args.self.now.parts.items) c.args.address c.args.width c.args.value) c.if-put_in.false in
     c.store_bytes.ensures.mapped
     ∙ ap (λ (m : ℕ → Option ℕ). is_some (bytes_at m (addresses (width_bytes c.args.width) c.args.address))) same
@@ -55,7 +59,8 @@ returns-else-put_in-clause-written c =
     let P : List Part → Type 0 = λ ps. IsFound ps c.in-Some.index c.args.address in
     let found = subst P c.deref.ensures.value c.in-Some.ensures.some in
     let same = (stored c.args.self.now.parts.items c.in-Some.index c.args.address c.index_mut-part.result.now c.put_in.new.part
-    c.args.self.now.apart c.args.self.now.within found c.index_mut-part.ensures.value c.put_in.ensures.start c.put_in.result c.args.width c.args.value c.put_in.ensures.bytes c.put_in.ensures.fits).bytes
+    c.args.self.now.apart c.args.self.now.within found c.index_mut-part.ensures.value c.put_in.ensures.start
+    c.put_in.result c.args.width c.args.value c.put_in.ensures.bytes c.put_in.ensures.fits).bytes
     ∙ ap (with_number (byte_in c.args.self.now.parts.items) c.args.address c.args.width c.args.value) c.if-put_in.false in
     c.store_bytes.ensures.written
     ∙ ap (λ (m : ℕ → Option ℕ). with_number m c.args.address c.args.width c.args.value c.store_bytes.result) same
@@ -65,4 +70,5 @@ returns-else-put_in-clause-places c =
     let P : List Part → Type 0 = λ ps. IsFound ps c.in-Some.index c.args.address in
     let found = subst P c.deref.ensures.value c.in-Some.ensures.some in
     c.store_bytes.ensures.places ∙ (stored c.args.self.now.parts.items c.in-Some.index c.args.address c.index_mut-part.result.now c.put_in.new.part
-    c.args.self.now.apart c.args.self.now.within found c.index_mut-part.ensures.value c.put_in.ensures.start c.put_in.result c.args.width c.args.value c.put_in.ensures.bytes c.put_in.ensures.fits).places
+    c.args.self.now.apart c.args.self.now.within found c.index_mut-part.ensures.value c.put_in.ensures.start
+    c.put_in.result c.args.width c.args.value c.put_in.ensures.bytes c.put_in.ensures.fits).places

@@ -1,0 +1,91 @@
+#!/usr/bin/env python3
+"""Checks docs/faults.tsv, by which the script `rumtsafi` says fault lines in words.
+
+A row has to stand for each fault line that the program can print: for each status, each rule of an executable and of a
+table, and each kind of a fault of assembler text, whatever the other figures are. No row may stand behind another one
+that fits all its lines. The words may name what varies in the line alone. And the first words of the lines have to be
+those that the crates print.
+"""
+import glob
+import itertools
+import os
+import re
+import sys
+
+TOP = os.path.join(os.path.dirname(os.path.abspath(__file__)), "..")
+CALLS = ["best", "best --at", "blocks", "run", "asm", "dis"]
+# What is printed behind `fault`, of which calls, with an example for each name that varies.
+LINES = {
+    "1 usage": CALLS,
+    "2 read NAME": CALLS,
+    "3 write -": CALLS,
+    "3 write NAME": ["asm"],
+    "4 too large NAME": CALLS,
+    **{f"5 elf {rule} A B": ["best --at", "blocks", "run"] for rule in range(1, 10)},
+    **{f"6 table {rule}": ["best", "best --at", "run"] for rule in (1, 2)},
+    **{f"6 table {rule} KEY": ["best", "best --at", "run"] for rule in (3, 4)},
+    "7 unsupported POSITION WORD": ["best", "best --at", "blocks"],
+    "12 no memory": CALLS,
+    **{f"13 asm {kind} LINE COLUMN": ["asm"] for kind in range(1, 8)},
+}
+EXAMPLES = {
+    "NAME": ["a file", "-x"], "A": ["0", "4", "5", "6", "16", "18", "20", "36", "42", "46", "84", "4294967295"],
+    "B": ["0", "1", "2", "3", "62"], "KEY": ["read", "pad", "software", "hardware", "software.add", "hardware.mul"],
+    "POSITION": ["00000000", "00010074"], "WORD": ["00000000", "0000050b"], "LINE": ["1", "2"], "COLUMN": ["1"],
+}
+
+
+def fits(pattern):
+    """The expression that a row's line stands for."""
+    parts = re.split(r"\{([A-Z]+)\}", pattern)
+    parts[::2] = map(re.escape, parts[::2])
+    parts[1::2] = [".*" if name == "NAME" else "[^ ]+" for name in parts[1::2]]
+    return re.compile("".join(parts))
+
+
+def fault_lines():
+    """Each fault line that is tried, with its call."""
+    for line, calls in LINES.items():
+        names = [name for name in line.split() if name in EXAMPLES]
+        for values in itertools.product(*(EXAMPLES[name] for name in names)):
+            given = dict(zip(names, values))
+            text = " ".join(given.get(word, word) for word in line.split())
+            yield from ((f"fault {text}", call) for call in calls)
+
+
+def printed():
+    """The beginnings of the fault lines that stand in the crates, up to what varies."""
+    texts = []
+    for path in glob.glob(os.path.join(TOP, "crates", "*", "src", "**", "*.rt"), recursive=True):
+        if "tests" not in os.path.relpath(path, TOP):
+            with open(path, encoding="utf-8") as file:
+                texts += re.findall(r'"(fault \d+ [a-z]+(?: [a-z]+)*)', file.read())
+    return set(texts)
+
+
+def main():
+    with open(os.path.join(TOP, "docs", "faults.tsv"), encoding="utf-8") as file:
+        rows = [line.rstrip("\n").split("\t") for line in file if not line.startswith("#")]
+    faults, told = [], set()
+    for row in rows:
+        if len(row) != 3 or row[1] not in ("*", *CALLS):
+            faults.append(f"no row of a line, a call and words: {row}")
+        elif not set(re.findall(r"\{(\w+)\}", row[2])) <= set(re.findall(r"\{(\w+)\}", row[0])):
+            faults.append(f"words that name more than their line: {row[2]}")
+    if not faults:
+        for line, call in fault_lines():
+            fitting = (at for at, row in enumerate(rows) if row[1] in ("*", call) and fits(row[0]).fullmatch(line))
+            place = next(fitting, None)
+            told.add(place)
+            if place is None:
+                faults.append(f"no row fits '{line}' of {call}")
+        faults += [f"no line is told by this row: {row[0]}" for at, row in enumerate(rows) if at not in told]
+    begins = {re.match(r"fault \d+(?: [a-z]+)+", row[0])[0] for row in rows}
+    faults += [f"'{text}' isn't printed, or has no row" for text in begins ^ printed()]
+    for fault in faults:
+        print(f"docs/faults.tsv: {fault}")
+    print(f"{len(rows)} rows tell {len(LINES)} kinds of fault lines: {len(faults)} faults")
+    return 1 if faults else 0
+
+
+sys.exit(main())

@@ -1,0 +1,229 @@
+#!/usr/bin/env python3
+"""Makes what goes by docs/usage.txt and docs/faults.tsv, or tells which of it isn't current.
+
+    usage.py [--check]
+
+It writes the man page and the completions in share/, the tables of words for the script `rumtsafi` in
+script/words.sh, and in README.md and docs/GUIDE.md the fenced block marked `usage` and the table of faults between the
+lines `<!-- faults -->` and `<!-- /faults -->`, where there are any. With --check it writes nothing.
+"""
+import os
+import re
+import sys
+
+TOP = os.path.join(os.path.dirname(os.path.abspath(__file__)), "..")
+MADE = "Made by checks/usage.py from docs/usage.txt"
+DOCUMENTS = ["README.md", "docs/GUIDE.md"]
+# What the value of an option, or a word behind a command, may be, by the word that stands for it.
+NUMBERS, ADDRESSES = {"N"}, {"ADDR"}
+COLUMNS = 120
+
+
+class Command:
+    """A command: its name, the words behind it, its options, each with whether it may be repeated, and what it does."""
+
+    def __init__(self, name, form, about):
+        self.name, self.form, self.about = name, form, about
+        self.options = {option: bool(dots) for option, dots in re.findall(r"--(\w+) \w+\]?(\.\.)?", form)}
+        self.files = re.sub(r"\[?--\w+ \w+\]?(\.\.)?", "", form).split()
+
+
+class Option:
+    """An option: its name, the word that stands for its value, the range of a number, and what it means."""
+
+    def __init__(self, name, value, about):
+        self.name, self.value, self.about = name, value, about
+        found = re.search(r"(\d+) (?:to|or) (\d+)", about)
+        self.range = found.groups() if found else None
+        if (value in NUMBERS) != bool(found):
+            sys.exit(f"docs/usage.txt: --{name} takes a number where its range is said, and nowhere else")
+
+
+def read(name):
+    """The text of a file of the repository, or None where there is no such file."""
+    path = os.path.join(TOP, name)
+    if not os.path.exists(path):
+        return None
+    with open(path, encoding="utf-8") as file:
+        return file.read()
+
+
+def usage():
+    """The commands, the calls of the script itself (each with what it does) and the options of docs/usage.txt."""
+    commands, calls, options = [], [], []
+    for line in read("docs/usage.txt").splitlines():
+        call = re.fullmatch(r"rumtsafi (\S+) ?(.*?)(?:  +(.*))?", line)
+        option = re.fullmatch(r"  --(\w+) (\w+) +(.*)", line)
+        more = re.fullmatch(r" {20,}(.*)", line)
+        if call and call[1].startswith("-"):
+            calls.append((call[1], call[3]))
+        elif call:
+            commands.append([call[1], call[2], call[3] or ""])
+        elif option:
+            options.append(Option(*option.groups()))
+        elif more and commands and more[1].startswith("["):
+            commands[-1][1] += f" {more[1]}"
+        elif more and commands:
+            commands[-1][2] = f"{commands[-1][2]} {more[1]}".strip()
+        elif line:
+            sys.exit(f"docs/usage.txt: a line that is no call, no option and no text: {line}")
+    commands = [Command(*it) for it in commands]
+    known = {option.name for option in options}
+    for command in commands:
+        if not command.options.keys() <= known:
+            sys.exit(f"docs/usage.txt: an option of {command.name} has no line of its own")
+    return commands, calls, options
+
+
+def faults():
+    """The rows of docs/faults.tsv: a line with names in braces, the call that it is of, and words."""
+    lines = [line for line in read("docs/faults.tsv").splitlines() if not line.startswith("#")]
+    return [line.split("\t") for line in lines]
+
+
+def table_of_faults():
+    """The rows as a Markdown table."""
+    lines = ["| Line | In words |", "|---|---|"]
+    for line, of, words in faults():
+        of = "" if of == "*" else f" of `{of}`"
+        lines.append(re.sub(r"[{}]", "", f"| `{line}`{of} | {words} |"))
+    for line in lines:
+        if len(line) > COLUMNS:
+            sys.exit(f"docs/faults.tsv: this row makes a line of more than {COLUMNS} columns: {line}")
+    return "\n".join(lines)
+
+
+def words_of_script(commands, options):
+    """The tables of words that script/explain.sh reads."""
+    def table(name, rows):
+        return [f"declare -A {name}=(", *[f"    [{key}]='{value}'" for key, value in rows], ")"]
+
+    numbers = [option for option in options if option.range]
+    repeated = sorted({name for command in commands for name, dots in command.options.items() if dots})
+    return "\n".join([
+        "# shellcheck shell=bash disable=SC2034",
+        f"# {MADE}: the words of each command, for script/explain.sh.",
+        "",
+        f"commands='{' '.join(command.name for command in commands)}'",
+        "# The words behind a command, in order, and its options.",
+        *table("words_of", [(command.name, " ".join(command.files)) for command in commands]),
+        *table("options_of", [(command.name, " ".join(command.options)) for command in commands]),
+        "# What stands for the value of an option, and the range of a number.",
+        *table("value_of", [(option.name, option.value) for option in options]),
+        *table("least_of", [(option.name, option.range[0]) for option in numbers]),
+        *table("greatest_of", [(option.name, option.range[1]) for option in numbers]),
+        "# The options that may stand more than once.",
+        f"repeated='{' '.join(repeated)}'",
+        "",
+    ])
+
+
+def completions(commands, calls, options):
+    """The completions for bash: of the command, of its options, and of files where a name is due."""
+    names = " ".join([command.name for command in commands] + [call for call, _ in calls])
+    texts = "|".join(f"--{option.name}" for option in options if option.value in NUMBERS | ADDRESSES)
+    cases = [f"        {command.name}) options='{' '.join('--' + name for name in command.options)}' ;;"
+             for command in commands]
+    return "\n".join([
+        "# shellcheck shell=bash",
+        f"# {MADE}: completions for bash. To use them: source this file.",
+        "",
+        "_rumtsafi() {",
+        "    local word=${COMP_WORDS[COMP_CWORD]} before=${COMP_WORDS[COMP_CWORD - 1]} options=''",
+        "    COMPREPLY=()",
+        '    if [ "$COMP_CWORD" = 1 ]; then',
+        f"        mapfile -t COMPREPLY < <(compgen -W '{names}' -- \"$word\")",
+        "        return",
+        "    fi",
+        "    case ${COMP_WORDS[1]} in",
+        *cases,
+        "    esac",
+        "    case $before in",
+        f"        {texts}) return ;;",
+        "    esac",
+        "    case $word in",
+        '        -*) mapfile -t COMPREPLY < <(compgen -W "$options" -- "$word") ;;',
+        '        *) mapfile -t COMPREPLY < <(compgen -f -- "$word") ;;',
+        "    esac",
+        "}",
+        "complete -o filenames -F _rumtsafi rumtsafi ./rumtsafi",
+        "",
+    ])
+
+
+def for_man(text):
+    """A text for the formatter of man pages."""
+    text = text.replace("\\", "\\e").replace("-", "\\-")
+    return f"\\&{text}" if text.startswith((".", "'")) else text
+
+
+def man_page(commands, calls, options):
+    """The man page, of section 1."""
+    lines = [
+        f'.\\" {MADE} and docs/faults.tsv.',
+        ".TH RUMTSAFI 1",
+        ".SH NAME",
+        "rumtsafi \\- finds custom instructions for RISC\\-V programs",
+        ".SH SYNOPSIS",
+    ]
+    for command in commands:
+        lines += [".br", f".B rumtsafi {command.name}", for_man(command.form)]
+    for call, _ in calls:
+        lines += [".br", f".B rumtsafi {for_man(call)}"]
+    lines += [".SH COMMANDS"]
+    for command in commands:
+        lines += [".TP", f".B {command.name} {' '.join(command.files)}", f"{for_man(command.about)}."]
+    for call, about in calls:
+        lines += [".TP", f".B {for_man(call)}", f"{for_man(about)}."]
+    lines += [".SH OPTIONS", "An option stands anywhere behind the command, also as \\fB\\-\\-name=VALUE\\fR;",
+              "\\fB\\-\\-\\fR ends the options.", "A number is one to ten decimal digits, and an address is",
+              "\\fB0x\\fR and one to eight hex digits."]
+    for option in options:
+        lines += [".TP", f".B \\-\\-{option.name} {option.value}", f"{for_man(option.about)}."]
+    lines += [
+        ".SH EXIT STATUS",
+        "0 comes with the answer, any other status of the program but 16 with a fault line on standard output,",
+        "which begins with the status.",
+        "16: the system didn't give the words; one of them is not UTF\\-8.",
+        "70: the program had to be built from its sources, and could not be; standard error says why.",
+        "At a terminal standard error says a fault line in words too.",
+        ".SH FAULT LINES",
+    ]
+    for line, of, words in faults():
+        of = "" if of == "*" else f" ({for_man(of)})"
+        lines += [".TP", re.sub(r"[{}]", "", f".B {for_man(line)}{of}"), re.sub(r"[{}]", "", f"{for_man(words)}.")]
+    return "\n".join([*lines, ""])
+
+
+def document(text):
+    """A document with its block of usage and its table of faults as they have to be."""
+    block, table = f"```usage\n{read('docs/usage.txt')}```\n", table_of_faults()
+    text = re.sub(r"^```usage\n.*?^```\n", lambda _: block, text, flags=re.M | re.S)
+    begin, end = "<!-- faults -->\n", "<!-- /faults -->\n"
+    return re.sub(rf"^{begin}.*?^{end}", lambda _: f"{begin}\n{table}\n\n{end}", text, flags=re.M | re.S)
+
+
+def main():
+    if sys.argv[1:] not in ([], ["--check"]):
+        sys.exit(__doc__)
+    commands, calls, options = usage()
+    made = {
+        "share/man/man1/rumtsafi.1": man_page(commands, calls, options),
+        "share/bash-completion/completions/rumtsafi": completions(commands, calls, options),
+        "script/words.sh": words_of_script(commands, options),
+        **{name: document(read(name)) for name in DOCUMENTS if read(name) is not None},
+    }
+    stale = [name for name, text in made.items() if read(name) != text]
+    for name in stale:
+        if sys.argv[1:]:
+            print(f"{name} isn't as docs/usage.txt and docs/faults.tsv have it: call checks/usage.py")
+            continue
+        os.makedirs(os.path.dirname(os.path.join(TOP, name)), exist_ok=True)
+        with open(os.path.join(TOP, name), "w", encoding="utf-8") as file:
+            file.write(made[name])
+        print(f"{name} made")
+    return 1 if stale and sys.argv[1:] else 0
+
+
+if __name__ == "__main__":
+    sys.exit(main())

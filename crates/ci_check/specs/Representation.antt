@@ -1,0 +1,68 @@
+-- What the code holds of a prefix, and of the best cut and a log.
+use Rattle.std.specs.Prelude.{◌≡◌, ℕ, suc, ◌+◌, ◌<◌, ◌≤◌, Bool, ◌⊎◌, List, ◌++◌, drop, length, IsTrue, Option, None}
+use Rattle.std.specs.Prelude.{Some, Result, Ok, Err}
+use Rattle.std.specs.List.{AllByRecursion}
+use Rattle.std.specs.FinSet as set
+use Rattle.ci_word.specs.Numbers.{count_below}
+use Rattle.ci_cut.specs.FlowGraph.{FlowGraph}
+use Rattle.ci_cut.specs.GraphRules.{IsFlowGraph}
+use Rattle.ci_cut.specs.declared.graph.Limits.{Limits}
+use Rattle.ci_cut.specs.Best.{ComesBefore}
+use Rattle.ci_log.specs.declared.log.Item.{Item}
+use Rattle.ci_log.specs.declared.log.Item.TheVariants.{B}
+use Rattle.ci_log.specs.Trees.{IsLeaf, IsTree}
+use Rattle.ci_check.specs.declared.choices.Choices.{Choices}
+use Rattle.ci_cut.specs.declared.incumbent.Incumbent.{Incumbent}
+use Rattle.ci_check.specs.declared.checking.Wrong.{Wrong}
+use Rattle.ci_check.specs.Rules.{Given, best_gain, IsGood, Station, IsRightAt, IsFirstWrongIn}
+use Rattle.ci_cut.specs.Prefixes.{Prefix, is_eligible, eligible_nodes, taken, possible}
+
+-- the choices represent the prefix, which decides the eligible nodes from their place on
+pub record Represents (graph : FlowGraph) (prefix : Prefix) (choices : Choices) : Type 0 where
+  pub kept : IsFlowGraph graph
+  pub within : choices.place ≤ length graph.nodes
+  pub decided : count_below choices.place (is_eligible graph) + length prefix ≡ eligible_nodes graph
+  pub is_included : (k : ℕ) → set.contains choices.included k ≡ taken graph prefix k
+  pub is_possible : (k : ℕ) → set.contains choices.possible k ≡ possible graph prefix k
+
+-- the choices represent some prefix
+abbrev pub RepresentsSome : FlowGraph → Choices → Type 0
+RepresentsSome graph choices = (prefix : Prefix) × Represents graph prefix choices
+
+-- node k is the last eligible one below a place
+pub record IsNextBelow (graph : FlowGraph) (place k : ℕ) : Type 0 where
+  pub below : k < place
+  pub eligible : IsTrue (is_eligible graph k)
+  pub none_between : suc (count_below k (is_eligible graph)) ≡ count_below place (is_eligible graph)
+
+-- sets compared from the last number down to one: at the greatest number in which they differ, the first has it
+abbrev pub ComesBeforeFrom : ℕ → (ℕ → Bool) → (ℕ → Bool) → Type 0
+ComesBeforeFrom from first second = (before : ComesBefore first second) × (from ≤ before.place)
+
+-- ---- the best cut
+
+-- a good best cut, or none, with its gain
+pub record IsMeasured (graph : FlowGraph) (limits : Limits) (best : Incumbent) : Type 0 where
+  pub good : IsGood graph limits best.cut
+  pub gain_is : best.gain ≡ best_gain graph best.cut
+
+-- ---- trees
+
+-- a tree of items begins at a place
+pub record IsTreeAt (items : List Item) (place : ℕ) : Type 0 where
+  pub one : List Item
+  pub rest : List Item
+  pub is_split : drop place items ≡ one ++ rest
+  pub tree : IsTree one
+
+-- the items are right, and end there, or one of them is the first that is wrong
+abbrev pub IsJudged : FlowGraph → Limits → Given → List Station → ℕ → Result ℕ Wrong → Type 0
+IsJudged graph limits best all place (Ok end) =
+    AllByRecursion (IsRightAt graph limits best) all × (end ≡ place + length all)
+IsJudged graph limits best all place (Err wrong) =
+    (number : ℕ) × IsFirstWrongIn graph limits best all number wrong.reason × (wrong.item ≡ place + number)
+
+-- the node that an item branches on, or none
+abbrev pub IsBranchOn : FlowGraph → ℕ → Item → Option ℕ → Type 0
+IsBranchOn graph place item None = IsLeaf item ⊎ (count_below place (is_eligible graph) ≡ 0)
+IsBranchOn graph place item (Some node) = (item ≡ B) × IsNextBelow graph place node

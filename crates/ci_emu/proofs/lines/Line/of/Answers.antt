@@ -1,5 +1,0 @@
-use Rattle.ci_isa.proofs.Only.{one_insn}
-use Rattle.ci_emu.proofs.lines.Line.of.Goals as goal
-
-pub invariant_of-result-clause-decoded : goal.invariant_of-result-clause-decoded
-invariant_of-result-clause-decoded c = λ other stands. one_insn c.args.word other c.insn_at-insn.result stands c.insn_at-insn.ensures.found

@@ -1,0 +1,68 @@
+//! Decoded words.
+ghost use Rattle.std.specs.Prelude.{◌≡◌, IfOk};
+ghost use Rattle.ci_isa.specs.Effects.{class_of};
+ghost use Rattle.ci_emu.specs.Fetched.{IsOnlyAt};
+
+use ci_isa::{Insn, class, insn_at};
+use ci_word::Class;
+use std::alloc::{AllocError, Global};
+
+/// A word and the instruction that it stands for.
+#[derive(Clone, Copy)]
+pub(crate) struct Decoded {
+    pub(crate) word: u32,
+    pub(crate) insn: Insn,
+    pub(crate) class: Class,
+    ghost decoded: { IsOnlyAt word insn },
+    ghost classed: { class ≡ class_of insn },
+}
+
+impl Decoded {
+    /// The instruction of a word.
+    fn of(word: u32) -> Decoded
+        ensures { result.word ≡ word }
+    {
+        let insn = insn_at(word);
+        Decoded {
+            word,
+            insn,
+            class: class(&insn),
+        }
+    }
+
+    /// What was decoded of the word, anew where it was of another word.
+    fn refreshed(&mut self, word: u32) -> Decoded
+        ensures { result.word ≡ word }
+    {
+        if self.word != word {
+            *self = Decoded::of(word);
+        }
+        *self
+    }
+}
+
+/// What was decoded of the words of a text, by their places. It may be of another word than the one that stands there
+/// now.
+#[derive(Drop)]
+pub(crate) struct DecodeCache {
+    words: Vec<Decoded>,
+}
+
+impl DecodeCache {
+    /// For so many places.
+    pub(crate) fn new(alloc: Global, count: usize) -> Result<DecodeCache, AllocError> {
+        let mut words = Vec::new(alloc);
+        words.resize(count, Decoded::of(0))?;
+        Ok(DecodeCache { words })
+    }
+
+    /// The instruction of the word that stands at a place, decoded anew where the cache has that of another word.
+    pub(crate) fn get(&mut self, place: usize, word: u32) -> Decoded
+        ensures { result.word ≡ word }
+    {
+        match self.words.get_mut(place) {
+            Some(decoded) => decoded.refreshed(word),
+            None => Decoded::of(word),
+        }
+    }
+}
