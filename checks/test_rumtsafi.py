@@ -179,7 +179,7 @@ class Built(Repository):
         self.assertEqual((status, output), (70, ""))
         self.assertIn("fn middle::bad: no proof\n", told)
         self.assertNotIn("middle::good", told)
-        self.assertIn("crate middle did not build", told)
+        self.assertIn("crate middle: the program did not build", told)
         self.assertEqual(self.new_calls(), BUILDS[:1])
         self.write("crates/middle/src/lib.rt", "middle")
         self.assertEqual(self.use("three"), (0, "built from first with three\n", ""))
@@ -297,6 +297,8 @@ class Shipped(Repository):
 
     def test_the_shipped_program_is_renewed_and_compared(self):
         built = os.path.join(self.root, "out", "rumtsafi")
+        status, said = self.call("checks/compare_shipped.sh", built)
+        self.assertEqual((status, said[:6]), (0, "stale:"))
         self.assertEqual(self.call("checks/renew_program.sh")[0], 0)
         self.assertEqual(self.call("checks/compare_shipped.sh", built), (0, "bin/rumtsafi has the same bits\n"))
         self.assertEqual(self.use("--build")[:2], (0, "out/rumtsafi has the same bits as bin/rumtsafi\n"))
@@ -320,7 +322,7 @@ class Shipped(Repository):
         process = self.start("one")
         self.assertEqual(process.stdout.readline(), "begun\n")
         process.send_signal(signal.SIGTERM)
-        self.assertEqual(process.wait(timeout=10), 3)
+        self.assertEqual(process.wait(timeout=10), 143)
         self.assertTrue(os.path.exists(mark))
         process.communicate()
 

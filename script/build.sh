@@ -32,7 +32,7 @@ call_rt() {
         sleep 0.1 9>&-
         if [ $((SECONDS - said)) -ge "$pause" ]; then
             said=$SECONDS
-            say "$(crates_done) of $count crates are proved ($SECONDS s)"
+            say "$(crates_done) of $count crates are done ($SECONDS s)"
         fi
     done
     wait "$child" || show_failure
@@ -44,8 +44,8 @@ show_failure() {
     child=''
     local failed
     failed=$(sed -n 's/^\([a-z0-9_]*\): failed.*/\1/p' "$out/build.log" | xargs)
-    grep -vE ': (proved|ok)$|^(logic |statements |axioms |crate )' "$out/build.log" | tail -n 60 >&2 || true
-    fail "crate ${failed:-$main} did not build, so the program was not run; out/build.log has all that rt said"
+    grep -vE ': (proved|ok)$|^(logic|statements|axioms|library|crate) ' "$out/build.log" | tail -n 60 >&2 || true
+    fail "${failed:+crate $failed: }the program did not build, and was not run; out/build.log has all that rt said"
 }
 
 # Proves the crates and builds the program, for the given reason. The old program stays until the new one is whole.
