@@ -32,7 +32,7 @@ echo "$folder $*" | sed 's/--jobs [1-9][0-9]*$/--jobs N/' >> "$CALLS"
 sleep "${LASTS:-0}"
 [ -z "$CHANGES" ] || echo "// $$" >> src/lib.rt
 if [ "$1" = all ]; then
-    for crate in low middle ci_main; do
+    for crate in low middle unused; do
         echo "== $crate"
         echo "fn $crate::good: proved"
         if grep -q wrong crates/$crate/src/*; then
@@ -137,7 +137,7 @@ class Built(Repository):
         status, output, told = self.use("best", "a file", "--in", "3")
         self.assertEqual((status, output), (0, "built from first with best a file --in 3\n"))
         self.assertEqual(self.new_calls(), BUILDS)
-        for line in ("3 crates", "linking the program", "built in"):
+        for line in ("4 crates", "linking the program", "built in"):
             self.assertIn(line, told)
 
     def test_a_second_use_builds_nothing_and_tells_nothing(self):
