@@ -327,6 +327,16 @@ class Shipped(Repository):
         process.communicate()
 
 
+def has_terminals():
+    try:
+        for end in pty.openpty():
+            os.close(end)
+    except OSError:
+        return False
+    return True
+
+
+@unittest.skipUnless(has_terminals(), "there are no terminals")
 class AtTerminal(Repository):
     """Uses whose standard output is a terminal, and mostly their standard error too."""
 
@@ -395,14 +405,14 @@ class AtTerminal(Repository):
         self.ship("sleep 3.4; echo cut")
         status, shown, _ = self.at_terminal("best", "a")
         self.assertEqual(status, 0)
-        self.assertRegex(shown.decode(), r"^\rrumtsafi: running, 2 s\rrumtsafi: running, 3 s\r +\rcut\n$")
+        self.assertRegex(shown.decode(), r"^(\rrumtsafi: running, [2-9] s)+\r {22}\rcut\n$")
         self.assertEqual(self.at_terminal("best", "a", with_error=False), (0, b"cut\n", ""))
 
     def test_control_c_ends_the_program_and_the_script(self):
         mark = os.path.join(self.room, "mark")
         self.ship(f"trap 'echo ended > \"{mark}\"; kill $!; trap - INT; kill -INT $$' INT\n"
                   "sleep 30 > /dev/null 2>&1 & wait")
-        status, shown, _ = self.at_terminal("best", "a", keys="\x03", before=b"running, 2 s")
+        status, shown, _ = self.at_terminal("best", "a", keys="\x03", before=b"running, ")
         self.assertEqual(status, 130)
         self.assertTrue(os.path.exists(mark))
         self.assertTrue(shown.endswith(b"\r"), shown)
