@@ -21,6 +21,20 @@ SYSTEM = "/usr/bin:/bin"
 TOOLS = ["bash", "awk", "find", "sort", "xargs", "sha256sum", "flock"]
 CRATES = "# what each crate uses\nci_main: middle\nlow:\nunused:\nmiddle: low clap\n"
 USAGE = "rumtsafi best FILE\n"
+# Commands with words of other kinds, an option that has to stand, and words that go over two lines.
+MORE_USAGE = """\
+rumtsafi eval UNITS K A B
+                       gives what a module does
+rumtsafi area OLD --limit N [--in N]
+                       [--log FILE]
+                       says what fits
+
+  --in N        inputs, 1 to 3
+  --limit N     gates, 0 to 9
+  --log FILE    a log
+  K             a number, 0 to 31
+  A, B          words, as 0x and hex digits
+"""
 TOOLCHAIN = "kit of the tests"
 # What a call of the script asks of `rt`, with the folder that it does so in.
 BUILDS = ["a clone all check --jobs N", "ci_main run -- dis /dev/null"]
@@ -212,6 +226,17 @@ class Built(Repository):
             status, _, told = self.use(*words, STATUS="1")
             self.assertEqual(status, 1)
             self.assertTrue(told.startswith(f"{USAGE}rumtsafi: {why}"), told)
+
+    def test_numbers_words_and_needed_options_are_read_from_the_usage(self):
+        self.write("docs/usage.txt", MORE_USAGE)
+        self.assertEqual(self.call("checks/usage.py")[0], 0)
+        self.use("one")
+        for words, why in ((["eval", "a", "32", "0x0", "0x0"], "K takes a number from 0 to 31, which '32' is not"),
+                           (["eval", "a", "0", "0x0", "1"], "B takes 0x and one to eight hex digits, which '1' is not"),
+                           (["eval", "a", "0", "0x0"], "eval takes UNITS K A B, and B is missing"),
+                           (["area", "a", "--log=b"], "area needs --limit"),
+                           (["area", "a", "--log=a", "--limit", "3"], "area can't write 'a', which it names twice")):
+            self.assertEqual(self.use(*words, STATUS="1")[2], f"{MORE_USAGE}rumtsafi: {why}\n")
 
     def test_two_uses_at_once_build_once(self):
         uses = [self.start(word, LASTS="1") for word in ("one", "two", "three")]
