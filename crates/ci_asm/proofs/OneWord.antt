@@ -5,7 +5,7 @@ use Rattle.ci_isa.specs.declared.instruction.Insn.{Insn}
 use Rattle.ci_isa.specs.declared.instruction.Insn.TheVariants.{Alu, AluImm, Lui, Auipc, Jal, Jalr, Branch, Load, Store, Fence, Ecall, Ebreak, Unit, Cread, Illegal}
 use Rattle.ci_isa.specs.Fields.{field, opcode, rd_field, funct3, rs1_field, rs2_field, funct7, immediate_format, store_format, branch_format, upper_format, jump_format, immediate, signed_immediate}
 use Rattle.ci_isa.specs.Table.{ConstantForm, SignedImmediate, ShiftAmount, NoForm, constant_form, operation_codes, HoldsConstant, IsWordOf}
-use Rattle.ci_isa.proofs.Bits.{from_fields, from_upper_fields}
+use Rattle.ci_isa.proofs.FieldLaws.{from_fields, from_upper_fields}
 
 -- ---- words by their fields
 

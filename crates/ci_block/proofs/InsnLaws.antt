@@ -1,7 +1,7 @@
 -- One instruction stands at an address.
 use Rattle.std.proofs.Common.{◌≡◌, ℕ}
 use Rattle.ci_isa.specs.declared.instruction.Insn.{Insn}
-use Rattle.ci_isa.proofs.Only.{one_insn}
+use Rattle.ci_isa.proofs.RowCompleteness.{one_insn}
 use Rattle.ci_elf.specs.Executables.{Executable, text_word}
 use Rattle.ci_block.specs.Text.{StandsAt}
 

@@ -3,7 +3,8 @@ use Rattle.std.proofs.Common.{◌≡◌, ℕ, zero, suc, ◌<◌, inl, inr, List
 use Rattle.std.specs.List.{Contains}
 use Rattle.ci_elf.specs.Executables.{Executable}
 use Rattle.ci_elf.proofs.OneOrder.{ascending_is_one}
-use Rattle.ci_block.specs.Leaders.{IsListing, ListingIsOne}
+use Rattle.ci_block.specs.Leaders.{IsListing}
+use Rattle.ci_block.specs.Laws.{ListingIsOne}
 
 -- ---- two listings have the same members
 

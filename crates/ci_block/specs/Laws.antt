@@ -6,7 +6,13 @@ use Rattle.ci_elf.specs.Executables.{Executable, IsAscending, IsTextWord}
 use Rattle.ci_block.specs.declared.blocks.Block.{Block}
 use Rattle.ci_block.specs.declared.blocks.Next.{Next}
 use Rattle.ci_block.specs.Blocks.{AreBlocks, Counts, IsBlockAt, end_of_block, size_of, ways_on}
-use Rattle.ci_block.specs.Leaders.{AreLeaders}
+use Rattle.ci_block.specs.Leaders.{AreLeaders, IsListing}
+
+-- There is one list of the leaders of a file, for some targets of JALR and some addresses that the user gives.
+abbrev pub ListingIsOne : Type 0
+ListingIsOne =
+    (image : Executable) (targets named left right : List ℕ)
+    → IsListing image targets named left → IsListing image targets named right → left ≡ right
 
 -- All that a block says. Two blocks that say the same may still differ in the room that their vectors have.
 pub record BlockContents : Type 0 where

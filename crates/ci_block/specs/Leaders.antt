@@ -49,9 +49,3 @@ pub record AreLeaders (image : Executable) (leaders : List ℕ) : Type 0 where
   pub targets : List ℕ
   pub named : List ℕ
   pub listing : IsListing image targets named leaders
-
--- There is one such list.
-abbrev pub ListingIsOne : Type 0
-ListingIsOne =
-    (image : Executable) (targets named left right : List ℕ)
-    → IsListing image targets named left → IsListing image targets named right → left ≡ right

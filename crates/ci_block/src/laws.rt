@@ -1,6 +1,6 @@
 //! What holds of all files, as contracts of functions without effect.
 ghost use Rattle.ci_block.specs.Laws.{BlockIsOne, BlocksAreOne, WaysAreLeaders, WordBehindIsLeader};
-ghost use Rattle.ci_block.specs.Leaders.{ListingIsOne};
+ghost use Rattle.ci_block.specs.Laws.{ListingIsOne};
 
 /// The definition of the listed leaders determines them.
 pub fn leaders_are_determined()

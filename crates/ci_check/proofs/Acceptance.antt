@@ -6,7 +6,8 @@ use Rattle.std.proofs.lemmas.Int.{ints}
 use Rattle.std.specs.List.{AllByRecursion}
 use Rattle.std.specs.FinSet as set
 use Rattle.ci_cut.specs.declared.graph.Limits.{Limits}
-use Rattle.ci_cut.specs.FlowGraph.{FlowGraph, IsFlowGraph}
+use Rattle.ci_cut.specs.FlowGraph.{FlowGraph}
+use Rattle.ci_cut.specs.GraphRules.{IsFlowGraph}
 use Rattle.ci_cut.specs.Gain.{Fits, gain}
 use Rattle.ci_cut.specs.Best.{ComesBefore, IsSameSet, IsBest, HasNoCut}
 use Rattle.ci_log.specs.declared.log.Item.{Item}
@@ -16,7 +17,7 @@ use Rattle.ci_cut.specs.Prefixes.{Prefix, taken, IsBefore}
 use Rattle.ci_check.specs.Rules.{Given, best_gain, IsGood, IsAfterBest, IsBeforeBest, IsBetter, IsRight, stations, IsRightAt, IsAccepted}
 use Rattle.ci_cut.specs.Reached.{Completes}
 use Rattle.ci_cut.proofs.PrefixLaws.{same_test, eligible_below, next_exists, decided_above, possible_parts, completes_none, completes_more, whole_choice}
-use Rattle.ci_cut.proofs.Bounds.{completion_bound, completion_bounded}
+use Rattle.ci_cut.proofs.BoundLaws.{completion_bound, completion_bounded}
 use Rattle.ci_check.proofs.SetOrder.{compare_sets}
 use Rattle.ci_cut.proofs.NeedLaws.{compare_gains}
 

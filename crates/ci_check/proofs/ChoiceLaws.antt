@@ -6,12 +6,13 @@ use Rattle.std.specs.Ordering.{nat_cmp}
 use Rattle.std.specs.FinSet as set
 use Rattle.ci_word.specs.Numbers.{count_below}
 use Rattle.ci_word.proofs.NumberLaws.{contains-insert_nat, contains-remove_nat}
-use Rattle.ci_cut.specs.FlowGraph.{FlowGraph, IsFlowGraph, AreNodes}
+use Rattle.ci_cut.specs.FlowGraph.{FlowGraph}
+use Rattle.ci_cut.specs.GraphRules.{IsFlowGraph, AreNodes}
 use Rattle.ci_cut.specs.Gain.{saved_by}
 use Rattle.ci_check.specs.declared.choices.Choices.{Choices}
 use Rattle.ci_cut.specs.Prefixes.{Prefix, is_eligible, eligible_nodes, is_next, is_decided, taken, left_out, possible, bound, IsBefore}
 use Rattle.ci_check.specs.Representation.{Represents, RepresentsSome, IsNextBelow, ComesBeforeFrom}
-use Rattle.ci_cut.proofs.Counts.{count_below-rises, count_below-one, count_below-skip, count_below-more}
+use Rattle.ci_cut.proofs.RisingCounts.{count_below-rises, count_below-one, count_below-skip, count_below-more}
 use Rattle.ci_cut.proofs.PrefixLaws.{same_test, eligible_below, next_parts, next_from, next_unique, is_decided-more}
 use Rattle.ci_cut.proofs.PrefixLaws.{is_decided-none, decided_parts, in_or_out, possible_parts, not_both}
 

@@ -1,7 +1,8 @@
 -- What a walk over the prefixes has found.
 use Rattle.std.proofs.Common.{◌≡◌, ℕ, zero, suc, ◌+◌, ◌<◌, ◌≤◌, true, false, inl, inr, IsTrue, ◌∷◌, ◌++◌, sym, subst, arith}
 use Rattle.ci_cut.specs.declared.graph.Limits.{Limits}
-use Rattle.ci_cut.specs.FlowGraph.{FlowGraph, IsFlowGraph}
+use Rattle.ci_cut.specs.FlowGraph.{FlowGraph}
+use Rattle.ci_cut.specs.GraphRules.{IsFlowGraph}
 use Rattle.ci_cut.specs.ListCounts.{AtLeast, none, counted}
 use Rattle.ci_cut.specs.Prefixes.{Prefix, is_next}
 use Rattle.ci_cut.specs.Need.{IsOpen, continuations}

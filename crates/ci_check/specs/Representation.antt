@@ -4,7 +4,8 @@ use Rattle.std.specs.Prelude.{Some, Result, Ok, Err}
 use Rattle.std.specs.List.{AllByRecursion}
 use Rattle.std.specs.FinSet as set
 use Rattle.ci_word.specs.Numbers.{count_below}
-use Rattle.ci_cut.specs.FlowGraph.{FlowGraph, IsFlowGraph}
+use Rattle.ci_cut.specs.FlowGraph.{FlowGraph}
+use Rattle.ci_cut.specs.GraphRules.{IsFlowGraph}
 use Rattle.ci_cut.specs.declared.graph.Limits.{Limits}
 use Rattle.ci_cut.specs.Best.{ComesBefore}
 use Rattle.ci_log.specs.declared.log.Item.{Item}

@@ -1,7 +1,7 @@
 //! How many branches a log needs.
 ghost use Rattle.std.specs.Prelude.{◌≡◌, ◌↔◌, ℕ, ◌+◌, ◌^◌, ◌<◌, ◌≤◌, length, IsTrue};
 ghost use Rattle.std.specs.FinSet as set;
-ghost use Rattle.ci_cut.specs.FlowGraph.{AreNodes};
+ghost use Rattle.ci_cut.specs.GraphRules.{AreNodes};
 ghost use Rattle.ci_cut.specs.Prefixes.{Prefix, eligible_nodes};
 ghost use Rattle.ci_cut.specs.Need.{IsOpen, NeedExceeds};
 ghost use Rattle.ci_check.specs.Representation.{Represents, RepresentsSome};

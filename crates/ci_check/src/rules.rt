@@ -1,7 +1,7 @@
 //! The rules of the items of a log.
 ghost use Rattle.std.specs.Prelude.{◌≡◌, ◌↔◌, MatchOption, IsTrue};
 ghost use Rattle.std.specs.FinSet as set;
-ghost use Rattle.ci_cut.specs.FlowGraph.{AreNodes};
+ghost use Rattle.ci_cut.specs.GraphRules.{AreNodes};
 ghost use Rattle.ci_cut.specs.Prefixes as terms;
 ghost use Rattle.ci_check.specs.Rules.{IsGood, IsAfterBest, IsBeforeBest, IsBetter, IsRight, GainsTooLittle, reason_of};
 ghost use Rattle.ci_check.specs.Representation.{Represents, RepresentsSome, IsMeasured};

@@ -1,7 +1,7 @@
 //! Logs and needs of small graphs that are built by hand.
 ghost use Rattle.std.specs.Prelude.{ℕ, ◌≤◌, ◌<◌, IsTrue, IfOk};
 ghost use Rattle.std.specs.FinSet as set;
-ghost use Rattle.ci_cut.specs.FlowGraph.{IsFlowGraph};
+ghost use Rattle.ci_cut.specs.GraphRules.{IsFlowGraph};
 ghost use Rattle.ci_cut.proofs.GraphLaws.{IsNodeOf};
 
 use crate::{Wrong, check, needs_more};

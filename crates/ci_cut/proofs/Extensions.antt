@@ -8,14 +8,15 @@ use Rattle.ci_word.specs.Numbers.{count_below, sum_below}
 use Rattle.ci_word.proofs.NumberLaws.{some_below_iff, count_below-mono, count_below-zero, count_below-suc, sum_below-zero, sum_below-suc}
 use Rattle.ci_cut.specs.declared.graph.Source.{Source}
 use Rattle.ci_cut.specs.declared.graph.Source.TheVariants.{Entry, Made}
-use Rattle.ci_cut.specs.FlowGraph.{FlowGraph, IsFlowGraph, node_at, reads}
+use Rattle.ci_cut.specs.FlowGraph.{FlowGraph, node_at, reads}
+use Rattle.ci_cut.specs.GraphRules.{IsFlowGraph}
 use Rattle.ci_cut.specs.Walks.{Walk, arc, onward, IsConvex}
 use Rattle.ci_cut.specs.Ports.{is_outside, inputs_from, is_output, outputs, size}
 use Rattle.ci_cut.specs.Hardware.{is_chain, critical_path_delay, hardware}
 use Rattle.ci_cut.specs.Gain.{saved_by, further_words_of, software}
 use Rattle.ci_cut.proofs.PortLaws.{inputs_from-mono}
 use Rattle.ci_cut.proofs.SavedCycles.{saved_cycles-antitone, saved_cycles-members}
-use Rattle.ci_cut.proofs.Chains.{delay_along-le, critical_path_delay-reached}
+use Rattle.ci_cut.proofs.CriticalPath.{delay_along-le, critical_path_delay-reached}
 use Rattle.ci_cut.proofs.PrefixLaws.{Extends}
 
 -- a walk leads to later nodes

@@ -11,7 +11,8 @@ use Rattle.std.proofs.lemmas.List.{length-append}
 use Rattle.ci_cut.specs.declared.graph.Node.{Node}
 use Rattle.ci_cut.specs.declared.graph.Source.{Source}
 use Rattle.ci_cut.specs.declared.graph.Source.TheVariants.{Entry, Made}
-use Rattle.ci_cut.specs.FlowGraph.{FlowGraph, IsFlowGraph, no_node, node_in, is_source}
+use Rattle.ci_cut.specs.FlowGraph.{FlowGraph, no_node, node_in, is_source}
+use Rattle.ci_cut.specs.GraphRules.{IsFlowGraph}
 use Rattle.ci_cut.proofs.NodeLaws.{node_in-push, each_node}
 
 -- node k is as a graph with this charge for a no-op keeps it

@@ -1,9 +1,9 @@
-pub mod Bounds
-pub mod Chains
-pub mod Counts
+pub mod BoundLaws
+pub mod CriticalPath
+pub mod RisingCounts
 pub mod Extensions
 pub mod GainArithmetic
-pub mod Gains
+pub mod MemberSums
 pub mod GraphLaws
 pub mod MaximumAt
 pub mod ListCountLaws
@@ -15,5 +15,5 @@ pub mod PrefixLaws
 pub mod SavedCycles
 pub mod SetLaws
 pub mod SourceSetLaws
-pub mod Tries
+pub mod BestOfTries
 pub mod WalkLaws

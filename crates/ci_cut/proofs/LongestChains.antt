@@ -7,10 +7,11 @@ use Rattle.std.proofs.lemmas.List.{get_or-replicate, get_or_past, length-replica
 use Rattle.std.proofs.lemmas.List.Sums.{sum_by-cons}
 use Rattle.ci_cut.specs.declared.graph.Source.{Source}
 use Rattle.ci_cut.specs.declared.graph.Node.{Node}
-use Rattle.ci_cut.specs.FlowGraph.{FlowGraph, IsFlowGraph, node_at}
+use Rattle.ci_cut.specs.FlowGraph.{FlowGraph, node_at}
+use Rattle.ci_cut.specs.GraphRules.{IsFlowGraph}
 use Rattle.ci_cut.specs.Hardware.{is_chain, delay_along, critical_path_delay}
 use Rattle.ci_cut.specs.ChainDelays.{IsMaximumAt}
-use Rattle.ci_cut.proofs.Chains.{chain_onward, chain_parts, chain_first, delay_along-le, critical_path_delay-reached}
+use Rattle.ci_cut.proofs.CriticalPath.{chain_onward, chain_parts, chain_first, delay_along-le, critical_path_delay-reached}
 
 -- the delay of a chain's first node, and of the rest
 delay_along-cons : (graph : FlowGraph) (k : ℕ) (rest : List ℕ) → delay_along graph (k ∷ rest) ≡ (node_at graph k).delay + delay_along graph rest

@@ -4,7 +4,8 @@ use Rattle.std.proofs.Common.{◌∷◌, ◌++◌, length, refl, sym, ap, ◌∙
 use Rattle.std.proofs.lemmas.Bool.{cases_Bool}
 use Rattle.std.proofs.lemmas.Int.{ints}
 use Rattle.ci_cut.specs.declared.graph.Limits.{Limits}
-use Rattle.ci_cut.specs.FlowGraph.{FlowGraph, IsFlowGraph}
+use Rattle.ci_cut.specs.FlowGraph.{FlowGraph}
+use Rattle.ci_cut.specs.GraphRules.{IsFlowGraph}
 use Rattle.ci_cut.specs.Gain.{Fits, gain}
 use Rattle.ci_cut.specs.ListCounts.{AtLeast}
 use Rattle.ci_cut.specs.Prefixes.{Prefix, eligible_nodes, is_next, taken, bound}
@@ -12,7 +13,7 @@ use Rattle.ci_cut.specs.Need.{IsOpen, continuations}
 use Rattle.ci_cut.specs.Reached.{IsBounded, IsReached, IsReachedBefore, IsReachedBehind, IsReachedWith}
 use Rattle.ci_cut.proofs.ListCountLaws.{AtLeast-nil, AtLeast-cases, AtLeast-split}
 use Rattle.ci_cut.proofs.PrefixLaws.{is_decided-none, completes_more, completes_earlier, whole_choice, taken_completes}
-use Rattle.ci_cut.proofs.Bounds.{completion_bound, completion_bounded, open_earlier, before_more, before_in, before_out, before_by_next}
+use Rattle.ci_cut.proofs.BoundLaws.{completion_bound, completion_bounded, open_earlier, before_more, before_in, before_out, before_by_next}
 
 -- ---- open prefixes
 

@@ -7,7 +7,7 @@ use Rattle.ci_cut.specs.FlowGraph.{FlowGraph}
 use Rattle.ci_cut.proofs.NodeLaws.{node_in-past}
 use Rattle.ci_cut.specs.Prefixes.{Prefix, is_eligible, eligible_nodes, is_next, is_decided, taken, left_out, possible}
 use Rattle.ci_cut.specs.Reached.{Completes}
-use Rattle.ci_cut.proofs.Counts.{count_below-rises, count_below-more, nth_below}
+use Rattle.ci_cut.proofs.RisingCounts.{count_below-rises, count_below-more, nth_below}
 
 -- tests that imply each other are equal
 pub same_test : (a b : Bool) → (IsTrue a → IsTrue b) → (IsTrue b → IsTrue a) → a ≡ b

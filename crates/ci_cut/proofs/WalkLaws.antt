@@ -3,7 +3,8 @@ use Rattle.std.proofs.Common.{◌≡◌, ℕ, ◌+◌, ◌<◌, Bool, true, fals
 use Rattle.std.specs.Ordering.{nat_cmp}
 use Rattle.std.specs.FinSet as set
 use Rattle.ci_word.specs.Numbers.{Meets}
-use Rattle.ci_cut.specs.FlowGraph.{FlowGraph, node_at, HasArc, IsFlowGraph}
+use Rattle.ci_cut.specs.FlowGraph.{FlowGraph, node_at, HasArc}
+use Rattle.ci_cut.specs.GraphRules.{IsFlowGraph}
 use Rattle.ci_cut.specs.Walks.{Walk, arc, onward, IsConvex}
 use Rattle.ci_cut.proofs.SetLaws.{contains_kept, contains_new, from_more}
 

@@ -1,6 +1,5 @@
 -- The data-flow graph of a basic block, as a value.
-use Rattle.std.specs.Prelude.{ℕ, ◌<◌, ◌≤◌, Bool, false, nat_eq, List, [], length, slice_index_or, IsTrue}
-use Rattle.std.specs.Ordering.{nat_cmp}
+use Rattle.std.specs.Prelude.{ℕ, Bool, false, nat_eq, List, [], slice_index_or, IsTrue}
 use Rattle.std.specs.List.{list_any}
 use Rattle.std.specs.FinSet as set
 use Rattle.ci_cut.specs.declared.graph.Source.{Source}
@@ -38,19 +37,3 @@ reads graph k source = list_any (is_source source) (node_at graph k).sources
 -- there is an arc from node j into node k
 abbrev pub HasArc : FlowGraph → ℕ → ℕ → Type 0
 HasArc graph j k = IsTrue (set.contains (node_at graph k).before j)
-
--- What a graph keeps. Arcs and sources come from earlier nodes. A no-op costs no more than a read, and no more than a
--- node that may be a member.
-pub record IsFlowGraph (graph : FlowGraph) : Type 0 where
-  pub few : length graph.nodes ≤ 256
-  pub arcs_rise : (j k : ℕ) → HasArc graph j k → j < k
-  pub sources_rise : (j k : ℕ) → IsTrue (reads graph k (Made j)) → j < k
-  pub latency_least : (k : ℕ) → IsTrue (node_at graph k).eligible → 1 ≤ (node_at graph k).latency
-  pub latency_most : (k : ℕ) → (node_at graph k).latency ≤ 1000
-  pub delay_most : (k : ℕ) → (node_at graph k).delay ≤ 100000
-  pub pad_least : (k : ℕ) → IsTrue (node_at graph k).eligible → graph.pad ≤ (node_at graph k).latency
-  pub pad_read : graph.pad ≤ graph.read
-
--- each number of the set is a node
-abbrev pub AreNodes : FlowGraph → set.FinSet nat_cmp → Type 0
-AreNodes graph numbers = (k : ℕ) → IsTrue (set.contains numbers k) → k < length graph.nodes

@@ -1,4 +1,5 @@
 pub mod FlowGraph
+pub mod GraphRules
 pub mod Stored
 pub mod Walks
 pub mod Ports

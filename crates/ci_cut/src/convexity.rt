@@ -2,7 +2,7 @@
 ghost use Rattle.std.specs.Prelude.{◌↔◌, IsTrue};
 ghost use Rattle.std.specs.FinSet as set;
 ghost use Rattle.ci_cut.specs.Walks.{IsConvex};
-ghost use Rattle.ci_cut.specs.FlowGraph.{AreNodes};
+ghost use Rattle.ci_cut.specs.GraphRules.{AreNodes};
 
 use crate::graph::Graph;
 use ci_word::Row;

@@ -102,7 +102,8 @@ pub struct Graph {
 }
 
 impl Model for Graph {
-    ghost use Rattle.ci_cut.specs.FlowGraph.{FlowGraph, IsFlowGraph};
+    ghost use Rattle.ci_cut.specs.FlowGraph.{FlowGraph};
+    ghost use Rattle.ci_cut.specs.GraphRules.{IsFlowGraph};
     ghost use Rattle.ci_cut.specs.Stored.{coded_graph};
 
     ghost Value = { FlowGraph };
@@ -116,7 +117,7 @@ impl Model for Graph {
 }
 
 impl Graph {
-    ghost use Rattle.ci_cut.specs.FlowGraph.{IsFlowGraph};
+    ghost use Rattle.ci_cut.specs.GraphRules.{IsFlowGraph};
 
     /// The graph of these nodes. `read` and `pad` are charges in cycles, for a read of each result after the first and
     /// for a no-op.

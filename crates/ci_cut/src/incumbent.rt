@@ -1,5 +1,5 @@
 //! The best cut so far.
-ghost use Rattle.ci_cut.specs.FlowGraph.{AreNodes};
+ghost use Rattle.ci_cut.specs.GraphRules.{AreNodes};
 ghost use Rattle.ci_cut.specs.Incumbents.{IsImproved};
 
 use crate::graph::{Graph, Limits};

@@ -4,7 +4,8 @@ ghost use Rattle.std.specs.FinSet as set;
 ghost use Rattle.std.specs.List.{list_any};
 ghost use Rattle.ci_cut.specs.declared.graph.Source.{Source};
 ghost use Rattle.ci_cut.specs.Ports as terms;
-ghost use Rattle.ci_cut.specs.FlowGraph.{AreNodes, is_source};
+ghost use Rattle.ci_cut.specs.FlowGraph.{is_source};
+ghost use Rattle.ci_cut.specs.GraphRules.{AreNodes};
 ghost use Rattle.ci_cut.specs.Gain.{further_words_of};
 ghost use Rattle.ci_cut.specs.SourceSets.{holds, is_reader, is_read_below};
 

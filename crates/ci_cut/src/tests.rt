@@ -1,7 +1,7 @@
 //! The terms and the best cut of small graphs that are built by hand.
 ghost use Rattle.std.specs.Prelude.{ℕ, ◌≤◌, ◌<◌, IsTrue, IfOk};
 ghost use Rattle.std.specs.FinSet as set;
-ghost use Rattle.ci_cut.specs.FlowGraph.{IsFlowGraph};
+ghost use Rattle.ci_cut.specs.GraphRules.{IsFlowGraph};
 
 use crate::choice::best_of_all;
 use crate::convexity::is_convex;
@@ -24,7 +24,7 @@ struct Charges {
 
 const FREE: Charges = Charges { read: 0, pad: 0 };
 
-const USUAL: Charges = Charges { read: 1, pad: 0 };
+const DEFAULT: Charges = Charges { read: 1, pad: 0 };
 
 /// A node: its sources, other nodes that it comes after, its delay, and whether it is live.
 type Part<'a> = (&'a [Source], &'a [u8], u32, bool);
@@ -153,7 +153,7 @@ fn distinct_inputs(rt: HostRuntime) -> Result<(), Fail> {
     let second = (&[Made(0), Entry(12)][..], &[][..], 100, false);
     let third = (&[Made(1), Entry(10)][..], &[][..], 100, false);
     let last = (&[Made(2), Entry(11)][..], &[][..], 100, true);
-    let graph = graph_of(&rt, rt.alloc(), USUAL, &[first, second, third, last])?;
+    let graph = graph_of(&rt, rt.alloc(), DEFAULT, &[first, second, third, last])?;
     assert_eq!(rt; terms(&rt, &graph, &[0, 1, 2, 3]), (true, 3, 2));
     assert_eq!(rt; value(&rt, &graph, &[0, 1, 2, 3]), (1, 2));
     Ok(())
@@ -218,7 +218,7 @@ fn hardware_of_the_longer_chain(rt: HostRuntime) -> Result<(), Fail> {
 fn a_pair_of_adds(rt: HostRuntime) -> Result<(), Fail> {
     let first = (&[Entry(10), Entry(11)][..], &[][..], 400, false);
     let second = (&[Made(0), Entry(12)][..], &[][..], 400, true);
-    let graph = graph_of(&rt, rt.alloc(), USUAL, &[first, second])?;
+    let graph = graph_of(&rt, rt.alloc(), DEFAULT, &[first, second])?;
     let pair = row_below(&rt, graph.nodes().len(), &[0, 1]);
     assert_eq!(rt; value(&rt, &graph, &[0, 1]), (1, 1));
     for (inputs, takes) in [(3, true), (2, false)] {
@@ -237,7 +237,7 @@ fn the_first_of_equals(rt: HostRuntime) -> Result<(), Fail> {
     let second = (&[Made(0), Entry(12)][..], &[][..], 400, true);
     let third = (&[Entry(13), Entry(14)][..], &[][..], 400, false);
     let last = (&[Made(2), Entry(15)][..], &[][..], 400, true);
-    let graph = graph_of(&rt, rt.alloc(), USUAL, &[first, second, third, last])?;
+    let graph = graph_of(&rt, rt.alloc(), DEFAULT, &[first, second, third, last])?;
     let later = row_below(&rt, graph.nodes().len(), &[2, 3]);
     assert_eq!(rt; best_in(&rt, &graph, 3, 1), Some(later));
     Ok(())
@@ -245,7 +245,7 @@ fn the_first_of_equals(rt: HostRuntime) -> Result<(), Fail> {
 
 #[test]
 fn nothing_in_nothing(rt: HostRuntime) -> Result<(), Fail> {
-    let graph = graph_of(&rt, rt.alloc(), USUAL, &[])?;
+    let graph = graph_of(&rt, rt.alloc(), DEFAULT, &[])?;
     assert_eq!(rt; best_in(&rt, &graph, 3, 2), None);
     Ok(())
 }

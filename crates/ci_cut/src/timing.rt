@@ -3,7 +3,8 @@ ghost use Rattle.std.specs.Prelude.{◌≡◌, ℕ, ◌<◌, ◌≤◌, Bool, Li
 ghost use Rattle.std.specs.FinSet as set;
 ghost use Rattle.ci_cut.specs.ChainDelays.{IsMaximumAt};
 ghost use Rattle.ci_cut.specs.Hardware as terms;
-ghost use Rattle.ci_cut.specs.FlowGraph.{FlowGraph, IsFlowGraph, AreNodes};
+ghost use Rattle.ci_cut.specs.FlowGraph.{FlowGraph};
+ghost use Rattle.ci_cut.specs.GraphRules.{IsFlowGraph, AreNodes};
 
 use crate::graph::{Graph, Source};
 use ci_word::Row;

@@ -4,7 +4,8 @@ ghost use Rattle.std.specs.FinSet as set;
 ghost use Rattle.ci_word.specs.Numbers.{sum_below};
 ghost use Rattle.ci_cut.specs.Gain as terms;
 ghost use Rattle.ci_cut.specs.Ports as counts;
-ghost use Rattle.ci_cut.specs.FlowGraph.{AreNodes, node_in, node_at};
+ghost use Rattle.ci_cut.specs.FlowGraph.{node_in, node_at};
+ghost use Rattle.ci_cut.specs.GraphRules.{AreNodes};
 
 use crate::convexity::is_convex;
 use crate::graph::{Graph, Limits, Node};

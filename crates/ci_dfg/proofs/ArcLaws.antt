@@ -9,7 +9,7 @@ use Rattle.std.proofs.lemmas.Bool.{cases_eq, cases_lt, and_parts, and_from, or_c
 use Rattle.ci_isa.specs.declared.instruction.Insn.{Insn}
 use Rattle.ci_isa.specs.Effects.{operands, results, is_kept, without_x0, is_access, reads_register, writes_register}
 use Rattle.ci_isa.specs.Sequences.{nth_insn, latest_writer, IsLastWriter}
-use Rattle.ci_isa.proofs.Writers.{latest_writer_is_last, last_writer_from}
+use Rattle.ci_isa.proofs.LastWriter.{latest_writer_is_last, last_writer_from}
 use Rattle.ci_lat.specs.Latencies.{Latencies}
 use Rattle.ci_cut.specs.declared.graph.Source.{Source}
 use Rattle.ci_cut.specs.declared.graph.Source.TheVariants.{Made}
@@ -21,7 +21,7 @@ use Rattle.ci_dfg.specs.Arcs.{IsBundle, IsArc, true_arc, anti_arc, output_arc, m
 use Rattle.ci_dfg.specs.Arcs.{into_bundle, out_of_bundle, ArcsAreThese, GraphHasTheseArcs}
 use Rattle.ci_dfg.specs.Hazards.{read_after_write, write_after_read, write_after_write, HazardsAreJoined, AccessesAreJoined}
 use Rattle.ci_dfg.proofs.Bundles.{ends, ended, bundles_move_together}
-use Rattle.ci_dfg.proofs.Graphs.{contains-before, node_at_past}
+use Rattle.ci_dfg.proofs.BlockIsGraph.{contains-before, node_at_past}
 
 -- ---- what a test finds among registers
 

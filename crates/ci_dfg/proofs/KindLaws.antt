@@ -12,7 +12,8 @@ use Rattle.ci_word.specs.declared.arithmetic.Class.TheVariants as class
 use Rattle.ci_isa.specs.declared.instruction.Insn.{Insn}
 use Rattle.ci_isa.specs.declared.instruction.Insn.TheVariants.{Alu, AluImm, Lui}
 use Rattle.ci_isa.specs.Effects.{register_class, constant_class, class_of, is_no_op, is_zero, is_division, may_join}
-use Rattle.ci_lat.specs.Latencies.{Latencies, IsLatencyTable, HasDelay, place, latency_of, delay_of}
+use Rattle.ci_lat.specs.Latencies.{Latencies, place, latency_of, delay_of}
+use Rattle.ci_lat.specs.TableRules.{IsLatencyTable, HasDelay}
 
 -- ---- classes with a delay
 

@@ -1,9 +1,9 @@
 pub mod ArcLaws
 pub mod Bundles
-pub mod Graphs
-pub mod Instructions
+pub mod BlockIsGraph
+pub mod InstructionLaws
 pub mod KindLaws
 pub mod Rows
-pub mod Sets
+pub mod FilledSets
 pub mod SourceLaws
-pub mod Writers
+pub mod WritersByPlace

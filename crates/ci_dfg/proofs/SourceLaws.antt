@@ -12,9 +12,9 @@ use Rattle.ci_cut.specs.declared.graph.Source.TheVariants.{Made}
 use Rattle.ci_cut.specs.FlowGraph.{is_source}
 use Rattle.ci_isa.specs.Sequences.{nth_insn, latest_writer}
 use Rattle.ci_isa.proofs.Registers.{without_padding}
-use Rattle.ci_isa.proofs.Writers.{latest_writer_is_last}
+use Rattle.ci_isa.proofs.LastWriter.{latest_writer_is_last}
 use Rattle.ci_dfg.specs.BlockGraph.{source_from, source_of, sources}
-use Rattle.ci_dfg.proofs.Instructions.{insn_there}
+use Rattle.ci_dfg.proofs.InstructionLaws.{insn_there}
 
 module _ (insns : List Insn) (k : ℕ) where
   -- one operand more

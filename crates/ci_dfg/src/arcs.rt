@@ -12,7 +12,7 @@ use ci_isa::{
 use ci_word::Row;
 
 /// The nodes with an arc into node `k`, which has these sources.
-#[tactic(auto, using(crate::proofs::Sets::arcs))]
+#[tactic(auto, using(crate::proofs::FilledSets::arcs))]
 pub(crate) fn nodes_before(insns: &[Insn], k: usize, sources: &[Source]) -> Row
     requires few { length insns.now ≤ 256 }
     requires there { k < length insns.now }

@@ -16,7 +16,7 @@ use std::alloc::{AllocError, Global};
 /// each instruction that ends a block has arcs from all earlier ones.
 ///
 /// An Err is out of memory.
-#[tactic(auto, using(crate::proofs::Graphs::so_far))]
+#[tactic(auto, using(crate::proofs::BlockIsGraph::so_far))]
 pub fn graph(
     alloc: Global,
     insns: &[Insn],
@@ -69,7 +69,7 @@ fn is_live(insns: &[Insn], k: usize, live_out: Row) -> bool
 }
 
 /// Whether a node behind node `k` writes the register.
-#[tactic(auto, using(crate::proofs::Writers::later))]
+#[tactic(auto, using(crate::proofs::WritersByPlace::later))]
 fn is_written_after(insns: &[Insn], k: usize, register: u8) -> bool
     requires { k < length insns.now }
     ensures { result ≡ terms.is_written_after insns.now k register }

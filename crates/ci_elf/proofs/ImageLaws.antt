@@ -16,7 +16,8 @@ use Rattle.std.proofs.lemmas.List.Sorted.{Contains-permutation, IsPermutation-sy
 use Rattle.ci_elf.specs.declared.segments.Segment.{Segment}
 use Rattle.ci_elf.specs.Checks.{IsLastBefore}
 use Rattle.ci_elf.specs.SectionChecks.{AreLaidOut}
-use Rattle.ci_elf.specs.Executables.{Executable, IsLoaded, IsTextWord, IsWellFormed, ShareNoMemory, with_word, has_in_file, place_of}
+use Rattle.ci_elf.specs.Executables.{Executable, IsLoaded, IsTextWord, IsWellFormed, ShareNoMemory, has_in_file, place_of}
+use Rattle.ci_elf.specs.TextChanges.{with_word}
 use Rattle.ci_elf.specs.LoadedPlaces.{IsSound, IsLoadedFrom}
 use Rattle.ci_elf.proofs.RangeLaws.{range_holding}
 use Rattle.ci_elf.proofs.SegmentLaws.{both}

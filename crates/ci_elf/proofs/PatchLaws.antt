@@ -8,7 +8,8 @@ use Rattle.std.proofs.lemmas.List.Sorted.{IsPermutation-refl}
 use Rattle.byteorder.specs.Endian.{little_bytes, little_from}
 use Rattle.byteorder.specs.Numbers.{length-bytes_low_first, little_number-reads_back}
 use Rattle.ci_elf.specs.declared.segments.Segment.{Segment}
-use Rattle.ci_elf.specs.Executables.{Executable, InText, IsTextWord, IsWellFormed, place_of, segments_of, with_word}
+use Rattle.ci_elf.specs.Executables.{Executable, InText, IsTextWord, IsWellFormed, place_of, segments_of}
+use Rattle.ci_elf.specs.TextChanges.{with_word}
 use Rattle.ci_elf.specs.Fields.{field, p_filesz, p_offset, p_vaddr, sh_addr, sh_offset, sh_size}
 use Rattle.ci_elf.specs.Rules.{Apart, IsReadAs, Within}
 use Rattle.ci_elf.specs.TextChanges.{NoneWritten, OneMoreWritten, OtherWordsStay, TextIsLoadedOnce, WordIsRead}

@@ -4,7 +4,8 @@ use Rattle.std.proofs.lemmas.Bool.Decides.{nat_tests}
 use Rattle.ci_elf.specs.declared.ranges.Range.{Range}
 use Rattle.ci_elf.specs.declared.segments.Segment.{Segment}
 use Rattle.ci_elf.specs.Fields.{field}
-use Rattle.ci_elf.specs.Executables.{Executable, executable, in_text, place_of, with_word}
+use Rattle.ci_elf.specs.Executables.{Executable, executable, in_text, place_of}
+use Rattle.ci_elf.specs.TextChanges.{with_word}
 use Rattle.ci_elf.specs.TextChanges.{ChangeText, IsTextPlace}
 use Rattle.ci_elf.specs.WordPlaces.{word_count, word_place}
 use Rattle.ci_elf.proofs.ImageLaws.{loads_between}

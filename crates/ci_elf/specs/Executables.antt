@@ -1,13 +1,12 @@
 -- What an executable file means: its segments, its text and its symbols.
 use Rattle.std.specs.Prelude.{◌≡◌, ℕ, ◌+◌, ◌-◌, ◌*◌, ◌/◌, ◌%◌, ◌<◌, ◌≤◌, ◌⊎◌, ◌&&◌, Bool, if◌then◌else◌, List, [], ◌∷◌}
-use Rattle.std.specs.Prelude.{◌++◌, length, take, drop, nat_lt, nat_le, slice_index, slice_index_or, IsTrue}
+use Rattle.std.specs.Prelude.{length, nat_lt, nat_le, slice_index, slice_index_or, IsTrue}
 use Rattle.std.specs.List.{AllPairs, Contains, list_any, sum_by}
 use Rattle.std.specs.List.Sorted.{IsPermutation}
 use Rattle.ci_elf.specs.declared.segments.Segment.{Segment}
 use Rattle.ci_elf.specs.declared.ranges.Range.{Range}
 use Rattle.ci_elf.specs.Fields.{field, e_entry, e_phnum, e_shnum, p_offset, p_vaddr, p_filesz, p_memsz, is_loadable}
 use Rattle.ci_elf.specs.Fields.{sh_addr, sh_size, is_symbol_table, is_text, st_value}
-use Rattle.byteorder.specs.Endian.{little_bytes}
 use Rattle.ci_reading.specs.Broken.{each_below, those_below}
 
 -- an executable file and what it means
@@ -128,10 +127,6 @@ pub record IsLoaded (image : Executable) (address value : ℕ) : Type 0 where
   pub there : Contains image.segments segment
   pub loads : IsTrue (has_in_file segment address)
   pub byte : slice_index image.bytes (segment.offset + (address - segment.address)) ≡ value
-
--- the bytes with the word at this place
-abbrev pub with_word : List ℕ → ℕ → ℕ → List ℕ
-with_word bytes place word = take place bytes ++ little_bytes 4 word ++ drop (place + 4) bytes
 
 -- the segment loads the range from the file
 pub record LoadsRange (bytes : List ℕ) (segment : Segment) (range : Range) : Type 0 where

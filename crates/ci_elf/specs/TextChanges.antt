@@ -1,10 +1,15 @@
 -- Bytes that differ from an executable file in words of its text alone.
-use Rattle.std.specs.Prelude.{◌≡◌, ◌≢◌, ◌^◌, ℕ, List, length, slice_index, Ok, ◌+◌, ◌<◌}
+use Rattle.std.specs.Prelude.{◌≡◌, ◌≢◌, ◌^◌, ℕ, List, ◌++◌, length, take, drop, slice_index, Ok, ◌+◌, ◌<◌}
+use Rattle.byteorder.specs.Endian.{little_bytes}
 use Rattle.std.specs.List.{Contains}
 use Rattle.ci_elf.specs.declared.segments.Segment.{Segment}
 use Rattle.ci_elf.specs.Fields.{field}
-use Rattle.ci_elf.specs.Executables.{Executable, InText, IsTextWord, IsWellFormed, place_of, with_word}
+use Rattle.ci_elf.specs.Executables.{Executable, InText, IsTextWord, IsWellFormed, place_of}
 use Rattle.ci_elf.specs.Rules.{Within, IsReadAs}
+
+-- the bytes with the word at this place
+abbrev pub with_word : List ℕ → ℕ → ℕ → List ℕ
+with_word bytes place word = take place bytes ++ little_bytes 4 word ++ drop (place + 4) bytes
 
 -- the place in the file is one of a word of the text
 abbrev pub IsTextPlace : Executable → ℕ → Type 0

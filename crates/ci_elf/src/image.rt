@@ -2,7 +2,8 @@
 ghost use Rattle.std.specs.Prelude.{◌≡◌, ◌+◌, ◌≤◌, length, MatchOption, IsTrue};
 ghost use Rattle.std.specs.List.{Contains};
 ghost use Rattle.std.specs.List.Sorted.{IsNonDecreasingBy};
-ghost use Rattle.ci_elf.specs.Executables.{has_in_file, with_word};
+ghost use Rattle.ci_elf.specs.Executables.{has_in_file};
+ghost use Rattle.ci_elf.specs.TextChanges.{with_word};
 ghost use Rattle.ci_elf.specs.SectionChecks.{AreLaidOut};
 ghost use Rattle.ci_elf.specs.LoadedPlaces.{IsLoadedFrom};
 
@@ -65,7 +66,8 @@ fn write_word(bytes: &mut [u8], place: usize, word: u32)
 
 impl Image {
     ghost use Rattle.std.specs.Prelude.{◌≡◌, ℕ, ◌+◌, ◌≤◌, ◌↔◌, length, Some, IfOk, IfSome, IsTrue};
-    ghost use Rattle.ci_elf.specs.Executables.{executable, place_of, text_word, with_word};
+    ghost use Rattle.ci_elf.specs.Executables.{executable, place_of, text_word};
+    ghost use Rattle.ci_elf.specs.TextChanges.{with_word};
     ghost use Rattle.ci_elf.specs.Executables.{InText, IsLoaded, IsTextWord, IsWellFormed};
 
     /// The image of these parts.

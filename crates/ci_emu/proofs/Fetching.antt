@@ -9,7 +9,7 @@ use Rattle.ci_machine.specs.Actions.{Units}
 use Rattle.ci_machine.specs.Outcomes.{Reached}
 use Rattle.ci_machine.specs.Programs.{Program, State, in_text}
 use Rattle.ci_machine.specs.Steps.{Meaning, IsPlain, word_at, execute, step}
-use Rattle.ci_machine.proofs.Meanings.{plain_exists}
+use Rattle.ci_machine.proofs.PlainMeaning.{plain_exists}
 use Rattle.ci_emu.specs.declared.steps.Outcome.{Outcome}
 use Rattle.ci_emu.specs.Fetched.{IsOnlyAt, IsFetched, IsPlainInsn}
 use Rattle.ci_elf.specs.WordPlaces.{word_place}

@@ -11,8 +11,11 @@ use Rattle.ci_word.proofs.NumberLaws.{count_below-zero, count_below-suc, sum_bel
 use Rattle.ci_machine.specs.declared.ends.End.{End}
 use Rattle.ci_machine.specs.Programs.{Program, State}
 use Rattle.ci_machine.specs.Outcomes.{from_end}
-use Rattle.ci_machine.specs.Steps.{Meaning, step, touched}
-use Rattle.ci_machine.specs.Runs.{Latencies, after, before_step, is_made, steps_made, cost, entries, step_cost, jalr_target, LeavesTextFor}
+use Rattle.ci_machine.specs.Steps.{Meaning, step}
+use Rattle.ci_machine.specs.Touches.{touched}
+use Rattle.ci_machine.specs.Runs.{Latencies, after, before_step, is_made, steps_made, cost, step_cost}
+use Rattle.ci_machine.specs.RunEvents.{entries, jalr_target}
+use Rattle.ci_machine.specs.Touches.{LeavesTextFor}
 use Rattle.ci_machine.proofs.TestLaws.{by_end}
 use Rattle.ci_machine.proofs.RunLaws.{ends_stay}
 use Rattle.ci_emu.specs.declared.profile.Profile.{Profile}

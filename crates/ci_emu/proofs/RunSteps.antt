@@ -9,7 +9,7 @@ use Rattle.ci_machine.specs.Outcomes.{Reached, at_start, continued}
 use Rattle.ci_machine.specs.Programs.{Program, State}
 use Rattle.ci_machine.specs.Steps.{Meaning, IsPlain, step}
 use Rattle.ci_machine.specs.Runs.{Latencies, after, steps_made, before_step, is_made}
-use Rattle.ci_machine.proofs.Meanings.{plain_exists}
+use Rattle.ci_machine.proofs.PlainMeaning.{plain_exists}
 use Rattle.ci_machine.proofs.RunLaws.{ends_stay, runs_join}
 use Rattle.ci_emu.specs.declared.profile.Profile.{Profile}
 use Rattle.ci_emu.specs.declared.steps.Outcome.{Outcome}

@@ -9,8 +9,10 @@ use Rattle.ci_elf.specs.Executables.{IsTextWord}
 use Rattle.ci_isa.specs.declared.instruction.Insn.TheVariants.{Jalr}
 use Rattle.ci_machine.specs.declared.ends.End.{End}
 use Rattle.ci_machine.specs.Programs.{Program, State}
-use Rattle.ci_machine.specs.Steps.{Meaning, touched}
-use Rattle.ci_machine.specs.Runs.{Latencies, cost, entries, jalr_target, step_cost}
+use Rattle.ci_machine.specs.Steps.{Meaning}
+use Rattle.ci_machine.specs.Touches.{touched}
+use Rattle.ci_machine.specs.Runs.{Latencies, cost, step_cost}
+use Rattle.ci_machine.specs.RunEvents.{entries, jalr_target}
 use Rattle.ci_emu.specs.declared.steps.Outcome.{Outcome}
 use Rattle.ci_emu.specs.declared.steps.Outcome.TheVariants.{Next}
 use Rattle.ci_emu.specs.declared.profile.Profile.{Profile}

@@ -3,17 +3,13 @@ use Rattle.std.specs.Prelude.{◌≡◌, ℕ, ◌<◌, ◌↔◌, true, List, Op
 use Rattle.std.specs.List.{AllPairs, Contains}
 use Rattle.ci_elf.specs.Executables.{IsTextWord}
 use Rattle.ci_elf.specs.WordPlaces.{word_place}
-use Rattle.ci_lat.specs.Latencies.{Latencies as Table, latency_of}
 use Rattle.ci_machine.specs.Programs.{Program, State}
 use Rattle.ci_machine.specs.Steps.{Meaning}
-use Rattle.ci_machine.specs.Runs.{Latencies, after, before_step, is_made, steps_made, cost, entries, jalr_target}
-use Rattle.ci_machine.specs.Runs.{LeavesTextFor, IsFirstTouch}
+use Rattle.ci_machine.specs.Runs.{Latencies, after, before_step, is_made, steps_made, cost}
+use Rattle.ci_machine.specs.RunEvents.{entries, jalr_target}
+use Rattle.ci_machine.specs.Touches.{LeavesTextFor, IsFirstTouch}
 use Rattle.ci_emu.specs.declared.counts.Counts.{Counts}
 use Rattle.ci_emu.specs.declared.profile.Profile.{Profile}
-
--- the latencies of a table; a plain machine has no units
-abbrev pub latencies_of : Table → Latencies
-latencies_of table = record { of_class = latency_of table; pad = table.pad; read = table.read; of_unit = λ _. 0 }
 
 -- what stands in a list at a place, and 0 where there is none
 abbrev pub at_place : List ℕ → Option ℕ → ℕ

@@ -3,7 +3,8 @@ ghost use Rattle.std.specs.Prelude.{◌≡◌, ◌≤◌, ◌^◌, IfOk, OnOk, O
 ghost use Rattle.ci_machine.specs.Runs.{after};
 ghost use Rattle.ci_machine.specs.States.{program_of, state_of};
 ghost use Rattle.ci_machine.specs.Steps.{Meaning, IsPlain};
-ghost use Rattle.ci_emu.specs.Profiles.{latencies_of, IsProfileOf};
+ghost use Rattle.ci_emu.specs.Profiles.{IsProfileOf};
+ghost use Rattle.ci_emu.specs.TableLatencies.{latencies_of};
 ghost use Rattle.ci_emu.specs.Steps.{IsReached};
 
 use crate::profile::Profile;

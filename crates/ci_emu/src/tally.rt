@@ -7,10 +7,12 @@ ghost use Rattle.std.specs.Ordering.{nat_cmp};
 ghost use Rattle.ci_machine.specs.Programs.{in_text};
 ghost use Rattle.ci_machine.specs.Runs.{after, latency};
 ghost use Rattle.ci_machine.specs.States.{program_of, state_of};
-ghost use Rattle.ci_machine.specs.Steps.{Meaning, IsPlain, moved};
+ghost use Rattle.ci_machine.specs.Steps.{Meaning, IsPlain};
+ghost use Rattle.ci_machine.specs.Touches.{moved};
 ghost use Rattle.ci_emu.specs.Counting.{first_touch, target_of, IsStepCounted, Led};
 ghost use Rattle.ci_elf.specs.Executables.{IsTextWord};
-ghost use Rattle.ci_emu.specs.Profiles.{count_at, latencies_of};
+ghost use Rattle.ci_emu.specs.Profiles.{count_at};
+ghost use Rattle.ci_emu.specs.TableLatencies.{latencies_of};
 ghost use Rattle.ci_emu.specs.Fetched.{IsFetched, IsPlainInsn};
 ghost use Rattle.ci_emu.specs.Steps.{IsPlainStep, IsReached};
 

@@ -6,7 +6,8 @@ use Rattle.ci_machine.specs.Programs.{Program, State, loaded_program, opening}
 use Rattle.ci_machine.specs.Steps.{Meaning}
 use Rattle.ci_machine.specs.Runs.{after, steps_made, cost}
 use Rattle.ci_emu.specs.declared.profile.Profile.{Profile}
-use Rattle.ci_emu.specs.Profiles.{IsProfileOf, latencies_of}
+use Rattle.ci_emu.specs.Profiles.{IsProfileOf}
+use Rattle.ci_emu.specs.TableLatencies.{latencies_of}
 use Rattle.ci_find.specs.Lines.{end_line}
 use Rattle.ci_find.specs.RunCommand.{run_text}
 

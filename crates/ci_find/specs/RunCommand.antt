@@ -5,7 +5,7 @@ use Rattle.ci_lat.specs.Latencies.{Latencies}
 use Rattle.ci_machine.specs.Programs.{loaded_program, opening}
 use Rattle.ci_machine.specs.Steps.{Meaning, IsPlain}
 use Rattle.ci_machine.specs.Runs.{after, steps_made, cost}
-use Rattle.ci_emu.specs.Profiles.{latencies_of}
+use Rattle.ci_emu.specs.TableLatencies.{latencies_of}
 use Rattle.ci_words.specs.Words.{Settings}
 use Rattle.ci_find.specs.Files.{executable_input, table_input, program_input, optional_input, optional_bytes, AreGiven, AreLatencies, input_bytes}
 use Rattle.ci_find.specs.Inputs.{Input}

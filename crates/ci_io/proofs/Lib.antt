@@ -1,3 +1,3 @@
 mod FilesOf
-mod Raised
+mod RaisedCounter
 mod WithFile

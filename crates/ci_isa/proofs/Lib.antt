@@ -1,10 +1,10 @@
-pub mod Bits
-pub mod Constants
-pub mod Found
-pub mod Only
+pub mod FieldLaws
+pub mod ConstantLaws
+pub mod RowSoundness
+pub mod RowCompleteness
 pub mod Registers
 pub mod Rows
 pub mod SequenceLaws
 pub mod TableLaws
 pub mod WellFormed
-pub mod Writers
+pub mod LastWriter

@@ -13,7 +13,8 @@ use Rattle.std.proofs.lemmas.List.Elements.{filter-append}
 use Rattle.ci_word.proofs.NumberLaws.{same_numbers}
 use Rattle.ci_isa.specs.declared.instruction.Insn.{Insn}
 use Rattle.ci_isa.specs.Effects.{operands, results, padded, is_kept, without_x0, is_among, reads_register}
-use Rattle.ci_isa.specs.Effects.{writes_register, set_without_x0, registers_read, registers_written}
+use Rattle.ci_isa.specs.Effects.{writes_register}
+use Rattle.ci_isa.specs.RegisterSets.{set_without_x0, registers_read, registers_written}
 
 -- ---- x0
 

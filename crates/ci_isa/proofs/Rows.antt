@@ -5,11 +5,13 @@ use Rattle.std.specs.FinSet as set
 use Rattle.ci_word.specs.declared.arithmetic.Op.TheVariants.{Add}
 use Rattle.ci_isa.specs.declared.instruction.Insn.{Insn}
 use Rattle.ci_isa.specs.declared.instruction.Insn.TheVariants.{Alu, AluImm, Unit, Cread, Illegal}
-use Rattle.ci_isa.specs.Table.{IsInsnAt, IsInsnAtX}
+use Rattle.ci_isa.specs.Table.{IsInsnAt}
+use Rattle.ci_isa.specs.Laws.{IsInsnAtX}
 use Rattle.ci_isa.specs.Decoding.{environment_row, plain_row}
-use Rattle.ci_isa.specs.Effects.{writes_register, registers_read}
+use Rattle.ci_isa.specs.Effects.{writes_register}
+use Rattle.ci_isa.specs.RegisterSets.{registers_read}
 use Rattle.ci_isa.specs.Sequences.{nth_insn, latest_writer, IsLastWriter}
-use Rattle.ci_isa.proofs.Only.{only_plain}
+use Rattle.ci_isa.proofs.RowCompleteness.{only_plain}
 use Rattle.ci_isa.proofs.Registers.{reads_register_is}
 
 -- by both tables add x5, x6, x7 stands at its word

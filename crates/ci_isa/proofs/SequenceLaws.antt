@@ -1,9 +1,8 @@
 -- What instructions in a row read first and write, one instruction at a time.
 use Rattle.std.proofs.Common.{◌≡◌, ℕ, suc, zero, ◌⊎◌, ◌↔◌, inl, inr, List, [], ◌∷◌, ◌++◌, refl, sym, ap, subst, arith, IsTrue}
-use Rattle.std.specs.FinSet as set
 use Rattle.std.specs.List.{Contains}
 use Rattle.ci_isa.specs.declared.instruction.Insn.{Insn}
-use Rattle.ci_isa.specs.Effects.{registers_written}
+use Rattle.ci_isa.specs.Effects.{writes_register}
 use Rattle.ci_isa.specs.Sequences.{IsReadBy, ReadFirst, Write}
 
 -- ---- no instruction
@@ -20,7 +19,7 @@ nothing_read r f = none f.before f.split
 
 -- ---- one instruction more
 
-pub write_cons : (insn : Insn) (insns : List Insn) (r : ℕ) → Write (insn ∷ insns) r ↔ (IsTrue (set.contains (registers_written insn) r) ⊎ Write insns r)
+pub write_cons : (insn : Insn) (insns : List Insn) (r : ℕ) → Write (insn ∷ insns) r ↔ (IsTrue (writes_register insn r) ⊎ Write insns r)
 write_cons insn insns r = (
   λ w. from w w.there,
   λ some. elim some [
@@ -29,13 +28,13 @@ write_cons insn insns r = (
   ],
 )
   where
-    from : (w : Write (insn ∷ insns) r) → Contains (insn ∷ insns) w.writer → IsTrue (set.contains (registers_written insn) r) ⊎ Write insns r
-    from w (zero, within, is) = inl (subst (λ (i : Insn). IsTrue (set.contains (registers_written i) r)) (sym is) w.writes)
+    from : (w : Write (insn ∷ insns) r) → Contains (insn ∷ insns) w.writer → IsTrue (writes_register insn r) ⊎ Write insns r
+    from w (zero, within, is) = inl (subst (λ (i : Insn). IsTrue (writes_register i r)) (sym is) w.writes)
     from w (suc k, within, is) = inr (record { writer = w.writer; there = (k, omega (arith, within), is); writes = w.writes })
 
 pub read_first_cons :
     (insn : Insn) (insns : List Insn) (r : ℕ)
-    → ReadFirst (insn ∷ insns) r ↔ (IsReadBy insn r ⊎ (¬ IsTrue (set.contains (registers_written insn) r) × ReadFirst insns r))
+    → ReadFirst (insn ∷ insns) r ↔ (IsReadBy insn r ⊎ (¬ IsTrue (writes_register insn r) × ReadFirst insns r))
 read_first_cons insn insns r = (
   λ f. from f.before f.reader f.after f.split f.reads f.unwritten,
   λ some. elim some [
@@ -53,13 +52,13 @@ read_first_cons insn insns r = (
 )
   where
     from : (before : List Insn) (reader : Insn) (after : List Insn) → insn ∷ insns ≡ before ++ reader ∷ after → IsReadBy reader r → ¬ Write before r
-        → IsReadBy insn r ⊎ (¬ IsTrue (set.contains (registers_written insn) r) × ReadFirst insns r)
+        → IsReadBy insn r ⊎ (¬ IsTrue (writes_register insn r) × ReadFirst insns r)
     from [] reader after split reads unwritten = let same : reader ≡ insn = cc in inl (subst (λ (i : Insn). IsReadBy i r) same reads)
     from (first ∷ before) reader after split reads unwritten =
         let same : first ≡ insn = cc in
         let rest : insns ≡ before ++ reader ∷ after = cc in
         inr (
-          λ w. unwritten ((write_cons first before r).1 (inl (subst (λ (i : Insn). IsTrue (set.contains (registers_written i) r)) (sym same) w))),
+          λ w. unwritten ((write_cons first before r).1 (inl (subst (λ (i : Insn). IsTrue (writes_register i r)) (sym same) w))),
           record {
             before = before;
             reader = reader;

@@ -1,9 +1,7 @@
 -- What an instruction reads and writes, and what kind it is (RISC-V Unprivileged ISA 20191213, chapters 2 and 7).
 use Rattle.std.specs.Prelude.{ℕ, ◌-◌, Bool, true, false, not, ◌&&◌, ◌==◌, if◌then◌else◌, List, [], ◌∷◌, ◌++◌, length}
 use Rattle.std.specs.Prelude.{replicate, filter, ℤ, pos, negsuc}
-use Rattle.std.specs.Ordering.{nat_cmp}
 use Rattle.std.specs.List.{list_any}
-use Rattle.std.specs.FinSet as set
 use Rattle.ci_word.specs.declared.arithmetic.Op.{Op}
 use Rattle.ci_word.specs.declared.arithmetic.Op.TheVariants as ops
 use Rattle.ci_word.specs.declared.arithmetic.Class.{Class}
@@ -21,19 +19,13 @@ use Rattle.ci_isa.specs.declared.instruction.Insn.TheVariants.{Fence, Ecall, Ebr
 abbrev pub operands : Insn → List ℕ
 operands (Alu op rd rs1 rs2) = rs1 ∷ rs2 ∷ []
 operands (AluImm op rd rs1 imm) = rs1 ∷ []
-operands (Lui rd upper) = []
-operands (Auipc rd upper) = []
-operands (Jal rd offset) = []
 operands (Jalr rd rs1 offset) = rs1 ∷ []
 operands (Branch cond rs1 rs2 offset) = rs1 ∷ rs2 ∷ []
 operands (Load kind rd rs1 offset) = rs1 ∷ []
 operands (Store width rs1 rs2 offset) = rs1 ∷ rs2 ∷ []
-operands (Fence bits rs1 rd) = []
 operands Ecall = 10 ∷ 11 ∷ 12 ∷ 17 ∷ []
-operands Ebreak = []
 operands (Unit number rd rs1 rs2 rs3) = rs1 ∷ rs2 ∷ rs3 ∷ []
-operands (Cread rd) = []
-operands (Illegal word) = []
+operands insn = []
 
 -- The register that takes the instruction's result. An environment call answers in x10.
 abbrev pub results : Insn → List ℕ
@@ -43,15 +35,11 @@ results (Lui rd upper) = rd ∷ []
 results (Auipc rd upper) = rd ∷ []
 results (Jal rd offset) = rd ∷ []
 results (Jalr rd rs1 offset) = rd ∷ []
-results (Branch cond rs1 rs2 offset) = []
 results (Load kind rd rs1 offset) = rd ∷ []
-results (Store width rs1 rs2 offset) = []
-results (Fence bits rs1 rd) = []
 results Ecall = 10 ∷ []
-results Ebreak = []
 results (Unit number rd rs1 rs2 rs3) = rd ∷ []
 results (Cread rd) = rd ∷ []
-results (Illegal word) = []
+results insn = []
 
 -- the registers of a list, and then 0 for none, as many in all as said
 abbrev pub padded : ℕ → List ℕ → List ℕ
@@ -75,16 +63,6 @@ reads_register insn = is_among (operands insn)
 abbrev pub writes_register : Insn → ℕ → Bool
 writes_register insn = is_among (results insn)
 
--- and as a set
-abbrev pub set_without_x0 : List ℕ → set.FinSet nat_cmp
-set_without_x0 registers = set.remove (set.from_list registers) 0
-
-abbrev pub registers_read : Insn → set.FinSet nat_cmp
-registers_read insn = set_without_x0 (operands insn)
-
-abbrev pub registers_written : Insn → set.FinSet nat_cmp
-registers_written insn = set_without_x0 (results insn)
-
 -- a load or a store
 abbrev pub is_access : Insn → Bool
 is_access (Load kind rd rs1 offset) = true
@@ -101,21 +79,15 @@ width_bytes Word = 4
 
 -- the instruction ends a block
 abbrev pub ends_block : Insn → Bool
-ends_block (Alu op rd rs1 rs2) = false
-ends_block (AluImm op rd rs1 imm) = false
-ends_block (Lui rd upper) = false
 ends_block (Auipc rd upper) = true
 ends_block (Jal rd offset) = true
 ends_block (Jalr rd rs1 offset) = true
 ends_block (Branch cond rs1 rs2 offset) = true
-ends_block (Load kind rd rs1 offset) = false
-ends_block (Store width rs1 rs2 offset) = false
 ends_block (Fence bits rs1 rd) = true
 ends_block Ecall = true
 ends_block Ebreak = true
-ends_block (Unit number rd rs1 rs2 rs3) = false
-ends_block (Cread rd) = false
 ends_block (Illegal word) = true
+ends_block insn = false
 
 -- a unit word, which writes the hidden register too
 abbrev pub is_unit : Insn → Bool
@@ -177,9 +149,7 @@ class_of (Store width rs1 rs2 offset) = class.Store
 class_of (Fence bits rs1 rd) = class.Fence
 class_of Ecall = class.System
 class_of Ebreak = class.System
-class_of (Unit number rd rs1 rs2 rs3) = class.Free
-class_of (Cread rd) = class.Free
-class_of (Illegal word) = class.Free
+class_of insn = class.Free
 
 abbrev pub is_division : Op → Bool
 is_division ops.Div = true
@@ -193,15 +163,4 @@ abbrev pub may_join : Insn → Bool
 may_join (Alu op rd rs1 rs2) = not (is_division op) && not (rd == 0)
 may_join (AluImm op rd rs1 imm) = not (is_division op) && not (rd == 0)
 may_join (Lui rd upper) = not (rd == 0)
-may_join (Auipc rd upper) = false
-may_join (Jal rd offset) = false
-may_join (Jalr rd rs1 offset) = false
-may_join (Branch cond rs1 rs2 offset) = false
-may_join (Load kind rd rs1 offset) = false
-may_join (Store width rs1 rs2 offset) = false
-may_join (Fence bits rs1 rd) = false
-may_join Ecall = false
-may_join Ebreak = false
-may_join (Unit number rd rs1 rs2 rs3) = false
-may_join (Cread rd) = false
-may_join (Illegal word) = false
+may_join insn = false

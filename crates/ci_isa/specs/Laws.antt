@@ -2,15 +2,22 @@
 use Rattle.std.specs.Prelude.{◌≡◌, ℕ, ◌↔◌, List, Some}
 use Rattle.std.specs.FinSet as set
 use Rattle.ci_isa.specs.declared.instruction.Insn.{Insn}
-use Rattle.ci_isa.specs.Effects.{reads_register, writes_register, registers_read, registers_written}
+use Rattle.ci_isa.specs.declared.instruction.Insn.TheVariants.{Illegal}
+use Rattle.ci_isa.specs.Effects.{reads_register, writes_register}
+use Rattle.ci_isa.specs.RegisterSets.{registers_read, registers_written}
 use Rattle.ci_isa.specs.Fields.{HasCustomOpcode}
 use Rattle.ci_isa.specs.FieldBounds.{FieldsFit}
 use Rattle.ci_isa.specs.Sequences.{latest_writer, IsLastWriter}
-use Rattle.ci_isa.specs.Table.{IsWellFormed, IsInsnAt, IsInsnAtX}
+use Rattle.ci_isa.specs.Table.{ReadsX, IsWellFormed, IsInsnAt}
 
 -- some word stands for an instruction exactly where its fields are within their bounds
 abbrev pub WellFormedWhereFieldsFit : Type 0
 WellFormedWhereFieldsFit = (insn : Insn) → IsWellFormed insn ↔ FieldsFit insn
+
+-- what stands at a word by the extended table, as `IsInsnAt` says it of the plain one
+abbrev pub IsInsnAtX : ℕ → Insn → Type 0
+IsInsnAtX w (Illegal word) = (word ≡ w) × ((insn : Insn) → ¬ ReadsX w insn)
+IsInsnAtX w insn = ReadsX w insn
 
 -- Both tables say the same of each word whose opcode is neither custom-0 nor custom-1.
 abbrev pub TablesAgree : Type 0

@@ -1,5 +1,6 @@
 pub mod Decoding
 pub mod Effects
+pub mod RegisterSets
 pub mod FieldBounds
 pub mod Fields
 pub mod Laws

@@ -2,11 +2,10 @@
 -- is written.
 use Rattle.std.specs.Prelude.{◌≡◌, ℕ, zero, suc, ◌<◌, true, false, ◌++◌, ◌∷◌, if◌then◌else◌, List, Option, Some, None}
 use Rattle.std.specs.Prelude.{slice_index_or, IsTrue}
-use Rattle.std.specs.FinSet as set
 use Rattle.std.specs.List.{Contains}
 use Rattle.ci_isa.specs.declared.instruction.Insn.{Insn}
 use Rattle.ci_isa.specs.declared.instruction.Insn.TheVariants.{Ebreak}
-use Rattle.ci_isa.specs.Effects.{registers_read, registers_written, writes_register}
+use Rattle.ci_isa.specs.Effects.{reads_register, writes_register}
 
 -- ---- by place, from 0
 
@@ -28,13 +27,13 @@ pub record IsLastWriter (insns : List Insn) (r k j : ℕ) : Type 0 where
 -- ---- what all of them read and write
 
 abbrev pub IsReadBy : Insn → ℕ → Type 0
-IsReadBy insn r = IsTrue (set.contains (registers_read insn) r)
+IsReadBy insn r = IsTrue (reads_register insn r)
 
 -- one of the instructions writes the register
 pub record Write (insns : List Insn) (r : ℕ) : Type 0 where
   pub writer : Insn
   pub there : Contains insns writer
-  pub writes : IsTrue (set.contains (registers_written writer) r)
+  pub writes : IsTrue (writes_register writer r)
 
 -- The instructions read the register before they write it: one of them reads it, and none before that one writes it.
 -- An instruction reads its operands before it writes its result.

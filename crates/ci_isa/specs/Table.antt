@@ -117,9 +117,7 @@ HasFieldsOf w (Fence bits rs1 rd) =
     (opcode w ≡ 0x0f) × (funct3 w ≡ 0) × (field w 31 20 ≡ bits) × (rs1_field w ≡ rs1) × (rd_field w ≡ rd)
 HasFieldsOf w Ecall = w ≡ 0x0000_0073
 HasFieldsOf w Ebreak = w ≡ 0x0010_0073
-HasFieldsOf w (Unit number rd rs1 rs2 rs3) = ⊥
-HasFieldsOf w (Cread rd) = ⊥
-HasFieldsOf w (Illegal word) = ⊥
+HasFieldsOf w insn = ⊥
 
 -- the same in the extended table
 abbrev pub HasFieldsOfX : ℕ → Insn → Type 0
@@ -152,8 +150,3 @@ IsWellFormed insn = (w : ℕ) × IsWordOf w insn
 abbrev pub IsInsnAt : ℕ → Insn → Type 0
 IsInsnAt w (Illegal word) = (word ≡ w) × ((insn : Insn) → ¬ Reads w insn)
 IsInsnAt w insn = Reads w insn
-
--- the same in the extended table
-abbrev pub IsInsnAtX : ℕ → Insn → Type 0
-IsInsnAtX w (Illegal word) = (word ≡ w) × ((insn : Insn) → ¬ ReadsX w insn)
-IsInsnAtX w insn = ReadsX w insn

@@ -1,7 +1,8 @@
 //! Which registers an instruction reads and writes.
 ghost use Rattle.std.specs.Prelude.{◌≡◌, [], ◌∷◌};
 ghost use Rattle.ci_isa.specs.Effects as terms;
-ghost use Rattle.ci_isa.specs.Effects.{padded, registers_read, registers_written, set_without_x0};
+ghost use Rattle.ci_isa.specs.Effects.{padded};
+ghost use Rattle.ci_isa.specs.RegisterSets.{registers_read, registers_written, set_without_x0};
 
 use crate::instruction::Insn;
 use ci_word::Row;

@@ -18,7 +18,7 @@ use crate::register::Reg;
 use ci_word::Op;
 
 /// The one word that stands for the instruction, which is well formed.
-#[tactic(auto, using(crate::proofs::Constants::passed))]
+#[tactic(auto, using(crate::proofs::ConstantLaws::passed))]
 pub fn encode(insn: &Insn) -> u32
     requires { IsWellFormed insn.now }
     ensures reads_back { IsWordOf result insn.now }

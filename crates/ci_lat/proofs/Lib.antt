@@ -1,4 +1,4 @@
 pub mod FaultLaws
 pub mod KeyLists
-pub mod Settings
-pub mod Words
+pub mod SettingsFit
+pub mod TableWords

@@ -1,4 +1,5 @@
 pub mod Latencies
+pub mod TableRules
 pub mod Keys
 pub mod Faults
 pub mod Stored

@@ -68,7 +68,7 @@ fn is_word_of(keys: &[Key], word: &str) -> bool
 }
 
 /// Whether the table has no key but these.
-#[tactic(auto, using(crate::proofs::Words::word_laws))]
+#[tactic(auto, using(crate::proofs::TableWords::word_laws))]
 fn has_only(table: &toml::Table, keys: &[Key]) -> bool
     ensures { result ≡ has_only keys.now (table_view table.now) }
 {

@@ -1,7 +1,8 @@
 //! Tables of latencies and delays.
 ghost use Rattle.std.specs.Prelude.{◌≡◌, ◌≢◌, ◌≤◌};
 ghost use Rattle.ci_word.specs.declared.arithmetic.Class.TheVariants.{Free};
-ghost use Rattle.ci_lat.specs.Latencies.{usual, latency_of, delay_of, HasDelay, IsLatencyTable};
+ghost use Rattle.ci_lat.specs.Latencies.{usual, latency_of, delay_of};
+ghost use Rattle.ci_lat.specs.TableRules.{HasDelay, IsLatencyTable};
 ghost use Rattle.ci_lat.specs.Keys.{entry};
 ghost use Rattle.ci_lat.specs.Faults.{causes, first_fault, table_of};
 ghost use Rattle.toml.specs.View.{table_view};
@@ -28,7 +29,8 @@ pub struct Table {
 }
 
 impl Model for Table {
-    ghost use Rattle.ci_lat.specs.Latencies.{Latencies, IsLatencyTable};
+    ghost use Rattle.ci_lat.specs.Latencies.{Latencies};
+    ghost use Rattle.ci_lat.specs.TableRules.{IsLatencyTable};
     ghost use Rattle.ci_lat.specs.Stored.{latencies};
 
     ghost Value = { Latencies };

@@ -3,7 +3,9 @@ use Rattle.std.proofs.Common.{◌≡◌, ℕ, ◌+◌, ◌<◌, ◌↔◌, inl, 
 use Rattle.std.specs.FinSet as set
 use Rattle.std.proofs.Math.Seq.{drop-cons}
 use Rattle.ci_isa.specs.declared.instruction.Insn.{Insn}
-use Rattle.ci_isa.specs.Effects.{registers_read, registers_written}
+use Rattle.ci_isa.specs.RegisterSets.{registers_read, registers_written}
+use Rattle.ci_isa.specs.Effects.{reads_register, writes_register}
+use Rattle.ci_isa.proofs.Registers.{reads_register_is, writes_register_is}
 use Rattle.ci_live.specs.Flows.{Has}
 use Rattle.ci_isa.specs.Sequences.{ReadFirst, Write}
 use Rattle.ci_live.proofs.SetLaws.{has_difference, has_union}
@@ -14,6 +16,13 @@ split_at : (insns : List Insn) (k : ℕ) (insn : Insn) → k < length insns → 
 split_at insns k insn within is = drop-cons insns k insn within ∙ (λ i. sym is i ∷ drop (sym (add-one k) i) insns)
 
 module _ (insns : List Insn) (k : ℕ) (insn : Insn) (within : k < length insns) (is : insn ≡ get_or insns k insn) (r : ℕ) where
+  -- the tests are the sets
+  read : reads_register insn r ≡ set.contains (registers_read insn) r
+  read = reads_register_is insn r
+
+  written : writes_register insn r ≡ set.contains (registers_written insn) r
+  written = writes_register_is insn r
+
   pub written_before :
       (so_far : set.FinSet nat_cmp) → Has so_far r ↔ Write (drop (k + 1) insns) r
       → Has (set.union (registers_written insn) so_far) r ↔ Write (drop k insns) r
@@ -21,8 +30,8 @@ module _ (insns : List Insn) (k : ℕ) (insn : Insn) (within : k < length insns)
       let cons = write_cons insn (drop (k + 1) insns) r in
       let union = has_union (registers_written insn) so_far r in
       let split = split_at insns k insn within is in (
-        λ has. subst (λ xs. Write xs r) (sym split) (cons.1 (elim (union.0 has) [ inl h ↦ inl h | inr h ↦ inr (later.0 h) ])),
-        λ write. union.1 (elim (cons.0 (subst (λ xs. Write xs r) split write)) [ inl h ↦ inl h | inr h ↦ inr (later.1 h) ]),
+        λ has. subst (λ xs. Write xs r) (sym split) (cons.1 (elim (union.0 has) [ inl h ↦ inl (written ∙ h) | inr h ↦ inr (later.0 h) ])),
+        λ write. union.1 (elim (cons.0 (subst (λ xs. Write xs r) split write)) [ inl h ↦ inl (sym written ∙ h) | inr h ↦ inr (later.1 h) ]),
       )
 
   pub read_before :
@@ -35,10 +44,13 @@ module _ (insns : List Insn) (k : ℕ) (insn : Insn) (within : k < length insns)
       let split = split_at insns k insn within is in (
         λ has.
             subst (λ xs. ReadFirst xs r) (sym split)
-            (cons.1 (elim (union.0 has) [ inl h ↦ inl h | inr h ↦ let both = passed.0 h in inr (both.1, later.0 both.0) ])),
+            (cons.1 (elim (union.0 has) [
+              | inl h ↦ inl (read ∙ h)
+              | inr h ↦ let both = passed.0 h in inr (λ w. both.1 (sym written ∙ w), later.0 both.0)
+            ])),
         λ first.
             union.1 (elim (cons.0 (subst (λ xs. ReadFirst xs r) split first)) [
-              | inl h ↦ inl h
-              | inr (unwritten, h) ↦ inr (passed.1 (later.1 h, unwritten))
+              | inl h ↦ inl (sym read ∙ h)
+              | inr (unwritten, h) ↦ inr (passed.1 (later.1 h, λ w. unwritten (written ∙ w)))
             ]),
       )

@@ -1,5 +1,5 @@
 -- What is read and live in a file is a register.
-use Rattle.std.proofs.Common.{◌≡◌, ℕ, ◌+◌, ◌*◌, ◌<◌, inl, inr, true, List, [], ◌∷◌, refl, sym, ◌∙◌, subst, arith}
+use Rattle.std.proofs.Common.{◌≡◌, ℕ, ◌+◌, ◌*◌, ◌<◌, inl, inr, true, List, [], ◌∷◌, refl, sym, subst, arith}
 use Rattle.std.specs.Prelude.{◌==◌, ⊤}
 use Rattle.std.specs.List.{Contains, list_any}
 use Rattle.std.proofs.lemmas.Bool.{and_parts, eqb-true, or_cases}
@@ -11,8 +11,7 @@ use Rattle.ci_isa.specs.Effects.{is_kept, operands}
 use Rattle.ci_isa.specs.FieldBounds.{FieldsFit}
 use Rattle.ci_isa.specs.Sequences.{IsReadBy}
 use Rattle.ci_isa.specs.Table.{IsInsnAt}
-use Rattle.ci_isa.proofs.Only.{plain_well_formed}
-use Rattle.ci_isa.proofs.Registers.{reads_register_is}
+use Rattle.ci_isa.proofs.RowCompleteness.{plain_well_formed}
 use Rattle.ci_isa.proofs.WellFormed.{fields_fit}
 use Rattle.ci_elf.specs.Executables.{Executable, text_word}
 use Rattle.ci_block.specs.declared.blocks.Block.{Block}
@@ -56,7 +55,7 @@ among (n ∷ ns) fit r some = elim (or_cases (n == r) (list_any (λ n. n == r) n
 read_is_register : (word : ℕ) (insn : Insn) → IsInsnAt word insn → (r : ℕ) → IsReadBy insn r → r < 32
 read_is_register word insn is r reads =
     among (operands insn) (operands_of_word word insn is) r
-    (and_parts (is_kept r) (list_any (λ n. n == r) (operands insn)) (reads_register_is insn r ∙ reads)).1
+    (and_parts (is_kept r) (list_any (λ n. n == r) (operands insn)) reads).1
 
 in_block_is_register :
     (image : Executable) (leaders : List ℕ) (block : Block) → IsBlockAt image leaders block

@@ -1,5 +1,5 @@
 -- What the laws of live sets say of two small blocks.
-use Rattle.std.proofs.Common.{◌≡◌, ◌<◌, ℕ, ◌⊎◌, ◌↔◌, inl, inr, true≢false, [], ◌∷◌, pos, refl, sym, ap, ◌∙◌, subst, arith, lit<, IsTrue}
+use Rattle.std.proofs.Common.{◌≡◌, ◌<◌, ℕ, ◌⊎◌, ◌↔◌, inl, inr, true≢false, [], ◌∷◌, pos, refl, sym, ap, subst, arith, lit<, IsTrue}
 use Rattle.std.specs.FinSet as set
 use Rattle.std.proofs.lemmas.List.Kept.{AllPairs-cons}
 use Rattle.ci_word.specs.declared.arithmetic.Op.TheVariants.{Add}
@@ -7,7 +7,6 @@ use Rattle.ci_isa.specs.declared.instruction.Insn.{Insn}
 use Rattle.ci_isa.specs.declared.instruction.Insn.TheVariants.{Alu, AluImm}
 use Rattle.ci_isa.specs.Effects.{reads_register}
 use Rattle.ci_isa.specs.Sequences.{ReadFirst, Write}
-use Rattle.ci_isa.proofs.Registers.{reads_register_is, writes_register_is}
 use Rattle.ci_isa.proofs.SequenceLaws.{nothing_read, read_first_cons, write_cons}
 use Rattle.ci_block.specs.declared.blocks.Block.{Block}
 use Rattle.ci_block.specs.declared.blocks.Next.TheVariants.{Stop, One}
@@ -28,21 +27,21 @@ abbrev added : Insn
 added = Alu Add 7 5 6
 
 x5_is_read : ReadFirst (raised ∷ given ∷ []) 5
-x5_is_read = (read_first_cons raised (given ∷ []) 5).1 (inl (sym (reads_register_is raised 5)))
+x5_is_read = (read_first_cons raised (given ∷ []) 5).1 (inl refl)
 
 x6_is_not : ¬ ReadFirst (raised ∷ given ∷ []) 6
 x6_is_not read = elim ((read_first_cons raised (given ∷ []) 6).0 read) [
-  | inl here ↦ true≢false (sym here ∙ sym (reads_register_is raised 6))
+  | inl here ↦ true≢false (sym here)
   | inr (passed, later) ↦ elim ((read_first_cons given [] 6).0 later) [
-    | inl here ↦ true≢false (sym here ∙ sym (reads_register_is given 6))
+    | inl here ↦ true≢false (sym here)
     | inr (unwritten, none) ↦ nothing_read 6 none
   ]
 ]
 
 both_are_written : Write (raised ∷ given ∷ []) 5 × Write (raised ∷ given ∷ []) 6
 both_are_written = (
-  (write_cons raised (given ∷ []) 5).1 (inl (sym (writes_register_is raised 5))),
-  (write_cons raised (given ∷ []) 6).1 (inr ((write_cons given [] 6).1 (inl (sym (writes_register_is given 6))))),
+  (write_cons raised (given ∷ []) 5).1 (inl refl),
+  (write_cons raised (given ∷ []) 6).1 (inr ((write_cons given [] 6).1 (inl refl))),
 )
 
 module _ (first second : Block) (sets : Sets)
@@ -73,7 +72,7 @@ module _ (first second : Block) (sets : Sets)
   after_first : (r : ℕ) → IsTrue (reads_register added r) → IsAfter r
   after_first r reads =
       let follows : IsSuccessor first second = subst (λ (c : BlockContents). LeadsTo c.next second.leader) (sym first_says) second_leader in
-      let read = (read_first_cons added [] r).1 (inl (sym (reads_register_is added r) ∙ reads)) in
+      let read = (read_first_cons added [] r).1 (inl reads) in
       live_at_successor (first ∷ second ∷ []) sets first second r are (0, lit< tt, refl) (1, lit< tt, refl) follows
       ((live_is_needed (first ∷ second ∷ []) sets second r in_order are (1, lit< tt, refl)).1
       (inl (subst (λ (c : BlockContents). ReadFirst c.insns r) (sym second_says) read)))

@@ -1,4 +1,5 @@
 pub mod Sets
+pub mod StoredSets
 pub mod Liveness
 pub mod Analyses
 pub mod Flows

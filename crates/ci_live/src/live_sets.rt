@@ -23,7 +23,8 @@ pub struct LiveSets {
 }
 
 impl Model for LiveSets {
-    ghost use Rattle.ci_live.specs.Sets.{Sets, coded_sets};
+    ghost use Rattle.ci_live.specs.Sets.{Sets};
+    ghost use Rattle.ci_live.specs.StoredSets.{coded_sets};
 
     ghost Value = { Sets };
 
@@ -35,7 +36,7 @@ impl Model for LiveSets {
       live_out = s.after.items;
     } };
 
-    ghost use Rattle.ci_live.specs.Sets.{AreByLeader};
+    ghost use Rattle.ci_live.specs.StoredSets.{AreByLeader};
 
     ghost invariant = { λ s. AreByLeader s.leaders.items s.at.items s.after.items };
 }

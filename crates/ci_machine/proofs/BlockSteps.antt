@@ -11,14 +11,15 @@ use Rattle.ci_machine.specs.declared.ends.End.{End}
 use Rattle.ci_machine.specs.Cores.{Core, register}
 use Rattle.ci_machine.specs.Accesses.{addresses, number_of_bytes, bytes_at, with_bytes}
 use Rattle.ci_machine.specs.Outcomes.{Outcome, Next, Ended, reached, continued, at_start}
-use Rattle.ci_machine.specs.Actions.{Units, act, acted, accessed, address_from, stored}
+use Rattle.ci_machine.specs.Actions.{Units, act, accessed, address_from, stored}
+use Rattle.ci_machine.specs.Agreement.{acted}
 use Rattle.ci_machine.specs.Agreement.{act_all, AreActions, LeavesText, AllLeaveText}
 use Rattle.ci_machine.specs.Programs.{Program, State, in_text}
 use Rattle.ci_machine.specs.Steps.{Meaning, insn_in, fetched, following, control, then_onward, stepped, step}
 use Rattle.ci_machine.specs.Runs.{after}
 use Rattle.ci_machine.specs.Blocks.{StandAt, HaveSameText, IsRunOf}
 use Rattle.ci_machine.proofs.TestLaws.{neither_first, neither_second, both_first, both_second}
-use Rattle.ci_machine.proofs.Effects.{keeps, AgreeAt, same_bytes}
+use Rattle.ci_machine.proofs.InstructionFrame.{keeps, AgreeAt, same_bytes}
 
 -- ---- the first step of a run
 

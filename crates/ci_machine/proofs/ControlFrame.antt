@@ -17,12 +17,14 @@ use Rattle.ci_machine.specs.Agreement.{reads, writes, AgreeOutside, AgreeOn, Are
 use Rattle.ci_machine.specs.Programs.{Program, State, at_pc, lies_in, stack_start, stack_end}
 use Rattle.ci_machine.specs.Calls.{bad_file, bad_address, no_such_call, answering, range_at, read_length, read_into}
 use Rattle.ci_machine.specs.Calls.{read_call, written_from, is_output, write_call, may_end_at, with_heap_end, heap_call}
-use Rattle.ci_machine.specs.Calls.{numbered_call, moved_range}
-use Rattle.ci_machine.specs.Steps.{control, onward, directed, then_onward, following, is_taken, even, moved}
+use Rattle.ci_machine.specs.Calls.{numbered_call}
+use Rattle.ci_machine.specs.Touches.{moved_range}
+use Rattle.ci_machine.specs.Steps.{control, onward, directed, then_onward, following, is_taken, even}
+use Rattle.ci_machine.specs.Touches.{moved}
 use Rattle.ci_machine.specs.Blocks.{AreRelatedAt, HaveSameLayout, IsMapped}
 use Rattle.ci_machine.proofs.TestLaws.{by_test, either_first}
 use Rattle.ci_machine.proofs.RegisterLaws.{register_kept, register_written, operands_agree, first_there, second_there}
-use Rattle.ci_machine.proofs.Effects.{same_bytes, same_stores, outside_text}
+use Rattle.ci_machine.proofs.InstructionFrame.{same_bytes, same_stores, outside_text}
 
 -- ---- cores behind a write
 

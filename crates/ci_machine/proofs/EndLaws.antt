@@ -8,10 +8,11 @@ use Rattle.ci_machine.specs.Actions.{Units, act}
 use Rattle.ci_machine.specs.Agreement.{act_all}
 use Rattle.ci_machine.specs.Programs.{Program, State}
 use Rattle.ci_machine.specs.Steps.{Meaning, step}
-use Rattle.ci_machine.specs.Runs.{after, MetEnd}
+use Rattle.ci_machine.specs.Runs.{after}
+use Rattle.ci_machine.specs.RunEvents.{MetEnd}
 use Rattle.ci_machine.specs.Blocks.{HaveSameStreams}
 use Rattle.ci_machine.proofs.TestLaws.{by_end}
-use Rattle.ci_machine.proofs.Effects.{keeps}
+use Rattle.ci_machine.proofs.InstructionFrame.{keeps}
 use Rattle.ci_machine.proofs.RunLaws.{ends_stay}
 
 module _ (meaning : Meaning) (program : Program) (state : State) where

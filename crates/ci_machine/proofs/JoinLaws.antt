@@ -4,8 +4,11 @@ use Rattle.std.specs.Prelude.{Bool, true, false, ◌==◌, ◌&&◌, is_none, �
 use Rattle.std.proofs.lemmas.Bool.{cases_lt}
 use Rattle.ci_word.proofs.NumberLaws.{count_below-add, count_below-none, count_below-same, sum_below-add, sum_below-none, sum_below-same}
 use Rattle.ci_machine.specs.Programs.{Program, State, in_text}
-use Rattle.ci_machine.specs.Steps.{Meaning, touched}
-use Rattle.ci_machine.specs.Runs.{Latencies, after, before_step, is_made, step_cost, cost, entries, steps_made, jalr_target, LeavesTextFor, IsTame}
+use Rattle.ci_machine.specs.Steps.{Meaning}
+use Rattle.ci_machine.specs.Touches.{touched}
+use Rattle.ci_machine.specs.Runs.{Latencies, after, before_step, is_made, step_cost, cost, steps_made}
+use Rattle.ci_machine.specs.RunEvents.{entries, jalr_target, IsTame}
+use Rattle.ci_machine.specs.Touches.{LeavesTextFor}
 use Rattle.ci_machine.specs.RunLaws.{AreJoined, AreOver}
 use Rattle.ci_machine.proofs.TestLaws.{by_end}
 use Rattle.ci_machine.proofs.RunLaws.{runs_join, ends_stay}

@@ -14,14 +14,16 @@ use Rattle.ci_elf.specs.Fields.{field}
 use Rattle.ci_machine.specs.declared.ends.End.TheVariants as ends
 use Rattle.ci_machine.specs.Cores.{Core, first_hidden, register, with_register}
 use Rattle.ci_machine.specs.Outcomes.{at_start}
-use Rattle.ci_machine.specs.Actions.{acted}
+use Rattle.ci_machine.specs.Agreement.{acted}
 use Rattle.ci_machine.specs.Agreement.{AllLeaveText, needed}
 use Rattle.ci_machine.specs.Programs.{Program, State, at_pc, in_text, loaded_program, opening}
-use Rattle.ci_machine.specs.Steps.{Meaning, word_at, moved, touched}
-use Rattle.ci_machine.specs.Runs.{latency, after, before_step, is_made, jalr_target, cost, entries, steps_made, IsTame}
+use Rattle.ci_machine.specs.Steps.{Meaning, word_at}
+use Rattle.ci_machine.specs.Touches.{moved, touched}
+use Rattle.ci_machine.specs.Runs.{latency, after, before_step, is_made, cost, steps_made}
+use Rattle.ci_machine.specs.RunEvents.{jalr_target, entries, IsTame}
 use Rattle.ci_machine.specs.Blocks.{behind}
 use Rattle.ci_machine.proofs.TestLaws.{by_test}
-use Rattle.ci_machine.proofs.Rows.{core, units, plain, file, sample, sample_file, usual, reader, reader_file, reading}
+use Rattle.ci_machine.proofs.Rows.{core, units, plain, file, sample, sample_file, default_latencies, reader, reader_file, reading}
 
 -- ---- words
 
@@ -97,9 +99,9 @@ five_leave_text = ((λ on. refl), ((λ on. refl), ((λ on. refl), ((λ on. refl)
 -- five steps come where the list does, and cost what it does
 five_steps :
     ((after plain sample 5 (opening sample_file [])).state.pc ≡ behind first_five 0x10074)
-    × (cost plain sample usual 5 (opening sample_file []) ≡ sum_by (latency usual) first_five)
-    × (sum_by (latency usual) first_five ≡ 6)
-unfolding first_five plain sample sample_file units usual sum_below
+    × (cost plain sample default_latencies 5 (opening sample_file []) ≡ sum_by (latency default_latencies) first_five)
+    × (sum_by (latency default_latencies) first_five ≡ 6)
+unfolding first_five plain sample sample_file units default_latencies sum_below
 five_steps = (refl, refl, refl)
 
 -- the sample's run goes on up to its last step, and stays there
@@ -115,9 +117,9 @@ behind_five : State
 behind_five = (after plain sample 5 (opening sample_file [])).state
 
 -- 75 cycles, 61 steps and 4 entries, 5 steps of which lie behind
-rest_of_run : (cost plain sample usual 56 behind_five ≡ 69) × (steps_made plain sample 65 behind_five ≡ 56)
+rest_of_run : (cost plain sample default_latencies 56 behind_five ≡ 69) × (steps_made plain sample 65 behind_five ≡ 56)
     × (entries plain sample 56 behind_five 0x10080 ≡ 3)
-unfolding behind_five plain sample sample_file units usual sum_below count_below
+unfolding behind_five plain sample sample_file units default_latencies sum_below count_below
 rest_of_run = (refl, refl, refl)
 
 -- ---- meanings
@@ -130,8 +132,8 @@ other = record {
 }
 
 one_run : ((after other sample 61 (opening sample_file [])).state.core.output ≡ 0xe8 ∷ 0x1d ∷ 0x00 ∷ 0x00 ∷ [])
-    × (cost other sample usual 61 (opening sample_file []) ≡ 75)
-unfolding other plain sample sample_file units usual sum_below
+    × (cost other sample default_latencies 61 (opening sample_file []) ≡ 75)
+unfolding other plain sample sample_file units default_latencies sum_below
 one_run = (refl, refl)
 
 -- ---- tame runs

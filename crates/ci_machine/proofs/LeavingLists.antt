@@ -14,7 +14,7 @@ use Rattle.ci_machine.specs.Actions.{Units, act, accessed}
 use Rattle.ci_machine.specs.Agreement.{reads, AgreeOn, AreRelated, LeavesText, AreActions, AllLeaveText, needed}
 use Rattle.ci_machine.proofs.TestLaws.{neither_first, neither_second}
 use Rattle.ci_machine.proofs.RegisterLaws.{operands_agree, first_there}
-use Rattle.ci_machine.proofs.Blocks.{list_frame}
+use Rattle.ci_machine.proofs.RelatedLists.{list_frame}
 
 same_accessed : (units : Units) (insn : Insn) (left right : Core) → AgreeOn (reads units insn) left right → accessed insn left ≡ accessed insn right
 same_accessed units (Load kind rd rs1 offset) left right read =

@@ -2,9 +2,9 @@ pub mod TestLaws
 pub mod StateViews
 pub mod LeavingLists
 pub mod RegisterLaws
-pub mod Effects
-pub mod Blocks
-pub mod Meanings
+pub mod InstructionFrame
+pub mod RelatedLists
+pub mod PlainMeaning
 pub mod NeededLaws
 pub mod RunLaws
 pub mod WordLaws
@@ -19,7 +19,7 @@ pub mod AccessLaws
 pub mod PartReads
 pub mod PartWrites
 pub mod HeapLaws
-pub mod HeapFacts
+pub mod HeapRoom
 pub mod CallLaws
 pub mod StartLaws
 pub mod TextRanges

@@ -9,8 +9,9 @@ use Rattle.ci_machine.specs.Cores.{Core, register}
 use Rattle.ci_machine.specs.Accesses.{addresses, bytes_at}
 use Rattle.ci_machine.specs.Actions.{Units}
 use Rattle.ci_machine.specs.Agreement.{reads, AgreeOutside, AgreeOn}
-use Rattle.ci_machine.specs.Calls.{range_at, read_length, is_output, moved_range}
-use Rattle.ci_machine.specs.Steps.{moved}
+use Rattle.ci_machine.specs.Calls.{range_at, read_length, is_output}
+use Rattle.ci_machine.specs.Touches.{moved_range}
+use Rattle.ci_machine.specs.Touches.{moved}
 use Rattle.ci_machine.specs.Blocks.{IsMapped}
 use Rattle.ci_machine.proofs.RegisterLaws.{operands_agree}
 use Rattle.ci_machine.proofs.ControlFrame.{same_mapped, mapped_alike}

@@ -15,7 +15,8 @@ use Rattle.ci_machine.specs.Parts.{bytes_from}
 use Rattle.ci_machine.specs.Programs.{extent_of, maximum_end, heap_start, in_text, lies_in, loaded_byte, loaded_memory, loaded_program, opening}
 use Rattle.ci_machine.specs.Steps.{Meaning, word_at, insn_in, following}
 use Rattle.ci_isa.specs.declared.instruction.Insn.{Insn}
-use Rattle.ci_machine.specs.Runs.{after, LeavesTextFor}
+use Rattle.ci_machine.specs.Runs.{after}
+use Rattle.ci_machine.specs.Touches.{LeavesTextFor}
 use Rattle.ci_machine.specs.Blocks.{StandAt}
 use Rattle.ci_machine.specs.Texts.{HasText, IsFileInsn, AreFileInsns}
 use Rattle.ci_machine.proofs.TestLaws.{by_test}

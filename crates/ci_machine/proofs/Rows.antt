@@ -18,12 +18,15 @@ use Rattle.ci_machine.specs.declared.ends.End.{End}
 use Rattle.ci_machine.specs.declared.ends.End.TheVariants as ends
 use Rattle.ci_machine.specs.Cores.{Core, first_hidden, register, with_register}
 use Rattle.ci_machine.specs.Outcomes.{Next, Ended, Reached, reached}
-use Rattle.ci_machine.specs.Actions.{Units, acted}
+use Rattle.ci_machine.specs.Actions.{Units}
+use Rattle.ci_machine.specs.Agreement.{acted}
 use Rattle.ci_elf.specs.Executables.{Executable}
 use Rattle.ci_machine.specs.Programs.{Program, State, at_pc, loaded_program, opening}
 use Rattle.ci_machine.specs.Calls.{call}
-use Rattle.ci_machine.specs.Steps.{Meaning, control, step, touched}
-use Rattle.ci_machine.specs.Runs.{Latencies, jalr_target, after, cost, steps_made, entries}
+use Rattle.ci_machine.specs.Steps.{Meaning, control, step}
+use Rattle.ci_machine.specs.Touches.{touched}
+use Rattle.ci_machine.specs.Runs.{Latencies, after, cost, steps_made}
+use Rattle.ci_machine.specs.RunEvents.{jalr_target, entries}
 
 -- x5 has 100, x6 has 80000010, x7 has 4, the hidden register has 9, and the two bytes at 100 are mapped
 unfoldable pub core : Core
@@ -229,8 +232,8 @@ sample_file = record {
 unfoldable pub sample : Program
 sample = loaded_program sample_file
 
-unfoldable pub usual : Latencies
-usual = record { of_class = by_class; pad = 0; read = 1; of_unit = λ _. 1 }
+unfoldable pub default_latencies : Latencies
+default_latencies = record { of_class = by_class; pad = 0; read = 1; of_unit = λ _. 1 }
   where
     by_class : Class → ℕ
     by_class class.Mul = 3
@@ -249,8 +252,8 @@ sample_output : (after plain sample 61 (opening sample_file [])).state.core.outp
 unfolding plain sample sample_file units
 sample_output = refl
 
-sample_cost : cost plain sample usual 61 (opening sample_file []) ≡ 75
-unfolding plain sample sample_file units usual sum_below
+sample_cost : cost plain sample default_latencies 61 (opening sample_file []) ≡ 75
+unfolding plain sample sample_file units default_latencies sum_below
 sample_cost = refl
 
 sample_entries : (steps_made plain sample 70 (opening sample_file []) ≡ 61) × (entries plain sample 61 (opening sample_file []) 0x10080 ≡ 4)

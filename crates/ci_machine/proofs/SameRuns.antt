@@ -9,7 +9,7 @@ use Rattle.ci_word.proofs.NumberLaws.{count_below-same, sum_below-same}
 use Rattle.ci_isa.specs.declared.instruction.Insn.{Insn}
 use Rattle.ci_isa.specs.declared.instruction.Insn.TheVariants.{Jalr, Unit}
 use Rattle.ci_isa.specs.Table.{IsInsnAt}
-use Rattle.ci_isa.proofs.Only.{one_insn}
+use Rattle.ci_isa.proofs.RowCompleteness.{one_insn}
 use Rattle.ci_isa.specs.Effects.{ends_block, is_unit}
 use Rattle.ci_elf.specs.Executables.{Executable, IsTextWord, IsWellFormed, text_word}
 use Rattle.ci_machine.specs.declared.ends.End.{End}
@@ -18,8 +18,11 @@ use Rattle.ci_machine.specs.Outcomes.{Outcome, Next, Ended, Reached, reached, co
 use Rattle.ci_machine.specs.Actions.{Units, act}
 use Rattle.ci_machine.specs.Agreement.{act_all, AllLeaveText}
 use Rattle.ci_machine.specs.Programs.{Program, State, in_text, loaded_program, opening}
-use Rattle.ci_machine.specs.Steps.{Meaning, IsPlain, word_at, insn_in, fetched, then_onward, control, execute, stepped, step, moved, touched}
-use Rattle.ci_machine.specs.Runs.{Latencies, latency, after, before_step, is_made, step_cost, jalr_target, LeavesTextFor}
+use Rattle.ci_machine.specs.Steps.{Meaning, IsPlain, word_at, insn_in, fetched, then_onward, control, execute, stepped, step}
+use Rattle.ci_machine.specs.Touches.{moved, touched}
+use Rattle.ci_machine.specs.Runs.{Latencies, latency, after, before_step, is_made, step_cost}
+use Rattle.ci_machine.specs.RunEvents.{jalr_target}
+use Rattle.ci_machine.specs.Touches.{LeavesTextFor}
 use Rattle.ci_machine.specs.Meanings.{GiveSame, StepAlike, GiveSameOfWords, RunAlike, AreOneOnWords, AreOneRun, ReadTextAlike}
 use Rattle.ci_machine.specs.Words.{HoldsWords, IsOfWords, GivesWords}
 use Rattle.ci_machine.proofs.WordLaws.{words_stay, values_words}

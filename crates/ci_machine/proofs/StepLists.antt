@@ -10,11 +10,14 @@ use Rattle.ci_machine.specs.declared.ends.End.{End}
 use Rattle.ci_machine.specs.Cores.{Core}
 use Rattle.ci_machine.specs.Accesses.{addresses}
 use Rattle.ci_machine.specs.Outcomes.{Outcome, Next, Ended, reached, at_start}
-use Rattle.ci_machine.specs.Actions.{Units, act, acted, accessed}
+use Rattle.ci_machine.specs.Actions.{Units, act, accessed}
+use Rattle.ci_machine.specs.Agreement.{acted}
 use Rattle.ci_machine.specs.Agreement.{act_all, AreActions, LeavesText, AllLeaveText}
 use Rattle.ci_machine.specs.Programs.{Program, State, at_pc, in_text}
-use Rattle.ci_machine.specs.Steps.{Meaning, insn_in, fetched, following, then_onward, step, moved, touched}
-use Rattle.ci_machine.specs.Runs.{Latencies, latency, before_step, is_made, step_cost, cost, LeavesTextFor}
+use Rattle.ci_machine.specs.Steps.{Meaning, insn_in, fetched, following, then_onward, step}
+use Rattle.ci_machine.specs.Touches.{moved, touched}
+use Rattle.ci_machine.specs.Runs.{Latencies, latency, before_step, is_made, step_cost, cost}
+use Rattle.ci_machine.specs.Touches.{LeavesTextFor}
 use Rattle.ci_machine.specs.Blocks.{StandAt, HaveSameText, GoesThrough}
 use Rattle.ci_machine.proofs.TestLaws.{neither_first, neither_second}
 use Rattle.ci_machine.proofs.BlockSteps.{first_goes_on, first_ends, same_insn, acts_there, kept_text, over}

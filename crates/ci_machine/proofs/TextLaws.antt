@@ -13,17 +13,21 @@ use Rattle.ci_machine.specs.declared.ends.End.TheVariants as ends
 use Rattle.ci_machine.specs.Cores.{Core, register, with_register}
 use Rattle.ci_machine.specs.Accesses.{addresses}
 use Rattle.ci_machine.specs.Outcomes.{Outcome, Next, Ended, Reached, reached, continued, from_end}
-use Rattle.ci_machine.specs.Actions.{Units, act, acted, accessed}
+use Rattle.ci_machine.specs.Actions.{Units, act, accessed}
+use Rattle.ci_machine.specs.Agreement.{acted}
 use Rattle.ci_machine.specs.Programs.{Program, State, at_pc, in_text, lies_in, heap_start}
 use Rattle.ci_machine.specs.Calls.{bad_file, bad_address, no_such_call, answering, range_at, read_length, read_into}
 use Rattle.ci_machine.specs.Calls.{read_call, written_from, is_output, write_call, may_end_at, with_heap_end, heap_call}
-use Rattle.ci_machine.specs.Calls.{call, moved_range, moved_by_call}
-use Rattle.ci_machine.specs.Steps.{Meaning, fetched, onward, directed, is_taken, then_onward, control, execute, stepped, step, moved, touched}
-use Rattle.ci_machine.specs.Runs.{after, LeavesTextFor}
+use Rattle.ci_machine.specs.Calls.{call}
+use Rattle.ci_machine.specs.Touches.{moved_range, moved_by_call}
+use Rattle.ci_machine.specs.Steps.{Meaning, fetched, onward, directed, is_taken, then_onward, control, execute, stepped, step}
+use Rattle.ci_machine.specs.Touches.{moved, touched}
+use Rattle.ci_machine.specs.Runs.{after}
+use Rattle.ci_machine.specs.Touches.{LeavesTextFor}
 use Rattle.ci_machine.specs.Blocks.{HaveSameText}
 use Rattle.ci_machine.specs.Texts.{HasText, HasTextOf}
 use Rattle.ci_machine.proofs.TestLaws.{both_first}
-use Rattle.ci_machine.proofs.Effects.{keeps}
+use Rattle.ci_machine.proofs.InstructionFrame.{keeps}
 use Rattle.ci_machine.proofs.BlockSteps.{not_stored, text_stays}
 
 -- ---- what is touched

@@ -22,7 +22,8 @@ use Rattle.ci_machine.specs.Cores.{Core, first_hidden, hidden, register, with_re
 use Rattle.ci_machine.specs.Accesses.{addresses, joined, bytes_at, with_bytes, number_of_bytes, bytes_of_number, load_width, extended}
 use Rattle.ci_machine.specs.Outcomes.{Outcome, Next, Ended, Reached, reached, continued, from_end}
 use Rattle.ci_machine.specs.Agreement.{act_all}
-use Rattle.ci_machine.specs.Actions.{Units, act, acted, address_from, loaded, stored}
+use Rattle.ci_machine.specs.Actions.{Units, act, address_from, loaded, stored}
+use Rattle.ci_machine.specs.Agreement.{acted}
 use Rattle.ci_elf.specs.FrameImages.{AreWords}
 use Rattle.ci_elf.specs.Executables.{Executable, InText, IsWellFormed}
 use Rattle.ci_elf.specs.declared.segments.Segment.{Segment}

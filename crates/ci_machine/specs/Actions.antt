@@ -1,5 +1,5 @@
 -- What the instructions do that end no block (RISC-V Unprivileged ISA 20191213, sections 2.4, 2.6, 7.1 and 7.2).
-use Rattle.std.specs.Prelude.{◌≡◌, ℕ, ◌≤◌, true, List, [], ◌∷◌, Option, Some, None, ℤ}
+use Rattle.std.specs.Prelude.{ℕ, List, [], ◌∷◌, Option, Some, None, ℤ}
 use Rattle.ci_word.specs.declared.arithmetic.Op.TheVariants.{Add}
 use Rattle.ci_word.specs.Arithmetic.{operation, word_of}
 use Rattle.ci_isa.specs.declared.instruction.LoadKind.{LoadKind}
@@ -8,8 +8,8 @@ use Rattle.ci_isa.specs.declared.instruction.Insn.{Insn}
 use Rattle.ci_isa.specs.declared.instruction.Insn.TheVariants.{Alu, AluImm, Lui, Load, Store, Unit, Cread}
 use Rattle.ci_machine.specs.declared.ends.End.TheVariants.{Access}
 use Rattle.ci_machine.specs.Cores.{Core, first_hidden, hidden, register, with_register, values_in, with_registers}
-use Rattle.ci_machine.specs.Outcomes.{Outcome, Next, Ended, Reached, reached}
-use Rattle.ci_isa.specs.Effects.{is_among, width_bytes}
+use Rattle.ci_machine.specs.Outcomes.{Outcome, Next, Ended}
+use Rattle.ci_isa.specs.Effects.{width_bytes}
 use Rattle.ci_machine.specs.Accesses.{addresses, number_of_bytes, bytes_of_number, bytes_at, with_bytes, load_width}
 use Rattle.ci_machine.specs.Accesses.{extended}
 
@@ -18,10 +18,6 @@ use Rattle.ci_machine.specs.Accesses.{extended}
 pub record Units : Type 0 where
   pub further : ℕ → List ℕ
   pub results : ℕ → List ℕ → List ℕ
-
--- the further registers are hidden ones
-abbrev pub TakeHidden : Units → Type 0
-TakeHidden units = (number r : ℕ) → is_among (units.further number) r ≡ true → first_hidden ≤ r
 
 -- the address that is this offset from the one in the register
 abbrev pub address_from : Core → ℕ → ℤ → ℕ
@@ -60,7 +56,3 @@ act units (Unit number rd rs1 rs2 rs3) core =
     Next (with_registers core (rd ∷ hidden) (units.results number values))
 act units (Cread rd) core = Next (with_register core rd (register core first_hidden))
 act units insn core = Next core
-
--- how far one instruction comes
-abbrev pub acted : Units → Insn → Core → Reached Core
-acted units insn core = reached core (act units insn core)

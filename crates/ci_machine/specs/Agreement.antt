@@ -1,14 +1,22 @@
 -- States that agree on some registers, and on what runs are compared by.
-use Rattle.std.specs.Prelude.{◌≡◌, ℕ, Bool, true, false, ◌&&◌, ◌||◌, not, ⊤, List, [], ◌∷◌, None}
+use Rattle.std.specs.Prelude.{◌≡◌, ℕ, ◌≤◌, Bool, true, false, ◌&&◌, ◌||◌, not, ⊤, List, [], ◌∷◌, None}
 use Rattle.std.specs.List.{list_any}
 use Rattle.ci_isa.specs.declared.instruction.Insn.{Insn}
 use Rattle.ci_isa.specs.declared.instruction.Insn.TheVariants.{Unit, Cread}
 use Rattle.ci_isa.specs.Effects.{operands, results, is_among, ends_block}
 use Rattle.ci_machine.specs.Cores.{Core, first_hidden, hidden, register}
-use Rattle.ci_machine.specs.Outcomes.{Reached, continued}
+use Rattle.ci_machine.specs.Outcomes.{Reached, continued, reached}
 use Rattle.ci_machine.specs.Actions.{Units, act, accessed}
 
 -- ---- what an instruction reads and writes
+
+-- how far one instruction comes
+abbrev pub acted : Units → Insn → Core → Reached Core
+acted units insn core = reached core (act units insn core)
+
+-- the further registers are hidden ones
+abbrev pub TakeHidden : Units → Type 0
+TakeHidden units = (number r : ℕ) → is_among (units.further number) r ≡ true → first_hidden ≤ r
 
 -- The registers that it takes its operands from, and those that take its results, with the hidden ones. What a unit
 -- word reads depends on its unit, and what it writes on the word alone.

@@ -1,6 +1,6 @@
 -- The environment calls. RISC-V Unprivileged ISA 20191213, section 2.8, leaves them to the environment; their numbers
 -- and answers are those of Linux. The number is in x17, the arguments are in x10 to x12, and x10 takes the answer.
-use Rattle.std.specs.Prelude.{ℕ, ◌+◌, ◌-◌, ◌^◌, Bool, ◌==◌, ◌&&◌, ◌||◌, nat_le, min, if◌then◌else◌, List, [], ◌++◌}
+use Rattle.std.specs.Prelude.{ℕ, ◌+◌, ◌-◌, ◌^◌, Bool, ◌==◌, ◌&&◌, ◌||◌, nat_le, min, if◌then◌else◌, List, ◌++◌}
 use Rattle.std.specs.Prelude.{length, take, drop, Option, Some, None}
 use Rattle.ci_machine.specs.declared.ends.End.TheVariants as ends
 use Rattle.ci_machine.specs.Cores.{Core, register, with_register}
@@ -105,18 +105,3 @@ numbered_call program number core =
 
 abbrev pub call : Program → Core → Outcome Core
 call program core = numbered_call program (register core 17) core
-
--- the addresses of the n bytes from the one in x11 on, where they are all mapped
-abbrev pub moved_range : Core → ℕ → List ℕ
-moved_range core n = where_mapped (range_at core.memory (register core 11) n) (addresses n (register core 11))
-  where
-    where_mapped : Option (List ℕ) → List ℕ → List ℕ
-    where_mapped (Some _) places = places
-    where_mapped None places = []
-
--- the addresses of the bytes that the call moves, in their order: none where it answers a fault
-abbrev pub moved_by_call : Core → List ℕ
-moved_by_call core =
-    if (register core 17 == 63) && (register core 10 == 0) then moved_range core (read_length core)
-    else if (register core 17 == 64) && is_output (register core 10) then moved_range core (register core 12)
-    else []

@@ -7,7 +7,8 @@ use Rattle.ci_elf.specs.TextChanges.{ChangeText}
 use Rattle.ci_machine.specs.Agreement.{AgreeOutside}
 use Rattle.ci_machine.specs.Programs.{in_text, loaded_program, opening}
 use Rattle.ci_machine.specs.Steps.{Meaning, word_at, insn_in}
-use Rattle.ci_machine.specs.Runs.{after, LeavesTextFor}
+use Rattle.ci_machine.specs.Runs.{after}
+use Rattle.ci_machine.specs.Touches.{LeavesTextFor}
 use Rattle.ci_machine.specs.Blocks.{StandAt}
 use Rattle.ci_machine.specs.Texts.{AreFileInsns}
 

@@ -2,16 +2,19 @@
 use Rattle.std.specs.Prelude.{◌≡◌, ℕ, ◌<◌, Bool, true, false, ◌||◌, ◌⊎◌, ◌↔◌, List}
 use Rattle.std.specs.FinSet as set
 use Rattle.ci_isa.specs.declared.instruction.Insn.{Insn}
-use Rattle.ci_isa.specs.Effects.{ends_block, is_unit, is_cread, registers_read, registers_written}
+use Rattle.ci_isa.specs.Effects.{ends_block, is_unit, is_cread}
+use Rattle.ci_isa.specs.RegisterSets.{registers_read, registers_written}
 use Rattle.ci_isa.specs.Sequences.{ReadFirst, Write}
 use Rattle.ci_machine.specs.Cores.{Core}
 use Rattle.std.specs.List.{list_any}
 use Rattle.ci_machine.specs.Outcomes.{reached, Reached}
-use Rattle.ci_machine.specs.Actions.{Units, TakeHidden, acted}
+use Rattle.ci_machine.specs.Actions.{Units}
+use Rattle.ci_machine.specs.Agreement.{TakeHidden, acted}
 use Rattle.ci_machine.specs.Agreement.{reads, writes, act_all, AgreeOutside, AgreeOn, AreRelated, LeavesText}
 use Rattle.ci_machine.specs.Agreement.{AreActions, AllLeaveText, needed}
 use Rattle.ci_machine.specs.Programs.{Program, at_pc}
-use Rattle.ci_machine.specs.Steps.{control, moved}
+use Rattle.ci_machine.specs.Steps.{control}
+use Rattle.ci_machine.specs.Touches.{moved}
 use Rattle.ci_machine.specs.Blocks.{AreRelatedAt, HaveSameLayout, HaveSameStreams, IsMapped}
 
 -- ---- instructions

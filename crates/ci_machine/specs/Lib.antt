@@ -6,6 +6,8 @@ pub mod Programs
 pub mod Calls
 pub mod Steps
 pub mod Runs
+pub mod Touches
+pub mod RunEvents
 pub mod Agreement
 pub mod Blocks
 pub mod Words

@@ -3,7 +3,7 @@ use Rattle.std.specs.Prelude.{◌≡◌, ℕ, Bool, false, List}
 use Rattle.std.specs.List.{list_any}
 use Rattle.ci_isa.specs.declared.instruction.Insn.{Insn}
 use Rattle.ci_isa.specs.Fields.{HasCustomOpcode}
-use Rattle.ci_isa.specs.Table.{IsInsnAtX}
+use Rattle.ci_isa.specs.Laws.{IsInsnAtX}
 use Rattle.ci_isa.specs.Effects.{is_unit}
 use Rattle.ci_elf.specs.Executables.{Executable, IsTextWord, IsWellFormed, text_word}
 use Rattle.ci_machine.specs.Cores.{Core}
@@ -12,7 +12,7 @@ use Rattle.ci_machine.specs.Actions.{Units, act}
 use Rattle.ci_machine.specs.Agreement.{act_all, AllLeaveText}
 use Rattle.ci_machine.specs.Programs.{Program, State, loaded_program, opening}
 use Rattle.ci_machine.specs.Steps.{Meaning, IsPlain}
-use Rattle.ci_machine.specs.Runs.{LeavesTextFor}
+use Rattle.ci_machine.specs.Touches.{LeavesTextFor}
 use Rattle.ci_machine.specs.Words.{IsOfWords, GivesWords}
 use Rattle.ci_machine.specs.Meanings.{RunAlike, AreOneOnWords, AreOneRun, ReadTextAlike}
 

@@ -9,7 +9,9 @@ use Rattle.ci_machine.specs.Actions.{Units}
 use Rattle.ci_machine.specs.Programs.{Program, State}
 use Rattle.ci_machine.specs.Steps.{Meaning, fetched}
 use Rattle.ci_machine.specs.Words.{AreTaken}
-use Rattle.ci_machine.specs.Runs.{Latencies, after, before_step, is_made, cost, entries, LeavesTextFor, IsTame}
+use Rattle.ci_machine.specs.Runs.{Latencies, after, before_step, is_made, cost}
+use Rattle.ci_machine.specs.RunEvents.{entries, IsTame}
+use Rattle.ci_machine.specs.Touches.{LeavesTextFor}
 
 -- what a unit gives of the registers of its word and its further ones
 abbrev pub given : Units → ℕ → List ℕ → Core → List ℕ

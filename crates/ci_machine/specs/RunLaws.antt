@@ -8,7 +8,9 @@ use Rattle.ci_machine.specs.Outcomes.{at_start}
 use Rattle.ci_machine.specs.Agreement.{act_all, AreActions, AllLeaveText}
 use Rattle.ci_machine.specs.Programs.{Program, State, in_text}
 use Rattle.ci_machine.specs.Steps.{Meaning, fetched, step, control}
-use Rattle.ci_machine.specs.Runs.{Latencies, latency, after, cost, entries, steps_made, LeavesTextFor, IsTame, MetEnd}
+use Rattle.ci_machine.specs.Runs.{Latencies, latency, after, cost, steps_made}
+use Rattle.ci_machine.specs.RunEvents.{entries, IsTame, MetEnd}
+use Rattle.ci_machine.specs.Touches.{LeavesTextFor}
 use Rattle.ci_machine.specs.Blocks.{StandAt, HaveSameText, IsRunOf, GoesThrough}
 
 -- ---- m steps and n more

@@ -9,7 +9,8 @@ use Rattle.ci_machine.specs.Actions.{Units}
 use Rattle.ci_machine.specs.Agreement.{act_all}
 use Rattle.ci_machine.specs.Programs.{Program, State, loaded_program, opening}
 use Rattle.ci_machine.specs.Steps.{Meaning, IsPlain, control}
-use Rattle.ci_machine.specs.Runs.{after, LeavesTextFor}
+use Rattle.ci_machine.specs.Runs.{after}
+use Rattle.ci_machine.specs.Touches.{LeavesTextFor}
 use Rattle.ci_machine.specs.Words.{AreBytes, HoldsWords, IsOfWords, MakesWords, GivesWords}
 use Rattle.ci_machine.specs.Texts.{HasText, HasTextOf}
 

@@ -1,7 +1,7 @@
 -- A step: an instruction is fetched, and acts or directs the run (RISC-V Unprivileged ISA 20191213, sections 1.5, 2.2,
 -- 2.4.2, 2.5, 2.7 and 2.8).
-use Rattle.std.specs.Prelude.{ℕ, ◌+◌, ◌-◌, ◌%◌, ◌^◌, Bool, ◌==◌, ◌&&◌, not, nat_lt, int_lt, if◌then◌else◌, List, Option}
-use Rattle.std.specs.Prelude.{Some, None, find}
+use Rattle.std.specs.Prelude.{ℕ, ◌+◌, ◌-◌, ◌%◌, ◌^◌, Bool, ◌==◌, ◌&&◌, not, nat_lt, int_lt, if◌then◌else◌, Option}
+use Rattle.std.specs.Prelude.{Some, None}
 use Rattle.std.specs.Option.{option_map}
 use Rattle.ci_word.specs.declared.arithmetic.Op.TheVariants.{Add}
 use Rattle.ci_word.specs.Arithmetic.{operation, signed, word_of}
@@ -15,9 +15,9 @@ use Rattle.ci_machine.specs.declared.ends.End.TheVariants as ends
 use Rattle.ci_machine.specs.Cores.{Core, register, with_register}
 use Rattle.ci_machine.specs.Accesses.{addresses, number_of_bytes, bytes_at}
 use Rattle.ci_machine.specs.Outcomes.{Outcome, Next, Ended}
-use Rattle.ci_machine.specs.Actions.{Units, act, accessed, address_from}
+use Rattle.ci_machine.specs.Actions.{Units, act, address_from}
 use Rattle.ci_machine.specs.Programs.{Program, State, at_pc, in_text}
-use Rattle.ci_machine.specs.Calls.{call, moved_by_call}
+use Rattle.ci_machine.specs.Calls.{call}
 
 -- What a machine knows beside its program: what each word stands for, and what units give.
 pub record Meaning : Type 0 where
@@ -103,15 +103,3 @@ stepped units program state (Some insn) = execute units program insn state
 
 abbrev pub step : Meaning → Program → State → Outcome State
 step meaning program state = stepped meaning.units program state (fetched meaning program state)
-
--- ---- what a step touches
-
--- the addresses of the bytes that an instruction moves, in the order of the access
-abbrev pub moved : Insn → Core → List ℕ
-moved Ecall core = moved_by_call core
-moved insn core = accessed insn core
-
--- the address of the first byte of text that the step from this state moves
-abbrev pub touched : Meaning → Program → State → Option ℕ
-touched meaning program state =
-    elim (fetched meaning program state) [ None ↦ None | Some insn ↦ find (in_text program) (moved insn state.core) ]

@@ -8,7 +8,8 @@ impl State {
     ghost use Rattle.std.specs.Prelude.{◌≡◌, ◌+◌, ◌-◌, ◌≤◌, find, length};
     ghost use Rattle.ci_isa.specs.Effects.{width_bytes};
     ghost use Rattle.ci_machine.specs.Accesses.{addresses};
-    ghost use Rattle.ci_machine.specs.Calls.{moved_by_call, moved_range, read_length};
+    ghost use Rattle.ci_machine.specs.Calls.{read_length};
+    ghost use Rattle.ci_machine.specs.Touches.{moved_by_call, moved_range};
     ghost use Rattle.ci_machine.specs.Programs.{in_text};
     ghost use Rattle.ci_machine.specs.States.{state_of, program_of};
 

@@ -6,7 +6,8 @@ use Rattle.std.proofs.lemmas.Int.{ints}
 use Rattle.std.specs.Ordering.{nat_cmp}
 use Rattle.std.specs.FinSet as set
 use Rattle.ci_cut.specs.declared.graph.Limits.{Limits}
-use Rattle.ci_cut.specs.FlowGraph.{FlowGraph, IsFlowGraph}
+use Rattle.ci_cut.specs.FlowGraph.{FlowGraph}
+use Rattle.ci_cut.specs.GraphRules.{IsFlowGraph}
 use Rattle.ci_cut.specs.Gain.{gain}
 use Rattle.ci_cut.specs.Best.{ComesBefore}
 use Rattle.ci_log.specs.declared.log.Item.{Item}
@@ -19,7 +20,7 @@ use Rattle.ci_check.specs.Rules.{Given, best_gain, IsGood, IsAfterBest, IsBefore
 use Rattle.ci_check.specs.Representation.{IsMeasured}
 use Rattle.ci_cut.specs.Reached.{Completes, IsReachedBefore, IsReachedWith}
 use Rattle.ci_cut.proofs.PrefixLaws.{completes_earlier, taken_completes}
-use Rattle.ci_cut.proofs.Bounds.{before_more, before_in, before_out, before_by_next}
+use Rattle.ci_cut.proofs.BoundLaws.{before_more, before_in, before_out, before_by_next}
 use Rattle.ci_cut.proofs.NeedLaws.{compare_gains}
 use Rattle.ci_cut.proofs.NeedLaws.{open_by_bound, bound_of_open}
 use Rattle.ci_check.proofs.Acceptance.{all_both, before_completions}

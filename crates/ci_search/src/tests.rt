@@ -1,6 +1,6 @@
 //! Searches of graphs that are built by hand, and of graphs that are generated.
 ghost use Rattle.std.specs.Prelude.{IfOk};
-ghost use Rattle.ci_cut.specs.FlowGraph.{IsFlowGraph};
+ghost use Rattle.ci_cut.specs.GraphRules.{IsFlowGraph};
 ghost use Rattle.ci_log.specs.RegionTrees.{LiesIn};
 
 use crate::{Found, search};

@@ -1,3 +1,3 @@
 pub mod NumberLaws
-pub mod Rows
+pub mod RowLaws
 mod MemberLaws

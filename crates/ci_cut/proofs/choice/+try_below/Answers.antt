@@ -1,5 +1,5 @@
 use Rattle.std.proofs.Common.{◌-◌, ◌<◌, length, arith, sym, ◌∙◌}
-use Rattle.ci_cut.proofs.Tries.{improved_for_one, better_without, better_with, eligible_read, decided_with}
+use Rattle.ci_cut.proofs.BestOfTries.{improved_for_one, better_without, better_with, eligible_read, decided_with}
 use Rattle.ci_cut.proofs.choice.+try_below.Goals as goal
 
 pub returns-then-undecided-eq0 : goal.returns-then-undecided-eq0

@@ -1,7 +1,7 @@
 use Rattle.std.proofs.Common.{true≢false, sym, ap, ◌∙◌}
 use Rattle.std.specs.FinSet as set
 use Rattle.std.specs.Ordering.{nat_cmp}
-use Rattle.ci_cut.proofs.Tries.{best_of_tries}
+use Rattle.ci_cut.proofs.BestOfTries.{best_of_tries}
 use Rattle.ci_cut.proofs.choice.best_of_all.Goals as goal
 
 pub try_below-requires-clause-decided : goal.try_below-requires-clause-decided

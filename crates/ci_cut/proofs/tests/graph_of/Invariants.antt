@@ -1,4 +1,4 @@
-use Rattle.ci_cut.specs.FlowGraph.{IsFlowGraph}
+use Rattle.ci_cut.specs.GraphRules.{IsFlowGraph}
 use Rattle.ci_cut.proofs.tests.graph_of.Given as goal
 
 abbrev pub invariant-loop-part : goal.invariant-loop-part

@@ -1,4 +1,4 @@
-use Rattle.ci_cut.proofs.Chains.{delay_along-le, critical_path_delay-reached}
+use Rattle.ci_cut.proofs.CriticalPath.{delay_along-le, critical_path_delay-reached}
 use Rattle.ci_cut.proofs.timing.hardware_is_the_critical_path.Goals as goal
 
 pub returns-clause-bound : goal.returns-clause-bound

@@ -1,6 +1,6 @@
 use Rattle.std.proofs.Common.{length, refl, ◌∙◌}
 use Rattle.ci_word.proofs.NumberLaws.{len-count_below}
-use Rattle.ci_cut.proofs.Gains.{fits_from_parts, within_from_fits}
+use Rattle.ci_cut.proofs.MemberSums.{fits_from_parts, within_from_fits}
 use Rattle.ci_cut.proofs.value.fitting_ports.Goals as goal
 
 pub returns-then-not-are_within-clause-fits : goal.returns-then-not-are_within-clause-fits

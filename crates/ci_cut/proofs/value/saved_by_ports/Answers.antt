@@ -4,7 +4,7 @@ use Rattle.ci_word.proofs.NumberLaws.{count_below-le, len-count_below}
 use Rattle.ci_word.specs.Numbers.{sum_below}
 use Rattle.ci_cut.specs.FlowGraph.{node_in}
 use Rattle.ci_cut.specs.Ports.{is_output}
-use Rattle.ci_cut.proofs.Gains.{further_words-le, saved_from_parts}
+use Rattle.ci_cut.proofs.MemberSums.{further_words-le, saved_from_parts}
 use Rattle.ci_cut.proofs.GainArithmetic.{reads_fit, pads_fit, less_reads_fits, gain_is, less_pads_fits}
 use Rattle.ci_cut.proofs.value.saved_by_ports.Goals as goal
 use Rattle.ci_cut.proofs.value.saved_by_ports.Goals.{After-read, After-pad}

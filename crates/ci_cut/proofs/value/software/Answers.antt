@@ -3,7 +3,7 @@ use Rattle.std.proofs.lemmas.List.{get_or_read}
 use Rattle.std.specs.FinSet as set
 use Rattle.ci_word.proofs.NumberLaws.{sum_below-zero}
 use Rattle.ci_cut.specs.FlowGraph.{no_node, node_in}
-use Rattle.ci_cut.proofs.Gains.{sum_below-member, sum_below-outside}
+use Rattle.ci_cut.proofs.MemberSums.{sum_below-member, sum_below-outside}
 use Rattle.ci_cut.proofs.value.software.Goals as goal
 use Rattle.ci_cut.proofs.value.software.Goals.{then-has, else-has}
 

@@ -1,6 +1,6 @@
 use Rattle.std.proofs.Common.{◌∙◌, refl}
 use Rattle.ci_isa.specs.Effects.{reads_register}
-use Rattle.ci_dfg.proofs.Instructions.{of_result}
+use Rattle.ci_dfg.proofs.InstructionLaws.{of_result}
 use Rattle.ci_dfg.proofs.arcs.has_anti_arc.Goals as goal
 
 pub returns : goal.returns

@@ -1,6 +1,6 @@
 use Rattle.std.proofs.Common.{◌∙◌, refl}
 use Rattle.ci_isa.specs.Effects.{writes_register}
-use Rattle.ci_dfg.proofs.Instructions.{of_result}
+use Rattle.ci_dfg.proofs.InstructionLaws.{of_result}
 use Rattle.ci_dfg.proofs.arcs.has_output_arc.Goals as goal
 
 pub returns : goal.returns

@@ -1,8 +1,9 @@
 use Rattle.std.proofs.Common.{◌≡◌, true, length, map, subst, sym, ap, ◌∙◌, arith}
 use Rattle.ci_word.specs.Numbers.{numbers_below}
-use Rattle.ci_cut.specs.FlowGraph.{FlowGraph, IsFlowGraph}
+use Rattle.ci_cut.specs.FlowGraph.{FlowGraph}
+use Rattle.ci_cut.specs.GraphRules.{IsFlowGraph}
 use Rattle.ci_dfg.specs.BlockGraph.{node_of, graph_of}
-use Rattle.ci_dfg.proofs.Graphs.{is_flow_graph}
+use Rattle.ci_dfg.proofs.BlockIsGraph.{is_flow_graph}
 use Rattle.ci_dfg.proofs.nodes.graph.Goals as goal
 
 pub new-requires : goal.new-requires

@@ -2,7 +2,7 @@ use Rattle.std.proofs.Common.{◌≡◌, ◌<◌, false, sym, ap, ◌∙◌}
 use borrow.Author.Count.{below_more}
 use Rattle.ci_isa.specs.Effects.{writes_register}
 use Rattle.ci_isa.specs.Sequences.{nth_insn}
-use Rattle.ci_dfg.proofs.Instructions.{insn_there}
+use Rattle.ci_dfg.proofs.InstructionLaws.{insn_there}
 use Rattle.ci_dfg.proofs.nodes.is_written_after.Goals as goal
 
 pub loop-j-preserved : goal.loop-j-preserved

@@ -1,6 +1,6 @@
 use Rattle.std.proofs.Common.{◌≡◌, sym, ap, ◌∙◌, arith}
 use Rattle.ci_isa.specs.Sequences.{latest_writer}
-use Rattle.ci_dfg.proofs.Writers.{latest_writer-zero}
+use Rattle.ci_dfg.proofs.WritersByPlace.{latest_writer-zero}
 use Rattle.ci_dfg.proofs.operand_sources.latest_writer.Goals as goal
 
 pub returns : goal.returns

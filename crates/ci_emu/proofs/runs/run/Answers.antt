@@ -3,7 +3,7 @@ use Rattle.ci_machine.specs.States.{program_of, state_of}
 use Rattle.ci_machine.specs.Steps.{Meaning, IsPlain}
 use Rattle.ci_emu.specs.Counting.{IsStepCounted}
 use Rattle.ci_elf.specs.Executables.{IsTextWord}
-use Rattle.ci_emu.specs.Profiles.{latencies_of}
+use Rattle.ci_emu.specs.TableLatencies.{latencies_of}
 use Rattle.ci_emu.specs.Steps.{IsPlainStep, IsReached}
 use Rattle.ci_emu.proofs.RunCounts.{none_counted}
 use Rattle.ci_emu.proofs.RunSteps.{on_error, stepped_to, reached_more, reached_next, counted_more, ended_profile}

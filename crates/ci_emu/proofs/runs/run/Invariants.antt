@@ -5,7 +5,7 @@ use Rattle.ci_machine.specs.Runs.{after}
 use Rattle.ci_machine.specs.States.{program_of, state_of}
 use Rattle.ci_machine.specs.Steps.{Meaning, IsPlain}
 use Rattle.ci_emu.specs.Counting.{IsCounted}
-use Rattle.ci_emu.specs.Profiles.{latencies_of}
+use Rattle.ci_emu.specs.TableLatencies.{latencies_of}
 use Rattle.ci_emu.proofs.runs.run.Given as goal
 
 abbrev pub invariant-loop-i : goal.invariant-loop-i

@@ -1,7 +1,7 @@
 use Rattle.std.proofs.Common.{◌%◌, arith, eq-eqb, ap, sym, ◌∙◌}
 use Rattle.ci_machine.specs.Programs.{in_text}
 use Rattle.ci_machine.specs.States.{program_of, state_of}
-use Rattle.ci_isa.proofs.Only.{one_insn}
+use Rattle.ci_isa.proofs.RowCompleteness.{one_insn}
 use Rattle.ci_emu.proofs.Fetching.{fetched_is}
 use Rattle.ci_emu.proofs.steps.fetch.Goals as goal
 

@@ -1,8 +1,8 @@
 use Rattle.std.proofs.Common.{◌∙◌, arith}
 use Rattle.std.proofs.lemmas.Option.{IfSome_then}
 use Rattle.ci_isa.specs.Table.{Reads}
-use Rattle.ci_isa.proofs.Found.{plain_reads}
-use Rattle.ci_isa.proofs.Only.{only_plain, none_read, plain_well_formed}
+use Rattle.ci_isa.proofs.RowSoundness.{plain_reads}
+use Rattle.ci_isa.proofs.RowCompleteness.{only_plain, none_read, plain_well_formed}
 use Rattle.ci_isa.proofs.decoding.decode.Goals as goal
 
 pub returns-clause-found : goal.returns-clause-found

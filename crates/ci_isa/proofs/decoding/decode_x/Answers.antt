@@ -1,8 +1,8 @@
 use Rattle.std.proofs.Common.{◌∙◌, arith}
 use Rattle.std.proofs.lemmas.Option.{IfSome_then}
 use Rattle.ci_isa.specs.Table.{ReadsX}
-use Rattle.ci_isa.proofs.Found.{extended_reads}
-use Rattle.ci_isa.proofs.Only.{only_extended, none_read, read_well_formed}
+use Rattle.ci_isa.proofs.RowSoundness.{extended_reads}
+use Rattle.ci_isa.proofs.RowCompleteness.{only_extended, none_read, read_well_formed}
 use Rattle.ci_isa.proofs.decoding.decode_x.Goals as goal
 
 pub returns-clause-found : goal.returns-clause-found

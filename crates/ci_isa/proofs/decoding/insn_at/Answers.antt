@@ -1,5 +1,5 @@
 use Rattle.std.proofs.Common.{arith}
-use Rattle.ci_isa.proofs.Only.{word_well_formed}
+use Rattle.ci_isa.proofs.RowCompleteness.{word_well_formed}
 use Rattle.ci_isa.proofs.decoding.insn_at.Goals as goal
 
 pub returns-clause-well_formed : goal.returns-clause-well_formed

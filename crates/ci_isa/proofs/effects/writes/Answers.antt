@@ -1,5 +1,6 @@
 use Rattle.std.proofs.Common.{ap, ◌∙◌}
-use Rattle.ci_isa.specs.Effects.{results, set_without_x0}
+use Rattle.ci_isa.specs.Effects.{results}
+use Rattle.ci_isa.specs.RegisterSets.{set_without_x0}
 use Rattle.ci_isa.proofs.Registers.{set_without_padding}
 use Rattle.ci_isa.proofs.effects.writes.Goals as goal
 

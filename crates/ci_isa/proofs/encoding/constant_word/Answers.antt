@@ -2,7 +2,7 @@ use Rattle.std.proofs.Common.{refl, sym, ◌∙◌, w32, arith}
 use Rattle.std.proofs.lemmas.Int.{to_z-of_z}
 use Rattle.ci_isa.specs.Fields.{rs2_field}
 use Rattle.ci_isa.specs.Table.{operation_codes, constant_form}
-use Rattle.ci_isa.proofs.Constants.{held_immediate, held_amount, passed_amount}
+use Rattle.ci_isa.proofs.ConstantLaws.{held_immediate, held_amount, passed_amount}
 use Rattle.ci_isa.proofs.encoding.constant_word.Goals as goal
 
 pub returns-then-not-is_shift : goal.returns-then-not-is_shift

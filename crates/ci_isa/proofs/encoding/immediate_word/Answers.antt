@@ -1,6 +1,6 @@
 use Rattle.std.proofs.Common.{sym, ◌∙◌, w32}
 use Rattle.std.proofs.lemmas.Int.{to_z-of_z}
-use Rattle.ci_isa.proofs.Bits.{twelve_bits}
+use Rattle.ci_isa.proofs.FieldLaws.{twelve_bits}
 use Rattle.ci_isa.proofs.encoding.immediate_word.Goals as goal
 
 pub returns : goal.returns

@@ -1,5 +1,5 @@
 use Rattle.std.proofs.Common.{sym}
-use Rattle.ci_isa.proofs.Bits.{from_upper_fields}
+use Rattle.ci_isa.proofs.FieldLaws.{from_upper_fields}
 use Rattle.ci_isa.proofs.encoding.upper_word.Goals as goal
 
 pub returns : goal.returns

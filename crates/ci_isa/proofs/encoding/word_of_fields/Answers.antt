@@ -1,5 +1,5 @@
 use Rattle.std.proofs.Common.{sym}
-use Rattle.ci_isa.proofs.Bits.{from_fields}
+use Rattle.ci_isa.proofs.FieldLaws.{from_fields}
 use Rattle.ci_isa.proofs.encoding.word_of_fields.Goals as goal
 
 pub returns : goal.returns

@@ -1,5 +1,5 @@
 use Rattle.std.proofs.Common.{◌/◌, ◌-◌, ◌^◌, arith}
-use Rattle.ci_isa.proofs.Bits.{and_ones}
+use Rattle.ci_isa.proofs.FieldLaws.{and_ones}
 use Rattle.ci_isa.proofs.fields.bits.Goals as goal
 
 pub returns : goal.returns

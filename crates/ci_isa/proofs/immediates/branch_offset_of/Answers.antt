@@ -1,6 +1,6 @@
 use Rattle.std.proofs.Common.{◌∙◌, arith, rules, w32, FitsSigned}
 use Rattle.std.proofs.lemmas.Int.{to_z-of_z}
-use Rattle.ci_isa.proofs.Bits.{branch_pieces}
+use Rattle.ci_isa.proofs.FieldLaws.{branch_pieces}
 use Rattle.ci_isa.proofs.immediates.branch_offset_of.Goals as goal
 
 pub sign_extended-requires-clause-fits : goal.sign_extended-requires-clause-fits

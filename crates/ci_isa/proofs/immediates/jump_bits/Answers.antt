@@ -1,4 +1,4 @@
-use Rattle.ci_isa.proofs.Bits.{jump_upper}
+use Rattle.ci_isa.proofs.FieldLaws.{jump_upper}
 use Rattle.ci_isa.proofs.immediates.jump_bits.Goals as goal
 
 pub returns : goal.returns

@@ -1,6 +1,6 @@
 use Rattle.std.proofs.Common.{◌∙◌, arith, rules, w32, FitsSigned}
 use Rattle.std.proofs.lemmas.Int.{to_z-of_z}
-use Rattle.ci_isa.proofs.Bits.{jump_pieces}
+use Rattle.ci_isa.proofs.FieldLaws.{jump_pieces}
 use Rattle.ci_isa.proofs.immediates.jump_offset_of.Goals as goal
 
 pub sign_extended-requires-clause-fits : goal.sign_extended-requires-clause-fits

@@ -2,7 +2,7 @@ use Rattle.std.proofs.Common.{◌≡◌, ℕ, ◌+◌, ◌-◌, ◌↔◌, sym, 
 use Rattle.std.proofs.Math.Seq.{drop-length}
 use Rattle.std.specs.FinSet as set
 use Rattle.ci_isa.specs.declared.instruction.Insn.{Insn}
-use Rattle.ci_isa.specs.Effects.{registers_read}
+use Rattle.ci_isa.specs.RegisterSets.{registers_read}
 use Rattle.ci_isa.specs.Sequences.{ReadFirst, Write}
 use Rattle.ci_live.specs.Flows.{Has}
 use Rattle.ci_live.proofs.SetLaws.{has_none}

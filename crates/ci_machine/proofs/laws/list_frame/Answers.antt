@@ -1,4 +1,4 @@
-use Rattle.ci_machine.proofs.Blocks.{list_frame}
+use Rattle.ci_machine.proofs.RelatedLists.{list_frame}
 use Rattle.ci_machine.proofs.EndLaws.{lists_keep_streams}
 use Rattle.ci_machine.proofs.LeavingLists.{leaves_alike}
 use Rattle.ci_machine.proofs.laws.list_frame.Goals as goal

@@ -1,4 +1,4 @@
-use Rattle.ci_machine.proofs.Meanings.{plain_exists, plain_and_extended_agree}
+use Rattle.ci_machine.proofs.PlainMeaning.{plain_exists, plain_and_extended_agree}
 use Rattle.ci_machine.proofs.SameRuns.{plain_is_one}
 use Rattle.ci_machine.proofs.laws.plain_meaning.Goals as goal
 

@@ -1,4 +1,4 @@
-use Rattle.ci_machine.proofs.Meanings.{registers_read_are, registers_written_are}
+use Rattle.ci_machine.proofs.PlainMeaning.{registers_read_are, registers_written_are}
 use Rattle.ci_machine.proofs.NeededLaws.{needed_is, needed_by_plain}
 use Rattle.ci_machine.proofs.laws.register_sets.Goals as goal
 

@@ -1,4 +1,4 @@
-use Rattle.ci_cut.specs.FlowGraph.{IsFlowGraph}
+use Rattle.ci_cut.specs.GraphRules.{IsFlowGraph}
 use Rattle.ci_search.proofs.tests.generated.Given as goal
 
 abbrev pub invariant-loop-k : goal.invariant-loop-k

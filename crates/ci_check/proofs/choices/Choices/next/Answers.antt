@@ -1,7 +1,7 @@
 use Rattle.std.proofs.Common.{◌≡◌, ◌-◌, ◌<◌, length, sym, ap, ◌∙◌, arith}
 use Rattle.ci_word.specs.Numbers.{count_below}
 use Rattle.ci_word.proofs.NumberLaws.{count_below-zero}
-use Rattle.ci_cut.proofs.Tries.{eligible_read}
+use Rattle.ci_cut.proofs.BestOfTries.{eligible_read}
 use Rattle.ci_cut.specs.Prefixes.{is_eligible}
 use Rattle.ci_check.proofs.ChoiceLaws.{next_here, not_here}
 use Rattle.ci_check.proofs.choices.Choices.next.Goals as goal

@@ -1,5 +1,5 @@
 use Rattle.std.proofs.Common.{◌≡◌, ◌+◌, ◌≤◌, length, sym, ◌∙◌, subst, ap, arith}
-use Rattle.ci_elf.specs.Executables.{with_word}
+use Rattle.ci_elf.specs.TextChanges.{with_word}
 use Rattle.ci_elf.proofs.ImageLaws.{formed_with, length_with_word, replaced}
 use Rattle.ci_elf.proofs.image.Image.patch.Goals as goal
 

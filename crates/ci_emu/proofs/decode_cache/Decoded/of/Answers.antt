@@ -1,4 +1,4 @@
-use Rattle.ci_isa.proofs.Only.{one_insn}
+use Rattle.ci_isa.proofs.RowCompleteness.{one_insn}
 use Rattle.ci_emu.proofs.decode_cache.Decoded.of.Goals as goal
 
 pub invariant_of-result-clause-decoded : goal.invariant_of-result-clause-decoded

@@ -1,6 +1,6 @@
 -- The output of the last state, and the end line of the profile.
 use Rattle.std.proofs.Common.{◌≡◌, ◌∙◌, ◌++◌, List, ℕ, ap}
-use Rattle.ci_machine.proofs.Meanings.{plain_exists}
+use Rattle.ci_machine.proofs.PlainMeaning.{plain_exists}
 use Rattle.ci_machine.specs.States.{state_of, program_of}
 use Rattle.ci_find.proofs.RunTexts.{run_text_is}
 use Rattle.ci_find.proofs.commands.run.run_text.Goals as goal

@@ -1,7 +1,7 @@
 -- A shelf that tells no file owes only what its counts do.
 use Rattle.std.proofs.Common.{◌≡◌, Option, None, refl}
 use Rattle.ci_io.specs.Outcomes.{Files}
-use Rattle.ci_io.proofs.Raised.{Rises-raised, OnErr-IsErrOf, OnOk-always}
+use Rattle.ci_io.proofs.RaisedCounter.{Rises-raised, OnErr-IsErrOf, OnOk-always}
 use Rattle.ci_io.proofs.system.FileShelfShelf.TheImpl.Goals as goal
 
 pub read-tells : goal.read-tells

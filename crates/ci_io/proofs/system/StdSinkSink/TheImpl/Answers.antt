@@ -1,6 +1,6 @@
 -- A sink that tells no byte owes only what its count does.
 use Rattle.std.proofs.Common.{◌≡◌, ℕ, List, Option, None, refl, arith}
-use Rattle.ci_io.proofs.Raised.{Rises-raised, OnErr-IsErrOf, OnOk-always}
+use Rattle.ci_io.proofs.RaisedCounter.{Rises-raised, OnErr-IsErrOf, OnOk-always}
 use Rattle.ci_io.proofs.system.StdSinkSink.TheImpl.Goals as goal
 
 pub put-tells : goal.put-tells

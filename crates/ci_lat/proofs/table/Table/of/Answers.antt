@@ -3,7 +3,7 @@ use Rattle.toml.specs.View.{table_view}
 use Rattle.ci_lat.specs.Keys.{software_keys, hardware_keys}
 use Rattle.ci_lat.specs.Faults.{setting, table_of}
 use Rattle.ci_lat.proofs.KeyLists.{SOFTWARE_KEYS-listed, HARDWARE_KEYS-listed}
-use Rattle.ci_lat.proofs.Settings.{IsLatencyTable-table_of}
+use Rattle.ci_lat.proofs.SettingsFit.{IsLatencyTable-table_of}
 use Rattle.ci_lat.proofs.table.Table.of.Goals as goal
 
 pub invariant_of-result : goal.invariant_of-result

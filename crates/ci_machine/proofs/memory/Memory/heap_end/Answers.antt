@@ -1,5 +1,5 @@
 use Rattle.std.proofs.Common.{arith}
-use Rattle.ci_machine.proofs.HeapFacts.{heap_is, two_parts}
+use Rattle.ci_machine.proofs.HeapRoom.{heap_is, two_parts}
 use Rattle.ci_machine.proofs.memory.Memory.heap_end.Goals as goal
 
 pub index-heap-requires : goal.index-heap-requires

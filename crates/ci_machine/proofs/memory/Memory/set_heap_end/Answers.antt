@@ -1,5 +1,5 @@
 use Rattle.std.proofs.Common.{arith, [], refl, ◌∙◌, is_ok}
-use Rattle.ci_machine.proofs.HeapFacts.{two_parts, room_is, room_tells, heap-set}
+use Rattle.ci_machine.proofs.HeapRoom.{two_parts, room_is, room_tells, heap-set}
 use Rattle.ci_machine.proofs.memory.Memory.set_heap_end.Goals as goal
 
 pub index_mut-heap-requires : goal.index_mut-heap-requires

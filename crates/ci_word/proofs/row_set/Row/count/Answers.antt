@@ -1,6 +1,6 @@
 use Rattle.std.proofs.Common.{sym, ◌∙◌}
 use Rattle.ci_word.proofs.NumberLaws.{len-count_below}
-use Rattle.ci_word.proofs.Rows.{ones_of_words, numbers_in-below}
+use Rattle.ci_word.proofs.RowLaws.{ones_of_words, numbers_in-below}
 use Rattle.ci_word.proofs.row_set.Row.count.Goals as goal
 
 pub returns-clause-counted : goal.returns-clause-counted

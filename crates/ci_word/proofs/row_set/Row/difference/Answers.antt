@@ -1,4 +1,4 @@
-use Rattle.ci_word.proofs.Rows.{AreRowWords_left_over, numbers_in_left_over}
+use Rattle.ci_word.proofs.RowLaws.{AreRowWords_left_over, numbers_in_left_over}
 use Rattle.ci_word.proofs.row_set.Row.difference.Goals as goal
 
 pub invariant_of-result : goal.invariant_of-result

@@ -1,4 +1,4 @@
-use Rattle.ci_word.proofs.Rows.{numbers_in_zeros}
+use Rattle.ci_word.proofs.RowLaws.{numbers_in_zeros}
 use Rattle.ci_word.proofs.row_set.Row.empty.Goals as goal
 
 pub returns : goal.returns

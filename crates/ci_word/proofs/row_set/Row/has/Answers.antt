@@ -1,5 +1,5 @@
 use Rattle.std.proofs.Common.{arith}
-use Rattle.ci_word.proofs.Rows.{contains_by_shift}
+use Rattle.ci_word.proofs.RowLaws.{contains_by_shift}
 use Rattle.ci_word.proofs.row_set.Row.has.Goals as goal
 
 pub returns : goal.returns

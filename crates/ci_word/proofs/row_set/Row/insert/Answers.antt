@@ -1,6 +1,6 @@
 use Rattle.std.proofs.Common.{◌^◌, arith, pow_pos}
 use Rattle.std.proofs.lemmas.Nat.{or_lt, mod_below}
-use Rattle.ci_word.proofs.Rows.{AreRowWords-set, numbers_in-insert}
+use Rattle.ci_word.proofs.RowLaws.{AreRowWords-set, numbers_in-insert}
 use Rattle.ci_word.proofs.row_set.Row.insert.Goals as goal
 
 pub invariant_of-self : goal.invariant_of-self

@@ -1,4 +1,4 @@
-use Rattle.ci_word.proofs.Rows.{meets_iff}
+use Rattle.ci_word.proofs.RowLaws.{meets_iff}
 use Rattle.ci_word.proofs.row_set.Row.meets.Goals as goal
 
 pub returns : goal.returns

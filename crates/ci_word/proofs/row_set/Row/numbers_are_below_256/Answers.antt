@@ -1,4 +1,4 @@
-use Rattle.ci_word.proofs.Rows.{numbers_in-below}
+use Rattle.ci_word.proofs.RowLaws.{numbers_in-below}
 use Rattle.ci_word.proofs.row_set.Row.numbers_are_below_256.Goals as goal
 
 pub returns : goal.returns

@@ -1,5 +1,5 @@
 use Rattle.std.proofs.Common.{arith}
-use Rattle.ci_word.proofs.Rows.{numbers_in-remove}
+use Rattle.ci_word.proofs.RowLaws.{numbers_in-remove}
 use Rattle.ci_word.proofs.row_set.Row.remove.Goals as goal
 
 pub returns : goal.returns

@@ -1,4 +1,4 @@
-use Rattle.ci_word.proofs.Rows.{AreRowWords_joined, numbers_in_joined}
+use Rattle.ci_word.proofs.RowLaws.{AreRowWords_joined, numbers_in_joined}
 use Rattle.ci_word.proofs.row_set.Row.union.Goals as goal
 
 pub invariant_of-result : goal.invariant_of-result

@@ -1,7 +1,7 @@
 -- One instruction stands at a word.
 use Rattle.std.proofs.Common.{sym, ap, ◌∙◌}
 use Rattle.ci_isa.specs.Effects.{ends_block}
-use Rattle.ci_isa.proofs.Only.{one_insn}
+use Rattle.ci_isa.proofs.RowCompleteness.{one_insn}
 use Rattle.ci_find.proofs.commands.best.words.ends_block.Goals as goal
 
 pub returns : goal.returns

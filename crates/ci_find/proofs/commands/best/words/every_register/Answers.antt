@@ -1,7 +1,7 @@
 -- Each register is put in.
 use Rattle.std.proofs.Common.{◌∙◌, true, sym, ap}
 use Rattle.std.specs.FinSet as set
-use Rattle.ci_dfg.proofs.Sets.{set_below_none, set_below_more}
+use Rattle.ci_dfg.proofs.FilledSets.{set_below_none, set_below_more}
 use Rattle.ci_find.proofs.commands.best.words.every_register.Goals as goal
 
 pub loop-register-init : goal.loop-register-init

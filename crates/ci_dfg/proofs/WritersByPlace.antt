@@ -4,7 +4,7 @@ use Rattle.std.proofs.Common.{refl, sym, ap, ◌∙◌, arith, true≢false, sub
 use Rattle.std.proofs.lemmas.Bool.{false_from_ne_true, and_parts, and_from, lt-ltb, ltb-true}
 use Rattle.ci_word.proofs.NumberLaws.{some_below_iff}
 use Rattle.ci_isa.specs.declared.instruction.Insn.{Insn}
-use Rattle.ci_dfg.proofs.Instructions.{insn_there}
+use Rattle.ci_dfg.proofs.InstructionLaws.{insn_there}
 use Rattle.ci_isa.specs.Effects.{writes_register}
 use Rattle.ci_isa.specs.Sequences.{nth_insn, latest_writer}
 use Rattle.ci_dfg.specs.BlockGraph.{is_written_after}

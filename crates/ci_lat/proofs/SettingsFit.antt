@@ -12,7 +12,8 @@ use Rattle.std.proofs.lemmas.Bool.Decides.{nat_tests}
 use Rattle.toml.specs.Data.{Data, Members, string, integer, float, boolean, datetime, array, table}
 use Rattle.ci_lat.specs.declared.keys.Key.{Key}
 use Rattle.ci_lat.specs.declared.keys.Key.TheVariants.{Read, Pad, SoftwareOf, HardwareOf}
-use Rattle.ci_lat.specs.Latencies.{rows, delayed_rows, usual, IsLatencyTable, latency_of, delay_of, HasDelay}
+use Rattle.ci_lat.specs.Latencies.{rows, delayed_rows, usual, latency_of, delay_of}
+use Rattle.ci_lat.specs.TableRules.{IsLatencyTable, HasDelay}
 use Rattle.ci_word.specs.declared.arithmetic.Class.{Class}
 use Rattle.ci_word.specs.declared.arithmetic.Class.TheVariants as class
 use Rattle.ci_lat.proofs.KeyLists.{listed}

@@ -2,7 +2,8 @@
 use Rattle.std.proofs.Common.{◌≡◌, ℕ, ◌<◌, Bool, true, false, not, ◌⊎◌, inl, inr, IsTrue, ◌∷◌, length, refl, sym, ap, ◌∙◌, arith, ℤ, ◌≤ℤ◌, ◌<ℤ◌}
 use Rattle.std.proofs.lemmas.Int.{ints}
 use Rattle.ci_cut.specs.declared.graph.Limits.{Limits}
-use Rattle.ci_cut.specs.FlowGraph.{FlowGraph, IsFlowGraph, node_at}
+use Rattle.ci_cut.specs.FlowGraph.{FlowGraph, node_at}
+use Rattle.ci_cut.specs.GraphRules.{IsFlowGraph}
 use Rattle.ci_cut.specs.Gain.{Fits, gain}
 use Rattle.ci_cut.specs.Prefixes.{Prefix, is_eligible, is_next, taken, left_out, possible, bound, IsBefore}
 use Rattle.ci_cut.specs.Need.{IsOpen}

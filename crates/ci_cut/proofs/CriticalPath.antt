@@ -3,7 +3,8 @@ use Rattle.std.proofs.Common.{◌≡◌, ℕ, zero, suc, ◌<◌, ◌≤◌, max
 use Rattle.std.proofs.Common.{length, map, filter, IsTrue, ◌⊎◌, refl, sym, ap, ◌∙◌, subst, inl, inr, arith}
 use Rattle.std.proofs.lemmas.Bool.{and_parts, and_from, cases_Bool, cases_eq, cases_lt}
 use Rattle.ci_cut.specs.declared.graph.Source.TheVariants.{Made}
-use Rattle.ci_cut.specs.FlowGraph.{FlowGraph, IsFlowGraph, reads}
+use Rattle.ci_cut.specs.FlowGraph.{FlowGraph, reads}
+use Rattle.ci_cut.specs.GraphRules.{IsFlowGraph}
 use Rattle.ci_cut.specs.Hardware.{descending_lists, is_chain, delay_along, maximum, critical_path_delay, hardware}
 
 -- ---- the maximum value of a function on the elements that pass a test

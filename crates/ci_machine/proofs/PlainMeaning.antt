@@ -7,13 +7,15 @@ use Rattle.std.proofs.lemmas.Bool.Decides.{nat_tests}
 use Rattle.ci_isa.specs.declared.instruction.Insn.{Insn}
 use Rattle.ci_isa.specs.declared.instruction.Insn.TheVariants.{Unit, Cread}
 use Rattle.ci_isa.specs.Table.{IsInsnAt}
-use Rattle.ci_isa.specs.Effects.{registers_read, registers_written, is_among, is_unit}
-use Rattle.ci_isa.proofs.Only.{one_insn}
+use Rattle.ci_isa.specs.Effects.{is_among, is_unit}
+use Rattle.ci_isa.specs.RegisterSets.{registers_read, registers_written}
+use Rattle.ci_isa.proofs.RowCompleteness.{one_insn}
 use Rattle.ci_isa.proofs.Registers.{reads_register_is, writes_register_is}
 use Rattle.ci_isa.proofs.TableLaws.{one_insn_at_each_word, tables_agree}
 use Rattle.ci_machine.specs.Steps.{Meaning, IsPlain}
 use Rattle.ci_machine.specs.Cores.{first_hidden, hidden}
-use Rattle.ci_machine.specs.Actions.{Units, TakeHidden}
+use Rattle.ci_machine.specs.Actions.{Units}
+use Rattle.ci_machine.specs.Agreement.{TakeHidden}
 use Rattle.ci_machine.specs.Agreement.{reads, writes}
 use Rattle.ci_elf.specs.Executables.{text_word}
 use Rattle.ci_machine.specs.MeaningLaws.{PlainAndExtendedAgree}

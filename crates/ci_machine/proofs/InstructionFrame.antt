@@ -14,7 +14,8 @@ use Rattle.ci_machine.specs.declared.ends.End.{End}
 use Rattle.ci_machine.specs.Cores.{Core, first_hidden, hidden, register, with_register, values_in, with_registers}
 use Rattle.ci_machine.specs.Accesses.{addresses, joined, bytes_at, with_bytes, bytes_of_number, load_width}
 use Rattle.ci_machine.specs.Outcomes.{Next, Reached, reached}
-use Rattle.ci_machine.specs.Actions.{Units, acted, accessed, address_from, loaded, stored}
+use Rattle.ci_machine.specs.Actions.{Units, accessed, address_from, loaded, stored}
+use Rattle.ci_machine.specs.Agreement.{acted}
 use Rattle.ci_machine.specs.Agreement.{reads, writes, AgreeOutside, AgreeOn, AreRelated, LeavesText}
 use Rattle.ci_machine.proofs.TestLaws.{by_test, neither_first, neither_second, either_first}
 use Rattle.ci_machine.proofs.RegisterLaws.{register_kept, register_written, operands_agree, values_agree}

@@ -10,10 +10,12 @@ use Rattle.ci_word.specs.Numbers.{numbers_below}
 use Rattle.ci_word.proofs.NumberLaws.{contains-set_below, numbers_below-zero, numbers_below-suc, length-all_below, get_or-all_below}
 use Rattle.ci_isa.specs.declared.instruction.Insn.{Insn}
 use Rattle.ci_isa.specs.Effects.{class_of}
-use Rattle.ci_lat.specs.Latencies.{Latencies, IsLatencyTable}
+use Rattle.ci_lat.specs.Latencies.{Latencies}
+use Rattle.ci_lat.specs.TableRules.{IsLatencyTable}
 use Rattle.ci_cut.specs.declared.graph.Source.TheVariants.{Made}
 use Rattle.ci_cut.specs.declared.graph.Node.{Node}
-use Rattle.ci_cut.specs.FlowGraph.{IsFlowGraph, node_at, no_node, is_source}
+use Rattle.ci_cut.specs.FlowGraph.{node_at, no_node, is_source}
+use Rattle.ci_cut.specs.GraphRules.{IsFlowGraph}
 use Rattle.ci_isa.specs.Sequences.{nth_insn}
 use Rattle.ci_dfg.specs.BlockGraph.{has_arc_into, node_of, graph_of}
 use Rattle.ci_dfg.proofs.KindLaws as kinds

@@ -19,7 +19,7 @@ use Rattle.ci_isa.specs.Decoding.{condition_at, load_at, width_at, immediate_at,
 use Rattle.ci_isa.specs.Decoding.{branch_row, load_row, store_row, immediate_row, shift_row, constant_row}
 use Rattle.ci_isa.specs.Decoding.{operation_row, fence_row, environment_row, unit_row, hidden_row, plain_row}
 use Rattle.ci_isa.specs.Decoding.{extended_row}
-use Rattle.ci_isa.proofs.Found.{in_extended}
+use Rattle.ci_isa.proofs.RowSoundness.{in_extended}
 
 -- ---- each code has one meaning
 

@@ -7,10 +7,11 @@ use Rattle.ci_isa.specs.Effects.{ends_block}
 use Rattle.ci_machine.specs.declared.ends.End.{End}
 use Rattle.ci_machine.specs.Cores.{Core}
 use Rattle.ci_machine.specs.Outcomes.{Reached, from_end, continued}
-use Rattle.ci_machine.specs.Actions.{Units, act, acted}
+use Rattle.ci_machine.specs.Actions.{Units, act}
+use Rattle.ci_machine.specs.Agreement.{acted}
 use Rattle.ci_machine.specs.Agreement.{reads, writes, act_all, AreRelated, LeavesText, AreActions, AllLeaveText, needed}
 use Rattle.ci_machine.proofs.TestLaws.{by_end, neither_first, neither_second}
-use Rattle.ci_machine.proofs.Effects.{frame}
+use Rattle.ci_machine.proofs.InstructionFrame.{frame}
 
 -- ---- relations
 

@@ -1,4 +1,4 @@
--- What is known of the heap, the second part.
+-- Where the heap lies, and up to which addresses it may grow.
 use Rattle.std.proofs.Common.{◌≡◌, ℕ, ◌+◌, ◌-◌, ◌*◌, ◌/◌, ◌<◌, ◌≤◌, List, [], ◌∷◌, length, get_or, set, sym, subst}
 use Rattle.std.proofs.Common.{arith, Bool, true, false, ◌^◌, ◌∙◌, refl, cond, leb, ◌&&◌, ◌||◌}
 use Rattle.std.proofs.lemmas.Bool.Decides.{nat_tests}
