@@ -4,7 +4,7 @@ use Rattle.ci_io.specs.Outcomes.{Files}
 use Rattle.ci_lat.proofs.FaultLaws.{table_or_fault}
 use Rattle.ci_calls.specs.declared.refusals.Refusal.{Refusal}
 use Rattle.ci_calls.specs.declared.refusals.Refusal.TheVariants.{BadElf, BadTable, BadAsm}
-use Rattle.ci_calls.specs.Forms.{Form, any_bytes, assembler_text, executable_file, latency_table, IsWellFormed, IsMalformed}
+use Rattle.ci_calls.specs.Forms.{Form, assembler_text, executable_file, latency_table, IsWellFormed, IsMalformed}
 use Rattle.ci_calls.specs.Inputs.{Input, IsGood, AreRead, IsRefusedFile, absent, too_large, malformed, IsFileRefusal}
 use Rattle.ci_calls.specs.Refusals.{status_of}
 use Rattle.ci_calls.proofs.FormLaws.{text_or_fault, kept_or_broken}

@@ -1,10 +1,10 @@
 -- Files written one after the other.
-use Rattle.std.proofs.Common.{◌≡◌, ◌∙◌, ℕ, ◌+◌, ◌<◌, List, [], ◌∷◌, ◌++◌, length, map, take, drop, Option, Some, None, String, refl, sym, ap, subst, append_assoc}
+use Rattle.std.proofs.Common.{◌≡◌, ◌∙◌, ℕ, ◌+◌, ◌<◌, List, [], ◌∷◌, ◌++◌, length, take, drop, Option, Some, None, String, refl, sym, ap, subst, append_assoc}
 use Rattle.std.specs.Option.{option_map}
 use Rattle.std.specs.String.{string_bytes}
 use Rattle.std.specs.Prelude.{slice_index_or}
 use Rattle.std.specs.declared.alloc.Global.{Global}
-use Rattle.std.proofs.lemmas.List.{map-append, take_more, take-append-drop}
+use Rattle.std.proofs.lemmas.List.{take_more, take-append-drop}
 use Rattle.ci_io.specs.Outcomes.{Files, Rises, ShelfState, with_file}
 use Rattle.ci_calls.specs.declared.refusals.Refusal.{Refusal}
 use Rattle.ci_calls.specs.declared.refusals.Refusal.TheVariants.{Write}

@@ -1,5 +1,5 @@
 -- For every reader: what a success leaves.
-use Rattle.std.specs.Prelude.{ℕ, List, [], ◌∷◌, Some}
+use Rattle.std.specs.Prelude.{List, [], ◌∷◌, Some}
 use Rattle.ci_io.specs.Outcomes.{Files, with_file}
 use Rattle.ci_calls.specs.declared.success.Written.{Written}
 

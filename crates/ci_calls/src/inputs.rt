@@ -62,7 +62,7 @@ pub fn read_image<'a, F: Shelf>(
     ensures no_write { (F.state shelf.new).write_faults ≡ (F.state shelf.old).write_faults }
 {
     let bytes = read_file(alloc, name, EXECUTABLE_LIMIT, shelf)?;
-    let image = ci_elf::read(alloc, bytes.as_slice())?;
+    let image = ci_elf::read_vec(alloc, bytes)?;
     Ok(image)
 }
 

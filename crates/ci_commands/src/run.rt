@@ -51,28 +51,28 @@ pub fn evaluate<'a, F: Shelf>(
     let image = read_image(alloc, file, shelf)?;
     let table = read_table(alloc, settings.table, shelf)?;
     let input = read_input(alloc, settings.input, shelf)?;
-    let text = run_text(alloc, &image, &table, input.as_slice(), settings.steps)?;
+    let text = run_text(alloc, &image, &table, input, settings.steps)?;
     Ok(Success {
         writes: Vec::new(alloc),
         text,
     })
 }
 
-/// The output and the end line of the run.
+/// The output of the run, and behind it the end line.
 fn run_text(
     alloc: Global,
     image: &Image,
     table: &Table,
-    input: &[u8],
+    input: Vec<u8>,
     steps: u64,
 ) -> Result<Vec<u8>, AllocError>
     requires { steps ≤ 4294967296 }
-    ensures { IfOk result (λ text. IsRunText image.now table.now input.now steps text.items) }
+    ensures { IfOk result (λ text. IsRunText image.now table.now input.items steps text.items) }
 {
-    let mut state = State::start(alloc, image, input)?;
+    let mut state = State::start_on(alloc, image, input)?;
     let profile = ci_emu::run(alloc, &mut state, table, steps)?;
     let line = end_line(alloc, &profile)?;
-    let mut text = Vec::from_slice(alloc, state.output())?;
+    let mut text = state.into_output();
     text.extend_from_slice(line.as_bytes())?;
     Ok(text)
 }

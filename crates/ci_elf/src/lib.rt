@@ -14,7 +14,7 @@ pub use frames::frame;
 pub use image::Image;
 pub use places::Places;
 pub use ranges::{Range, range_with};
-pub use reading::read;
+pub use reading::{read, read_vec};
 pub use segments::Segment;
 
 mod coverage;

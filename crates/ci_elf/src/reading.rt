@@ -80,19 +80,31 @@ fn checked_ranges(alloc: Global, bytes: &[u8]) -> Result<Vec<Range>, ElfFault>
     Ok(ranges)
 }
 
-/// The image of an executable file.
+/// The image of an executable file, of which the image holds a copy.
 ///
 /// Errors: the fault of the first rule that the file breaks, or `NoMemory`.
 pub fn read(alloc: Global, bytes: &[u8]) -> Result<Image, ElfFault>
     requires { length bytes.now ≤ 268435456 }
     ensures { IsReadAs bytes.now result }
 {
-    check_headers(bytes)?;
-    let segments = check_loading(alloc, bytes)?;
-    check_texts(alloc, bytes, &segments)?;
-    let ranges = checked_ranges(alloc, bytes)?;
-    let symbols = symbol_values(alloc, bytes)?;
     let copy = Vec::from_slice(alloc, bytes)?;
-    let image = Image::new(alloc, copy, entry(bytes), segments, ranges, symbols)?;
+    read_vec(alloc, copy)
+}
+
+/// The image of an executable file, whose bytes become the image's own.
+///
+/// Errors: the fault of the first rule that the file breaks, or `NoMemory`.
+pub fn read_vec(alloc: Global, bytes: Vec<u8>) -> Result<Image, ElfFault>
+    requires { length bytes.items ≤ 268435456 }
+    ensures { IsReadAs bytes.items result }
+{
+    let file = bytes.as_slice();
+    check_headers(file)?;
+    let segments = check_loading(alloc, file)?;
+    check_texts(alloc, file, &segments)?;
+    let ranges = checked_ranges(alloc, file)?;
+    let symbols = symbol_values(alloc, file)?;
+    let entry = entry(file);
+    let image = Image::new(alloc, bytes, entry, segments, ranges, symbols)?;
     Ok(image)
 }

@@ -1,5 +1,5 @@
 -- What `best` makes by limits is what it makes by the settings that say these limits.
-use Rattle.std.proofs.Common.{◌≡◌, ℕ, List, Option, Result, Ok, Err, IfOk, refl}
+use Rattle.std.proofs.Common.{◌≡◌, ℕ, List, Option, Result, Ok, Err, IfOk}
 use Rattle.ci_io.specs.Outcomes.{Files}
 use Rattle.ci_cut.specs.declared.graph.Limits.{Limits}
 use Rattle.ci_words.specs.Words.{Settings, best}

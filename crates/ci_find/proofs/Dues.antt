@@ -1,5 +1,5 @@
 -- What is due to the words over the files that a shelf tells: one status.
-use Rattle.std.proofs.Common.{◌≡◌, ℕ, ◌⊎◌, inl, inr, List, Some, refl, sym, ap, subst, ◌∙◌}
+use Rattle.std.proofs.Common.{◌≡◌, ℕ, ◌⊎◌, inl, inr, List, Some, sym, subst, ◌∙◌}
 use Rattle.ci_io.specs.Outcomes.{Files}
 use Rattle.ci_words.specs.Words.{Reading, ReadsAs, HasNoReading, best, asm, dis, run, blocks}
 use Rattle.ci_words.proofs.Readings.{one_reading}

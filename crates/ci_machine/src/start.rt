@@ -123,6 +123,15 @@ impl State {
         ensures state { IfOk result (λ state. state_of state ≡ opening image.now input.now) }
         ensures program { IfOk result (λ state. program_of state ≡ loaded_program image.now) }
     {
+        let copy = Vec::from_slice(alloc, input)?;
+        State::start_on(alloc, image, copy)
+    }
+
+    /// The same state, whose input becomes the state's own.
+    pub fn start_on(alloc: Global, image: &Image, input: Vec<u8>) -> Result<State, AllocError>
+        ensures state { IfOk result (λ state. state_of state ≡ opening image.now input.items) }
+        ensures program { IfOk result (λ state. program_of state ≡ loaded_program image.now) }
+    {
         let mut registers = [0; REGISTERS];
         registers[STACK_POINTER] = STACK_TOP;
         Ok(State {
@@ -130,7 +139,7 @@ impl State {
             registers,
             memory: opening_memory(alloc, image)?,
             text: Places::new(alloc, image.ranges())?,
-            input: Vec::from_slice(alloc, input)?,
+            input,
             read: 0,
             output: Vec::new(alloc),
         })

@@ -107,6 +107,13 @@ impl State {
         &self.output
     }
 
+    /// The bytes that were written to the output, without a copy.
+    pub fn into_output(self) -> Vec<u8>
+        ensures { result.items ≡ (state_of self).core.output }
+    {
+        self.output
+    }
+
     /// The ranges of the text.
     pub fn text(&self) -> &[Range]
         ensures value { result.now ≡ (program_of self.now).text }

@@ -41,7 +41,7 @@ returns-clause-made g c =
     let input = c.in_ok-input.ensures in
     let tables = optional_input table_input (name_in c.args.settings.now.table) in
     let inputs = optional_input program_input (name_in c.args.settings.now.input) in
-    let text = rw (c.as_slice.ensures.value, input.read.3) at c.in_ok-text.ensures in
+    let text = rw input.read.3 at c.in_ok-text.ensures in
     record {
       read = image.read.0 ∷ (optional_bytes table.read.0 ++ optional_bytes input.read.0);
       files = (

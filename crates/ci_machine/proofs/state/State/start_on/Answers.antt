@@ -3,7 +3,7 @@ use Rattle.std.proofs.lemmas.Bool.Decides.{nat_tests}
 use Rattle.ci_elf.specs.Executables.{IsAscending}
 use Rattle.ci_machine.specs.States.{state_of, core_of}
 use Rattle.ci_machine.proofs.PartLaws.{passed}
-use Rattle.ci_machine.proofs.state.State.start.Goals as goal
+use Rattle.ci_machine.proofs.state.State.start_on.Goals as goal
 
 zeros_at : (n k : ℕ) → ◌≡◌ {A = ℕ} (get_or (replicate n 0) k 0) 0
 zeros_at zero k = refl
@@ -29,7 +29,7 @@ returns-clause-state c = λ k. record {
     registers = λ r. registers_at 0x7ffffff0 r k;
     memory = c.in_ok-opening_memory.ensures.bytes k;
     heap_end = c.in_ok-opening_memory.ensures.heap k;
-    input = c.in_ok-from_slice.ensures.items k;
+    input = c.args.input.items;
     output = c.new-2.ensures.items k;
   };
 }
