@@ -8,7 +8,7 @@ use Rattle.std.specs.Ordering.{nat_cmp, eq_by_cmp}
 use Rattle.std.proofs.lemmas.List.Elements.{Contains-append_right}
 use Rattle.ci_io.specs.Outcomes.{Files, with_file}
 use Rattle.ci_calls.specs.declared.success.Written.{Written}
-use Rattle.ci_calls.specs.Success.{with_files}
+use Rattle.ci_calls.specs.Finishing.{with_files}
 
 -- a name has the content that was put there, or what it had
 pub with_file-get : (name : List ℕ) (content : Option (List ℕ)) (files : Files) (other : List ℕ)

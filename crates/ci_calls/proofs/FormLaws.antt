@@ -5,7 +5,7 @@ use Rattle.ci_asm.proofs.Promises.{no_fault}
 use Rattle.ci_elf.specs.declared.faults.ElfFault.{ElfFault}
 use Rattle.ci_reading.specs.Broken.{IsFirstBroken}
 use Rattle.ci_elf.specs.Rules.{Holds, rules, KeepsRules, BreaksFirst}
-use Rattle.ci_calls.specs.Texts.{IsText, IsBadText}
+use Rattle.ci_calls.specs.Forms.{IsText, IsBadText}
 
 -- a text that assembles has no fault
 pub text_or_fault : (bytes words : List ℕ) (kind line column : ℕ) → IsText bytes words → IsBadText bytes kind line column → ⊥

@@ -22,6 +22,8 @@ IsAbsent-told None name none tells = absurd (tells refl)
 IsAbsent-told (Some held) name none tells = none
 
 -- the file that is longer than the limit, or some bytes where the shelf tells none
-pub longer_told : (told : Option Files) (name : List ℕ) (limit : ℕ) → IfSome told (λ held. IsSomeAnd (map.get held name) (λ bytes. limit < length bytes)) → (bytes : List ℕ) × MayHold told name bytes × (limit < length bytes)
+pub longer_told : (told : Option Files) (name : List ℕ) (limit : ℕ)
+    → IfSome told (λ held. IsSomeAnd (map.get held name) (λ bytes. limit < length bytes))
+    → (bytes : List ℕ) × MayHold told name bytes × (limit < length bytes)
 longer_told None name limit longer = (replicate (limit + 1) 0, tt, omega (arith, length-replicate {A = ℕ} (limit + 1) 0))
 longer_told (Some held) name limit longer = some_and (map.get held name) (λ bytes. limit < length bytes) longer

@@ -15,7 +15,7 @@ use Rattle.ci_calls.specs.declared.finishing.WriteErr.TheVariants.{Fault, NoMemo
 use Rattle.ci_calls.specs.Finishing.{Change, IsPut, AreWritten, HasWritten, Finishes, done, write_fault, put_fault, no_memory_in_write, no_memory_in_put}
 use Rattle.ci_calls.specs.Finish.{AreUnwritten, IsTextPut, taken, fault, no_memory}
 use Rattle.ci_calls.specs.Refusals.{status_of, line_of}
-use Rattle.ci_calls.specs.Success.{with_files}
+use Rattle.ci_calls.specs.Finishing.{with_files}
 use Rattle.ci_calls.proofs.Counts.{Rises-later}
 
 -- some files and then others
@@ -24,7 +24,8 @@ with_files-append [] others files = refl
 with_files-append (file ∷ front) others files = with_files-append front others (with_file file.name.now (Some file.bytes.items) files)
 
 -- what was made of the files in two steps
-in_two : (before between after : Option Files) (first second : Files → Files) → between ≡ option_map first before → after ≡ option_map second between → after ≡ option_map (λ files. second (first files)) before
+in_two : (before between after : Option Files) (first second : Files → Files) → between ≡ option_map first before
+    → after ≡ option_map second between → after ≡ option_map (λ files. second (first files)) before
 in_two None between after first second one two = two ∙ ap (option_map second) one
 in_two (Some files) between after first second one two = two ∙ ap (option_map second) one
 
@@ -37,12 +38,15 @@ none_written before = same before.files
     same (Some files) = refl
 
 -- one file more
-pub AreWritten-more : (before between after : ShelfState) (front : List Written) (file : Written) → AreWritten before between front → AreWritten between after (file ∷ []) → AreWritten before after (front ++ file ∷ [])
+pub AreWritten-more : (before between after : ShelfState) (front : List Written) (file : Written)
+    → AreWritten before between front → AreWritten between after (file ∷ [])
+    → AreWritten before after (front ++ file ∷ [])
 AreWritten-more before between after front file one two =
     in_two before.files between.files after.files (with_files front) (with_files (file ∷ [])) one two
     ∙ same before.files
   where
-    same : (files : Option Files) → option_map (λ held. with_files (file ∷ []) (with_files front held)) files ≡ option_map (with_files (front ++ file ∷ [])) files
+    same : (files : Option Files) → option_map (λ held. with_files (file ∷ []) (with_files front held)) files
+        ≡ option_map (with_files (front ++ file ∷ [])) files
     same None = refl
     same (Some files) = ap Some (sym (with_files-append front (file ∷ []) files))
 
@@ -123,7 +127,8 @@ Finishes-no_memory change success status unwritten is put =
 -- ---- a call that began with reads
 
 -- What holds of a shelf holds of another with the same files and the same count of writes that failed.
-module _ (change : Change) (before : ShelfState) (same_files : change.shelf_before.files ≡ before.files) (same_count : change.shelf_before.write_faults ≡ before.write_faults) where
+module _ (change : Change) (before : ShelfState) (same_files : change.shelf_before.files ≡ before.files)
+    (same_count : change.shelf_before.write_faults ≡ before.write_faults) where
   abbrev earlier : Change
   earlier = record change { shelf_before = before }
 

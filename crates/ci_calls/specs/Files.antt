@@ -1,12 +1,10 @@
 -- For every reader: the files that several commands read, also those that an option may name, each with its limit and
 -- its form.
 use Rattle.std.specs.Prelude.{◌≡◌, ℕ, List, [], ◌∷◌, Option, Some, None, is_some, unwrap_or}
-use Rattle.std.specs.Option.{option_map}
 use Rattle.ci_lat.specs.Latencies.{Latencies, usual}
 use Rattle.ci_lat.specs.Faults.{AreTable}
 use Rattle.ci_calls.specs.Forms.{any_bytes, executable_file, latency_table}
 use Rattle.ci_calls.specs.Inputs.{Input}
-use Rattle.ci_calls.specs.Refusals.{Name}
 
 abbrev pub executable_input : List ℕ → Input
 executable_input name = record { name = name; limit = 16777216; form = executable_file }
@@ -19,10 +17,6 @@ abbrev pub program_input : List ℕ → Input
 program_input name = record { name = name; limit = 16777216; form = any_bytes }
 
 -- ---- files that an option names, where it is given
-
--- the name, if there is one
-abbrev pub name_in : Option Name → Option (List ℕ)
-name_in name = option_map (λ name. name.now) name
 
 -- the file that is read, if there is one
 abbrev pub optional_input : (List ℕ → Input) → Option (List ℕ) → List Input

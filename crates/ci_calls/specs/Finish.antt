@@ -17,7 +17,8 @@ IsRefused refusal status before after =
     ((status ≡ status_of refusal) × IsPut before after (line_of refusal))
     ⊎ ((status ≡ status_of NoMemory) × IsPut before after (line_of NoMemory))
 
--- Why a file was not written: its write failed, and this is the refusal that names it, with its fault line; or memory ran out.
+-- Why a file was not written: its write failed, and this is the refusal that names it, with its fault line; or memory
+-- ran out.
 abbrev pub IsUnwrittenFile : (List ℕ → Bool) → Written → ShelfState → ShelfState → WriteErr → Type 0
 IsUnwrittenFile may_fail file before after (unwritten.Fault refusal line) =
     (content : Option (List ℕ)) × (after.files ≡ option_map (with_file file.name.now content) before.files)

@@ -1,12 +1,11 @@
 -- For every reader: what a call changes, and how a success ends, by its status.
-use Rattle.std.specs.Prelude.{◌≡◌, ◌≢◌, ℕ, ◌≤◌, ◌⊎◌, Bool, IsTrue, List, [], ◌∷◌, ◌++◌, Option, take}
+use Rattle.std.specs.Prelude.{◌≡◌, ◌≢◌, ℕ, ◌≤◌, ◌⊎◌, Bool, IsTrue, List, [], ◌∷◌, ◌++◌, Option, Some, take}
 use Rattle.std.specs.Option.{option_map}
-use Rattle.ci_io.specs.Outcomes.{Rises, ShelfState, SinkState, with_file}
+use Rattle.ci_io.specs.Outcomes.{Files, Rises, ShelfState, SinkState, with_file}
 use Rattle.ci_calls.specs.declared.refusals.Refusal.TheVariants.{Write, Put, NoMemory}
 use Rattle.ci_calls.specs.declared.success.Success.{Success}
 use Rattle.ci_calls.specs.declared.success.Written.{Written}
 use Rattle.ci_calls.specs.Refusals.{status_of, line_of}
-use Rattle.ci_calls.specs.Success.{with_files}
 
 -- ---- what a call changes
 
@@ -54,6 +53,11 @@ pub record IsPut (before after : SinkState) (text : List ℕ) : Type 0 where
 pub record IsUnwritten (change : Change) : Type 0 where
   pub same_files : change.shelf_after.files ≡ change.shelf_before.files
   pub same_count : change.shelf_after.write_faults ≡ change.shelf_before.write_faults
+
+-- the files once these were written, one after the other
+abbrev pub with_files : List Written → Files → Files
+with_files [] files = files
+with_files (written ∷ writes) files = with_files writes (with_file written.name.now (Some written.bytes.items) files)
 
 -- these files were written, in order, and nothing else
 abbrev pub AreWritten : ShelfState → ShelfState → List Written → Type 0
@@ -114,7 +118,8 @@ pub record IsMemoryFaultInPut (change : Change) (success : Success) : Type 0 whe
 -- out of memory.
 pub data Finishes (change : Change) (success : Success) : ℕ → Type 0 where
   done :
-      HasWritten change success.writes.items → Takes change.sink_before change.sink_after success.text.items → Finishes change success 0
+      HasWritten change success.writes.items → Takes change.sink_before change.sink_after success.text.items
+      → Finishes change success 0
   write_fault :
       (fault : IsWriteFault change success.writes.items) → Finishes change success (status_of (Write fault.failed.name))
   put_fault : IsPutFault change success → Finishes change success (status_of Put)

@@ -1,11 +1,26 @@
 -- For every reader: what the bytes of a file have to be, a form for each kind of file.
-use Rattle.std.specs.Prelude.{ℕ, ⊤, List}
+use Rattle.std.specs.Prelude.{◌≡◌, ℕ, ⊤, ◌⊎◌, List, IsUtf8}
+use Rattle.ci_asm.specs.Assembly.{IsAssembly, HasFault}
 use Rattle.ci_elf.specs.Rules.{rules, KeepsRules, BreaksFirst}
 use Rattle.ci_lat.specs.Latencies.{Latencies}
 use Rattle.ci_lat.specs.Faults.{AreTable, HaveFault}
 use Rattle.ci_calls.specs.declared.refusals.Refusal.{Refusal}
 use Rattle.ci_calls.specs.declared.refusals.Refusal.TheVariants.{BadElf, BadTable, BadAsm}
-use Rattle.ci_calls.specs.Texts.{IsText, IsBadText}
+
+-- ---- assembler texts as bytes
+
+-- the bytes are a text in UTF-8 that assembles to these words
+pub record IsText (bytes words : List ℕ) : Type 0 where
+  pub encoded : IsUtf8 bytes
+  pub assembles : IsAssembly bytes words
+
+-- The first fault of the bytes of a text. Where they are not UTF-8 it is of kind 1, at the first column of the first
+-- line.
+abbrev pub IsBadText : List ℕ → ℕ → ℕ → ℕ → Type 0
+IsBadText bytes kind line column =
+    (¬ (IsUtf8 bytes) × (kind ≡ 1) × (line ≡ 1) × (column ≡ 1)) ⊎ (IsUtf8 bytes × HasFault bytes kind line column)
+
+-- ---- forms
 
 pub data Form : Type 0 where
   any_bytes : Form

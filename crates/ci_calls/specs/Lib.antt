@@ -1,9 +1,7 @@
 pub mod Refusals
-pub mod Texts
 pub mod Forms
 pub mod Inputs
 pub mod Files
-pub mod Success
 pub mod Evaluations
 pub mod Finishing
 pub mod Refused

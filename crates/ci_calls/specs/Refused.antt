@@ -1,5 +1,6 @@
 -- For the contracts of commands: why a command makes nothing.
-use Rattle.std.specs.Prelude.{◌≡◌, ℕ, ◌⊎◌, Bool, IsTrue, List}
+use Rattle.std.specs.Prelude.{◌≡◌, ℕ, ◌⊎◌, Bool, IsTrue, List, Option}
+use Rattle.std.specs.Option.{option_map}
 use Rattle.ci_io.specs.Outcomes.{Rises, ShelfState}
 use Rattle.ci_asm.specs.declared.faults.AsmFault.{AsmFault}
 use Rattle.ci_asm.specs.declared.faults.AsmFault.TheVariants as assembly
@@ -11,6 +12,10 @@ use Rattle.ci_calls.specs.declared.refusals.Refusal.{Refusal}
 use Rattle.ci_calls.specs.declared.refusals.Refusal.TheVariants.{Read, BadElf, BadTable, NoMemory, BadAsm}
 use Rattle.ci_calls.specs.Inputs.{Input, AreRead, IsFileRefusal, IsDueName}
 use Rattle.ci_calls.specs.Refusals.{Name}
+
+-- the name, if there is one
+abbrev pub name_in : Option Name → Option (List ℕ)
+name_in name = option_map (λ name. name.now) name
 
 -- the refusal of a file that is no executable, or for which memory ran out
 abbrev pub elf_refusal : ElfFault → Refusal

@@ -2,10 +2,11 @@
 ghost use Rattle.std.specs.Prelude.{◌≡◌, ◌≤◌, ◌∷◌, ◌++◌, ℕ, List, Option, IfOk, IfErr, length};
 ghost use Rattle.ci_elf.specs.Executables.{IsImageOf};
 ghost use Rattle.ci_lat.specs.Faults.{AreTable};
-ghost use Rattle.ci_calls.specs.Files.{executable_input, table_input, program_input, optional_input, optional_bytes, name_in, AreGiven, AreLatencies, input_bytes};
+ghost use Rattle.ci_calls.specs.Files.{executable_input, table_input, program_input, optional_input, optional_bytes};
+ghost use Rattle.ci_calls.specs.Files.{AreGiven, AreLatencies, input_bytes};
+ghost use Rattle.ci_calls.specs.Refused.{name_in, AreUnread};
 ghost use Rattle.ci_calls.specs.Forms.{Form};
 ghost use Rattle.ci_calls.specs.Inputs.{Input, MayHold, IsGood, AreRead};
-ghost use Rattle.ci_calls.specs.Refused.{AreUnread};
 
 use crate::refusals::Refusal;
 use ci_elf::Image;
@@ -33,7 +34,8 @@ pub fn read_file<'a, F: Shelf>(
     ensures within_limit { IfOk result (λ bytes. length bytes.items ≤ limit) }
     // Whatever form the file has, and whatever files come after it.
     ensures refused { IfErr result (λ refusal. (form : Form) (others : List Input) → AreUnread F.read_may_fail
-        (F.state shelf.old) (F.state shelf.new) (record { name = name.now; limit = limit; form = form } ∷ others) refusal) }
+        (F.state shelf.old) (F.state shelf.new)
+        (record { name = name.now; limit = limit; form = form } ∷ others) refusal) }
     ensures never_falls { (F.state shelf.old).read_faults ≤ (F.state shelf.new).read_faults }
     ensures files_stay { (F.state shelf.new).files ≡ (F.state shelf.old).files }
     ensures no_write { (F.state shelf.new).write_faults ≡ (F.state shelf.old).write_faults }

@@ -3,7 +3,8 @@ ghost use Rattle.std.specs.Prelude.{◌≡◌, ◌++◌, IfOk, OnOk};
 ghost use Rattle.std.specs.String.{string_bytes};
 ghost use Rattle.ci_calls.specs.Finishing.{IsPut};
 ghost use Rattle.ci_calls.specs.Finish.{IsRefused};
-ghost use Rattle.ci_calls.specs.Refusals.{elf_fault_numbers, elf_text, line_of, numbers_text, status_of, table_text, text_of, unsupported_text};
+ghost use Rattle.ci_calls.specs.Refusals.{elf_fault_numbers, elf_text, line_of, numbers_text, status_of, table_text};
+ghost use Rattle.ci_calls.specs.Refusals.{text_of, unsupported_text};
 
 use ci_asm::AsmFault;
 use ci_elf::ElfFault;

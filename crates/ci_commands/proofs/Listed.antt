@@ -8,7 +8,8 @@ use Rattle.ci_commands.specs.DisCommand.{IsTextOf, IsListing, listed}
 use Rattle.ci_reading.proofs.ByteLaws.{length-words_of_bytes}
 
 -- one line more, for one word more
-pub IsListing-push : (words : List ℕ) (text : List ℕ) (word : ℕ) (shown : List ℕ) → IsListing words text → IsTextOf word shown → IsListing (words ++ word ∷ []) (text ++ listed word shown)
+pub IsListing-push : (words : List ℕ) (text : List ℕ) (word : ℕ) (shown : List ℕ) → IsListing words text
+    → IsTextOf word shown → IsListing (words ++ word ∷ []) (text ++ listed word shown)
 IsListing-push [] text word shown none is =
     (shown, [], is, refl, ap (λ front. front ++ listed word shown) none ∙ sym (append-nil (listed word shown)))
 IsListing-push (first ∷ words) text word shown (front, rest, is_front, others, joined) is = (
@@ -20,7 +21,9 @@ IsListing-push (first ∷ words) text word shown (front, rest, is_front, others,
 )
 
 -- the listing of the words up to a place, and of the word there
-pub listing_more : (words : List ℕ) (place word : ℕ) (text after shown : List ℕ) → slice_get words place ≡ Some word → IsListing (take place words) text → IsTextOf word shown → after ≡ text ++ listed word shown → IsListing (take (place + 1) words) after
+pub listing_more : (words : List ℕ) (place word : ℕ) (text after shown : List ℕ) → slice_get words place ≡ Some word
+    → IsListing (take place words) text → IsTextOf word shown → after ≡ text ++ listed word shown
+    → IsListing (take (place + 1) words) after
 listing_more words place word text after shown there before is joined =
     subst (λ text. IsListing (take (place + 1) words) text) (sym joined)
     (subst (λ words. IsListing words (text ++ listed word shown)) (sym grown) (IsListing-push (take place words) text word shown before is))
@@ -31,6 +34,7 @@ listing_more words place word text after shown there before is joined =
         ∙ ap (λ w. take place words ++ (w ∷ [])) (get_or_from_slice_get words place word 0 there)
 
 -- the listing of the words up to the last is that of all
-pub listing_all : (bytes : List ℕ) (place : ℕ) (text : List ℕ) → length bytes / 4 ≤ place → IsListing (take place (words_of_bytes bytes)) text → IsListing (words_of_bytes bytes) text
+pub listing_all : (bytes : List ℕ) (place : ℕ) (text : List ℕ) → length bytes / 4 ≤ place
+    → IsListing (take place (words_of_bytes bytes)) text → IsListing (words_of_bytes bytes) text
 listing_all bytes place text all before =
     subst (λ words. IsListing words text) (take_all place (words_of_bytes bytes) (rw length-words_of_bytes all)) before

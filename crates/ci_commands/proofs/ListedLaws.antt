@@ -29,10 +29,12 @@ module _ {X Y : Type 0} (f : X → Y) where
 
 -- ---- the block at an address
 
-module _ (file : Executable) (named : List ℕ) (address : ℕ) (blocks : List Block) (sets : Sets) (no_custom : HasNoCustomWord file) (analysis : IsAnalysis file [] named blocks sets) where
+module _ (file : Executable) (named : List ℕ) (address : ℕ) (blocks : List Block) (sets : Sets)
+    (no_custom : HasNoCustomWord file) (analysis : IsAnalysis file [] named blocks sets) where
   -- the block that begins there
   module _ (block : Block) (there : Contains blocks block) (leader : block.leader ≡ address) where
-    pub listed : (insns : List Insn) (live_out : set.FinSet nat_cmp) → insns ≡ block.insns.items → live_out ≡ after_block sets address → IsListedBlock file named address insns live_out
+    pub listed : (insns : List Insn) (live_out : set.FinSet nat_cmp) → insns ≡ block.insns.items
+        → live_out ≡ after_block sets address → IsListedBlock file named address insns live_out
     listed insns live_out insns_are live_out_is = record {
       no_custom = no_custom;
       blocks = blocks;
@@ -51,10 +53,12 @@ module _ (file : Executable) (named : List ℕ) (address : ℕ) (blocks : List B
 
     -- the live sets know it
     pub known : Contains sets.leaders address
-    known = subst (λ leaders. Contains leaders address) analysis.live.leaders (subst (Contains (map (λ b. b.leader) blocks)) leader (mapped_there (λ b. b.leader) blocks block there))
+    known = subst (λ leaders. Contains leaders address) analysis.live.leaders
+        (subst (Contains (map (λ b. b.leader) blocks)) leader (mapped_there (λ b. b.leader) blocks block there))
 
   -- no block begins there
   pub unlisted : ((block : Block) → Contains blocks block → block.leader ≢ address) → IsNoListedBlock file named address address 0
   unlisted none = no_leader analysis.leaders no_custom analysis.listing (λ there.
-      let found = mapped_from (λ (b : Block). b.leader) blocks address (subst (λ leaders. Contains leaders address) (sym analysis.blocks_are.by_leader) there) in
+      let found = mapped_from (λ (b : Block). b.leader) blocks address
+      (subst (λ leaders. Contains leaders address) (sym analysis.blocks_are.by_leader) there) in
       none found.0 found.1 found.2)

@@ -37,7 +37,8 @@ word_block_or_none bytes insns position word block (inr first) =
 -- ---- the words of an executable
 
 -- its text has a word of a custom opcode, or none
-custom_or_none : (bytes : List ℕ) (left right : Executable) (address word : ℕ) → IsImageOf bytes left → IsImageOf bytes right → HasNoCustomWord left → IsFirstCustomWord right address word → ⊥
+custom_or_none : (bytes : List ℕ) (left right : Executable) (address word : ℕ) → IsImageOf bytes left
+    → IsImageOf bytes right → HasNoCustomWord left → IsFirstCustomWord right address word → ⊥
 custom_or_none bytes left right address word l r none first =
     subst HasNoCustomWord (image_is_one bytes left right l r) none address first.text (subst HasCustomOpcode (sym first.there) first.custom)
 
@@ -45,21 +46,26 @@ custom_or_none bytes left right address word l r none first =
 
 module _ (file : Executable) (named : List ℕ) (address : ℕ) where
   -- the address of a block is a leader
-  leader_of : (insns : List Insn) (live_out : set.FinSet nat_cmp) (block : IsListedBlock file named address insns live_out) → Contains block.analysis.leaders address
+  leader_of : (insns : List Insn) (live_out : set.FinSet nat_cmp)
+      (block : IsListedBlock file named address insns live_out) → Contains block.analysis.leaders address
   leader_of insns live_out block =
       subst (λ leaders. Contains leaders address) block.analysis.blocks_are.by_leader
       (subst (Contains (map (λ b. b.leader) block.blocks)) block.leader (mapped_there (λ b. b.leader) block.blocks block.block block.there))
 
-  listed_block_or_none : (insns : List Insn) (live_out : set.FinSet nat_cmp) (position word : ℕ) → IsListedBlock file named address insns live_out → IsNoListedBlock file named address position word → ⊥
+  listed_block_or_none : (insns : List Insn) (live_out : set.FinSet nat_cmp) (position word : ℕ)
+      → IsListedBlock file named address insns live_out → IsNoListedBlock file named address position word → ⊥
   listed_block_or_none insns live_out position word block (custom_word first) =
       block.no_custom _ first.text (subst HasCustomOpcode (sym first.there) first.custom)
   listed_block_or_none insns live_out position word block (no_leader leaders no_custom listing unlisted) =
-      unlisted (subst (λ ls. Contains ls address) (listing_is_one file [] named block.analysis.leaders leaders block.analysis.listing listing) (leader_of insns live_out block))
+      unlisted (subst (λ ls. Contains ls address)
+      (listing_is_one file [] named block.analysis.leaders leaders block.analysis.listing listing)
+      (leader_of insns live_out block))
 
 -- ---- a block
 
 module _ (at : Option ℕ) (named bytes : List ℕ) where
-  held_or_none : (insns : List Insn) (live_out : set.FinSet nat_cmp) (position word : ℕ) → HoldsBlock at named bytes insns live_out → HoldsNoBlock at named bytes position word → ⊥
+  held_or_none : (insns : List Insn) (live_out : set.FinSet nat_cmp) (position word : ℕ)
+      → HoldsBlock at named bytes insns live_out → HoldsNoBlock at named bytes position word → ⊥
   held_or_none insns live_out position word block none = by_address at block none
     where
       by_address : (a : Option ℕ) → HoldsBlock a named bytes insns live_out → HoldsNoBlock a named bytes position word → ⊥

@@ -8,8 +8,7 @@ use Rattle.ci_machine.specs.Runs.{after, steps_made, cost}
 use Rattle.ci_emu.specs.declared.profile.Profile.{Profile}
 use Rattle.ci_emu.specs.Profiles.{IsProfileOf}
 use Rattle.ci_emu.specs.TableLatencies.{latencies_of}
-use Rattle.ci_commands.specs.Lines.{end_line}
-use Rattle.ci_commands.specs.RunCommand.{run_text}
+use Rattle.ci_commands.specs.RunCommand.{end_line, run_text}
 
 -- the output and the end line of a run from any state
 abbrev text_from : Meaning → Latencies → ℕ → Program → State → List ℕ
@@ -18,7 +17,8 @@ text_from meaning latencies steps program start =
     run.state.core.output
     ++ end_line run.end (steps_made meaning program steps start) (cost meaning program (latencies_of latencies) steps start)
 
-pub run_text_is : (meaning : Meaning) (file : Executable) (latencies : Latencies) (input : List ℕ) (steps : ℕ) (program : Program) (start last : State) (profile : Profile) (output line : List ℕ)
+pub run_text_is : (meaning : Meaning) (file : Executable) (latencies : Latencies) (input : List ℕ) (steps : ℕ)
+    (program : Program) (start last : State) (profile : Profile) (output line : List ℕ)
     → program ≡ loaded_program file → start ≡ opening file input
     → last ≡ (after meaning program steps start).state → IsProfileOf meaning program steps start (latencies_of latencies) profile
     → output ≡ last.core.output → line ≡ end_line profile.end profile.steps profile.cost

@@ -1,5 +1,6 @@
 -- The instructions of a block that words are, place by place.
-use Rattle.std.proofs.Common.{◌≡◌, ℕ, ◌+◌, ◌*◌, ◌/◌, ◌%◌, ◌<◌, inl, inr, List, [], ◌∷◌, ◌++◌, length, get_or, slice_get, Some, sym, ap, subst, ◌∙◌, arith, length-append}
+use Rattle.std.proofs.Common.{◌≡◌, ℕ, ◌+◌, ◌*◌, ◌/◌, ◌%◌, ◌<◌, inl, inr, List, [], ◌∷◌, ◌++◌, length, get_or, slice_get}
+use Rattle.std.proofs.Common.{Some, sym, ap, subst, ◌∙◌, arith, length-append}
 use Rattle.std.proofs.lemmas.Bool.{cases_lt}
 use Rattle.std.proofs.lemmas.Option.{get_or_from_slice_get}
 use Rattle.std.proofs.Math.ListN.{get_or-append}
@@ -31,8 +32,11 @@ module _ (bytes : List ℕ) where
             subst (IsInsnAt (get_or (words_of_bytes bytes) k 0)) (sym same) (read.each k d before)
         | inr after ↦
             let last : k ≡ place = omega arith in
-            let same : get_or (insns ++ insn ∷ []) k d ≡ insn = ap (λ i. get_or (insns ++ insn ∷ []) i d) (last ∙ sym read.count) ∙ get_or-append_seam insns insn [] d in
-            subst (IsInsnAt (get_or (words_of_bytes bytes) k 0)) (sym same) (subst (λ w. IsInsnAt w insn) (sym (ap (λ i. get_or (words_of_bytes bytes) i 0) last ∙ here)) reads)
+            let same : get_or (insns ++ insn ∷ []) k d ≡ insn =
+            ap (λ i. get_or (insns ++ insn ∷ []) i d) (last ∙ sym read.count)
+            ∙ get_or-append_seam insns insn [] d in
+            subst (IsInsnAt (get_or (words_of_bytes bytes) k 0)) (sym same)
+            (subst (λ w. IsInsnAt w insn) (sym (ap (λ i. get_or (words_of_bytes bytes) i 0) last ∙ here)) reads)
       ];
       placed = λ k below. elim (cases_lt k place) [
         | inl before ↦ read.placed k before
@@ -44,7 +48,8 @@ module _ (bytes : List ℕ) where
     }
 
     -- a word that can't stand at the place is the first
-    pub read_wrong : (position : ℕ) → length bytes % 4 ≡ 0 → position ≡ 4 * place → IsMisplaced (words_of_bytes bytes) place word → IsNoWordBlock bytes position word
+    pub read_wrong : (position : ℕ) → length bytes % 4 ≡ 0 → position ≡ 4 * place
+        → IsMisplaced (words_of_bytes bytes) place word → IsNoWordBlock bytes position word
     read_wrong position whole at misplaced = inr (record {
       whole_words = whole;
       place = place;

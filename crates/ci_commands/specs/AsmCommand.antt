@@ -3,9 +3,8 @@ use Rattle.std.specs.Prelude.{◌≡◌, ℕ, List, [], ◌∷◌}
 use Rattle.ci_reading.specs.Bytes.{bytes_of_words}
 use Rattle.ci_calls.specs.declared.success.Success.{Success}
 use Rattle.ci_calls.specs.declared.success.Written.{Written}
-use Rattle.ci_calls.specs.Forms.{assembler_text}
+use Rattle.ci_calls.specs.Forms.{assembler_text, IsText}
 use Rattle.ci_calls.specs.Inputs.{Input}
-use Rattle.ci_calls.specs.Texts.{IsText}
 
 -- the text
 abbrev pub asm_inputs : List ℕ → List Input

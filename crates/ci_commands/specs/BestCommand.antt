@@ -1,12 +1,19 @@
 -- For every reader: the command `best`, the best cut of a block, which is that of a file of words, or one of an
 -- executable file.
-use Rattle.std.specs.Prelude.{◌≡◌, ℕ, List, [], ◌∷◌, Option, Some, None}
+use Rattle.std.specs.Prelude.{◌≡◌, ℕ, Bool, List, [], ◌∷◌, ◌++◌, codes, Option, Some, None}
+use Rattle.std.specs.Fmt.{decimal, signed_decimal}
 use Rattle.std.specs.FinSet as set
 use Rattle.std.specs.Ordering.{nat_cmp}
+use Rattle.ci_reading.specs.Lines.{line}
+use Rattle.ci_word.specs.Members.{members_text}
 use Rattle.ci_isa.specs.declared.instruction.Insn.{Insn}
 use Rattle.ci_elf.specs.Executables.{Executable, IsImageOf}
 use Rattle.ci_lat.specs.Latencies.{Latencies}
 use Rattle.ci_cut.specs.declared.graph.Limits.{Limits}
+use Rattle.ci_cut.specs.FlowGraph.{FlowGraph}
+use Rattle.ci_cut.specs.Gain.{gain}
+use Rattle.ci_cut.specs.Best.{IsBest, HasNoCut}
+use Rattle.ci_cut.specs.Need.{NeedExceeds}
 use Rattle.ci_dfg.specs.BlockGraph.{graph_of}
 use Rattle.ci_calls.specs.declared.refusals.Refusal.{Refusal}
 use Rattle.ci_calls.specs.declared.success.Success.{Success}
@@ -14,7 +21,6 @@ use Rattle.ci_calls.specs.Evaluations.{IsUnsupported}
 use Rattle.ci_calls.specs.Files.{executable_input, table_input, optional_input, optional_bytes, AreGiven, AreLatencies}
 use Rattle.ci_calls.specs.Forms.{any_bytes}
 use Rattle.ci_calls.specs.Inputs.{Input}
-use Rattle.ci_commands.specs.Lines.{IsBestLine}
 use Rattle.ci_commands.specs.ListedBlocks.{IsListedBlock, IsNoListedBlock}
 use Rattle.ci_commands.specs.WordBlocks.{IsWordBlock, IsNoWordBlock, every_register}
 
@@ -36,6 +42,27 @@ abbrev pub HoldsNoBlock : Option ℕ → List ℕ → List ℕ → ℕ → ℕ �
 HoldsNoBlock None named bytes position word = IsNoWordBlock bytes position word
 HoldsNoBlock (Some address) named bytes position word =
     (file : Executable) × IsImageOf bytes file × IsNoListedBlock file named address position word
+
+-- ---- the line
+
+-- the members in ascending order, and the gain
+abbrev pub cut_line : FlowGraph → (ℕ → Bool) → List ℕ
+cut_line graph cut =
+    line (codes "cut" ++ members_text cut ++ codes " gain " ++ signed_decimal (gain graph cut))
+
+abbrev pub no_cut_line : List ℕ
+no_cut_line = line (codes "no cut")
+
+abbrev pub skipped_line : ℕ → List ℕ
+skipped_line budget = line (codes "skipped budget " ++ decimal budget)
+
+-- The line of the best cut, or that there is none; or, exactly where the need of the graph is greater than the budget,
+-- that the block is skipped.
+pub data IsBestLine (graph : FlowGraph) (limits : Limits) (budget : ℕ) : List ℕ → Type 0 where
+  cut_is_best : (cut : ℕ → Bool) → ¬ NeedExceeds graph limits budget → IsBest graph limits cut
+      → IsBestLine graph limits budget (cut_line graph cut)
+  no_cut : ¬ NeedExceeds graph limits budget → HasNoCut graph limits → IsBestLine graph limits budget no_cut_line
+  skipped : NeedExceeds graph limits budget → IsBestLine graph limits budget (skipped_line budget)
 
 -- ---- the command
 

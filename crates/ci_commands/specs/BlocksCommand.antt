@@ -1,4 +1,5 @@
--- For every reader: the command `blocks`, the basic blocks of an executable file, and the registers that are live where they begin.
+-- For every reader: the command `blocks`, the basic blocks of an executable file, and the registers that are live where
+-- they begin.
 use Rattle.std.specs.Prelude.{◌≡◌, ℕ, List, [], ◌∷◌, ◌++◌, codes}
 use Rattle.std.specs.Fmt.{decimal}
 use Rattle.std.specs.FinSet as set

@@ -4,7 +4,7 @@ use Rattle.ci_asm.specs.declared.faults.AsmFault.{AsmFault}
 use Rattle.ci_asm.specs.declared.faults.AsmFault.TheVariants as assembly
 use Rattle.ci_calls.specs.declared.refusals.Refusal.{Refusal}
 use Rattle.ci_calls.specs.declared.refusals.Refusal.TheVariants.{Unsupported, NoMemory}
-use Rattle.ci_calls.specs.Texts.{IsBadText}
+use Rattle.ci_calls.specs.Forms.{IsBadText}
 
 -- The position and the word that the refusal names have this property, or memory ran out.
 abbrev pub IsCause : (ℕ → ℕ → Type 0) → Refusal → Type 0

@@ -1,4 +1,3 @@
-pub mod Lines
 pub mod WordBlocks
 pub mod ListedBlocks
 pub mod BestCommand

@@ -1,15 +1,41 @@
 -- For every reader: the command `run`, the run of an executable file.
-use Rattle.std.specs.Prelude.{◌≡◌, ℕ, List, [], ◌∷◌, ◌++◌, Option}
+use Rattle.std.specs.Prelude.{◌≡◌, ℕ, List, [], ◌∷◌, ◌++◌, codes, Option, Some, None}
+use Rattle.std.specs.Fmt.{decimal}
+use Rattle.ci_reading.specs.Lines.{line}
+use Rattle.ci_reading.specs.Hex.{eight_hex_digits}
+use Rattle.ci_isa.specs.Effects.{width_bytes}
 use Rattle.ci_elf.specs.Executables.{Executable, IsImageOf}
 use Rattle.ci_lat.specs.Latencies.{Latencies}
+use Rattle.ci_machine.specs.declared.ends.End.{End}
+use Rattle.ci_machine.specs.declared.ends.End.TheVariants as ends
 use Rattle.ci_machine.specs.Programs.{loaded_program, opening}
 use Rattle.ci_machine.specs.Steps.{Meaning, IsPlain}
 use Rattle.ci_machine.specs.Runs.{after, steps_made, cost}
 use Rattle.ci_emu.specs.TableLatencies.{latencies_of}
 use Rattle.ci_calls.specs.declared.success.Success.{Success}
-use Rattle.ci_calls.specs.Files.{executable_input, table_input, program_input, optional_input, optional_bytes, AreGiven, AreLatencies, input_bytes}
+use Rattle.ci_calls.specs.Files.{executable_input, table_input, program_input, optional_input, optional_bytes, AreGiven}
+use Rattle.ci_calls.specs.Files.{AreLatencies, input_bytes}
 use Rattle.ci_calls.specs.Inputs.{Input}
-use Rattle.ci_commands.specs.Lines.{end_line}
+
+-- ---- the end line
+
+-- how a run ended, or that it made as many steps as it may
+abbrev pub end_text : Option End → List ℕ
+end_text (Some (ends.Exit code)) = codes "exit " ++ eight_hex_digits code
+end_text (Some ends.Break) = codes "break"
+end_text (Some (ends.Access address width)) =
+    codes "access " ++ eight_hex_digits address ++ codes " " ++ decimal (width_bytes width)
+end_text (Some (ends.Misaligned target)) = codes "misaligned " ++ eight_hex_digits target
+end_text (Some (ends.Fetch pc)) = codes "fetch " ++ eight_hex_digits pc
+end_text (Some (ends.Illegal word)) = codes "illegal " ++ eight_hex_digits word
+end_text None = codes "limit"
+
+-- the end of a run, its steps, and their cost in cycles
+abbrev pub end_line : Option End → ℕ → ℕ → List ℕ
+end_line end steps cost =
+    line (codes "end " ++ end_text end ++ codes " steps " ++ decimal steps ++ codes " cost " ++ decimal cost)
+
+-- ---- the command
 
 -- the executable, the table and the input
 abbrev pub run_inputs : List ℕ → (table input : Option (List ℕ)) → List Input
@@ -27,7 +53,8 @@ run_text meaning file latencies input steps =
     (cost meaning program (latencies_of latencies) steps start)
 
 -- the text of the run by a plain machine; all of them make the same
-pub record IsRunText (file : Executable) (latencies : Latencies) (input : List ℕ) (steps : ℕ) (text : List ℕ) : Type 0 where
+pub record IsRunText (file : Executable) (latencies : Latencies) (input : List ℕ) (steps : ℕ)
+    (text : List ℕ) : Type 0 where
   pub meaning : Meaning
   pub plain : IsPlain meaning
   pub text_is : text ≡ run_text meaning file latencies input steps

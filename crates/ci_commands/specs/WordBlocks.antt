@@ -30,7 +30,8 @@ pub record IsWordBlock (bytes : List ℕ) (insns : List Insn) : Type 0 where
   pub each :
       (k : ℕ) (d : Insn) → k < length insns
       → IsInsnAt (slice_index_or (words_of_bytes bytes) k 0) (slice_index_or insns k d)
-  pub placed : (k : ℕ) → k < length insns → ¬ IsMisplaced (words_of_bytes bytes) k (slice_index_or (words_of_bytes bytes) k 0)
+  pub placed : (k : ℕ) → k < length insns → ¬ IsMisplaced (words_of_bytes bytes) k
+      (slice_index_or (words_of_bytes bytes) k 0)
 
 -- the first word that can't stand where it stands, with its offset in bytes
 pub record IsFirstMisplaced (bytes : List ℕ) (position word : ℕ) : Type 0 where

@@ -3,7 +3,7 @@ ghost use Rattle.std.specs.Prelude.{◌≡◌, ℕ, List, ◌≤◌, length, IfO
 ghost use Rattle.ci_reading.specs.Bytes.{bytes_of_words};
 ghost use Rattle.ci_calls.specs.Evaluations.{Evaluates, RefusesNothing};
 ghost use Rattle.ci_calls.specs.Refused.{IsRefusedBy};
-ghost use Rattle.ci_calls.specs.Texts.{IsText};
+ghost use Rattle.ci_calls.specs.Forms.{IsText};
 ghost use Rattle.ci_commands.specs.AsmCommand.{asm_inputs, IsAsmMade};
 ghost use Rattle.ci_commands.specs.Causes.{IsTextFault};
 

@@ -6,12 +6,11 @@ ghost use Rattle.std.specs.String.{string_bytes};
 ghost use Rattle.ci_dfg.specs.BlockGraph.{graph_of};
 ghost use Rattle.ci_isa.specs.declared.instruction.Insn.{Insn as Instruction};
 ghost use Rattle.ci_calls.specs.Evaluations.{Evaluates};
-ghost use Rattle.ci_calls.specs.Files.{name_in};
-ghost use Rattle.ci_calls.specs.Refused.{IsRefusedBy};
+ghost use Rattle.ci_calls.specs.Refused.{name_in, IsRefusedBy};
 ghost use Rattle.ci_commands.specs.BestCommand.{best_inputs, IsBestMade, IsBestRefused, HoldsBlock, HoldsNoBlock};
 ghost use Rattle.ci_commands.specs.BlockFiles.{IsFileOf, IsWithinLimit};
 ghost use Rattle.ci_commands.specs.Causes.{IsCause};
-ghost use Rattle.ci_commands.specs.Lines.{IsBestLine};
+ghost use Rattle.ci_commands.specs.BestCommand.{IsBestLine};
 
 use ci_calls::{Refusal, Success, read_table};
 use ci_cut::Limits;

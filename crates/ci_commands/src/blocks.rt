@@ -6,7 +6,8 @@ ghost use Rattle.ci_block.specs.declared.blocks.Block.{Block as BasicBlock};
 ghost use Rattle.ci_block.specs.CustomWords.{IsFirstCustomWord};
 ghost use Rattle.ci_calls.specs.Evaluations.{Evaluates};
 ghost use Rattle.ci_calls.specs.Refused.{IsRefusedBy};
-ghost use Rattle.ci_commands.specs.BlocksCommand.{blocks_inputs, IsBlocksMade, IsBlocksRefused, IsBlocksText, block_line};
+ghost use Rattle.ci_commands.specs.BlocksCommand.{blocks_inputs, IsBlocksMade, IsBlocksRefused, IsBlocksText};
+ghost use Rattle.ci_commands.specs.BlocksCommand.{block_line};
 ghost use Rattle.ci_commands.specs.Causes.{IsCause};
 
 use crate::analysis::plain_analysis_of;

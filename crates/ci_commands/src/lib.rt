@@ -1,5 +1,5 @@
-//! The commands that need no rounds: what each makes of its files, or why it makes nothing. They take names and settings,
-//! and know nothing of the words that say them.
+//! The commands that need no rounds: what each makes of its files, or why it makes nothing. They take names and
+//! settings, and know nothing of the words that say them.
 #![tactic(auto)]
 
 mod analysis;

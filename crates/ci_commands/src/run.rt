@@ -5,10 +5,8 @@ ghost use Rattle.std.specs.Fmt.{decimal};
 ghost use Rattle.ci_reading.specs.Hex.{eight_hex_digits};
 ghost use Rattle.ci_isa.specs.Effects.{width_bytes};
 ghost use Rattle.ci_calls.specs.Evaluations.{Evaluates, RefusesNothing};
-ghost use Rattle.ci_calls.specs.Files.{name_in};
-ghost use Rattle.ci_calls.specs.Refused.{IsRefusedBy};
-ghost use Rattle.ci_commands.specs.Lines.{end_line, end_text};
-ghost use Rattle.ci_commands.specs.RunCommand.{run_inputs, IsRunMade, IsRunText};
+ghost use Rattle.ci_calls.specs.Refused.{name_in, IsRefusedBy};
+ghost use Rattle.ci_commands.specs.RunCommand.{end_line, end_text, run_inputs, IsRunMade, IsRunText};
 
 use ci_calls::{Refusal, Success, read_image, read_input, read_table};
 use ci_elf::Image;

@@ -1,5 +1,6 @@
 -- What follows from how a call ends: the files stay, the call is complete, one fault line comes.
-use Rattle.std.proofs.Common.{◌≡◌, ◌≢◌, ◌∙◌, ℕ, ◌⊎◌, inl, inr, List, [], ◌∷◌, ◌++◌, take, Contains, Option, Some, None, IfSome, refl, sym, ap, subst, append-nil, arith}
+use Rattle.std.proofs.Common.{◌≡◌, ◌≢◌, ◌∙◌, ℕ, ◌⊎◌, inl, inr, List, [], ◌∷◌, ◌++◌, take, Contains, Option, Some, None}
+use Rattle.std.proofs.Common.{IfSome, refl, sym, ap, subst, append-nil, arith}
 use Rattle.std.specs.FinMap as map
 use Rattle.std.proofs.lemmas.List.Elements.{Contains-append_left, Contains-append_right}
 use Rattle.std.specs.Option.{option_map}
@@ -8,12 +9,14 @@ use Rattle.ci_calls.specs.declared.refusals.Refusal.{Refusal}
 use Rattle.ci_calls.specs.declared.refusals.Refusal.TheVariants.{Read, Write, Put, NoMemory}
 use Rattle.ci_calls.specs.declared.success.Success.{Success}
 use Rattle.ci_calls.specs.declared.success.Written.{Written}
-use Rattle.ci_calls.specs.Finishing.{Change, Takes, IsPut, IsUnwritten, AreWritten, IsWriteFault, Finishes, done, write_fault, put_fault, no_memory_in_write, no_memory_in_put}
+use Rattle.ci_calls.specs.Finishing.{Change, Takes, IsPut, IsUnwritten, AreWritten, IsWriteFault, Finishes, done}
+use Rattle.ci_calls.specs.Finishing.{write_fault, put_fault, no_memory_in_write, no_memory_in_put}
 use Rattle.ci_calls.specs.Refusals.{status_of, line_of}
-use Rattle.ci_calls.specs.Success.{with_files}
+use Rattle.ci_calls.specs.Finishing.{with_files}
 use Rattle.ci_calls.proofs.Contents.{with_file-get, with_files-get}
 use Rattle.ci_calls.proofs.Counts.{Rises-earlier}
-use Rattle.ci_find.specs.Endings.{Ends, finished, refused, read_fault, no_memory, IsDone, HasNoRefusal, HasNoFault, IsLeft, as_before, whole, unknown, AreLeft, HasPrinted}
+use Rattle.ci_find.specs.Endings.{Ends, finished, refused, read_fault, no_memory, IsDone, HasNoRefusal, HasNoFault}
+use Rattle.ci_find.specs.Endings.{IsLeft, as_before, whole, unknown, AreLeft, HasPrinted}
 
 -- ---- the files
 
@@ -67,7 +70,8 @@ module _ (words : List (List ℕ)) (change : Change) (success : Success) (made :
   fault_left fault =
       left_by (IsLeft words change 3) change.shelf_before.files change.shelf_after.files
       (λ held. with_file fault.failed.name.now fault.content (with_files fault.front held)) fault.files
-      (λ held name. left held name (with_file-get fault.failed.name.now fault.content (with_files fault.front held) name) (with_files-get fault.front held name))
+      (λ held name. left held name (with_file-get fault.failed.name.now fault.content
+      (with_files fault.front held) name) (with_files-get fault.front held name))
     where
       among : Contains success.writes.items fault.failed
       among = subst (λ files. Contains files fault.failed) (sym fault.in_order)

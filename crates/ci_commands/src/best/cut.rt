@@ -6,7 +6,7 @@ ghost use Rattle.ci_region.specs.BoundedMap.{BoundedMap};
 ghost use Rattle.ci_cut.specs.Best.{IsBest, HasNoCut};
 ghost use Rattle.ci_log.specs.declared.flattening.LogNode.{LogNode as Branch};
 ghost use Rattle.ci_search.specs.Answered.{HasLog};
-ghost use Rattle.ci_commands.specs.Lines.{IsBestLine};
+ghost use Rattle.ci_commands.specs.BestCommand.{IsBestLine};
 
 use super::line::{cut_text, skipped_text};
 use ci_check::check;

@@ -3,7 +3,7 @@ ghost use Rattle.std.specs.Prelude.{◌≡◌, IfOk};
 ghost use Rattle.std.specs.String.{string_bytes};
 ghost use Rattle.std.specs.FinSet as set;
 ghost use Rattle.ci_cut.specs.GraphRules.{AreNodes};
-ghost use Rattle.ci_commands.specs.Lines.{cut_line, skipped_line};
+ghost use Rattle.ci_commands.specs.BestCommand.{cut_line, skipped_line};
 
 use ci_cut::{Graph, gain};
 use ci_word::{Row, push_members};

@@ -57,8 +57,8 @@ fn insns_of<'a>(alloc: Global, bytes: &[u8]) -> Result<Vec<Insn>, Refusal<'a>>
     Ok(insns)
 }
 
-/// Whether word `place` of a block of `count` words can't stand there: it has a custom opcode, or it is a terminator and
-/// not the last word.
+/// Whether word `place` of a block of `count` words can't stand there: it has a custom opcode, or it is a terminator
+/// and not the last word.
 fn is_misplaced(word: u32, place: usize, count: usize) -> bool
     requires { place < count }
     ensures { IsTrue result ↔ (HasCustomOpcode word ⊎ ((place + 1 < count) × IsTerminator word)) }

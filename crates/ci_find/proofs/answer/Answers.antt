@@ -7,8 +7,11 @@ use Rattle.ci_find.proofs.answer.Goals as goal
 
 pub returns-in-Ok : goal.returns-in-Ok
 returns-in-Ok g c =
-    let change = changed g.F.Shelf.read_may_fail g.F.Shelf.write_may_fail (g.F.Shelf.state c.evaluate.new.shelf) (g.F.Shelf.state c.finish.new.shelf) (g.O.Sink.state c.args.out.now) (g.O.Sink.state c.finish.new.out) in
-    finished c.in-Ok.ensures.done (Finishes-earlier change (g.F.Shelf.state c.args.shelf.now) c.in-Ok.ensures.files_stay c.in-Ok.ensures.no_write _ _ c.finish.ensures.finished)
+    let change = changed g.F.Shelf.read_may_fail g.F.Shelf.write_may_fail (g.F.Shelf.state c.evaluate.new.shelf)
+    (g.F.Shelf.state c.finish.new.shelf) (g.O.Sink.state c.args.out.now) (g.O.Sink.state c.finish.new.out) in
+    finished c.in-Ok.ensures.done (Finishes-earlier change
+    (g.F.Shelf.state c.args.shelf.now) c.in-Ok.ensures.files_stay c.in-Ok.ensures.no_write _ _
+    c.finish.ensures.finished)
 
 pub returns-in-Err : goal.returns-in-Err
 returns-in-Err g c =

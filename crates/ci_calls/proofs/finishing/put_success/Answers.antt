@@ -23,10 +23,18 @@ returns-in-Err-Fault g c =
     let failed = ap Err c.in-Err-Fault.field-0-is in
     let front = c.in-Err-Fault.ensures.fault failed in
     let some : c.args.text.now ≢ [] = search rules in
-    rw c.refuse_put.ensures.status (fault some (g.O.Sink.state c.put.new.self) (record { faults = c.in-Err-Fault.ensures.never_falls; memory_faults = c.in-Err-Fault.ensures.memory_never_falls }) (c.in-Err-Fault.ensures.fault_counted failed) front c.refuse_put.ensures.put)
+    rw c.refuse_put.ensures.status (fault some (g.O.Sink.state c.put.new.self)
+    (record {
+      faults = c.in-Err-Fault.ensures.never_falls;
+      memory_faults = c.in-Err-Fault.ensures.memory_never_falls;
+    }) (c.in-Err-Fault.ensures.fault_counted failed) front c.refuse_put.ensures.put)
 
 pub returns-in-Err-NoMemory : goal.returns-in-Err-NoMemory
 returns-in-Err-NoMemory g c =
     let failed = ap Err c.in-Err-NoMemory.field-0-is in
     let some : c.args.text.now ≢ [] = search rules in
-    rw c.refuse_memory.ensures.status (no_memory some (g.O.Sink.state c.put.new.self) (record { faults = c.in-Err-NoMemory.ensures.never_falls; memory_faults = c.in-Err-NoMemory.ensures.memory_never_falls }) (c.in-Err-NoMemory.ensures.no_memory_counted failed) (c.in-Err-NoMemory.ensures.no_memory failed) c.refuse_memory.ensures.put)
+    rw c.refuse_memory.ensures.status (no_memory some (g.O.Sink.state c.put.new.self)
+    (record {
+      faults = c.in-Err-NoMemory.ensures.never_falls;
+      memory_faults = c.in-Err-NoMemory.ensures.memory_never_falls;
+    }) (c.in-Err-NoMemory.ensures.no_memory_counted failed) (c.in-Err-NoMemory.ensures.no_memory failed) c.refuse_memory.ensures.put)

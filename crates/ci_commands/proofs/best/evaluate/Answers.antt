@@ -2,7 +2,8 @@
 use Rattle.std.proofs.Common.{[], ◌∷◌, append-nil, ℕ, List, Option, inl, refl, subst}
 use Rattle.std.proofs.lemmas.Result.{err_from_is_err_and}
 use Rattle.ci_io.specs.Outcomes.{Files}
-use Rattle.ci_calls.specs.Files.{name_in, table_input, optional_input, optional_bytes}
+use Rattle.ci_calls.specs.Files.{table_input, optional_input, optional_bytes}
+use Rattle.ci_calls.specs.Refused.{name_in}
 use Rattle.ci_calls.specs.Inputs.{AreRead}
 use Rattle.ci_calls.proofs.InputLaws.{unread_behind}
 use Rattle.ci_commands.specs.BestCommand.{best_inputs, block_input, HoldsNoBlock, IsBestRefused}

@@ -16,6 +16,11 @@ pub returns : goal.returns
 unfolding lib.Utf8.encode
 returns c =
     c.in_ok-push.ensures.bytes
-    ∙ ap (λ (t : List ℕ). t ++ 10 ∷ []) (c.in_ok-push_members.ensures.written ∙ ap (λ (t : List ℕ). t ++ members_text (set.contains c.at.result)) c.in_ok-write.ensures.bytes)
-    ∙ joined (string_bytes c.args.text.now) (string_bytes c.in_ok-leader.leader) (decimal (length c.as_slice.result.now)) (members_text (set.contains c.at.result))
-    ∙ (λ i. string_bytes c.args.text.now ++ line (codes "block " ++ c.in_ok-leader.ensures i ++ codes " length " ++ decimal (length (c.as_slice.ensures.value i)) ++ codes " live" ++ members_text (set.contains (c.at.ensures i))))
+    ∙ ap (λ (t : List ℕ). t ++ 10 ∷ []) (c.in_ok-push_members.ensures.written
+    ∙ ap (λ (t : List ℕ). t ++ members_text (set.contains c.at.result)) c.in_ok-write.ensures.bytes)
+    ∙ joined (string_bytes c.args.text.now) (string_bytes c.in_ok-leader.leader)
+    (decimal (length c.as_slice.result.now)) (members_text (set.contains c.at.result))
+    ∙ (λ i. string_bytes c.args.text.now ++ line
+    (codes "block " ++ c.in_ok-leader.ensures i ++ codes " length "
+    ++ decimal (length (c.as_slice.ensures.value i)) ++ codes " live"
+    ++ members_text (set.contains (c.at.ensures i))))

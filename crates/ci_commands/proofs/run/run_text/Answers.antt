@@ -16,7 +16,8 @@ returns c =
     record {
       meaning = plain_exists.0;
       plain = plain_exists.1;
-      text_is = whole ∙ run_text_is plain_exists.0 c.args.image.now c.args.table.now c.args.input.items c.args.steps (program_of start) (state_of start) (state_of last) c.in_ok-profile.profile output line
+      text_is = whole ∙ run_text_is plain_exists.0 c.args.image.now c.args.table.now c.args.input.items c.args.steps
+          (program_of start) (state_of start) (state_of last) c.in_ok-profile.profile output line
           c.in_ok-state.ensures.program c.in_ok-state.ensures.state
           (run.state plain_exists.0 plain_exists.1) (run.profile plain_exists.0 plain_exists.1)
           c.into_output-text.ensures (c.as_bytes.ensures.value ∙ c.in_ok-line.ensures);

@@ -12,7 +12,7 @@ use Rattle.ci_cut.specs.FlowGraph.{FlowGraph}
 use Rattle.ci_log.specs.declared.flattening.LogNode.{LogNode}
 use Rattle.ci_cut.specs.Need.{NeedExceeds}
 use Rattle.ci_search.specs.Answered.{free}
-use Rattle.ci_commands.specs.Lines.{IsBestLine, cut_is_best, cut_line, no_cut, no_cut_line, skipped, skipped_line}
+use Rattle.ci_commands.specs.BestCommand.{IsBestLine, cut_is_best, cut_line, no_cut, no_cut_line, skipped, skipped_line}
 use Rattle.ci_commands.proofs.best.cut.best_cut_line.Goals as goal
 
 module _ (graph : FlowGraph) (limits : Limits) (budget : ℕ) where

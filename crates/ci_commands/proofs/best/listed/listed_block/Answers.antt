@@ -21,17 +21,22 @@ returns-in-Some-clause-few c =
     let block : Block = c.in-Some.block.now in
     let there = subst (λ bs. Contains bs block) c.all.ensures.value c.in-Some.ensures.0 in
     let items = c.in_ok-from_slice-in-Some.ensures.items ∙ c.as_slice.ensures.value in
-    rw items (short c.args.image.now c.args.named.now c.args.address c.in_ok-analysis.analysis.blocks c.in_ok-analysis.analysis.live c.in_ok-analysis.ensures.no_custom c.in_ok-analysis.ensures.done block there c.in-Some.ensures.1)
+    rw items (short c.args.image.now c.args.named.now c.args.address c.in_ok-analysis.analysis.blocks
+    c.in_ok-analysis.analysis.live c.in_ok-analysis.ensures.no_custom c.in_ok-analysis.ensures.done block there
+    c.in-Some.ensures.1)
 
 pub returns-in-Some-clause-found : goal.returns-in-Some-clause-found
 returns-in-Some-clause-found c =
     let block : Block = c.in-Some.block.now in
     let there = subst (λ bs. Contains bs block) c.all.ensures.value c.in-Some.ensures.0 in
     let items = c.in_ok-from_slice-in-Some.ensures.items ∙ c.as_slice.ensures.value in
-    listed c.args.image.now c.args.named.now c.args.address c.in_ok-analysis.analysis.blocks c.in_ok-analysis.analysis.live c.in_ok-analysis.ensures.no_custom c.in_ok-analysis.ensures.done block there c.in-Some.ensures.1
+    listed c.args.image.now c.args.named.now c.args.address c.in_ok-analysis.analysis.blocks
+    c.in_ok-analysis.analysis.live c.in_ok-analysis.ensures.no_custom c.in_ok-analysis.ensures.done block there
+    c.in-Some.ensures.1
     c.in_ok-from_slice-in-Some.field-0.items c.after.result items c.after.ensures
 
 pub returns-clause-cause : goal.returns-clause-cause
 returns-clause-cause c =
-    unlisted c.args.image.now c.args.named.now c.args.address c.in_ok-analysis.analysis.blocks c.in_ok-analysis.analysis.live c.in_ok-analysis.ensures.no_custom c.in_ok-analysis.ensures.done
+    unlisted c.args.image.now c.args.named.now c.args.address c.in_ok-analysis.analysis.blocks
+    c.in_ok-analysis.analysis.live c.in_ok-analysis.ensures.no_custom c.in_ok-analysis.ensures.done
     (λ block there. c.in-None.ensures block (subst (λ bs. Contains bs block) (sym c.all.ensures.value) there))

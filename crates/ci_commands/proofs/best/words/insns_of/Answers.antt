@@ -23,7 +23,9 @@ loop-place-preserved c =
     (read_more bytes c.loop-place.insns.items c.loop-place.place c.word_at-word.result c.loop-place.invariant c.word_at-word.ensures
     c.insn_at.result c.insn_at.ensures.found
     (λ wrong.
-    let both : true ≡ false = sym (c.is_misplaced.ensures.1 (subst (IsWrong c.word_at-word.result c.loop-place.place) (length-words_of_bytes bytes) wrong)) ∙ c.if-is_misplaced.false in
+    let both : true ≡ false =
+    sym (c.is_misplaced.ensures.1 (subst (IsWrong c.word_at-word.result c.loop-place.place)
+    (length-words_of_bytes bytes) wrong)) ∙ c.if-is_misplaced.false in
     absurd cc))
 
 pub returns-clause-block : goal.returns-clause-block
