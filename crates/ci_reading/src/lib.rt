@@ -4,10 +4,12 @@
 
 pub use bytes::{bytes_of_words, word_at};
 pub use digits::{digit_value, number_of_digits};
+pub use fields::{Numbers, Stop, address, begins_with, number, word};
 pub use hex::{hex_text, push_hex};
 
 mod bytes;
 mod digits;
+mod fields;
 mod hex;
 #[cfg(test)]
 mod tests;
