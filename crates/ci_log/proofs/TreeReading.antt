@@ -1,17 +1,24 @@
 -- Reading a tree is exact: its letters are those of one tree, and so are those up to any letter, with leaves behind them.
-use Rattle.std.proofs.Common.{◌≡◌, ◌≢◌, ℕ, zero, suc, ◌+◌, ◌-◌, ◌^◌, ◌<◌, ◌≤◌, Bool, true, false, cond, eqb, List, [], ◌∷◌, ◌++◌, length, length-append, replicate, refl, sym, ap, ◌∙◌, subst, arith, append_assoc, append-nil, Option, Some, None, Ok, Err}
+use Rattle.std.proofs.Common.{◌≡◌, ◌≢◌, ℕ, zero, suc, ◌+◌, ◌-◌, ◌^◌, ◌<◌, ◌≤◌, Bool, true, false, cond, eqb, List, []}
+use Rattle.std.proofs.Common.{◌∷◌, ◌++◌, length, length-append, replicate, refl, sym, ap, ◌∙◌, subst, arith, lit<}
+use Rattle.std.proofs.Common.{append_assoc, append-nil, Option, Some, None, Ok, Err}
 use Rattle.std.proofs.lemmas.List.{length-map, map-append, length-replicate}
 use Rattle.std.proofs.lemmas.Bool.{eqb-true}
 use Rattle.std.proofs.lemmas.Bool.Decides.{nat_tests}
 use Rattle.ci_reading.specs.Lines.{line}
 use Rattle.ci_log.specs.declared.log.Item.{Item}
 use Rattle.ci_log.specs.declared.log.Item.TheVariants.{B, O, C, I, G, F}
-use Rattle.ci_log.specs.declared.faults.Stop.{Stop}
+use Rattle.ci_reading.specs.LineReading.{Stop, ◌>>=◌, view, stop, stop_of, with_front}
+use Rattle.ci_reading.specs.Fields.{found_before}
+use Rattle.ci_reading.proofs.Languages.{Plainly, Then, joined, Mapped, mapped}
+use Rattle.ci_reading.proofs.Exact.{IsStop, IsExact, plain_stop, plain_exact, along}
+use Rattle.ci_reading.proofs.WordReading.{IsWord, is_word}
+use Rattle.ci_reading.proofs.Readers.{Reader, PlainReader, part_before, shown_any}
 use Rattle.ci_log.specs.Trees.{IsLeaf, IsTree, leaf, branch, IsLog, letter, letters}
 use Rattle.ci_log.specs.declared.faults.Failure.{Failure}
 use Rattle.ci_log.specs.declared.faults.Failure.TheVariants as failure
-use Rattle.ci_log.specs.Reading.{Fails, found_before, item, Read, ◌>>=◌, stop, item_of, due_after, with_item, trees, tree_end, tree_line}
-use Rattle.ci_log.proofs.Exact.{most, IsExact, tree_stop, along, Then, joined, ThenTree, in_first, in_second, both, view, Mapped, mapped, seen, NoTree, IsWord, is_word}
+use Rattle.ci_log.specs.Reading.{Fails, BehindTree, item, Read, item_of, due_after, with_item, trees, tree_end, tree_line}
+use Rattle.ci_log.proofs.Ends.{NotDue, most, ended, same_front}
 
 -- ---- so many trees, one after the other
 
@@ -31,7 +38,8 @@ leaf_due F due is = refl
 tree_first : (items : List Item) → IsTree items → (due : ℕ) (rest : List Item) → AreTrees due rest → AreTrees (suc due) (items ++ rest)
 tree_first _ (leaf {item = i} is) due rest others = subst (λ k. AreTrees k rest) (sym (leaf_due i due is)) others
 tree_first _ (branch {taken = taken} {left_out = left_out} one two) due rest others =
-    subst (AreTrees (suc (suc due))) (sym (append_assoc taken left_out rest)) (tree_first taken one (suc due) (left_out ++ rest) (tree_first left_out two due rest others))
+    subst (AreTrees (suc (suc due))) (sym (append_assoc taken left_out rest))
+    (tree_first taken one (suc due) (left_out ++ rest) (tree_first left_out two due rest others))
 
 record IsFirstTree (due : ℕ) (items : List Item) : Type 0 where
   tree : List Item
@@ -47,9 +55,17 @@ first_tree zero due (i ∷ items) small are = absurd (omega (arith, small))
 first_tree (suc fuel) due (i ∷ items) small are = by (first_tree fuel) i are
   where
     alone : (i : Item) → IsLeaf i → AreTrees (due_after i due) items → IsFirstTree due (i ∷ items)
-    alone i is are = record { tree = i ∷ []; rest = items; splits = refl; is_tree = leaf is; others = subst (λ k. AreTrees k items) (leaf_due i due is) are; shorter = omega arith }
+    alone i is are = record {
+      tree = i ∷ [];
+      rest = items;
+      splits = refl;
+      is_tree = leaf is;
+      others = subst (λ k. AreTrees k items) (leaf_due i due is) are;
+      shorter = omega arith;
+    }
 
-    by : ((due : ℕ) (items : List Item) → length items ≤ fuel → AreTrees (suc due) items → IsFirstTree due items) → (i : Item) → AreTrees (due_after i due) items → IsFirstTree due (i ∷ items)
+    by : ((due : ℕ) (items : List Item) → length items ≤ fuel → AreTrees (suc due) items → IsFirstTree due items)
+        → (i : Item) → AreTrees (due_after i due) items → IsFirstTree due (i ∷ items)
     by fewer B are =
         let one = fewer (suc due) items (omega (arith, small)) are in
         let two = fewer due one.rest (omega (arith, small, one.shorter)) one.others in
@@ -91,7 +107,8 @@ letter_again x i e = by (eqb x 66) refl (eqb x 79) refl (eqb x 67) refl (eqb x 7
     of : (code : ℕ) (j : Item) → letter j ≡ code → eqb x code ≡ true → Some j ≡ Some i → x ≡ letter i
     of code j is at found = let same : j ≡ i = cc in eqb-true x code at ∙ (sym is ∙ ap letter same)
 
-    by : (b : Bool) → eqb x 66 ≡ b → (o : Bool) → eqb x 79 ≡ o → (c : Bool) → eqb x 67 ≡ c → (k : Bool) → eqb x 73 ≡ k → (g : Bool) → eqb x 71 ≡ g → (f : Bool) → eqb x 70 ≡ f
+    by : (b : Bool) → eqb x 66 ≡ b → (o : Bool) → eqb x 79 ≡ o → (c : Bool) → eqb x 67 ≡ c → (k : Bool)
+        → eqb x 73 ≡ k → (g : Bool) → eqb x 71 ≡ g → (f : Bool) → eqb x 70 ≡ f
         → cond b (Some B) (cond o (Some O) (cond c (Some C) (cond k (Some I) (cond g (Some G) (cond f (Some F) None))))) ≡ Some i → x ≡ letter i
     by true at o _ c _ k _ g _ f _ found = of 66 B refl at found
     by false _ true at c _ k _ g _ f _ found = of 79 O refl at found
@@ -124,7 +141,9 @@ trees_sound xs zero items rest e =
 trees_sound [] (suc due) items rest e = absurd (cc)
 trees_sound (x ∷ xs) (suc due) items rest e = by (λ i. trees_sound xs (due_after i due)) (item_of x) refl e
   where
-    found : (i : Item) → item_of x ≡ Some i → (r : Read (List Item)) → ((others : List Item) (rest : List ℕ) → r ≡ Ok (others, rest) → AreRead (due_after i due) xs others rest) → view (λ others. i ∷ others) r ≡ Ok (items, rest) → AreRead (suc due) (x ∷ xs) items rest
+    found : (i : Item) → item_of x ≡ Some i → (r : Read (List Item))
+        → ((others : List Item) (rest : List ℕ) → r ≡ Ok (others, rest) → AreRead (due_after i due) xs others rest)
+        → view (λ others. i ∷ others) r ≡ Ok (items, rest) → AreRead (suc due) (x ∷ xs) items rest
     found i is (Err s) read e = absurd (cc)
     found i is (Ok (others, after)) read e =
         let both : (i ∷ others, after) ≡ (items, rest) = cc in
@@ -132,12 +151,15 @@ trees_sound (x ∷ xs) (suc due) items rest e = by (λ i. trees_sound xs (due_af
         let parts : AreRead (suc due) (x ∷ xs) (i ∷ others) after = record { splits = λ k. letter_again x i is k ∷ o.splits k; are = o.are } in
         subst (λ (v : List Item × List ℕ). AreRead (suc due) (x ∷ xs) v.0 v.1) both parts
 
-    by : ((i : Item) (others : List Item) (rest : List ℕ) → trees (due_after i due) xs ≡ Ok (others, rest) → AreRead (due_after i due) xs others rest) → (o : Option Item) → item_of x ≡ o → with_item (length (x ∷ xs)) (λ i. trees (due_after i due) xs) o ≡ Ok (items, rest) → AreRead (suc due) (x ∷ xs) items rest
+    by : ((i : Item) (others : List Item) (rest : List ℕ) → trees (due_after i due) xs ≡ Ok (others, rest)
+        → AreRead (due_after i due) xs others rest) → (o : Option Item) → item_of x ≡ o
+        → with_item (length (x ∷ xs)) (λ i. trees (due_after i due) xs) o ≡ Ok (items, rest)
+        → AreRead (suc due) (x ∷ xs) items rest
     by read None is e = absurd (cc)
     by read (Some i) is e = found i is (trees (due_after i due) xs) (read i) e
 
 -- where trees stop: with leaves for the trees that are due they are complete
-record AreOpen (due : ℕ) (xs : List ℕ) (s : Stop) : Type 0 where
+record AreOpen (due : ℕ) (xs : List ℕ) (s : Stop BehindTree) : Type 0 where
   items : List Item
   rest : List ℕ
   leaves : ℕ
@@ -159,13 +181,24 @@ due_few I due = omega arith
 due_few G due = omega arith
 due_few F due = omega arith
 
-trees_stop : (xs : List ℕ) (due : ℕ) (s : Stop) → trees due xs ≡ Err s → AreOpen due xs s
+trees_stop : (xs : List ℕ) (due : ℕ) (s : Stop BehindTree) → trees due xs ≡ Err s → AreOpen due xs s
 unfolding trees
 trees_stop xs zero s e = absurd (cc)
-trees_stop [] (suc due) s e = record { items = []; rest = []; leaves = suc due; splits = refl; is_stop = cc; few = omega arith; goes_on = leaves_are due; here = λ b tail other at. absurd (cc) }
+trees_stop [] (suc due) s e = record {
+  items = [];
+  rest = [];
+  leaves = suc due;
+  splits = refl;
+  is_stop = cc;
+  few = omega arith;
+  goes_on = leaves_are due;
+  here = λ b tail other at. absurd (cc);
+}
 trees_stop (x ∷ xs) (suc due) s e = by (λ i. trees_stop xs (due_after i due)) (item_of x) refl e
   where
-    found : (i : Item) → item_of x ≡ Some i → (r : Read (List Item)) → ((t : Stop) → r ≡ Err t → AreOpen (due_after i due) xs t) → view (λ others. i ∷ others) r ≡ Err s → AreOpen (suc due) (x ∷ xs) s
+    found : (i : Item) → item_of x ≡ Some i → (r : Read (List Item))
+        → ((t : Stop BehindTree) → r ≡ Err t → AreOpen (due_after i due) xs t)
+        → view (λ others. i ∷ others) r ≡ Err s → AreOpen (suc due) (x ∷ xs) s
     found i is (Ok y) read e = absurd (cc)
     found i is (Err t) read e =
         let o = read t refl in
@@ -183,7 +216,9 @@ trees_stop (x ∷ xs) (suc due) s e = by (λ i. trees_stop xs (due_after i due))
               ∙ ap (λ r. r >>= λ x. Ok (i ∷ x.0, x.1)) (o.here b tail other at);
         }
 
-    by : ((i : Item) (t : Stop) → trees (due_after i due) xs ≡ Err t → AreOpen (due_after i due) xs t) → (o : Option Item) → item_of x ≡ o → with_item (length (x ∷ xs)) (λ i. trees (due_after i due) xs) o ≡ Err s → AreOpen (suc due) (x ∷ xs) s
+    by : ((i : Item) (t : Stop BehindTree) → trees (due_after i due) xs ≡ Err t → AreOpen (due_after i due) xs t)
+        → (o : Option Item) → item_of x ≡ o → with_item (length (x ∷ xs)) (λ i. trees (due_after i due) xs) o
+        ≡ Err s → AreOpen (suc due) (x ∷ xs) s
     by read (Some i) is e = found i is (trees (due_after i due) xs) (read i) e
     by read None is e = record {
       items = [];
@@ -206,68 +241,71 @@ AreLetters ys items = IsLog items × (ys ≡ letters items)
 length-letters : (items : List Item) (rest : List ℕ) → length items ≤ length (letters items ++ rest)
 length-letters items rest = omega (arith, length-append (letters items) rest, length-map items letter)
 
-pub tree_exact : (bound : ℕ) → IsExact bound (trees 1) AreLetters NoTree
-tree_exact bound = record {
-  whole = λ ys items rest l small. ap (λ v. trees 1 (v ++ rest)) l.1 ∙ trees_again items 1 rest (are_trees items l.0.is_tree);
-  sound = λ xs items rest small short read.
-      let o = trees_sound xs 1 items rest read in
-      let few : length items < 2 ^ 32 = omega (arith, short, ap length o.splits, length-letters items rest) in
-      (letters items, o.splits, (record { is_tree = is_tree items o.are; few = few }, refl));
-  stops = λ xs s small short read.
-      let o = trees_stop xs 1 s read in
-      let all = o.items ++ replicate o.leaves F in
-      let count : length all ≡ length o.items + o.leaves = length-append o.items (replicate o.leaves F) ∙ ap (λ k. length o.items + k) (length-replicate o.leaves F) in
-      let few : length all < 2 ^ 32 = omega (arith, short, ap length o.splits, length-letters o.items o.rest, count, o.few) in
-      record {
-        front = letters o.items;
-        rest = o.rest;
-        splits = o.splits;
-        left = ap (λ (s : Stop). s.left) o.is_stop;
-        more = letters (replicate o.leaves F);
-        value = all;
-        goes_on = (record { is_tree = is_tree all o.goes_on; few = few }, sym (map-append letter o.items (replicate o.leaves F)));
-        here = λ b tail other at short. (stop (length (b ∷ other)), o.here b tail other at);
-        at_tree = λ t. let not : false ≡ true = sym (ap (λ (s : Stop). s.behind_tree) o.is_stop) ∙ t in absurd (cc);
-      };
-  trails = λ front b other t. absurd t;
-}
+stops : (n : ℕ) (xs : List ℕ) (s : Stop BehindTree) → length xs ≤ most → AreOpen 1 xs s → IsStop n (trees 1) (Plainly AreLetters) xs s
+stops n xs s short o =
+    let all = o.items ++ replicate o.leaves F in
+    let count : length all ≡ length o.items + o.leaves = length-append o.items (replicate o.leaves F)
+    ∙ ap (λ k. length o.items + k) (length-replicate o.leaves F) in
+    let few : length all < 2 ^ 32 = omega (arith, short, ap length o.splits, length-letters o.items o.rest, count, o.few) in
+    plain_stop (letters o.items) o.rest (letters (replicate o.leaves F)) all xs s o.splits o.is_stop
+    (record { is_tree = is_tree all o.goes_on; few = few }, sym (map-append letter o.items (replicate o.leaves F))) o.here
 
-abbrev AtEnd : List ℕ → Type 0
-AtEnd front = front ≡ []
+tree_exact : (n : ℕ) → IsExact NotDue most n (trees 1) (Plainly AreLetters)
+tree_exact n =
+    plain_exact (λ ys items rest l. ap (λ v. trees 1 (v ++ rest)) l.1 ∙ trees_again items 1 rest (are_trees items l.0.is_tree))
+    (λ xs items rest short read.
+    let o = trees_sound xs 1 items rest read in
+    let few : length items < 2 ^ 32 = omega (arith, short, ap length o.splits, length-letters items rest) in
+    (letters items, o.splits, (record { is_tree = is_tree items o.are; few = few }, refl)))
+    (λ xs s short read. stops n xs s short (trees_stop xs 1 s read))
+
+-- a least log
+small_log : IsLog (F ∷ [])
+small_log = record { is_tree = leaf tt; few = lit< tt }
+
+abbrev a_tree : PlainReader ℕ BehindTree (List Item) NotDue most
+a_tree = record { read = trees 1; Is = AreLetters; exact = tree_exact; some = (70 ∷ [], F ∷ [], (small_log, refl)) }
+
+-- a tree's newline, or nothing before it
+abbrev IsEnd : List ℕ → Unit {0} → Option BehindTree → Type 0
+IsEnd ys a None = IsWord (10 ∷ []) ys a
+IsEnd ys a (Some k) = ys ≡ []
+
+abbrev end_by : ℕ → List ℕ → Bool → Read (Unit {0})
+end_by x xs b = cond b (Ok (tt, xs)) (Err (stop_of tt (length (x ∷ xs))))
 
 end_sound : (xs : List ℕ) (a : Unit {0}) (rest : List ℕ) → tree_end xs ≡ Ok (a, rest) → xs ≡ 10 ∷ rest
 end_sound [] a rest e = absurd (cc)
 end_sound (x ∷ xs) a rest e = by (eqb x 10) refl e
   where
-    by : (b : Bool) → eqb x 10 ≡ b → cond {A = Read (Unit {0})} b (Ok (tt, xs)) (Err (tree_stop x xs)) ≡ Ok (a, rest) → x ∷ xs ≡ 10 ∷ rest
+    by : (b : Bool) → eqb x 10 ≡ b → end_by x xs b ≡ Ok (a, rest) → x ∷ xs ≡ 10 ∷ rest
     by true is e = let both : ◌≡◌ {A = Unit {0} × List ℕ} (tt, xs) (a, rest) = cc in λ i. eqb-true x 10 is i ∷ (both i).1
     by false is e = absurd (cc)
 
-record IsEndStop (xs : List ℕ) (s : Stop) : Type 0 where
+record IsEndStop (xs : List ℕ) (s : Stop BehindTree) : Type 0 where
   left : s.left ≡ length xs
-  here : (b : ℕ) (tail other : List ℕ) → xs ≡ b ∷ tail → tree_end (b ∷ other) ≡ Err (tree_stop b other)
+  here : (b : ℕ) (tail other : List ℕ) → xs ≡ b ∷ tail → tree_end (b ∷ other) ≡ Err (stop_of tt (length (b ∷ other)))
 
-end_stop : (xs : List ℕ) (s : Stop) → tree_end xs ≡ Err s → IsEndStop xs s
-end_stop [] s e = let same : record { left = 0; behind_tree = true } ≡ s = cc in record { left = ap (λ (s : Stop). s.left) (sym same); here = λ b tail other at. absurd (cc) }
+end_stop : (xs : List ℕ) (s : Stop BehindTree) → tree_end xs ≡ Err s → IsEndStop xs s
+end_stop [] s e = let same : stop_of tt 0 ≡ s = cc in record { left = ap (λ (s : Stop BehindTree). s.left) (sym same); here = λ b tail other at. absurd (cc) }
 end_stop (x ∷ xs) s e = by (eqb x 10) refl e
   where
-    by : (b : Bool) → eqb x 10 ≡ b → cond {A = Read (Unit {0})} b (Ok (tt, xs)) (Err (tree_stop x xs)) ≡ Err s → IsEndStop (x ∷ xs) s
+    by : (b : Bool) → eqb x 10 ≡ b → end_by x xs b ≡ Err s → IsEndStop (x ∷ xs) s
     by true is e = absurd (cc)
     by false is e =
-        let same : tree_stop x xs ≡ s = cc in
+        let same : stop_of tt (length (x ∷ xs)) ≡ s = cc in
         record {
-          left = ap (λ (s : Stop). s.left) (sym same);
-          here = λ b tail other at.
-              let first : x ≡ b = cc in
-              ap (λ t. cond {A = Read (Unit {0})} t (Ok (tt, other)) (Err (tree_stop b other))) (ap (λ v. eqb v 10) (sym first) ∙ is);
+          left = ap (λ (s : Stop BehindTree). s.left) (sym same);
+          here = λ b tail other at. let first : x ≡ b = cc in ap (end_by b other) (ap (λ v. eqb v 10) (sym first) ∙ is);
         }
 
 newline_other : (b : ℕ) → b ≢ 10 → eqb b 10 ≡ false
 newline_other b not = grind (arith, nat_tests)
 
-end_exact : (bound : ℕ) → IsExact bound tree_end (IsWord (10 ∷ [])) AtEnd
-end_exact bound = record {
+end_exact : (n : ℕ) → IsExact NotDue most n tree_end IsEnd
+end_exact n = record {
   whole = λ ys a rest is small. whole_by ys a rest is;
+  told = λ front a k b other at not short. ap (λ f. tree_end (f ++ b ∷ other)) at ∙ ap (end_by b other) (newline_other b not);
   sound = λ xs a rest small short read. (10 ∷ [], end_sound xs a rest read, is_word);
   stops = λ xs s small short read. let o = end_stop xs s read in record {
     front = [];
@@ -277,48 +315,50 @@ end_exact bound = record {
     more = 10 ∷ [];
     value = tt;
     goes_on = is_word;
-    here = λ b tail other at short. (tree_stop b other, o.here b tail other at);
-    at_tree = λ t. refl;
+    here = λ b tail other at short. (stop_of tt (length (b ∷ other)), o.here b tail other at);
+    of_kind = λ k is. (tt, refl);
   };
-  trails = λ front b other t not short. ap (λ f. tree_end (f ++ b ∷ other)) t ∙ (ap (λ t. cond {A = Read (Unit {0})} t (Ok (tt, other)) (Err (tree_stop b other))) (newline_other b not) ∙ ap (λ f. Err (tree_stop b other)) t);
 }
   where
     whole_by : (ys : List ℕ) (a : Unit {0}) (rest : List ℕ) → IsWord (10 ∷ []) ys a → tree_end (ys ++ rest) ≡ Ok (a, rest)
     whole_by _ _ rest is_word = refl
 
-abbrev pub IsTreeLine : List ℕ → List Item → Type 0
-IsTreeLine ys items = IsLog items × (ys ≡ line (letters items))
+abbrev an_end : Reader ℕ BehindTree (Unit {0}) NotDue most
+an_end = record { read = tree_end; Is = IsEnd; exact = end_exact; some = (10 ∷ [], tt, is_word) }
 
-abbrev pub IsTreeFront : List ℕ → Type 0
-IsTreeFront front = (items : List Item) × AreLetters front items
+-- the letters of a log and the newline, or without it
+abbrev pub IsTreeLine : List ℕ → List Item → Option BehindTree → Type 0
+IsTreeLine ys items far = IsLog items × (ended far ys ≡ line (letters items))
 
-pub tree_line_exact : (bound : ℕ) → IsExact bound tree_line IsTreeLine IsTreeFront
+abbrev LinePart : List ℕ → List Item → Option BehindTree → Type 0
+LinePart ys items far = Then AreLetters (λ items zs v. Mapped (λ end. items) (λ ws a. IsEnd ws a far) zs v) ys items
+
+to_line : (ys : List ℕ) (items : List Item) (far : Option BehindTree) → LinePart ys items far → IsTreeLine ys items far
+to_line _ _ None (joined ys _ items _ l (mapped _ _ is_word)) = (l.0, ap (λ v. v ++ 10 ∷ []) l.1)
+to_line _ _ (Some k) (joined ys zs items _ l (mapped _ _ at)) = (l.0, ap (λ v. line (ys ++ v)) at ∙ ap line (append-nil ys ∙ l.1))
+
+from_line : (ys : List ℕ) (items : List Item) (far : Option BehindTree) → IsTreeLine ys items far → LinePart ys items far
+from_line ys items None l = subst (λ v. LinePart v items None) (sym l.1)
+    (joined (letters items) (10 ∷ []) items items (l.0, refl) (mapped (10 ∷ []) tt is_word))
+from_line ys items (Some k) l =
+    subst (λ v. LinePart v items (Some k)) (append-nil (letters items) ∙ sym (same_front 10 ys (letters items) l.1))
+    (joined (letters items) [] items items (l.0, refl) (mapped [] tt refl))
+
+pub tree_line_exact : (n : ℕ) → IsExact NotDue most n tree_line IsTreeLine
 unfolding tree_line
-tree_line_exact bound =
-    along tree_line _ IsTreeLine _ IsTreeFront bound
-    (both bound bound (trees 1) (λ items xs. tree_end xs >>= λ end. Ok (items, end.1)) AreLetters NoTree (λ items. Mapped (λ end. items) (IsWord (10 ∷ []))) (λ items. AtEnd)
-    (tree_exact bound) (λ ys items l. seen bound tree_end (λ end. items) (IsWord (10 ∷ [])) AtEnd (end_exact bound))
-    (λ ys items l k short. omega (arith, short)) (λ ys items l. (10 ∷ [], items, mapped (10 ∷ []) tt is_word)))
-    to from tree_to tree_from
-  where
-    to : (ys : List ℕ) (items : List Item) → Then AreLetters (λ items. Mapped (λ end. items) (IsWord (10 ∷ []))) ys items → IsTreeLine ys items
-    to _ _ (joined ys _ items _ l (mapped _ _ is_word)) = (l.0, ap (λ v. v ++ 10 ∷ []) l.1)
+tree_line_exact n = along to_line from_line ((part_before a_tree (λ items. shown_any (λ end. items) an_end)).exact n)
 
-    from : (ys : List ℕ) (items : List Item) → IsTreeLine ys items → Then AreLetters (λ items. Mapped (λ end. items) (IsWord (10 ∷ []))) ys items
-    from ys items l = subst (λ v. Then AreLetters (λ items. Mapped (λ end. items) (IsWord (10 ∷ []))) v items) (sym l.1) (joined (letters items) (10 ∷ []) items items (l.0, refl) (mapped (10 ∷ []) tt is_word))
+pub small_line : IsTreeLine (70 ∷ 10 ∷ []) (F ∷ []) None
+small_line = (small_log, refl)
 
-    tree_to : (f : List ℕ) → ThenTree NoTree AreLetters (λ items. AtEnd) f → IsTreeFront f
-    tree_to _ (in_first f t) = absurd t
-    tree_to _ (in_second ys f items l at) = (items, (l.0, ap (λ v. ys ++ v) at ∙ (append-nil ys ∙ l.1)))
-
-    tree_from : (f : List ℕ) → IsTreeFront f → ThenTree NoTree AreLetters (λ items. AtEnd) f
-    tree_from f t = subst (ThenTree NoTree AreLetters (λ items. AtEnd)) (append-nil f) (in_second f [] t.0 t.1 refl)
+abbrev pub a_tree_line : Reader ℕ BehindTree (List Item) NotDue most
+a_tree_line = record { read = tree_line; Is = IsTreeLine; exact = tree_line_exact; some = (70 ∷ 10 ∷ [], F ∷ [], small_line) }
 
 -- ---- a loop over letters
 
 -- what is read behind these items
 abbrev pub behind_items : List Item → Read (List Item) → Read (List Item)
-behind_items items r = r >>= λ x. Ok (items ++ x.0, x.1)
+behind_items items r = with_front items r
 
 items_first : (items : List Item) (i : Item) (r : Read (List Item)) → behind_items items (view (λ others. i ∷ others) r) ≡ behind_items (items ++ i ∷ []) r
 items_first items i (Ok x) = ap (λ (v : List Item). Ok (v, x.1)) (sym (append_assoc items (i ∷ []) x.0))
@@ -332,11 +372,14 @@ trees_step (suc due) (x ∷ xs) some =
     let one : suc due - 1 ≡ due = omega arith in
     by (item_of x) ∙ ap (λ k. found_before (length (x ∷ xs)) xs (item_of x) >>= λ i. view (λ others. i.0 ∷ others) (trees (due_after i.0 k) i.1)) (sym one)
   where
-    by : (o : Option Item) → with_item (length (x ∷ xs)) (λ i. trees (due_after i due) xs) o ≡ (found_before (length (x ∷ xs)) xs o >>= λ i. view (λ others. i.0 ∷ others) (trees (due_after i.0 due) i.1))
+    by : (o : Option Item) → with_item (length (x ∷ xs)) (λ i. trees (due_after i due) xs) o
+        ≡ (found_before (length (x ∷ xs)) xs o >>= λ i. view (λ others. i.0 ∷ others)
+        (trees (due_after i.0 due) i.1))
     by None = refl
     by (Some i) = refl
 
-pub next_item : (items : List Item) (due : ℕ) (xs after : List ℕ) (i : Item) → 0 < due → item xs ≡ Ok (i, after) → behind_items items (trees due xs) ≡ behind_items (items ++ i ∷ []) (trees (due_after i (due - 1)) after)
+pub next_item : (items : List Item) (due : ℕ) (xs after : List ℕ) (i : Item) → 0 < due → item xs ≡ Ok (i, after)
+    → behind_items items (trees due xs) ≡ behind_items (items ++ i ∷ []) (trees (due_after i (due - 1)) after)
 next_item items due xs after i some e =
     ap (behind_items items) (trees_step due xs some ∙ ap (λ r. r >>= λ i. view (λ others. i.0 ∷ others) (trees (due_after i.0 (due - 1)) i.1)) e)
     ∙ items_first items i (trees (due_after i (due - 1)) after)
@@ -355,7 +398,8 @@ pub none_before : (r : Read (List Item)) → behind_items [] r ≡ r
 none_before (Ok x) = refl
 none_before (Err s) = refl
 
-found_length : (left : ℕ) (o : Option Item) (xs : List ℕ) (i : Item) (after : List ℕ) → found_before left xs o ≡ Ok (i, after) → length after ≡ length xs
+found_length : (left : ℕ) (o : Option Item) (xs : List ℕ) (i : Item) (after : List ℕ)
+    → found_before {K = BehindTree} left xs o ≡ Ok (i, after) → length after ≡ length xs
 found_length left None xs i after e = absurd (cc)
 found_length left (Some j) xs i after e = let pair : ◌≡◌ {A = Item × List ℕ} (j, xs) (i, after) = cc in ap (λ (p : Item × List ℕ). length p.1) (sym pair)
 
