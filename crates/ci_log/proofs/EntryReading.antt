@@ -9,13 +9,13 @@ use Rattle.ci_reading.specs.Hex.{eight_hex_digits}
 use Rattle.ci_reading.specs.Lines.{line}
 use Rattle.ci_reading.specs.LineReading.{word}
 use Rattle.ci_reading.specs.Fields.{address, number}
-use Rattle.ci_reading.proofs.Languages.{Plainly, joined, mapped, IsFirst, first_on, Begins}
+use Rattle.ci_reading.proofs.Languages.{Plainly, joined, mapped, IsFirst, first_on, Begins, begins_either}
 use Rattle.ci_reading.proofs.Exact.{IsExact, along, also, none_longer}
 use Rattle.ci_reading.proofs.WordReading.{is_word, word_sound}
 use Rattle.ci_reading.proofs.AddressReading.{IsAddress, address_exact}
 use Rattle.ci_reading.proofs.NumberReading.{number_read}
 use Rattle.ci_reading.proofs.Readers.{Reader, PlainReader, any, part, part_before, shown, shown_any, choice, a_word}
-use Rattle.ci_reading.proofs.Readers.{behind, behind_any, begins_as, an_address, a_number_alone}
+use Rattle.ci_reading.proofs.Readers.{behind, behind_any, begins_as, by_first, an_address, a_number_alone}
 use Rattle.ci_word.specs.Members.{members_text}
 use Rattle.ci_log.specs.declared.log.Item.{Item}
 use Rattle.ci_log.specs.declared.book.Entry.{Entry}
@@ -102,17 +102,14 @@ spent_tail leader = any (shown (Spent leader) (a_number_alone budgets zero-le (l
 
 abbrev none_or_spent : ℕ → LogReader Entry
 none_or_spent leader =
-    choice (λ x. eqb x 110) (behind_any (codes "none\n") (without_tail leader)) (behind_any (codes "spent ") (spent_tail leader))
-    (begins_as (λ x. eqb x 110) true (codes "none\n") (without_tail leader) refl) (begins_as (λ x. eqb x 110) false (codes "spent ") (spent_tail leader) refl)
-
-no_best : (leader : ℕ) → Begins (λ x. eqb x 98) false (none_or_spent leader).Is
-no_best leader ys e far (inl l) = begins_as (λ x. eqb x 98) false (codes "none\n") (without_tail leader) refl ys e far l
-no_best leader ys e far (inr l) = begins_as (λ x. eqb x 98) false (codes "spent ") (spent_tail leader) refl ys e far l
+    by_first 110 (codes "none\n") (without_tail leader) (behind_any (codes "spent ") (spent_tail leader)) refl
+    (begins_as (λ x. eqb x 110) false (codes "spent ") (spent_tail leader) refl)
 
 abbrev tail_parts : ℕ → LogReader Entry
 tail_parts leader =
-    choice (λ x. eqb x 98) (behind_any (codes "best ") (best_tail leader)) (none_or_spent leader)
-    (begins_as (λ x. eqb x 98) true (codes "best ") (best_tail leader) refl) (no_best leader)
+    by_first 98 (codes "best ") (best_tail leader) (none_or_spent leader) refl
+    (begins_either (λ x. eqb x 98) false (begins_as (λ x. eqb x 98) false (codes "none\n") (without_tail leader) refl)
+    (begins_as (λ x. eqb x 98) false (codes "spent ") (spent_tail leader) refl))
 
 abbrev leader_parts : LogReader Entry
 leader_parts = part_before an_address (λ leader. behind_any (codes " ") (tail_parts leader))

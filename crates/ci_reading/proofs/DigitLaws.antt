@@ -1,5 +1,5 @@
 -- The number that digits of a base write, and the digits of numbers.
-use Rattle.std.proofs.Common.{◌≡◌, ℕ, zero, suc, ◌+◌, ◌*◌, ◌/◌, ◌%◌, ◌^◌, ◌<◌, ◌≤◌, Bool, true, false, cond, eqb, List}
+use Rattle.std.proofs.Common.{ap, ◌≡◌, ℕ, zero, suc, ◌+◌, ◌*◌, ◌/◌, ◌%◌, ◌^◌, ◌<◌, ◌≤◌, Bool, true, false, cond, eqb, List}
 use Rattle.std.proofs.Common.{[], ◌∷◌, length, get_or, take, length-take, arith}
 use Rattle.std.specs.Char.{digit_value}
 use Rattle.std.specs.Str.Parse.{AllDigits, digits_value}
@@ -23,12 +23,13 @@ digits_below base most ds some few all =
 
 -- so does a digit more, where it is among them
 pub digit_fits :
-    (base most : ℕ) (ds : List ℕ) (i : ℕ) → 0 < base → length ds ≤ most → i < length ds → AllDigits base (take i ds)
-    → digit_value (get_or ds i 0) < base
-    → digits_value base (take i ds) * base + digit_value (get_or ds i 0) < base ^ most
-digit_fits base most ds i some few lt all digit =
+    (base most n digit : ℕ) (ds : List ℕ) (i : ℕ) → 0 < base → length ds ≤ most → i < length ds → AllDigits base (take i ds)
+    → n ≡ digits_value base (take i ds) → digit ≡ digit_value (get_or ds i 0) → digit < base → n * base + digit < base ^ most
+digit_fits base most n digit ds i some few lt all so_far value small =
     let short : length (take (i + 1) ds) ≤ most = omega (arith, length-take (i + 1) ds) in
-    omega (arith, digits_value_more base ds i lt, digits_below base most (take (i + 1) ds) some short (digits_more base ds i lt all digit))
+    let below = digits_below base most (take (i + 1) ds) some short (digits_more base ds i lt all (omega (arith, small, value))) in
+    let number : n * base ≡ digits_value base (take i ds) * base = ap (λ v. v * base) so_far in
+    omega (arith, digits_value_more base ds i lt, below, number, value)
 
 -- ---- from a number to digits
 

@@ -1,5 +1,5 @@
 -- Languages with values, over any symbols: which lists are texts of a value, and how languages compose.
-use Rattle.std.proofs.Common.{◌≡◌, ◌<◌, Bool, List, [], ◌∷◌, ◌++◌, length, arith, Option, Some, None, refl}
+use Rattle.std.proofs.Common.{◌⊎◌, inl, inr, ◌≡◌, ◌<◌, Bool, List, [], ◌∷◌, ◌++◌, length, arith, Option, Some, None, refl}
 use Rattle.ci_reading.specs.LineReading.{first_passes}
 
 -- A language says which lists are texts of a value (None), and which are the beginning of one, up to a place of a kind
@@ -69,3 +69,8 @@ pub plainly_begins : {S K A : Type 0} (test : S → Bool) (is : Bool) (L : List 
     → ((ys : List S) (a : A) → L ys a → IsFirst test is ys) → Begins {K = K} test is (Plainly L)
 plainly_begins test is L begins ys a None l = begins ys a l
 plainly_begins test is L begins ys a (Some k) l = absurd l
+
+pub begins_either : {S K A : Type 0} (test : S → Bool) (is : Bool) {L M : List S → A → Option K → Type 0} → Begins test is L → Begins test is M
+    → Begins test is (λ ys a far. L ys a far ⊎ M ys a far)
+begins_either test is first second ys a far (inl l) = first ys a far l
+begins_either test is first second ys a far (inr m) = second ys a far m

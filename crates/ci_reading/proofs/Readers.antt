@@ -1,5 +1,5 @@
 -- Readers with their languages, in one value each: what stands one after the other is one definition.
-use Rattle.std.proofs.Common.{◌≡◌, ℕ, ◌≤◌, ◌⊎◌, inl, Bool, true, false, cond, List, [], ◌∷◌, ◌++◌, Option, None}
+use Rattle.std.proofs.Common.{◌≡◌, ℕ, ◌≤◌, ◌⊎◌, inl, Bool, true, false, cond, eqb, List, [], ◌∷◌, ◌++◌, Option, None}
 use Rattle.std.specs.Char.{is_ascii_digit}
 use Rattle.std.specs.Fmt.{decimal}
 use Rattle.ci_reading.specs.declared.fields.Numbers.{Numbers}
@@ -33,17 +33,20 @@ module _ {S K : Type 0} {Other : K → S → Type 0} {most : ℕ} where
   any r = record { read = r.read; Is = Plainly r.Is; exact = r.exact; some = r.some }
 
   -- a part, and then another
+  pub some_joined : {A B : Type 0} (first : PlainReader S K A Other most) (M : A → List S → B → Type 0) → ((a : A) → (zs : List S) × (b : B) × M a zs b)
+      → (ys : List S) × (b : B) × Then first.Is M ys b
+  some_joined first M second =
+      let ys = first.some in
+      let zs = second ys.1 in
+      (ys.0 ++ zs.0, zs.1, joined ys.0 zs.0 ys.1 zs.1 ys.2 zs.2)
+
   abbrev pub part : {A B : Type 0} → PlainReader S K A Other most → (A → PlainReader S K B Other most) → PlainReader S K B Other most
   part first second = record {
     read = λ xs. first.read xs >>= λ x. (second x.0).read x.1;
     Is = Then first.Is (λ a. (second a).Is);
     exact = λ n. and_then n first.read (λ a. (second a).read) first.Is (first.exact n) (λ a. (second a).Is)
         (λ ys a l. (second a).exact n) (λ ys a l. (second a).some);
-    some = (
-      first.some.0 ++ (second first.some.1).some.0,
-      (second first.some.1).some.1,
-      joined first.some.0 (second first.some.1).some.0 first.some.1 (second first.some.1).some.1 first.some.2 (second first.some.1).some.2,
-    );
+    some = some_joined first (λ a. (second a).Is) (λ a. (second a).some);
   }
 
   abbrev pub part_before : {A B : Type 0} → PlainReader S K A Other most → (A → Reader S K B Other most) → Reader S K B Other most
@@ -52,11 +55,7 @@ module _ {S K : Type 0} {Other : K → S → Type 0} {most : ℕ} where
     Is = λ ys b far. Then first.Is (λ a zs b. (second a).Is zs b far) ys b;
     exact = λ n. follows n first.read (λ a. (second a).read) first.Is (first.exact n) (λ a. (second a).Is)
         (λ ys a l. (second a).exact n) (λ ys a l. (second a).some);
-    some = (
-      first.some.0 ++ (second first.some.1).some.0,
-      (second first.some.1).some.1,
-      joined first.some.0 (second first.some.1).some.0 first.some.1 (second first.some.1).some.1 first.some.2 (second first.some.1).some.2,
-    );
+    some = some_joined first (λ a zs b. (second a).Is zs b None) (λ a. (second a).some);
   }
 
   -- what was read, seen by a function
@@ -148,3 +147,8 @@ module _ {K : Type 0} {Other : K → ℕ → Type 0} {most : ℕ} where
   pub begins_as : {A : Type 0} (test : ℕ → Bool) (is : Bool) (due : List ℕ) (r : Reader ℕ K A Other most)
       → IsFirst test is due → Begins test is (behind_any due r).Is
   begins_as test is due r first _ _ far (joined _ zs _ _ is_word m) = first_on test is due zs first
+
+  -- one form, by its first byte, or the others
+  abbrev pub by_first : {A : Type 0} (byte : ℕ) (due : List ℕ) (r others : Reader ℕ K A Other most) → IsFirst (λ x. eqb x byte) true due
+      → Begins (λ x. eqb x byte) false others.Is → Reader ℕ K A Other most
+  by_first byte due r others first other = choice (λ x. eqb x byte) (behind_any due r) others (begins_as (λ x. eqb x byte) true due r first) other

@@ -1,6 +1,5 @@
 -- One digit more.
-use Rattle.std.proofs.Common.{◌≡◌, ◌∙◌, ◌<◌, ◌*◌, ap, ap₂, arith, get_or, refl, subst, sym, take, take_all}
-use Rattle.std.specs.Char.{digit_value}
+use Rattle.std.proofs.Common.{◌≡◌, ◌∙◌, ap, arith, subst, take, take_all}
 use Rattle.std.specs.Str.Parse.{AllDigits, digits_value}
 use Rattle.std.proofs.lemmas.Int.Digits.{digits_value_more, digits_more}
 use Rattle.ci_reading.proofs.DigitLaws.{digit_at, digits_below, digit_fits}
@@ -13,25 +12,21 @@ returns-then-digit-base-clause-number c is =
 
 pub overflow_mul-number : goal.overflow_mul-number
 overflow_mul-number c =
-    let base = c.args.base in
-    let text = c.args.text.now in
-    let i = c.loop-byte.byte-index in
-    let digit : digit_value (get_or text i 0) < base = omega (arith, c.digit_value-digit.ensures.value) in
-    let fits = digit_fits base c.args.most text i (omega arith) c.loop-byte.invariant.few c.loop-byte-test.true c.loop-byte.invariant.digits digit in
-    let so_far : digits_value base (take i text) * base ≡ c.loop-byte.number * base =
-    ap₂ (λ a b. a * b) (sym c.loop-byte.invariant.value) refl in
-    omega (arith, fits, so_far)
+    omega (
+      arith,
+      digit_fits c.args.base c.args.most c.loop-byte.number c.digit_value-digit.result c.args.text.now c.loop-byte.byte-index (omega arith)
+          c.loop-byte.invariant.few c.loop-byte-test.true c.loop-byte.invariant.digits c.loop-byte.invariant.value c.digit_value-digit.ensures.value
+          c.if-digit-base.false,
+    )
 
 pub overflow_add-number : goal.overflow_add-number
 overflow_add-number c =
-    let base = c.args.base in
-    let text = c.args.text.now in
-    let i = c.loop-byte.byte-index in
-    let digit : digit_value (get_or text i 0) < base = omega (arith, c.digit_value-digit.ensures.value) in
-    let fits = digit_fits base c.args.most text i (omega arith) c.loop-byte.invariant.few c.loop-byte-test.true c.loop-byte.invariant.digits digit in
-    let so_far : digits_value base (take i text) * base ≡ c.loop-byte.number * base =
-    ap₂ (λ a b. a * b) (sym c.loop-byte.invariant.value) refl in
-    omega (arith, fits, so_far, c.digit_value-digit.ensures.value)
+    omega (
+      arith,
+      digit_fits c.args.base c.args.most c.loop-byte.number c.digit_value-digit.result c.args.text.now c.loop-byte.byte-index (omega arith)
+          c.loop-byte.invariant.few c.loop-byte-test.true c.loop-byte.invariant.digits c.loop-byte.invariant.value c.digit_value-digit.ensures.value
+          c.if-digit-base.false,
+    )
 
 pub loop-byte-preserved : goal.loop-byte-preserved
 loop-byte-preserved c =
