@@ -6,7 +6,8 @@ use Rattle.ci_reading.specs.declared.fields.Stop as code
 use Rattle.ci_reading.specs.declared.fields.Numbers.{Numbers}
 use Rattle.ci_reading.specs.LineReading.{Stop, Read, ◌>>=◌, view, stop}
 
--- what a function returned, seen by `view`, is what reading gives
+-- What a function returned, seen by `view`, is what reading gives. Contracts name one kind of stop of the format's own;
+-- none of these readers tells any.
 abbrev pub Gives : {X Y K : Type 0} → (X → Y) → Result X code.Stop → Result Y (Stop K) → Type 0
 Gives view (Ok x) read = read ≡ Ok (view x)
 Gives view (Err s) read = read ≡ Err (stop s.left)
@@ -37,7 +38,8 @@ address (suc count) value xs = hex_digit xs >>= λ digit. address count (16 * va
 abbrev pub meets : Numbers → ℕ → ℕ → Bool
 meets numbers first count = nat_le first numbers.high && nat_lt numbers.low (first + count)
 
--- with at most so many further digits, fewer by one, and at least as many as the scale has zeros
+-- one of the numbers has the value's digits and then k more, for one of the next `count` numbers k, of which the first
+-- has the scale as its power of ten
 unfoldable pub reaches_from : Numbers → ℕ → ℕ → ℕ → Bool
 reaches_from numbers value scale zero = false
 reaches_from numbers value scale (suc count) =
