@@ -1,3 +1,4 @@
 mod HexLaws
 pub mod BrokenLaws
 pub mod ByteLaws
+pub mod TokenLaws
