@@ -1,65 +1,52 @@
--- What the digits of a number, and the name of a register, are read as.
-use Rattle.std.proofs.Common.{◌≡◌, ℕ, zero, suc, ◌+◌, ◌*◌, ◌/◌, ◌%◌, ◌^◌, ◌<◌, ◌≤◌, Bool, true, false, cond, ◌&&◌, ◌||◌, nat_lt, eqb, List, [], ◌∷◌, ◌++◌, length, get_or, refl, ap, ◌∙◌, arith, Some, lit<, lit≤, inl, inr}
-use Rattle.std.specs.List.{list_all}
+-- The digits that a number is written by, and the name of a register, are read as these.
+use Rattle.std.proofs.Common.{◌≡◌, ℕ, zero, suc, ◌+◌, ◌*◌, ◌/◌, ◌%◌, ◌^◌, ◌<◌, ◌≤◌, Bool, true, false, cond, nat_lt, eqb, List, [], ◌∷◌, ◌++◌, length, refl, ap, ◌∙◌, arith, Some, lit<, lit≤, inl, inr}
+use Rattle.std.specs.List.{AllByRecursion}
 use Rattle.std.specs.Char.{digit_value}
 use Rattle.std.specs.Str.Parse.{AllDigits, IsNumeral, digits_value}
 use Rattle.std.specs.Fmt.{decimal, digits, digits_onto, digit_glyph}
 use Rattle.std.proofs.lemmas.Fmt.{decimal_is_IsNumeral, digits_is_IsNumeral, length-decimal-le, decimal_digit, decimal_step}
-use Rattle.std.proofs.lemmas.Bool.Decides.{nat_tests}
-use Rattle.ci_asm.specs.declared.scanner.ByteClass.TheVariants.{NameByte, Digit, HexDigit}
-use Rattle.ci_asm.specs.Tokens.{belongs, is_letter, is_digit, is_between, number, number_of, two_digits, register_at, has_one_digit, has_two_digits, register_of}
-use Rattle.ci_reading.specs.Hex.{eight_hex_digits}
-use Rattle.ci_asm.specs.Shown.{register_name}
 use Rattle.std.proofs.lemmas.Bool.{cases_lt}
+use Rattle.std.proofs.lemmas.Bool.Decides.{nat_tests}
 use Rattle.std.proofs.Math.Nat.{pow-suc}
-use Rattle.ci_asm.proofs.Tokens.{and_both, pick_true}
+use Rattle.ci_reading.specs.Hex.{eight_hex_digits}
+use Rattle.ci_asm.specs.Tokens.{is_digit, is_between, two_digits, register_at, has_one_digit, has_two_digits, register_of}
+use Rattle.ci_asm.specs.Lexicon.{IsDigit, IsHexDigit, StartsWith}
+use Rattle.ci_asm.specs.Shown.{register_name}
+use Rattle.ci_asm.proofs.TestLaws.{pick_true}
 
--- ---- digits
+-- one digit or more, and at most ten, which write the number
+pub record AreDigitsOf (IsOne : ℕ → Type 0) (base n : ℕ) (written : List ℕ) : Type 0 where
+  pub proper : StartsWith IsOne IsOne written
+  pub value : digits_value base written ≡ n
+  pub few : length written ≤ 10
 
-digit_byte : (c : ℕ) → digit_value c < 10 → belongs Digit c ≡ true
+each_digit : (IsOne : ℕ → Type 0) (base : ℕ) → ((c : ℕ) → digit_value c < base → IsOne c) → (written : List ℕ)
+    → AllDigits base written → AllByRecursion IsOne written
+each_digit IsOne base one [] all = tt
+each_digit IsOne base one (d ∷ written) all = (one d all.0, each_digit IsOne base one written all.1)
+
+digits_of : (IsOne : ℕ → Type 0) (base n : ℕ) → ((c : ℕ) → digit_value c < base → IsOne c) → (written : List ℕ)
+    → IsNumeral base written → digits_value base written ≡ n → length written ≤ 10 → AreDigitsOf IsOne base n written
+digits_of IsOne base n one [] numeral value few = absurd (omega (arith, numeral.0))
+digits_of IsOne base n one (d ∷ written) numeral value few =
+    record { proper = each_digit IsOne base one (d ∷ written) numeral.1; value = value; few = few }
+
+digit_byte : (c : ℕ) → digit_value c < 10 → IsDigit c
 digit_byte c h = grind (arith, nat_tests)
 
-hex_byte : (c : ℕ) → digit_value c < 16 → belongs HexDigit c ≡ true
+hex_byte : (c : ℕ) → digit_value c < 16 → IsHexDigit c
 hex_byte c h = grind (arith, nat_tests)
 
-decimal_bytes : (ds : List ℕ) → AllDigits 10 ds → list_all (belongs Digit) ds ≡ true
-decimal_bytes [] all = refl
-decimal_bytes (d ∷ ds) all = ap (λ b. b && list_all (belongs Digit) ds) (digit_byte d all.0) ∙ decimal_bytes ds all.1
+-- ---- decimal digits
 
-hex_bytes : (ds : List ℕ) → AllDigits 16 ds → list_all (belongs HexDigit) ds ≡ true
-hex_bytes [] all = refl
-hex_bytes (d ∷ ds) all = ap (λ b. b && list_all (belongs HexDigit) ds) (hex_byte d all.0) ∙ hex_bytes ds all.1
-
-name_byte : (c : ℕ) → belongs Digit c ≡ true → belongs NameByte c ≡ true
-name_byte c e = by (is_letter c)
-  where
-    by : (a : Bool) → (a || is_digit c) ≡ true
-    by true = refl
-    by false = e
-
--- digits go on a name
-pub name_bytes : (ds : List ℕ) → list_all (belongs Digit) ds ≡ true → list_all (belongs NameByte) ds ≡ true
-name_bytes [] all = refl
-name_bytes (d ∷ ds) all =
-    let both = and_both (belongs Digit d) (list_all (belongs Digit) ds) all in
-    ap (λ b. b && list_all (belongs NameByte) ds) (name_byte d both.0) ∙ name_bytes ds both.1
-
--- the text writes the number with one digit or more, and at most ten
-pub record Writes (base : ℕ) (n d : ℕ) (ds : List ℕ) : Type 0 where
-  pub all : AllDigits base (d ∷ ds)
-  pub value : digits_value base (d ∷ ds) ≡ n
-  pub few : length (d ∷ ds) ≤ 10
-
-parts_of : (base n : ℕ) (text : List ℕ) → IsNumeral base text → digits_value base text ≡ n → length text ≤ 10 → (d : ℕ) × (ds : List ℕ) × (text ≡ d ∷ ds) × Writes base n d ds
-parts_of base n [] numeral value few = absurd (omega (arith, numeral.0))
-parts_of base n (d ∷ ds) numeral value few = (d, ds, refl, record { all = numeral.1; value = value; few = few })
-
-pub decimal_parts : (n : ℕ) → n < 2 ^ 32 → (d : ℕ) × (ds : List ℕ) × (decimal n ≡ d ∷ ds) × Writes 10 n d ds
-decimal_parts n below =
+pub decimal_digits : (n : ℕ) → n < 2 ^ 32 → AreDigitsOf IsDigit 10 n (decimal n)
+decimal_digits n below =
     let wide : n < 2 ^ 64 = omega arith in
     let small : n < 10 ^ 10 = omega arith in
     let numeral = decimal_is_IsNumeral n wide in
-    parts_of 10 n (decimal n) numeral.0 numeral.1 (length-decimal-le 10 n (lit< tt) small wide)
+    digits_of IsDigit 10 n digit_byte (decimal n) numeral.0 numeral.1 (length-decimal-le 10 n (lit< tt) small wide)
+
+-- ---- hex digits
 
 either_length : (b : Bool) (xs ys : List ℕ) (most : ℕ) → length xs ≤ most → length ys ≤ most → length (cond b xs ys) ≤ most
 either_length true xs ys most first second = first
@@ -84,17 +71,11 @@ hex_length : (n : ℕ) → n < 16 ^ 5 → length (digits 16 false n) ≤ 10
 unfolding digits
 hex_length n h = omega (arith, length_onto 4 64 n [] h)
 
-pub hex_parts : (n : ℕ) → n < 16 ^ 5 → (d : ℕ) × (ds : List ℕ) × (digits 16 false n ≡ d ∷ ds) × Writes 16 n d ds
-hex_parts n h =
+pub hex_digits : (n : ℕ) → n < 16 ^ 5 → AreDigitsOf IsHexDigit 16 n (digits 16 false n)
+hex_digits n h =
     let wide : n < 16 ^ 64 = omega arith in
     let numeral = digits_is_IsNumeral 16 false (lit≤ tt) (lit≤ tt) n wide in
-    parts_of 16 n (digits 16 false n) numeral.0 numeral.1 (hex_length n h)
-
-pub decimal_all : (n d : ℕ) (ds : List ℕ) → Writes 10 n d ds → list_all (belongs Digit) (d ∷ ds) ≡ true
-decimal_all n d ds w = decimal_bytes (d ∷ ds) w.all
-
-pub hex_all : (n d : ℕ) (ds : List ℕ) → Writes 16 n d ds → list_all (belongs HexDigit) (d ∷ ds) ≡ true
-hex_all n d ds w = hex_bytes (d ∷ ds) w.all
+    digits_of IsHexDigit 16 n hex_byte (digits 16 false n) numeral.0 numeral.1 (hex_length n h)
 
 -- ---- eight hex digits
 
@@ -118,43 +99,13 @@ eight_value n h =
 below_16 : (n k : ℕ) → digit_value (hex_digit n k) < 16
 below_16 n k = rw (hex_digit_value n k) (omega arith)
 
-pub eight_parts : (n : ℕ) → n < 2 ^ 32 → Writes 16 n (hex_digit n 7) (hex_digit n 6 ∷ hex_digit n 5 ∷ hex_digit n 4 ∷ hex_digit n 3 ∷ hex_digit n 2 ∷ hex_digit n 1 ∷ hex_digit n 0 ∷ [])
-eight_parts n h = record {
-  all = (below_16 n 7, (below_16 n 6, (below_16 n 5, (below_16 n 4, (below_16 n 3, (below_16 n 2, (below_16 n 1, (below_16 n 0, tt))))))));
+pub eight_digits : (n : ℕ) → n < 2 ^ 32 → AreDigitsOf IsHexDigit 16 n (eight_hex_digits n)
+eight_digits n h = record {
+  proper = each_digit IsHexDigit 16 hex_byte (eight_hex_digits n)
+      (below_16 n 7, (below_16 n 6, (below_16 n 5, (below_16 n 4, (below_16 n 3, (below_16 n 2, (below_16 n 1, (below_16 n 0, tt))))))));
   value = eight_value n h;
   few = omega arith;
 }
-
--- ---- numbers
-
-capped : (negative : Bool) (base n : ℕ) (ds : List ℕ) → digits_value base ds ≡ n → length ds ≤ 10 → number negative base ds ≡ Some (record { negative = negative; magnitude = n })
-capped negative base n ds value few =
-    let room : nat_lt 10 (length ds) ≡ false = grind (arith, nat_tests) in
-    rw (room, value) refl
-
--- no `x` is the second byte
-second_no_x : (ds : List ℕ) → list_all (belongs Digit) ds ≡ true → eqb (get_or ds 0 0) 120 ≡ false
-second_no_x [] all = refl
-second_no_x (d ∷ ds) all =
-    let digit = (and_both (belongs Digit d) (list_all (belongs Digit) ds) all).0 in
-    grind (arith, nat_tests)
-
-first_no_minus : (d : ℕ) → belongs Digit d ≡ true → eqb d 45 ≡ false
-first_no_minus d e = grind (arith, nat_tests)
-
-pub number_of-decimal : (n d : ℕ) (ds : List ℕ) → Writes 10 n d ds → number_of (d ∷ ds) ≡ Some (record { negative = false; magnitude = n })
-unfolding number_of
-number_of-decimal n d ds w =
-    let both = and_both (belongs Digit d) (list_all (belongs Digit) ds) (decimal_all n d ds w) in
-    rw (first_no_minus d both.0, second_no_x ds both.1) (capped false 10 n (d ∷ ds) w.value w.few)
-
-pub number_of-negative : (n d : ℕ) (ds : List ℕ) → Writes 10 n d ds → number_of (45 ∷ d ∷ ds) ≡ Some (record { negative = true; magnitude = n })
-unfolding number_of
-number_of-negative n d ds w = capped true 10 n (d ∷ ds) w.value w.few
-
-pub number_of-hex : (n d : ℕ) (ds : List ℕ) → Writes 16 n d ds → number_of (48 ∷ 120 ∷ d ∷ ds) ≡ Some (record { negative = false; magnitude = n })
-unfolding number_of
-number_of-hex n d ds w = capped false 16 n (d ∷ ds) w.value w.few
 
 -- ---- registers
 

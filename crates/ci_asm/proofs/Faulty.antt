@@ -5,6 +5,7 @@ use Rattle.std.specs.Fmt.{decimal}
 use Rattle.std.proofs.lemmas.Int.{ints}
 use Rattle.std.proofs.lemmas.Bool.Decides.{nat_tests}
 use mathlib.Core.List.{append_assoc}
+use Rattle.ci_reading.specs.Tokens as reading
 use Rattle.ci_asm.specs.declared.scanner.Kind.{Kind}
 use Rattle.ci_asm.specs.declared.scanner.Kind.TheVariants.{Name, Numeral, Directive, Mark, End, Bad}
 use Rattle.ci_asm.specs.declared.scanner.Token.{Token}
@@ -24,12 +25,14 @@ use Rattle.ci_asm.specs.Shapes.{mnemonic_of, is_statement, is_offset, fits, slot
 use Rattle.ci_asm.specs.Statements.{◌>>=◌, found, fault, at_place, no_operands, number_in, filled, ended, read_slots, mnemonic_in, read_statement, with_statement, read_line}
 use Rattle.ci_asm.specs.Programs.{kind_of}
 use Rattle.ci_asm.specs.Lexicon as lex
-use Rattle.ci_asm.specs.Lexicon.{name, decimal_number, hex_number, word, comma, open_bracket, close_bracket, colon, IsToken, line_end, stray_byte}
+use Rattle.ci_reading.specs.Tokens.{text_end, stray_byte}
+use Rattle.ci_asm.specs.Lexicon.{name, decimal_number, hex_number, word, comma, open_bracket, close_bracket, colon, IsToken}
 use Rattle.ci_asm.specs.Forms.{IsIn, IsRegister, IsNumber, HasNumber, Statement, IsStatement, IsMnemonic}
 use Rattle.ci_asm.specs.Assembly.{IsGoodFront, IsGoodNext, IsWhole, IsNumberDue, IsKind, no_token, no_statement, no_operand, too_short, out_of_field, surplus, too_many, IsFaultOfLine}
 use Rattle.ci_asm.proofs.Operands.{mnemonic_in-statement, at_place_ok}
-use Rattle.ci_asm.proofs.Lexing.{kind_of as kind_of_token}
-use Rattle.ci_asm.proofs.Scanning.{IsShown, Shows, Meets, next_symbol, by_test}
+use Rattle.ci_asm.specs.Tokens.{kind_of as kind_of_token}
+use Rattle.ci_asm.proofs.Scanning.{IsShown, Shows, Meets, next_symbol}
+use Rattle.ci_asm.proofs.TestLaws.{by_test}
 use Rattle.ci_asm.proofs.Fields.{number_result, field_form, writes_is_number}
 use Rattle.ci_asm.proofs.Filling.{Values, no_values, Fills, done, fill_rd, fill_rs1, fill_rs2, fill_rs3, fill_number, fill_label, fill_comma, fill_open, fill_close, register_result, mark_result, value_result, result_of, register_no, number_in_no, value_no, filled_shown, filled_end, filled_bad, filled_token, fill_step, values_of, label_text, read_step, read_stuck, read_nil}
 use Rattle.ci_asm.proofs.Stated.{mnemonic_token, fills_statement, statement_slots}
@@ -164,10 +167,10 @@ IsValue slot = ⊥
 -- the symbol that doesn't fit where these slots are due, and the rule that it breaks
 data Stops : List Slot → lex.Symbol → Rule → Type 0 where
   stray : {slots : List Slot} → Stops slots stray_byte NoToken
-  over : {t : lex.Token} → Stops [] (lex.token t) Surplus
-  short : {slot : Slot} {slots : List Slot} → Stops (slot ∷ slots) line_end NoOperand
-  wrong_number : {slot : Slot} {slots : List Slot} {t : lex.Token} → IsValue slot → IsNumber t → ¬ Accepts slot t → Stops (slot ∷ slots) (lex.token t) OutOfField
-  wrong : {slot : Slot} {slots : List Slot} {t : lex.Token} → ¬ (IsNumber t × IsValue slot) → ¬ Accepts slot t → Stops (slot ∷ slots) (lex.token t) NoOperand
+  over : {t : lex.Token} → Stops [] (reading.token t) Surplus
+  short : {slot : Slot} {slots : List Slot} → Stops (slot ∷ slots) text_end NoOperand
+  wrong_number : {slot : Slot} {slots : List Slot} {t : lex.Token} → IsValue slot → IsNumber t → ¬ Accepts slot t → Stops (slot ∷ slots) (reading.token t) OutOfField
+  wrong : {slot : Slot} {slots : List Slot} {t : lex.Token} → ¬ (IsNumber t × IsValue slot) → ¬ Accepts slot t → Stops (slot ∷ slots) (reading.token t) NoOperand
 
 -- an accepted token is read
 accept_ok : (code_token : Token) (slot : Slot) (shown : lex.Token) (o : Operands) → Accepts slot shown → (p : Operands) × (result_of code_token slot shown o ≡ Ok p)
@@ -249,25 +252,25 @@ rule_for ct Close shown o rule e = inr (mark_rule 41 shown o rule e, λ h. h.1)
 
 -- what stands in a slot's place where it can't be filled
 filled_stops : (line : List ℕ) (slot : Slot) (slots : List Slot) (t : Token) (o : Operands) (rule : Rule) (symbol : lex.Symbol) → Shows line t symbol → filled line slot t o ≡ Err rule → Stops (slot ∷ slots) symbol rule
-filled_stops line slot slots t o rule (lex.token shown) shows e =
+filled_stops line slot slots t o rule (reading.token shown) shows e =
     let there = sym (filled_shown line slot t shown o shows) ∙ e in
     let none = not_accepted t slot shown o rule there in
     elim (rule_for t slot shown o rule there) [
-      | inl number ↦ subst (Stops (slot ∷ slots) (lex.token shown)) (sym number.0) (wrong_number number.1.1 number.1.0 none)
-      | inr other ↦ subst (Stops (slot ∷ slots) (lex.token shown)) (sym other.0) (wrong other.1 none)
+      | inl number ↦ subst (Stops (slot ∷ slots) (reading.token shown)) (sym number.0) (wrong_number number.1.1 number.1.0 none)
+      | inr other ↦ subst (Stops (slot ∷ slots) (reading.token shown)) (sym other.0) (wrong other.1 none)
     ]
-filled_stops line slot slots t o rule line_end shows e =
+filled_stops line slot slots t o rule text_end shows e =
     let same : NoOperand ≡ rule = err_same {A = Operands} NoOperand rule (sym (filled_end line slot t o shows) ∙ e) in
-    subst (Stops (slot ∷ slots) line_end) same short
+    subst (Stops (slot ∷ slots) text_end) same short
 filled_stops line slot slots t o rule stray_byte shows e =
     let same : NoToken ≡ rule = err_same {A = Operands} NoToken rule (sym (filled_bad line slot t o shows) ∙ e) in
     subst (Stops (slot ∷ slots) stray_byte) same stray
 
 -- what stands where the line should end
 ended_stops : (line : List ℕ) (t : Token) (o : Operands) (f : Fault) (symbol : lex.Symbol) → Shows line t symbol → ended t.start o t.kind ≡ Err f → Stops [] symbol f.rule × (f.place ≡ t.start)
-ended_stops line t o f (lex.token shown) shows e =
+ended_stops line t o f (reading.token shown) shows e =
     let same : fault Surplus t.start ≡ f = err_same {A = Operands} _ f (sym (over_kind t.start o shown) ∙ (ap (ended t.start o) (sym shows.kind) ∙ e)) in
-    (subst (λ g. Stops [] (lex.token shown) g.rule) same over, sym (ap (λ g. g.place) same))
+    (subst (λ g. Stops [] (reading.token shown) g.rule) same over, sym (ap (λ g. g.place) same))
   where
     over_kind : (place : ℕ) (o : Operands) (shown : lex.Token) → ended place o (kind_of_token shown) ≡ Err (fault Surplus place)
     over_kind place o (name bytes) = refl
@@ -278,7 +281,7 @@ ended_stops line t o f (lex.token shown) shows e =
     over_kind place o open_bracket = refl
     over_kind place o close_bracket = refl
     over_kind place o colon = refl
-ended_stops line t o f line_end shows e =
+ended_stops line t o f text_end shows e =
     let ok : ended t.start o t.kind ≡ Ok o = ap (ended t.start o) shows in
     absurd (cc)
 ended_stops line t o f stray_byte shows e =
@@ -399,7 +402,7 @@ stop_is words m named before due front split fit symbol rule (short {slot} {slot
   is_kind = too_short;
 }
   where
-    no_end : ¬ IsGoodNext words (mnemonic_token m ∷ front) line_end
+    no_end : ¬ IsGoodNext words (mnemonic_token m ∷ front) text_end
     no_end (None, e) = absurd (cc)
     no_end (Some statement, is) = whole_fits m named before (slot ∷ slots) front split fit statement is
 stop_is words m named before due front split fit symbol rule (wrong_number {slot} {slots} {t} value number none) = record {
@@ -460,19 +463,19 @@ mnemonic_rule colon rule e = cc
 
 -- the fault where no mnemonic stands
 first_stop : (words : ℕ) (line : List ℕ) (t : Token) (symbol : lex.Symbol) (rule : Rule) → Shows line t symbol → t.kind ≢ End → mnemonic_in line t t.kind ≡ Err rule → IsStop words [] symbol (kind_of rule)
-first_stop words line t (lex.token shown) rule shows inside e =
+first_stop words line t (reading.token shown) rule shows inside e =
     let there = sym (mnemonic_shown line t shown shows) ∙ e in
     let none = no_mnemonic shown rule there in
-    subst (λ r. IsStop words [] (lex.token shown) (kind_of r)) (sym (mnemonic_rule shown rule there)) (record { bad = no_first words shown none; is_kind = no_statement none })
-first_stop words line t line_end rule shows inside e = absurd (inside shows)
+    subst (λ r. IsStop words [] (reading.token shown) (kind_of r)) (sym (mnemonic_rule shown rule there)) (record { bad = no_first words shown none; is_kind = no_statement none })
+first_stop words line t text_end rule shows inside e = absurd (inside shows)
 first_stop words line t stray_byte rule shows inside e =
     let same : NoToken ≡ rule = err_same {A = Mnemonic} NoToken rule (sym (ap (mnemonic_in line t) shows) ∙ e) in
     subst (λ r. IsStop words [] stray_byte (kind_of r)) same (record { bad = λ good. good; is_kind = no_token })
 
 -- what the code reads first as a mnemonic
 pub mnemonic_read : (line : List ℕ) (t : Token) (m : Mnemonic) (symbol : lex.Symbol) → Shows line t symbol → mnemonic_in line t t.kind ≡ Ok m → IsShown line t (mnemonic_token m)
-mnemonic_read line t m (lex.token shown) shows e = subst (IsShown line t) (mnemonic_yes shown m shows.proper (sym (mnemonic_shown line t shown shows) ∙ e)) shows
-mnemonic_read line t m line_end shows e = let none : mnemonic_in line t t.kind ≡ Err NoMnemonic = ap (mnemonic_in line t) shows in absurd (cc)
+mnemonic_read line t m (reading.token shown) shows e = subst (IsShown line t) (mnemonic_yes shown m shows.proper (sym (mnemonic_shown line t shown shows) ∙ e)) shows
+mnemonic_read line t m text_end shows e = let none : mnemonic_in line t t.kind ≡ Err NoMnemonic = ap (mnemonic_in line t) shows in absurd (cc)
 mnemonic_read line t m stray_byte shows e = let none : mnemonic_in line t t.kind ≡ Err NoToken = ap (mnemonic_in line t) shows in absurd (cc)
 
 -- the part that has the fault
@@ -526,7 +529,7 @@ statement_fault words line b f few inside e =
         let limit : ¬ (words < 262144) = λ less. absurd (grind (arith, nat_tests)) in
         let same : fault Surplus u.start ≡ f = err_same {A = Operands} _ f (sym (ap (λ c. cond c (Err (fault Surplus u.start)) (read_slots line (slots_of m) u.end no_operands)) full) ∙ e) in
         subst (λ g. IsFaultOfLine words line (kind_of g.rule) g.place) same
-        (fault_at words line b [] (lex.token (mnemonic_token m)) 7 u.start (shown, refl) (inl refl) (record { bad = no_room words (mnemonic_token m) limit; is_kind = too_many (mnemonic_begins m named) })))
+        (fault_at words line b [] (reading.token (mnemonic_token m)) 7 u.start (shown, refl) (inl refl) (record { bad = no_room words (mnemonic_token m) limit; is_kind = too_many (mnemonic_begins m named) })))
         (λ room.
         let less : words < 262144 = grind (arith, nat_tests) in
         let stuck : read_slots line (slots_of m) u.end no_operands ≡ Err f = sym (ap (λ c. cond c (Err (fault Surplus u.start)) (read_slots line (slots_of m) u.end no_operands)) room) ∙ e in

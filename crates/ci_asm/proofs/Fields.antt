@@ -17,8 +17,8 @@ use Rattle.ci_asm.specs.Lexicon as lex
 use Rattle.ci_asm.specs.Lexicon.{IsDigit, name, decimal_number, hex_number, word, comma, open_bracket, close_bracket, colon, spelling, IsToken}
 use Rattle.ci_asm.specs.Forms as forms
 use Rattle.ci_asm.specs.Forms.{IsBetween, IsEven, IsIn, IsRegister, IsNumber, Writes, HasNumber}
-use Rattle.ci_asm.proofs.Tokens.{and_both, pick_false}
-use Rattle.ci_asm.proofs.Scanning.{no_x}
+use Rattle.ci_asm.proofs.TestLaws.{and_both, pick_false}
+use Rattle.ci_asm.proofs.Lexing.{no_x_behind}
 
 -- ---- registers
 
@@ -109,7 +109,7 @@ number_of-token (decimal_number false []) is proper = absurd proper
 number_of-token (decimal_number false (d ∷ ds)) is proper =
     let digit = proper.0 in
     let minus : eqb d 45 ≡ false = grind (arith, nat_tests) in
-    rw (minus, no_x ds proper.1) refl
+    rw (minus, no_x_behind ds proper.1) refl
 number_of-token (hex_number digits) is proper = refl
 number_of-token (name bytes) is proper = absurd is
 number_of-token word is proper = absurd is

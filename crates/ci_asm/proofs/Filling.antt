@@ -1,6 +1,7 @@
 -- The slots of a statement, filled by tokens.
 use Rattle.std.proofs.Common.{◌≡◌, ℕ, ◌⊎◌, inl, inr, true, cond, eqb, List, [], ◌∷◌, ◌++◌, refl, sym, ap, ◌∙◌, subst, arith, Option, Some, None, Result, Ok, Err, ℤ, pos}
 use Rattle.std.proofs.lemmas.Bool.{eqb-true}
+use Rattle.ci_reading.specs.Tokens as reading
 use Rattle.ci_asm.specs.declared.scanner.Kind.{Kind}
 use Rattle.ci_asm.specs.declared.scanner.Kind.TheVariants.{Name, Numeral, Directive, Mark, End, Bad}
 use Rattle.ci_asm.specs.declared.scanner.Token.{Token}
@@ -11,15 +12,15 @@ use Rattle.ci_asm.specs.declared.slots.Slot.TheVariants.{Rd, Rs1, Rs2, Rs3, Valu
 use Rattle.ci_asm.specs.declared.faults.Rule.{Rule}
 use Rattle.ci_asm.specs.declared.faults.Rule.TheVariants.{NoToken, NoOperand, OutOfField}
 use Rattle.ci_asm.specs.declared.statements.Operands.{Operands}
-use Rattle.ci_asm.specs.Tokens.{next_token, text_of, number_of, register_of}
+use Rattle.ci_asm.specs.Tokens.{kind_of, next_token, text_of, number_of, register_of}
 use Rattle.ci_asm.specs.Shapes.{is_offset, fits}
 use Rattle.ci_asm.specs.Statements.{◌>>=◌, found, fault, at_place, register_in, mark_in, number_in, value_in, filled, ended, read_slots, signed_value}
 use Rattle.ci_asm.specs.Lexicon as lex
-use Rattle.ci_asm.specs.Lexicon.{name, decimal_number, hex_number, word, comma, open_bracket, close_bracket, colon, spelling, IsToken, line_end, stray_byte}
+use Rattle.ci_reading.specs.Tokens.{text_end, stray_byte}
+use Rattle.ci_asm.specs.Lexicon.{name, decimal_number, hex_number, word, comma, open_bracket, close_bracket, colon, spelling, IsToken}
 use Rattle.ci_asm.specs.Forms.{IsIn, IsRegister, IsNumber, HasNumber}
 use Rattle.ci_asm.proofs.Digits.{register_of-name}
 use Rattle.ci_asm.proofs.Operands.{bind_ok, same_ok, cond_ok, found_ok}
-use Rattle.ci_asm.proofs.Lexing.{kind_of}
 use Rattle.ci_asm.proofs.Scanning.{IsShown, Shows, Meets, next_symbol}
 use Rattle.ci_asm.proofs.Fields.{register_named, number_result, number_of-token, number_writes, writes_number, writes_is_number, field_form, fits_in, in_fits}
 
@@ -310,15 +311,15 @@ filled_bad line Close t o bad = ap (mark_in 41 o) bad
 
 -- the token that was read in a slot's place
 pub filled_token : (line : List ℕ) (slot : Slot) (t : Token) (o more : Operands) (symbol : lex.Symbol) → Shows line t symbol → filled line slot t o ≡ Ok more → (shown : lex.Token) × IsShown line t shown × (result_of t slot shown o ≡ Ok more)
-filled_token line slot t o more (lex.token shown) shows e = (shown, shows, sym (filled_shown line slot t shown o shows) ∙ e)
-filled_token line slot t o more line_end shows e = let none = filled_end line slot t o shows in absurd (cc)
+filled_token line slot t o more (reading.token shown) shows e = (shown, shows, sym (filled_shown line slot t shown o shows) ∙ e)
+filled_token line slot t o more text_end shows e = let none = filled_end line slot t o shows in absurd (cc)
 filled_token line slot t o more stray_byte shows e = let none = filled_bad line slot t o shows in absurd (cc)
 
 -- what was read stands in the line, and fills the slots
 pub record HasRead (line : List ℕ) (slots : List Slot) (t : Token) (v w : Values) : Type 0 where
   pub tokens : List lex.Token
   pub column : ℕ
-  pub meets : Meets line t tokens line_end column
+  pub meets : Meets line t tokens text_end column
   pub fills : Fills slots tokens v w
 
 pub read_fills : (line : List ℕ) (slots : List Slot) (from : ℕ) (o more : Operands) → read_slots line slots from o ≡ Ok more → HasRead line slots (next_token line from) (values_of line o) (values_of line more)
@@ -353,7 +354,7 @@ will_step : (line : List ℕ) (slot : Slot) (slots : List Slot) (from : ℕ) (o 
 will_step line slot slots from o p w shown is e rest =
     record { more = rest.more; reads = read_step line slot slots from o p (filled_shown line slot (next_token line from) shown o is ∙ e) ∙ rest.reads; values = rest.values }
 
-pub fills_read : {slots : List Slot} {ts : List lex.Token} {v w : Values} → Fills slots ts v w → (line : List ℕ) (from : ℕ) (o : Operands) (column : ℕ) → values_of line o ≡ v → Meets line (next_token line from) ts line_end column → WillRead line slots from o w
+pub fills_read : {slots : List Slot} {ts : List lex.Token} {v w : Values} → Fills slots ts v w → (line : List ℕ) (from : ℕ) (o : Operands) (column : ℕ) → values_of line o ≡ v → Meets line (next_token line from) ts text_end column → WillRead line slots from o w
 fills_read done line from o column same meets =
     record { more = o; reads = read_nil line from o ∙ ap (ended (next_token line from).start o) meets.0; values = same }
 fills_read (fill_rd {slots} {t} {ts} {v} {w} {r} is rest) line from o column same meets =
@@ -450,7 +451,7 @@ offset_later Close slots last = last
 -- the label that was read is the last token
 pub record HasTarget (line : List ℕ) (slots : List Slot) (first t : Token) (v w : Values) : Type 0 where
   pub front : List lex.Token
-  pub meets : Meets line first front (lex.token (name (text_of line t))) t.start
+  pub meets : Meets line first front (reading.token (name (text_of line t))) t.start
   pub fills : Fills slots (front ++ name (text_of line t) ∷ []) v w
 
 pub target_read : (line : List ℕ) (slots : List Slot) (from : ℕ) (o more : Operands) (t : Token) → OffsetLast slots → o.label ≡ None → more.label ≡ Some t → read_slots line slots from o ≡ Ok more

@@ -1,11 +1,12 @@
+pub mod TestLaws
 pub mod Numerals
 pub mod Texts
 pub mod Assembly
 pub mod Operands
 pub mod Encodings
-pub mod Tokens
 pub mod Digits
-pub mod Shown
+pub mod KnownMnemonics
+pub mod Written
 pub mod RoundTrip
 pub mod Lexing
 pub mod Scanning

@@ -5,6 +5,7 @@ use Rattle.std.proofs.lemmas.Bool.{eqb-true}
 use Rattle.std.proofs.lemmas.Bool.Decides.{nat_tests}
 use mathlib.Core.List.{append_assoc}
 use Rattle.ci_isa.specs.declared.instruction.Insn.{Insn}
+use Rattle.ci_reading.specs.Tokens as reading
 use Rattle.ci_asm.specs.declared.scanner.Token.{Token}
 use Rattle.ci_asm.specs.declared.faults.Rule.{Rule}
 use Rattle.ci_asm.specs.declared.faults.Rule.TheVariants.{OutOfField, Undefined, DefinedTwice}
@@ -18,13 +19,15 @@ use Rattle.ci_asm.specs.Statements.{◌>>=◌, fault, read_line, insn_of, signed
 use Rattle.ci_asm.specs.Programs.{position, kind_of, on_line, line_at, option_words, all_read, Definitions, once_at, defined_once, offset_between, reaching, resolved, statement_insn, line_insn, option_length, insns_of, assembled}
 use Rattle.ci_asm.specs.Lines.{lines_of}
 use Rattle.ci_asm.specs.Lexicon as lex
-use Rattle.ci_asm.specs.Lexicon.{name, line_end, Stands}
+use Rattle.ci_reading.specs.Tokens.{text_end}
+use Rattle.ci_asm.specs.Lexicon.{name, Stands}
 use Rattle.ci_asm.specs.Forms.{Field, Statement, plain, to_label, IsIn, IsStatement}
 use Rattle.ci_asm.specs.Assembly as asm
 use Rattle.ci_asm.specs.Assembly.{Line, label_tokens, StandsInLine, HasStatement, IsLine, AreLines, IsProgram, statements_of, Defines, IsOffset, IsNew, IsResolved, AreResolved, IsGoodFront, IsFaultOfLine, IsFaultOfLabel, twice, undefined, too_far, HasFault, of_line, of_label}
 use Rattle.ci_asm.proofs.Filling.{values_of, label_text}
 use Rattle.ci_asm.proofs.Stated.{HasLabelFor, plain_says}
-use Rattle.ci_asm.proofs.Scanning.{Meets, same_symbol, line_meets, by_test}
+use Rattle.ci_asm.proofs.Scanning.{Meets, same_symbol, line_meets}
+use Rattle.ci_asm.proofs.TestLaws.{by_test}
 use Rattle.ci_asm.proofs.Fields.{field_form, fits_in}
 use Rattle.ci_asm.proofs.Assembly.{all_read-ok, all_read-err, insns_of-ok, insns_of-err, behind, assembled-read, assembled-unread}
 use Rattle.ci_asm.proofs.ReadLines.{statement_says, statement_read, line_says, HasRoom, HasLabels, line_read, body_of, same_label, ReachesInLine}
@@ -36,15 +39,15 @@ use Rattle.ci_asm.proofs.FaultyPrograms.{reaches_label}
 
 pub data Compares (a b : List lex.Token) (s u : lex.Symbol) (c d : ℕ) : Type 0 where
   equal : a ≡ b → s ≡ u → c ≡ d → Compares a b s u c d
-  shorter : (x : lex.Token) (rest : List lex.Token) → b ≡ a ++ x ∷ rest → s ≡ lex.token x → Compares a b s u c d
-  longer : (x : lex.Token) (rest : List lex.Token) → a ≡ b ++ x ∷ rest → u ≡ lex.token x → Compares a b s u c d
+  shorter : (x : lex.Token) (rest : List lex.Token) → b ≡ a ++ x ∷ rest → s ≡ reading.token x → Compares a b s u c d
+  longer : (x : lex.Token) (rest : List lex.Token) → a ≡ b ++ x ∷ rest → u ≡ reading.token x → Compares a b s u c d
 
 compares : (line : List ℕ) (t : Token) (a b : List lex.Token) (s u : lex.Symbol) (c d : ℕ) → Meets line t a s c → Meets line t b u d → Compares a b s u c d
 compares line t [] [] s u c d m n = equal refl (same_symbol line t s u m.0 n.0) (sym m.1 ∙ n.1)
-compares line t [] (y ∷ b) s u c d m n = shorter y b refl (same_symbol line t s (lex.token y) m.0 n.0)
-compares line t (x ∷ a) [] s u c d m n = longer x a refl (same_symbol line t u (lex.token x) n.0 m.0)
+compares line t [] (y ∷ b) s u c d m n = shorter y b refl (same_symbol line t s (reading.token y) m.0 n.0)
+compares line t (x ∷ a) [] s u c d m n = longer x a refl (same_symbol line t u (reading.token x) n.0 m.0)
 compares line t (x ∷ a) (y ∷ b) s u c d m n =
-    let symbols : lex.token x ≡ lex.token y = same_symbol line t (lex.token x) (lex.token y) m.0 n.0 in
+    let symbols : reading.token x ≡ reading.token y = same_symbol line t (reading.token x) (reading.token y) m.0 n.0 in
     let e : x ≡ y = cc in
     elim (compares line (next_token line t.end) a b s u c d m.1 n.1) [
       | equal p q r ↦ equal (λ i. e i ∷ p i) q r
@@ -56,7 +59,7 @@ standing_meets : (line : List ℕ) (label : Option (List ℕ)) (tokens : List le
 standing_meets line label tokens symbol column s =
     let b = body_of line in
     let e = same_label line label (label_text line b.label) s.has_label b.has_label in
-    b.enters tokens symbol column (subst (λ l. Stands 0 line (label_tokens l ++ tokens) symbol column) e s.stands)
+    b.enters tokens symbol column (subst (λ l. Stands line (label_tokens l ++ tokens) symbol column) e s.stands)
 
 pub stand_compared : (line : List ℕ) (k l : Option (List ℕ)) (a b : List lex.Token) (s u : lex.Symbol) (c d : ℕ) → StandsInLine line k a s c → StandsInLine line l b u d → Compares a b s u c d
 stand_compared line k l a b s u c d one two =
@@ -86,7 +89,7 @@ HasSpace words None = Unit {0}
 HasSpace words (Some s) = words < 262144
 
 no_fault : (words : ℕ) (line : List ℕ) (is : Line) (kind column : ℕ) → IsLine line is → HasSpace words is.statement → ¬ IsFaultOfLine words line kind column
-no_fault words line is kind column l room f = elim (stand_compared line f.label is.label f.front l.tokens f.symbol line_end column l.end f.stands l.ends) [
+no_fault words line is kind column l room f = elim (stand_compared line f.label is.label f.front l.tokens f.symbol text_end column l.end f.stands l.ends) [
   | equal p q r ↦ f.bad (subst (asm.IsGoodNext words f.front) (sym q) (is.statement, subst (λ a. HasStatement a is.statement) (sym p) l.has_statement))
   | shorter x rest p q ↦ f.bad (subst (asm.IsGoodNext words f.front) (sym q) (good_front x rest is.statement p l.has_statement room))
   | longer x rest p q ↦ absurd (cc)
@@ -204,7 +207,7 @@ module _ (program : List Line) (definitions : Definitions) (known : AreDefinitio
           record { token = t; has = same; text = text; is_field = r.same ∙ fields }
 
   -- the column of the label
-  same_column : (label : Option (List ℕ)) (s : code.Statement) (t : Token) (said : Statement) (front : List lex.Token) (column : ℕ) → ReachesInLine line label t (statement_says line s) → IsStatement (front ++ name (text_of line t) ∷ []) said → StandsInLine line label front (lex.token (name (text_of line t))) column → t.start ≡ column
+  same_column : (label : Option (List ℕ)) (s : code.Statement) (t : Token) (said : Statement) (front : List lex.Token) (column : ℕ) → ReachesInLine line label t (statement_says line s) → IsStatement (front ++ name (text_of line t) ∷ []) said → StandsInLine line label front (reading.token (name (text_of line t))) column → t.start ≡ column
   same_column label s t said front column target is stands = elim (stand_compared line label label target.front front _ _ t.start column target.stands stands) [
     | equal p q r ↦ r
     | shorter x rest p q ↦ absurd (no_more target.front x rest front (statement_says line s) said p q target.is_statement is)
@@ -216,7 +219,7 @@ module _ (program : List Line) (definitions : Definitions) (known : AreDefinitio
       more a x (y ∷ rest) one two first second =
           statement_extends (a ++ x ∷ []) y (rest ++ x ∷ []) one two first (subst (λ k. IsStatement k two) (append_assoc a (x ∷ y ∷ rest) (x ∷ []) ∙ sym (append_assoc a (x ∷ []) (y ∷ (rest ++ x ∷ [])))) second)
 
-      no_more : (a : List lex.Token) (x : lex.Token) (rest b : List lex.Token) (one two : Statement) → b ≡ a ++ x ∷ rest → lex.token (name (text_of line t)) ≡ lex.token x → IsStatement (a ++ name (text_of line t) ∷ []) one → IsStatement (b ++ name (text_of line t) ∷ []) two → ⊥
+      no_more : (a : List lex.Token) (x : lex.Token) (rest b : List lex.Token) (one two : Statement) → b ≡ a ++ x ∷ rest → reading.token (name (text_of line t)) ≡ reading.token x → IsStatement (a ++ name (text_of line t) ∷ []) one → IsStatement (b ++ name (text_of line t) ∷ []) two → ⊥
       no_more a x rest b one two p q first second =
           let last = name (text_of line t) in
           let e : last ≡ x = cc in
@@ -237,7 +240,7 @@ module _ (program : List Line) (definitions : Definitions) (known : AreDefinitio
       ∙ (ap (statement_insn definitions words line) same ∙ ap (λ r. r >>= λ o. Ok (Some (insn_of s.mnemonic o))) e))
 
   reach_told : (n : ℕ) (l : code_lines.Line) (field : Field) (with_offset : ℤ → Insn) (label : List ℕ) (front : List lex.Token) (column kind : ℕ) → line_at words line ≡ Ok l → defined_once definitions n line l.label ≡ Ok tt
-      → statement_read line l.statement ≡ Some (to_label field with_offset label) → IsStatement (front ++ name label ∷ []) (to_label field with_offset label) → StandsInLine line (label_text line l.label) front (lex.token (name label)) column
+      → statement_read line l.statement ≡ Some (to_label field with_offset label) → IsStatement (front ++ name label ∷ []) (to_label field with_offset label) → StandsInLine line (label_text line l.label) front (reading.token (name label)) column
       → ((s : code.Statement) (t : Token) → text_of line t ≡ label → field_form (field_of s.mnemonic) ≡ field → IsToldReach s t kind)
       → IsToldBy (line_insn definitions n words line) kind column
   reach_told n l field with_offset label front column kind read once says is stands told = by l.statement refl says
@@ -252,7 +255,7 @@ module _ (program : List Line) (definitions : Definitions) (known : AreDefinitio
           let reach = told s t h.text h.is_field in
           let resolves : resolved definitions words line s s.operands.label ≡ Err (fault reach.rule t.start) = ap (resolved definitions words line s) h.has ∙ reach.reaches in
           let is_here = subst (λ k. IsStatement (front ++ name k ∷ []) (to_label field with_offset label)) (sym h.text) is in
-          let stands_here = subst (λ k. StandsInLine line (label_text line l.label) front (lex.token (name k)) column) (sym h.text) stands in
+          let stands_here = subst (λ k. StandsInLine line (label_text line l.label) front (reading.token (name k)) column) (sym h.text) stands in
           record {
             f = fault reach.rule t.start;
             told = statement_told n l s (fault reach.rule t.start) read same once resolves;
@@ -270,8 +273,8 @@ module _ (program : List Line) (definitions : Definitions) (known : AreDefinitio
       by (Some t) same e =
           let text : text_of line t ≡ label = cc in
           let r = line_read line (eqb words 262144) l read in
-          let one = line_meets line [] (lex.token (name (text_of line t))) t.start (r.label_stands t same) in
-          let two = line_meets line [] (lex.token (name label)) column stands in
+          let one = line_meets line [] (reading.token (name (text_of line t))) t.start (r.label_stands t same) in
+          let two = line_meets line [] (reading.token (name label)) column stands in
           let here : label_text line l.label ≡ Some (text_of line t) = ap (label_text line) same in
           let told = again before after (line_says line l) n t split here place (subst (Defines before) (sym text) defined) in
           record {

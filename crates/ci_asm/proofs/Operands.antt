@@ -1,5 +1,5 @@
 -- What holds of statements that were read.
-use Rattle.std.proofs.Common.{◌≡◌, ℕ, ◌<◌, ◌≤◌, Bool, true, false, cond, ◌&&◌, ◌||◌, nat_le, nat_lt, lit<, List, [], ◌∷◌, length, refl, sym, subst, arith, Option, Some, None, Result, Ok, Err, ◌==◌}
+use Rattle.std.proofs.Common.{◌-◌, eqb, length-drop, ◌≡◌, ℕ, ◌<◌, ◌≤◌, Bool, true, false, cond, ◌&&◌, nat_lt, lit<, List, [], ◌∷◌, length, refl, sym, subst, arith, Option, Some, None, Result, Ok, Err, ◌==◌}
 use Rattle.std.proofs.lemmas.Bool.Decides.{nat_tests}
 use Rattle.std.specs.Prelude.{IfSome, IfOk, ⊤, find}
 use Rattle.std.specs.List.{list_all}
@@ -20,7 +20,8 @@ use Rattle.ci_asm.specs.declared.faults.Fault.{Fault}
 use Rattle.ci_asm.specs.declared.statements.Operands.{Operands}
 use Rattle.ci_asm.specs.declared.statements.Statement.{Statement}
 use Rattle.ci_asm.specs.declared.lines.Line.{Line}
-use Rattle.ci_asm.specs.Tokens.{token, byte_at, run_end, is_line_end, is_letter, is_hex_start, is_digit, is_negative_start, is_directive, is_mark, token_at, next_token, text_of, number_of, register_at, has_one_digit, has_two_digits, register_of}
+use Rattle.ci_asm.specs.Lexicon as lex
+use Rattle.ci_asm.specs.Tokens.{token, run_end, scan, token_by, token_at, next_token, text_of, number_of, register_at, has_one_digit, has_two_digits, register_of}
 use Rattle.ci_asm.specs.Shapes.{mnemonics, mnemonic_of, is_named, is_statement, fits, is_offset, field_of, slots_of}
 use Rattle.ci_asm.specs.Statements.{◌>>=◌, found, fault, at_place, zero_number, no_operands, register_in, mark_in, number_in, value_in, filled, ended, read_slots, mnemonic_in, read_statement, with_statement, HasRegisters, IsRead, IsLineOf}
 
@@ -47,30 +48,21 @@ found_ok None rule x e = absurd (cc)
 
 -- ---- tokens stand in the line
 
-either_start : (b : Bool) (s t : Token) (n : ℕ) → s.start ≤ n → t.start ≤ n → (cond b s t).start ≤ n
-either_start true s t n first second = first
-either_start false s t n first second = second
+token_by-start : (i n : ℕ) (o : Option (lex.Token × ℕ)) → i ≤ n → (token_by i o).start ≤ n
+token_by-start i n None h = h
+token_by-start i n (Some (t, size)) h = h
 
-start_if : (b : Bool) (len i : ℕ) (other : Token) → (b ≡ false → i ≤ len) → (i ≤ len → other.start ≤ len) → (cond b (token End len len) other).start ≤ len
-start_if true len i other inside rest = omega arith
-start_if false len i other inside rest = rest (inside refl)
-
-inside : (len i : ℕ) (comment : Bool) → (nat_le len i || comment) ≡ false → i ≤ len
-inside len i comment e = grind (arith, nat_tests)
-
-token_at-start : (line : List ℕ) (i : ℕ) → (token_at line i).start ≤ length line
+token_at-start : (n i : ℕ) (text : List ℕ) → length text ≡ n - i → (token_at n i text).start ≤ n
 unfolding token_at
-token_at-start line i =
-    start_if (is_line_end line i) (length line) i _ (inside (length line) i (byte_at line i == 35))
-    (λ h. either_start (is_letter (byte_at line i)) _ _ _ h
-    (either_start (is_hex_start line i) _ _ _ h
-    (either_start (is_digit (byte_at line i)) _ _ _ h
-    (either_start (is_negative_start line i) _ _ _ h
-    (either_start (is_directive line i) _ _ _ h
-    (either_start (is_mark (byte_at line i)) _ _ _ h h))))))
+token_at-start n i [] size = omega arith
+token_at-start n i (c ∷ text) size = by (eqb c 35)
+  where
+    by : (b : Bool) → (cond b (token End n n) (token_by i (scan c text))).start ≤ n
+    by true = omega arith
+    by false = token_by-start i n (scan c text) (omega arith)
 
 pub next_token-start : (line : List ℕ) (from : ℕ) → (next_token line from).start ≤ length line
-next_token-start line from = token_at-start line (run_end Blank line from)
+next_token-start line from = token_at-start (length line) (run_end Blank line from) _ (length-drop (run_end Blank line from) line)
 
 -- ---- registers are below 32
 

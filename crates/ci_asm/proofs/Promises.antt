@@ -14,11 +14,11 @@ use Rattle.ci_asm.specs.Shapes.{is_statement, immediate_field, form_name}
 use Rattle.ci_asm.specs.Shown.{register_name, address, upper_text, statement_line, immediate_line, shown}
 use Rattle.ci_asm.specs.Spelling as spelling
 use Rattle.ci_asm.specs.Spelling.{number_from, with_sign, spelled_number, statement_of}
-use Rattle.ci_asm.proofs.RoundTrip.{formed_named, assembled-shown}
+use Rattle.ci_asm.proofs.RoundTrip.{formed_named}
 use Rattle.ci_asm.specs.declared.faults.AsmFault.{AsmFault}
 use Rattle.ci_asm.specs.declared.faults.AsmFault.TheVariants.{Bad, NoMemory}
 use Rattle.ci_asm.specs.Programs.{Position, assembled, AreWordsOf, AreWordsIn, IsFaultIn}
-use Rattle.ci_asm.specs.Assembly.{IsAssembly, IsOnlyAssembly, HasFault, IsFaultOf, IsLineOf}
+use Rattle.ci_asm.specs.Assembly.{IsAssembly, IsOnlyAssembly, HasFault, IsFaultOf}
 use Rattle.ci_asm.proofs.ReadPrograms.{assembled_is, is_assembled}
 use Rattle.ci_asm.proofs.OneMeaning.{fault_assembled}
 use Rattle.ci_asm.proofs.OneWord.{one_word}
@@ -144,7 +144,3 @@ same_shown (insn.Illegal word) named = one (codes ".word") (codes "0x" ++ eight_
 
 pub shown_told : (i : Insn) (text : List ℕ) → IsWellFormed i → text ≡ spelling.shown i → text ≡ shown i
 shown_told i text formed e = e ∙ sym (same_shown i (formed_named i formed))
-
-pub line_told : (i : Insn) (text : List ℕ) → IsWellFormed i → text ≡ spelling.shown i → IsLineOf text i
-line_told i text formed e = λ w is.
-    subst (λ t. IsAssembly (t ++ 10 ∷ []) (w ∷ [])) (sym e) (assembled_is (spelling.shown i ++ 10 ∷ []) (w ∷ []) (i ∷ [], assembled-shown i formed, (is, tt)))

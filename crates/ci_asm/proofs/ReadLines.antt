@@ -3,6 +3,7 @@ use Rattle.std.proofs.Common.{◌≡◌, ◌≢◌, ℕ, Bool, true, false, cond
 use Rattle.std.specs.Prelude.{find}
 use Rattle.std.proofs.lemmas.Bool.{eqb-true}
 use Rattle.std.proofs.lemmas.Slice.Eq.{bytes_eq-Decides}
+use Rattle.ci_reading.specs.Tokens as reading
 use Rattle.ci_asm.specs.declared.scanner.Kind.{Kind}
 use Rattle.ci_asm.specs.declared.scanner.Kind.TheVariants.{Name, Numeral, Directive, Mark, End, Bad}
 use Rattle.ci_asm.specs.declared.scanner.Token.{Token}
@@ -18,13 +19,16 @@ use Rattle.ci_asm.specs.Tokens.{next_token, text_of}
 use Rattle.ci_asm.specs.Shapes.{name_of, mnemonics, mnemonic_of, is_named, is_statement, slots_of}
 use Rattle.ci_asm.specs.Statements.{◌>>=◌, found, fault, at_place, no_operands, read_slots, mnemonic_in, read_statement, is_label, with_statement, read_line}
 use Rattle.ci_asm.specs.Lexicon as lex
-use Rattle.ci_asm.specs.Lexicon.{IsLetter, name, decimal_number, hex_number, word, comma, open_bracket, close_bracket, colon, spelling, IsToken, line_end, stray_byte, Stands}
+use Rattle.ci_reading.specs.Tokens.{text_end, stray_byte}
+use Rattle.ci_asm.specs.Lexicon.{IsLetter, name, decimal_number, hex_number, word, comma, open_bracket, close_bracket, colon, spelling, IsToken, Stands}
 use Rattle.ci_asm.specs.Forms.{Statement, IsStatement}
 use Rattle.ci_asm.specs.Assembly.{Line, HasLabel, label_tokens, StandsInLine, HasStatement, IsLine}
 use Rattle.ci_asm.proofs.Operands.{bind_ok, same_ok, at_place_ok, found_ok, unless_full, mnemonic_in-statement}
-use Rattle.ci_asm.proofs.Shown.{found_by_name}
-use Rattle.ci_asm.proofs.Lexing.{kind_of, true_is_not_false}
-use Rattle.ci_asm.proofs.Scanning.{IsShown, Shows, Meets, next_symbol, by_test, same_symbol, line_meets, line_stands, kind_no_end}
+use Rattle.ci_asm.proofs.KnownMnemonics.{known_mnemonic}
+use Rattle.ci_asm.specs.Tokens.{kind_of}
+use Rattle.ci_asm.proofs.TestLaws.{true_is_not_false}
+use Rattle.ci_asm.proofs.Scanning.{IsShown, Shows, Meets, next_symbol, same_symbol, line_meets, line_stands, kind_no_end}
+use Rattle.ci_asm.proofs.TestLaws.{by_test}
 use Rattle.ci_asm.proofs.Filling.{values_of, label_text, read_fills, fills_read, target_read}
 use Rattle.ci_asm.proofs.Stated.{says, mnemonic_token, fills_statement, statement_slots, HasLabelFor, label_for, offset_last}
 
@@ -71,7 +75,7 @@ mnemonic_result colon = Err NoMnemonic
 
 mnemonic_kind : (line : List ℕ) (t : Token) (shown : lex.Token) → text_of line t ≡ spelling shown → mnemonic_in line t (kind_of shown) ≡ mnemonic_result shown
 mnemonic_kind line t (name bytes) text = ap (λ k. found (mnemonic_of k) NoMnemonic) text
-mnemonic_kind line t word text = ap (λ k. found (mnemonic_of k) NoMnemonic) text ∙ ap (λ o. found o NoMnemonic) (found_by_name Data refl)
+mnemonic_kind line t word text = ap (λ k. found (mnemonic_of k) NoMnemonic) text ∙ ap (λ o. found o NoMnemonic) (known_mnemonic Data refl).0
 mnemonic_kind line t (decimal_number negative digits) text = refl
 mnemonic_kind line t (hex_number digits) text = refl
 mnemonic_kind line t comma text = refl
@@ -95,7 +99,7 @@ mnemonic_yes close_bracket m proper e = absurd (cc)
 mnemonic_yes colon m proper e = absurd (cc)
 
 found_again : (m : Mnemonic) → is_statement m ≡ true → mnemonic_result (name (name_of m)) ≡ Ok m
-found_again m named = ap (λ o. found o NoMnemonic) (found_by_name m named)
+found_again m named = ap (λ o. found o NoMnemonic) (known_mnemonic m named).0
 
 pub mnemonic_no : (m : Mnemonic) → is_statement m ≡ true → mnemonic_result (mnemonic_token m) ≡ Ok m
 mnemonic_no (RegisterRegister op) named = found_again (RegisterRegister op) named
@@ -123,13 +127,13 @@ statement_says line s = says s.mnemonic (values_of line s.operands)
 pub record IsReadAs (line : List ℕ) (t : Token) (statement : Statement) : Type 0 where
   pub tokens : List lex.Token
   pub column : ℕ
-  pub meets : Meets line t tokens line_end column
+  pub meets : Meets line t tokens text_end column
   pub is_statement : IsStatement tokens statement
 
 -- the label that the statement reaches is its last token
 pub record ReachesLast (line : List ℕ) (first t : Token) (statement : Statement) : Type 0 where
   pub front : List lex.Token
-  pub meets : Meets line first front (lex.token (name (text_of line t))) t.start
+  pub meets : Meets line first front (reading.token (name (text_of line t))) t.start
   pub is_statement : IsStatement (front ++ name (text_of line t) ∷ []) statement
 
 pub read_is : (line : List ℕ) (from : ℕ) (full : Bool) (s : code.Statement) → read_statement line (next_token line from) full ≡ Ok s → IsReadAs line (next_token line from) (statement_says line s) × (full ≡ false) × HasLabelFor s.mnemonic (values_of line s.operands)
@@ -164,8 +168,8 @@ read_is line from full s e =
     not_full false f r o e = refl
 
     token_by : (line : List ℕ) (t : Token) (m : Mnemonic) (symbol : lex.Symbol) → Shows line t symbol → mnemonic_in line t t.kind ≡ Ok m → IsShown line t (mnemonic_token m)
-    token_by line t m (lex.token shown) shows e = subst (IsShown line t) (mnemonic_yes shown m shows.proper (sym (mnemonic_shown line t shown shows) ∙ e)) shows
-    token_by line t m line_end shows e = let none : mnemonic_in line t t.kind ≡ Err NoMnemonic = ap (mnemonic_in line t) shows in absurd (cc)
+    token_by line t m (reading.token shown) shows e = subst (IsShown line t) (mnemonic_yes shown m shows.proper (sym (mnemonic_shown line t shown shows) ∙ e)) shows
+    token_by line t m text_end shows e = let none : mnemonic_in line t t.kind ≡ Err NoMnemonic = ap (mnemonic_in line t) shows in absurd (cc)
     token_by line t m stray_byte shows e = let none : mnemonic_in line t t.kind ≡ Err NoToken = ap (mnemonic_in line t) shows in absurd (cc)
 
     token_read : (line : List ℕ) (from : ℕ) (m : Mnemonic) → mnemonic_in line (next_token line from) (next_token line from).kind ≡ Ok m → IsShown line (next_token line from) (mnemonic_token m)
@@ -183,10 +187,10 @@ read_statement-by line t m o named read =
     ap (λ r. at_place t.start r >>= λ m. (cond false (Err (fault Surplus t.start)) (read_slots line (slots_of m) t.end no_operands)) >>= λ o. Ok (record { mnemonic = m; operands = o })) named
     ∙ ap (λ r. r >>= λ o. Ok (record { mnemonic = m; operands = o })) read
 
-pub is_read : (line : List ℕ) (t : Token) (tokens : List lex.Token) (column : ℕ) (statement : Statement) → Meets line t tokens line_end column → IsStatement tokens statement → WillReadAs line t statement
+pub is_read : (line : List ℕ) (t : Token) (tokens : List lex.Token) (column : ℕ) (statement : Statement) → Meets line t tokens text_end column → IsStatement tokens statement → WillReadAs line t statement
 is_read line t tokens column statement meets is =
     let h = statement_slots is in
-    let there = subst (λ ts. Meets line t ts line_end column) h.tokens meets in
+    let there = subst (λ ts. Meets line t ts text_end column) h.tokens meets in
     let w = fills_read h.fills line t.end no_operands column refl there.1 in
     let mnemonic = mnemonic_shown line t (mnemonic_token h.mnemonic) there.0 ∙ mnemonic_no h.mnemonic h.named in
     record {
@@ -235,16 +239,16 @@ colon_kind colon e = refl
 
 -- a token of this kind is shown as a name
 shown_name : (line : List ℕ) (t : Token) (symbol : lex.Symbol) → Shows line t symbol → t.kind ≡ Name → IsShown line t (name (text_of line t))
-shown_name line t (lex.token shown) shows e =
+shown_name line t (reading.token shown) shows e =
     let named = name_kind shown (sym shows.kind ∙ e) in
     let same : shown ≡ name (text_of line t) = named ∙ ap name (sym shows.text) in
     subst (IsShown line t) same shows
-shown_name line t line_end shows e = absurd (cc)
+shown_name line t text_end shows e = absurd (cc)
 shown_name line t stray_byte shows e = absurd (cc)
 
 shown_colon : (line : List ℕ) (t : Token) (symbol : lex.Symbol) → Shows line t symbol → t.kind ≡ Mark 58 → IsShown line t colon
-shown_colon line t (lex.token shown) shows e = subst (IsShown line t) (colon_kind shown (sym shows.kind ∙ e)) shows
-shown_colon line t line_end shows e = absurd (cc)
+shown_colon line t (reading.token shown) shows e = subst (IsShown line t) (colon_kind shown (sym shows.kind ∙ e)) shows
+shown_colon line t text_end shows e = absurd (cc)
 shown_colon line t stray_byte shows e = absurd (cc)
 
 -- ---- lines
@@ -254,10 +258,10 @@ pub record HasBody (line : List ℕ) : Type 0 where
   pub label : Option Token
   pub from : ℕ
   pub has_label : HasLabel line (label_text line label)
-  pub enters : (tokens : List lex.Token) (symbol : lex.Symbol) (column : ℕ) → Stands 0 line (label_tokens (label_text line label) ++ tokens) symbol column → Meets line (next_token line from) tokens symbol column
-  pub leaves : (tokens : List lex.Token) (symbol : lex.Symbol) (column : ℕ) → Meets line (next_token line from) tokens symbol column → Stands 0 line (label_tokens (label_text line label) ++ tokens) symbol column
+  pub enters : (tokens : List lex.Token) (symbol : lex.Symbol) (column : ℕ) → Stands line (label_tokens (label_text line label) ++ tokens) symbol column → Meets line (next_token line from) tokens symbol column
+  pub leaves : (tokens : List lex.Token) (symbol : lex.Symbol) (column : ℕ) → Meets line (next_token line from) tokens symbol column → Stands line (label_tokens (label_text line label) ++ tokens) symbol column
   pub reads : (full : Bool) → read_line line full ≡ with_statement line label (next_token line from) full (next_token line from).kind
-  pub label_stands : (t : Token) → label ≡ Some t → Stands 0 line [] (lex.token (name (text_of line t))) t.start
+  pub label_stands : (t : Token) → label ≡ Some t → Stands line [] (reading.token (name (text_of line t))) t.start
 
 module _ (line : List ℕ) where
   abbrev first : Token
@@ -282,11 +286,11 @@ module _ (line : List ℕ) where
       record {
         label = Some first;
         from = second.end;
-        has_label = (second.start, line_stands line (name text ∷ []) (lex.token colon) second.start (one, (two, refl)));
+        has_label = (second.start, line_stands line (name text ∷ []) (reading.token colon) second.start (one, (two, refl)));
         enters = λ tokens symbol column s. (line_meets line (name text ∷ colon ∷ tokens) symbol column s).1.1;
         leaves = λ tokens symbol column m. line_stands line (name text ∷ colon ∷ tokens) symbol column (one, (two, m));
         reads = λ full. ap (λ b. cond b (with_statement line (Some first) (next_token line second.end) full (next_token line second.end).kind) (with_statement line None first full first.kind)) e;
-        label_stands = λ t is. let same : first ≡ t = cc in subst (λ u. Stands 0 line [] (lex.token (name (text_of line u))) u.start) same (line_stands line [] (lex.token (name text)) first.start (one, refl));
+        label_stands = λ t is. let same : first ≡ t = cc in subst (λ u. Stands line [] (reading.token (name (text_of line u))) u.start) same (line_stands line [] (reading.token (name text)) first.start (one, refl));
       }
 
   unlabelled : is_label first.kind second.kind ≡ false → HasBody line
@@ -294,7 +298,7 @@ module _ (line : List ℕ) where
   unlabelled e = record {
     label = None;
     from = 0;
-    has_label = λ label column s. let m = line_meets line (name label ∷ []) (lex.token colon) column s in true_is_not_false ((λ i. is_label (m.0.kind i) (m.1.0.kind i)) ∙ refl) e;
+    has_label = λ label column s. let m = line_meets line (name label ∷ []) (reading.token colon) column s in true_is_not_false ((λ i. is_label (m.0.kind i) (m.1.0.kind i)) ∙ refl) e;
     enters = λ tokens symbol column s. line_meets line tokens symbol column s;
     leaves = λ tokens symbol column m. line_stands line tokens symbol column m;
     reads = λ full. ap (λ b. cond b (with_statement line (Some first) (next_token line second.end) full (next_token line second.end).kind) (with_statement line None first full first.kind)) e;
@@ -307,9 +311,9 @@ module _ (line : List ℕ) where
   -- a line has one label at most
   pub same_label : (a b : Option (List ℕ)) → HasLabel line a → HasLabel line b → a ≡ b
   same_label (Some a) (Some b) one two =
-      let m = line_meets line (name a ∷ []) (lex.token colon) one.0 one.1 in
-      let n = line_meets line (name b ∷ []) (lex.token colon) two.0 two.1 in
-      let same : lex.token (name a) ≡ lex.token (name b) = same_symbol line first (lex.token (name a)) (lex.token (name b)) m.0 n.0 in
+      let m = line_meets line (name a ∷ []) (reading.token colon) one.0 one.1 in
+      let n = line_meets line (name b ∷ []) (reading.token colon) two.0 two.1 in
+      let same : reading.token (name a) ≡ reading.token (name b) = same_symbol line first (reading.token (name a)) (reading.token (name b)) m.0 n.0 in
       cc
   same_label (Some a) None one two = absurd (two a one.0 one.1)
   same_label None (Some b) one two = absurd (one b two.0 two.1)
@@ -344,7 +348,7 @@ HasLabels line (Some s) = HasLabelFor s.mnemonic (values_of line s.operands)
 -- the same behind the line's label
 pub record ReachesInLine (line : List ℕ) (label : Option (List ℕ)) (t : Token) (statement : Statement) : Type 0 where
   pub front : List lex.Token
-  pub stands : StandsInLine line label front (lex.token (name (text_of line t))) t.start
+  pub stands : StandsInLine line label front (reading.token (name (text_of line t))) t.start
   pub is_statement : IsStatement (front ++ name (text_of line t) ∷ []) statement
 
 -- a line that is read is a line of the definitions
@@ -352,12 +356,12 @@ pub record IsReadLine (line : List ℕ) (full : Bool) (l : code_lines.Line) : Ty
   pub is_line : IsLine line (line_says line l)
   pub room : HasRoom full l.statement
   pub labels : HasLabels line l.statement
-  pub label_stands : (t : Token) → l.label ≡ Some t → Stands 0 line [] (lex.token (name (text_of line t))) t.start
+  pub label_stands : (t : Token) → l.label ≡ Some t → Stands line [] (reading.token (name (text_of line t))) t.start
   pub target : (s : code.Statement) (t : Token) → l.statement ≡ Some s → s.operands.label ≡ Some t → ReachesInLine line (label_text line l.label) t (statement_says line s)
 
 line_end_read : (line : List ℕ) (full : Bool) (b : HasBody line) (l : code_lines.Line) → (next_token line b.from).kind ≡ End → record { label = b.label; statement = None } ≡ l → IsReadLine line full l
 line_end_read line full b l end e = subst (IsReadLine line full) e (record {
-  is_line = record { tokens = []; end = (next_token line b.from).start; ends = record { has_label = b.has_label; stands = b.leaves [] line_end (next_token line b.from).start (end, refl) }; has_statement = refl };
+  is_line = record { tokens = []; end = (next_token line b.from).start; ends = record { has_label = b.has_label; stands = b.leaves [] text_end (next_token line b.from).start (end, refl) }; has_statement = refl };
   room = tt;
   labels = tt;
   label_stands = b.label_stands;
@@ -369,7 +373,7 @@ statement_line_read line full b l e =
     let s = bind_ok (read_statement line (next_token line b.from) full) _ l e in
     let r = read_is line b.from full s.0 s.1 in
     subst (IsReadLine line full) (same_ok _ l s.2) (record {
-      is_line = record { tokens = r.0.tokens; end = r.0.column; ends = record { has_label = b.has_label; stands = b.leaves r.0.tokens line_end r.0.column r.0.meets }; has_statement = r.0.is_statement };
+      is_line = record { tokens = r.0.tokens; end = r.0.column; ends = record { has_label = b.has_label; stands = b.leaves r.0.tokens text_end r.0.column r.0.meets }; has_statement = r.0.is_statement };
       room = r.1;
       labels = r.2;
       label_stands = b.label_stands;
@@ -377,7 +381,7 @@ statement_line_read line full b l e =
           let is : s.0 ≡ u = cc in
           let last = r.3 t (ap (λ k. k.operands.label) is ∙ some) in
           subst (λ k. ReachesInLine line (label_text line b.label) t (statement_says line k)) is
-          (record { front = last.front; stands = record { has_label = b.has_label; stands = b.leaves last.front (lex.token (name (text_of line t))) t.start last.meets }; is_statement = last.is_statement });
+          (record { front = last.front; stands = record { has_label = b.has_label; stands = b.leaves last.front (reading.token (name (text_of line t))) t.start last.meets }; is_statement = last.is_statement });
     })
 
 pub line_read : (line : List ℕ) (full : Bool) (l : code_lines.Line) → read_line line full ≡ Ok l → IsReadLine line full l
@@ -412,13 +416,13 @@ pub line_is : (line : List ℕ) (full : Bool) (is : Line) → IsLine line is →
 line_is line full is l room =
     let b = body_of line in
     let same = same_label line is.label (label_text line b.label) l.ends.has_label b.has_label in
-    let meets = b.enters l.tokens line_end l.end (subst (λ label. Stands 0 line (label_tokens label ++ l.tokens) line_end l.end) same l.ends.stands) in
+    let meets = b.enters l.tokens text_end l.end (subst (λ label. Stands line (label_tokens label ++ l.tokens) text_end l.end) same l.ends.stands) in
     by b is.statement same meets l.has_statement room
   where
-    by : (b : HasBody line) (statement : Option Statement) → is.label ≡ label_text line b.label → Meets line (next_token line b.from) l.tokens line_end l.end → HasStatement l.tokens statement → IsRoomFor full statement
+    by : (b : HasBody line) (statement : Option Statement) → is.label ≡ label_text line b.label → Meets line (next_token line b.from) l.tokens text_end l.end → HasStatement l.tokens statement → IsRoomFor full statement
         → WillReadLine line full (record { label = is.label; statement = statement })
     by b None same meets has room =
-        let there = subst (λ ts. Meets line (next_token line b.from) ts line_end l.end) has meets in
+        let there = subst (λ ts. Meets line (next_token line b.from) ts text_end l.end) has meets in
         record {
           read = record { label = b.label; statement = None };
           reads = b.reads full ∙ ap (with_statement line b.label (next_token line b.from) full) there.0;
@@ -428,7 +432,7 @@ line_is line full is l room =
         let t = next_token line b.from in
         let r = is_read line t l.tokens l.end statement meets has in
         let h = statement_slots has in
-        let there = subst (λ ts. Meets line t ts line_end l.end) h.tokens meets in
+        let there = subst (λ ts. Meets line t ts text_end l.end) h.tokens meets in
         record {
           read = record { label = b.label; statement = Some r.read };
           reads = b.reads full ∙ (with_other line b.label t full t.kind (shown_not_end line t (mnemonic_token h.mnemonic) there.0)

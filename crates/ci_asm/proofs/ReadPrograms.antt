@@ -32,7 +32,7 @@ use Rattle.ci_asm.proofs.Fields.{field_form, fits_in, in_fits}
 use Rattle.ci_asm.proofs.Stated.{HasLabelFor, plain_says, TakesLabel, jal, branches, takes_label}
 use Rattle.ci_asm.specs.declared.mnemonics.Mnemonic.{Mnemonic}
 use Rattle.ci_asm.specs.declared.mnemonics.Mnemonic.TheVariants.{Jal, Branch}
-use Rattle.ci_asm.proofs.Scanning.{by_test}
+use Rattle.ci_asm.proofs.TestLaws.{by_test}
 use Rattle.ci_asm.proofs.ReadLines.{statement_says, statement_read, line_says, HasRoom, HasLabels, line_read, IsRoomFor, line_is}
 
 -- ---- lines that were read

@@ -32,7 +32,7 @@ module _ {T : Type 0} (format : TokenFormat T) (lexer : Lexer T) (is : IsLexer f
       passed size (n + 1) text (omega arith) ∙ ap (λ k. symbols_behind lexer 0 k (drop size text)) same
 
   -- where the longest token is found, the symbols are this token and those of the rest
-  found_first : (n c : ℕ) (text : List ℕ) (t : T) (size : ℕ) → lexer.is_blank c ≡ false → lexer.begins_comment c ≡ false
+  pub found_first : (n c : ℕ) (text : List ℕ) (t : T) (size : ℕ) → lexer.is_blank c ≡ false → lexer.begins_comment c ≡ false
       → lexer.scan c text ≡ Some (t, size) → symbols_behind lexer 0 n (c ∷ text)
       ≡ at n (token t) ∷ symbols_behind lexer 0 (n + length (c ∷ take size text)) (drop size text)
   unfolding symbols_behind

@@ -2,8 +2,8 @@ use Rattle.std.proofs.Common.{◌≡◌, arith}
 use Rattle.std.proofs.lemmas.Grind.{common_steps}
 use Rattle.std.specs.String.{string_bytes}
 use Rattle.ci_asm.specs.Spelling as spelling
-use Rattle.ci_asm.proofs.RoundTrip.{formed_small}
-use Rattle.ci_asm.proofs.Promises.{shown_told, line_told}
+use Rattle.ci_asm.proofs.RoundTrip.{formed_small, shown_assembles}
+use Rattle.ci_asm.proofs.Promises.{shown_told}
 use Rattle.ci_asm.proofs.disassembler.show.Goals as goal
 
 pub push_slot-requires : goal.push_slot-requires
@@ -19,4 +19,4 @@ returns-clause-text c =
 pub returns-clause-assembles : goal.returns-clause-assembles
 returns-clause-assembles c =
     let text : string_bytes c.loop-slot.text ≡ spelling.shown c.args.insn.now = grind (arith, common_steps) in
-    line_told c.args.insn.now _ c.requires text
+    shown_assembles c.args.insn.now _ c.requires (shown_told c.args.insn.now _ c.requires text)
