@@ -87,15 +87,7 @@ constant_fits And n named ok = width_12 n ok
 constant_fits Sll n named ok = amount_between n ok
 constant_fits Srl n named ok = amount_between n ok
 constant_fits Sra n named ok = amount_between n ok
-constant_fits Sub n named ok = absurd (cc)
-constant_fits Mul n named ok = absurd (cc)
-constant_fits Mulh n named ok = absurd (cc)
-constant_fits Mulhsu n named ok = absurd (cc)
-constant_fits Mulhu n named ok = absurd (cc)
-constant_fits Div n named ok = absurd (cc)
-constant_fits Divu n named ok = absurd (cc)
-constant_fits Rem n named ok = absurd (cc)
-constant_fits Remu n named ok = absurd (cc)
+constant_fits other n named ok = absurd (cc)
 
 -- the upper bits of a word
 upper_whole : (m : ℕ) → m < 2 ^ 20 → (4096 * m < 2 ^ 32) × (4096 * m % 2 ^ 12 ≡ 0)

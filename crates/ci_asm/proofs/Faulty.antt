@@ -41,14 +41,11 @@ use Rattle.ci_asm.proofs.ReadLines.{mnemonic_result, mnemonic_shown, mnemonic_ye
 -- ---- what a slot accepts
 
 abbrev pub Accepts : Slot → lex.Token → Type 0
-Accepts Rd t = (r : ℕ) × IsRegister t r
-Accepts Rs1 t = (r : ℕ) × IsRegister t r
-Accepts Rs2 t = (r : ℕ) × IsRegister t r
-Accepts Rs3 t = (r : ℕ) × IsRegister t r
 Accepts (Value field) t = ((n : ℤ) × HasNumber (field_form field) t n) ⊎ ((is_offset field ≡ true) × ((label : List ℕ) × (t ≡ name label)))
 Accepts Comma t = t ≡ comma
 Accepts Open t = t ≡ open_bracket
 Accepts Close t = t ≡ close_bracket
+Accepts other t = (r : ℕ) × IsRegister t r
 
 abbrev pub Fit : List Slot → List lex.Token → Type 0
 Fit [] [] = Unit {0}
@@ -99,34 +96,23 @@ fit_rest (slot ∷ slots) others (t ∷ ts) rest first both = fit_rest slots oth
 -- ---- each slot accepts some token
 
 abbrev default_token : Slot → lex.Token
-default_token Rd = name (codes "x" ++ decimal 0)
-default_token Rs1 = name (codes "x" ++ decimal 0)
-default_token Rs2 = name (codes "x" ++ decimal 0)
-default_token Rs3 = name (codes "x" ++ decimal 0)
 default_token (Value field) = decimal_number false (48 ∷ [])
 default_token Comma = comma
 default_token Open = open_bracket
 default_token Close = close_bracket
+default_token other = name (codes "x" ++ decimal 0)
 
 zero_in : (field : Field) → IsIn (field_form field) (pos 0)
-zero_in Immediate = (omega (arith, ints), omega (arith, ints))
-zero_in Amount = (omega (arith, ints), omega (arith, ints))
-zero_in Upper = (omega (arith, ints), omega (arith, ints))
 zero_in BranchOffset = ((omega (arith, ints), omega (arith, ints)), refl)
 zero_in JumpOffset = ((omega (arith, ints), omega (arith, ints)), refl)
-zero_in FenceBits = (omega (arith, ints), omega (arith, ints))
-zero_in UnitNumber = (omega (arith, ints), omega (arith, ints))
-zero_in Whole = (omega (arith, ints), omega (arith, ints))
+zero_in other = (omega (arith, ints), omega (arith, ints))
 
 accepts_default : (slot : Slot) → Accepts slot (default_token slot)
-accepts_default Rd = (0, (refl, lit< tt))
-accepts_default Rs1 = (0, (refl, lit< tt))
-accepts_default Rs2 = (0, (refl, lit< tt))
-accepts_default Rs3 = (0, (refl, lit< tt))
 accepts_default (Value field) = inl (pos 0, ((lit≤ tt, refl), zero_in field))
 accepts_default Comma = refl
 accepts_default Open = refl
 accepts_default Close = refl
+accepts_default other = (0, (refl, lit< tt))
 
 abbrev default_tokens : List Slot → List lex.Token
 default_tokens [] = []
@@ -207,13 +193,7 @@ found_rule None rule e = cc
 
 register_rule : (shown : lex.Token) (rule : Rule) → register_result shown ≡ Err rule → rule ≡ NoOperand
 register_rule (name bytes) rule e = found_rule (register_of bytes) rule e
-register_rule (decimal_number negative digits) rule e = cc
-register_rule (hex_number digits) rule e = cc
-register_rule word rule e = cc
-register_rule comma rule e = cc
-register_rule open_bracket rule e = cc
-register_rule close_bracket rule e = cc
-register_rule colon rule e = cc
+register_rule other rule e = cc
 
 cond_rule : {A : Type 0} (b : Bool) (x : A) (rule due : Rule) → cond b (Ok x) (Err due) ≡ Err rule → rule ≡ due
 cond_rule true x rule due e = absurd (cc)
@@ -224,20 +204,13 @@ mark_rule due comma o rule e = cond_rule (eqb 44 due) o rule NoOperand e
 mark_rule due open_bracket o rule e = cond_rule (eqb 40 due) o rule NoOperand e
 mark_rule due close_bracket o rule e = cond_rule (eqb 41 due) o rule NoOperand e
 mark_rule due colon o rule e = cond_rule (eqb 58 due) o rule NoOperand e
-mark_rule due (name bytes) o rule e = cc
-mark_rule due (decimal_number negative digits) o rule e = cc
-mark_rule due (hex_number digits) o rule e = cc
-mark_rule due word o rule e = cc
+mark_rule due other o rule e = cc
 
 number_rule : (field : Field) (n : Option Number) (o : Operands) (rule : Rule) → number_in field n o ≡ Err rule → rule ≡ OutOfField
 number_rule field None o rule e = cc
 number_rule field (Some n) o rule e = cond_rule (fits field n) (record o { number = n }) rule OutOfField e
 
 rule_for : (ct : Token) (slot : Slot) (shown : lex.Token) (o : Operands) (rule : Rule) → result_of ct slot shown o ≡ Err rule → IsRuleFor slot shown rule
-rule_for ct Rd shown o rule e = inr (register_rule shown rule (bind_register (register_result shown) _ rule e), λ h. h.1)
-rule_for ct Rs1 shown o rule e = inr (register_rule shown rule (bind_register (register_result shown) _ rule e), λ h. h.1)
-rule_for ct Rs2 shown o rule e = inr (register_rule shown rule (bind_register (register_result shown) _ rule e), λ h. h.1)
-rule_for ct Rs3 shown o rule e = inr (register_rule shown rule (bind_register (register_result shown) _ rule e), λ h. h.1)
 rule_for ct (Value field) (name bytes) o rule e = inr (cond_rule (is_offset field) (record o { label = Some ct }) rule NoOperand e, λ h. h.0)
 rule_for ct (Value field) (decimal_number negative digits) o rule e = inl (number_rule field (number_result (decimal_number negative digits)) o rule e, (tt, tt))
 rule_for ct (Value field) (hex_number digits) o rule e = inl (number_rule field (number_result (hex_number digits)) o rule e, (tt, tt))
@@ -249,6 +222,7 @@ rule_for ct (Value field) colon o rule e = inr (cc, λ h. h.0)
 rule_for ct Comma shown o rule e = inr (mark_rule 44 shown o rule e, λ h. h.1)
 rule_for ct Open shown o rule e = inr (mark_rule 40 shown o rule e, λ h. h.1)
 rule_for ct Close shown o rule e = inr (mark_rule 41 shown o rule e, λ h. h.1)
+rule_for ct other shown o rule e = inr (register_rule shown rule (bind_register (register_result shown) _ rule e), λ h. h.1)
 
 -- what stands in a slot's place where it can't be filled
 filled_stops : (line : List ℕ) (slot : Slot) (slots : List Slot) (t : Token) (o : Operands) (rule : Rule) (symbol : lex.Symbol) → Shows line t symbol → filled line slot t o ≡ Err rule → Stops (slot ∷ slots) symbol rule
@@ -274,13 +248,7 @@ ended_stops line t o f (reading.token shown) shows e =
   where
     over_kind : (place : ℕ) (o : Operands) (shown : lex.Token) → ended place o (kind_of_token shown) ≡ Err (fault Surplus place)
     over_kind place o (name bytes) = refl
-    over_kind place o (decimal_number negative digits) = refl
-    over_kind place o (hex_number digits) = refl
-    over_kind place o word = refl
-    over_kind place o comma = refl
-    over_kind place o open_bracket = refl
-    over_kind place o close_bracket = refl
-    over_kind place o colon = refl
+    over_kind place o other = refl
 ended_stops line t o f text_end shows e =
     let ok : ended t.start o t.kind ≡ Ok o = ap (ended t.start o) shows in
     absurd (cc)
@@ -346,23 +314,14 @@ read_stops line (slot ∷ slots) from o f e = by (filled line slot (next_token l
 
 value_default : (slot : Slot) → IsValue slot → IsNumber (default_token slot)
 value_default (Value field) is = tt
-value_default Rd is = absurd is
-value_default Rs1 is = absurd is
-value_default Rs2 is = absurd is
-value_default Rs3 is = absurd is
-value_default Comma is = absurd is
-value_default Open is = absurd is
-value_default Close is = absurd is
+value_default other is = absurd is
 
 number_value : (slot : Slot) (t : lex.Token) → IsNumber t → Accepts slot t → IsValue slot
 number_value (Value field) t is accepts = tt
-number_value Rd t is accepts = absurd (subst IsNumber accepts.1.0 is)
-number_value Rs1 t is accepts = absurd (subst IsNumber accepts.1.0 is)
-number_value Rs2 t is accepts = absurd (subst IsNumber accepts.1.0 is)
-number_value Rs3 t is accepts = absurd (subst IsNumber accepts.1.0 is)
 number_value Comma t is accepts = absurd (subst IsNumber accepts is)
 number_value Open t is accepts = absurd (subst IsNumber accepts is)
 number_value Close t is accepts = absurd (subst IsNumber accepts is)
+number_value other t is accepts = absurd (subst IsNumber accepts.1.0 is)
 
 -- behind a mnemonic and tokens that fill some of its slots
 module _ (m : Mnemonic) (named : is_statement m ≡ true) (before due : List Slot) (front : List lex.Token) (split : slots_of m ≡ before ++ due) (fit : Fit before front) where
@@ -454,12 +413,7 @@ mnemonic_rule (name bytes) rule e = by (mnemonic_of bytes) e
     by (Some m) e = absurd (cc)
     by None e = cc
 mnemonic_rule word rule e = absurd (cc)
-mnemonic_rule (decimal_number negative digits) rule e = cc
-mnemonic_rule (hex_number digits) rule e = cc
-mnemonic_rule comma rule e = cc
-mnemonic_rule open_bracket rule e = cc
-mnemonic_rule close_bracket rule e = cc
-mnemonic_rule colon rule e = cc
+mnemonic_rule other rule e = cc
 
 -- the fault where no mnemonic stands
 first_stop : (words : ℕ) (line : List ℕ) (t : Token) (symbol : lex.Symbol) (rule : Rule) → Shows line t symbol → t.kind ≢ End → mnemonic_in line t t.kind ≡ Err rule → IsStop words [] symbol (kind_of rule)
@@ -558,10 +512,7 @@ line_fault words line f few e =
         let ok : with_statement line b.label (next_token line b.from) (eqb words 262144) (next_token line b.from).kind ≡ Ok (record { label = b.label; statement = None }) = ap (with_statement line b.label (next_token line b.from) (eqb words 262144)) at in
         absurd (cc)
     by b Name at e = other b (λ end. absurd (cc)) e
-    by b Numeral at e = other b (λ end. absurd (cc)) e
-    by b Directive at e = other b (λ end. absurd (cc)) e
-    by b (Mark m) at e = other b (λ end. absurd (cc)) e
-    by b Bad at e = other b (λ end. absurd (cc)) e
+    by b it at e = other b (λ end. absurd (cc)) e
 
 -- ---- no statement goes on another
 
@@ -578,12 +529,7 @@ nothing_whole (statement, is) = let h = statement_slots is in let tokens = h.tok
 number_no_mnemonic : (t : lex.Token) (m : Mnemonic) → IsNumber t → mnemonic_result t ≡ Ok m → ⊥
 number_no_mnemonic (decimal_number negative digits) m is e = cc
 number_no_mnemonic (hex_number digits) m is e = cc
-number_no_mnemonic (name bytes) m is e = absurd is
-number_no_mnemonic word m is e = absurd is
-number_no_mnemonic comma m is e = absurd is
-number_no_mnemonic open_bracket m is e = absurd is
-number_no_mnemonic close_bracket m is e = absurd is
-number_no_mnemonic colon m is e = absurd is
+number_no_mnemonic other m is e = absurd is
 
 no_number_first : ¬ IsNumberDue []
 no_number_first (t, others, statement, number, is) =

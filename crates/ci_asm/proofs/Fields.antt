@@ -95,12 +95,7 @@ register_named text r e = elim (chosen (has_one_digit text) (has_two_digits text
 abbrev pub number_result : lex.Token → Option Number
 number_result (decimal_number negative digits) = number negative 10 digits
 number_result (hex_number digits) = number false 16 digits
-number_result (name bytes) = None
-number_result word = None
-number_result comma = None
-number_result open_bracket = None
-number_result close_bracket = None
-number_result colon = None
+number_result other = None
 
 pub number_of-token : (t : lex.Token) → IsNumber t → IsToken t → number_of (spelling t) ≡ number_result t
 unfolding number_of
@@ -111,12 +106,7 @@ number_of-token (decimal_number false (d ∷ ds)) is proper =
     let minus : eqb d 45 ≡ false = grind (arith, nat_tests) in
     rw (minus, no_x_behind ds proper.1) refl
 number_of-token (hex_number digits) is proper = refl
-number_of-token (name bytes) is proper = absurd is
-number_of-token word is proper = absurd is
-number_of-token comma is proper = absurd is
-number_of-token open_bracket is proper = absurd is
-number_of-token close_bracket is proper = absurd is
-number_of-token colon is proper = absurd is
+number_of-token other is proper = absurd is
 
 number_small : (negative : Bool) (base : ℕ) (digits : List ℕ) (n : Number) → number negative base digits ≡ Some n → (length digits ≤ 10) × (record { negative = negative; magnitude = digits_value base digits } ≡ n)
 number_small negative base digits n e = by (nat_lt 10 (length digits)) refl e
@@ -134,32 +124,17 @@ number_capped negative base digits few =
 pub number_writes : (t : lex.Token) (n : Number) → number_result t ≡ Some n → Writes t (signed_value n)
 number_writes (decimal_number negative digits) n e = let s = number_small negative 10 digits n e in (s.0, sym (ap signed_value s.1))
 number_writes (hex_number digits) n e = let s = number_small false 16 digits n e in (s.0, sym (ap signed_value s.1))
-number_writes (name bytes) n e = absurd (cc)
-number_writes word n e = absurd (cc)
-number_writes comma n e = absurd (cc)
-number_writes open_bracket n e = absurd (cc)
-number_writes close_bracket n e = absurd (cc)
-number_writes colon n e = absurd (cc)
+number_writes other n e = absurd (cc)
 
 pub writes_number : (t : lex.Token) (z : ℤ) → Writes t z → (n : Number) × (number_result t ≡ Some n) × (signed_value n ≡ z)
 writes_number (decimal_number negative digits) z w = (_, number_capped negative 10 digits w.0, sym w.1)
 writes_number (hex_number digits) z w = (_, number_capped false 16 digits w.0, sym w.1)
-writes_number (name bytes) z w = absurd w
-writes_number word z w = absurd w
-writes_number comma z w = absurd w
-writes_number open_bracket z w = absurd w
-writes_number close_bracket z w = absurd w
-writes_number colon z w = absurd w
+writes_number other z w = absurd w
 
 pub writes_is_number : (t : lex.Token) (z : ℤ) → Writes t z → IsNumber t
 writes_is_number (decimal_number negative digits) z w = tt
 writes_is_number (hex_number digits) z w = tt
-writes_is_number (name bytes) z w = absurd w
-writes_is_number word z w = absurd w
-writes_is_number comma z w = absurd w
-writes_is_number open_bracket z w = absurd w
-writes_is_number close_bracket z w = absurd w
-writes_is_number colon z w = absurd w
+writes_is_number other z w = absurd w
 
 -- ---- fields
 
@@ -176,13 +151,7 @@ field_form Whole = forms.whole_word
 
 pub field_again : (field : forms.Field) → field_form (field_from field) ≡ field
 field_again forms.immediate = refl
-field_again forms.shift_amount = refl
-field_again forms.upper_bits = refl
-field_again forms.branch_offset = refl
-field_again forms.jump_offset = refl
-field_again forms.fence_bits = refl
-field_again forms.unit_number = refl
-field_again forms.whole_word = refl
+field_again other = refl
 
 pub abs_signed : (n : Number) → unsigned_abs (signed_value n) ≡ n.magnitude
 abs_signed n = by n.negative n.magnitude

@@ -64,46 +64,25 @@ pub data Fills : List Slot → List lex.Token → Values → Values → Type 0 w
 
 abbrev pub register_result : lex.Token → Result ℕ Rule
 register_result (name bytes) = found (register_of bytes) NoOperand
-register_result (decimal_number negative digits) = Err NoOperand
-register_result (hex_number digits) = Err NoOperand
-register_result word = Err NoOperand
-register_result comma = Err NoOperand
-register_result open_bracket = Err NoOperand
-register_result close_bracket = Err NoOperand
-register_result colon = Err NoOperand
+register_result other = Err NoOperand
 
 register_kind : (line : List ℕ) (t : Token) (shown : lex.Token) → text_of line t ≡ spelling shown → register_in line t (kind_of shown) ≡ register_result shown
 register_kind line t (name bytes) text = ap (λ k. found (register_of k) NoOperand) text
-register_kind line t (decimal_number negative digits) text = refl
-register_kind line t (hex_number digits) text = refl
-register_kind line t word text = refl
-register_kind line t comma text = refl
-register_kind line t open_bracket text = refl
-register_kind line t close_bracket text = refl
-register_kind line t colon text = refl
+register_kind line t other text = refl
 
 register_shown : (line : List ℕ) (t : Token) (shown : lex.Token) → IsShown line t shown → register_in line t t.kind ≡ register_result shown
 register_shown line t shown is = ap (register_in line t) is.kind ∙ register_kind line t shown is.text
 
 abbrev pub mark_result : ℕ → lex.Token → Operands → Result Operands Rule
-mark_result due (name bytes) o = Err NoOperand
-mark_result due (decimal_number negative digits) o = Err NoOperand
-mark_result due (hex_number digits) o = Err NoOperand
-mark_result due word o = Err NoOperand
 mark_result due comma o = cond (eqb 44 due) (Ok o) (Err NoOperand)
 mark_result due open_bracket o = cond (eqb 40 due) (Ok o) (Err NoOperand)
 mark_result due close_bracket o = cond (eqb 41 due) (Ok o) (Err NoOperand)
 mark_result due colon o = cond (eqb 58 due) (Ok o) (Err NoOperand)
+mark_result due other o = Err NoOperand
 
 mark_kind : (due : ℕ) (shown : lex.Token) (o : Operands) → mark_in due o (kind_of shown) ≡ mark_result due shown o
 mark_kind due (name bytes) o = refl
-mark_kind due (decimal_number negative digits) o = refl
-mark_kind due (hex_number digits) o = refl
-mark_kind due word o = refl
-mark_kind due comma o = refl
-mark_kind due open_bracket o = refl
-mark_kind due close_bracket o = refl
-mark_kind due colon o = refl
+mark_kind due other o = refl
 
 mark_shown : (line : List ℕ) (due : ℕ) (t : Token) (shown : lex.Token) (o : Operands) → IsShown line t shown → mark_in due o t.kind ≡ mark_result due shown o
 mark_shown line due t shown o is = ap (mark_in due o) is.kind ∙ mark_kind due shown o
@@ -112,23 +91,14 @@ abbrev pub value_result : Token → Field → lex.Token → Operands → Result 
 value_result t field (name bytes) o = cond (is_offset field) (Ok (record o { label = Some t })) (Err NoOperand)
 value_result t field (decimal_number negative digits) o = number_in field (number_result (decimal_number negative digits)) o
 value_result t field (hex_number digits) o = number_in field (number_result (hex_number digits)) o
-value_result t field word o = Err NoOperand
-value_result t field comma o = Err NoOperand
-value_result t field open_bracket o = Err NoOperand
-value_result t field close_bracket o = Err NoOperand
-value_result t field colon o = Err NoOperand
+value_result t field other o = Err NoOperand
 
 value_kind : (line : List ℕ) (t : Token) (field : Field) (shown : lex.Token) (o : Operands) → IsToken shown → text_of line t ≡ spelling shown → value_in line t field o (kind_of shown) ≡ value_result t field shown o
-value_kind line t field (name bytes) o proper text = refl
 value_kind line t field (decimal_number negative digits) o proper text =
     ap (λ k. number_in field (number_of k) o) text ∙ ap (λ n. number_in field n o) (number_of-token (decimal_number negative digits) tt proper)
 value_kind line t field (hex_number digits) o proper text =
     ap (λ k. number_in field (number_of k) o) text ∙ ap (λ n. number_in field n o) (number_of-token (hex_number digits) tt proper)
-value_kind line t field word o proper text = refl
-value_kind line t field comma o proper text = refl
-value_kind line t field open_bracket o proper text = refl
-value_kind line t field close_bracket o proper text = refl
-value_kind line t field colon o proper text = refl
+value_kind line t field other o proper text = refl
 
 value_shown : (line : List ℕ) (t : Token) (field : Field) (shown : lex.Token) (o : Operands) → IsShown line t shown → value_in line t field o t.kind ≡ value_result t field shown o
 value_shown line t field shown o is = ap (value_in line t field o) is.kind ∙ value_kind line t field shown o is.proper is.text
@@ -162,12 +132,7 @@ register_yes (name bytes) r e =
     let known = register_named bytes r (found_ok (register_of bytes) NoOperand r e) in
     (ap name known.0, known.1)
 register_yes (decimal_number negative digits) r e = absurd (cc)
-register_yes (hex_number digits) r e = absurd (cc)
-register_yes word r e = absurd (cc)
-register_yes comma r e = absurd (cc)
-register_yes open_bracket r e = absurd (cc)
-register_yes close_bracket r e = absurd (cc)
-register_yes colon r e = absurd (cc)
+register_yes other r e = absurd (cc)
 
 pub register_no : (shown : lex.Token) (r : ℕ) → IsRegister shown r → register_result shown ≡ Ok r
 register_no shown r is = ap register_result is.0 ∙ ap (λ o. found o NoOperand) (register_of-name r is.1)
@@ -194,9 +159,7 @@ mark_yes due colon o more e =
     let same : 58 ≡ due = eqb-true 58 due c.0 in
     ((λ d. absurd (omega arith), λ d. absurd (omega arith), λ d. absurd (omega arith)), c.1)
 mark_yes due (name bytes) o more e = absurd (cc)
-mark_yes due (decimal_number negative digits) o more e = absurd (cc)
-mark_yes due (hex_number digits) o more e = absurd (cc)
-mark_yes due word o more e = absurd (cc)
+mark_yes due other o more e = absurd (cc)
 
 -- what the number of a token adds to the operands
 number_in_yes : (field : Field) (shown : lex.Token) (o more : Operands) → number_in field (number_result shown) o ≡ Ok more → (n : Number) × HasNumber (field_form field) shown (signed_value n) × (record o { number = n } ≡ more)
@@ -217,12 +180,7 @@ number_in_no field shown o z has =
 pub value_no : (t : Token) (field : Field) (shown : lex.Token) (o : Operands) → IsNumber shown → value_result t field shown o ≡ number_in field (number_result shown) o
 value_no t field (decimal_number negative digits) o is = refl
 value_no t field (hex_number digits) o is = refl
-value_no t field (name bytes) o is = absurd is
-value_no t field word o is = absurd is
-value_no t field comma o is = absurd is
-value_no t field open_bracket o is = absurd is
-value_no t field close_bracket o is = absurd is
-value_no t field colon o is = absurd is
+value_no t field other o is = absurd is
 
 -- the token fills the slot
 pub fill_step : (line : List ℕ) (t : Token) (shown : lex.Token) (slot : Slot) (slots : List Slot) (ts : List lex.Token) (o more : Operands) (w : Values) → IsShown line t shown → result_of t slot shown o ≡ Ok more → Fills slots ts (values_of line more) w → Fills (slot ∷ slots) (shown ∷ ts) (values_of line o) w
@@ -281,11 +239,7 @@ read_nil line from o = refl
 
 ended_ok : (place : ℕ) (o more : Operands) (kind : Kind) → ended place o kind ≡ Ok more → (kind ≡ End) × (o ≡ more)
 ended_ok place o more End e = (refl, cc)
-ended_ok place o more (Mark b) e = absurd (cc)
-ended_ok place o more Name e = absurd (cc)
-ended_ok place o more Numeral e = absurd (cc)
-ended_ok place o more Directive e = absurd (cc)
-ended_ok place o more Bad e = absurd (cc)
+ended_ok place o more other e = absurd (cc)
 
 pub filled_end : (line : List ℕ) (slot : Slot) (t : Token) (o : Operands) → t.kind ≡ End → filled line slot t o ≡ Err NoOperand
 unfolding filled
@@ -410,10 +364,6 @@ number_keeps field None o p none e = absurd (cc)
 number_keeps field (Some n) o p none e = let c = cond_ok (fits field n) (record o { number = n }) p OutOfField e in sym (ap (λ o. o.label) c.1) ∙ none
 
 label_step : (ct : Token) (slot : Slot) (shown : lex.Token) (o p : Operands) → o.label ≡ None → result_of ct slot shown o ≡ Ok p → (p.label ≡ None) ⊎ TakesLabel ct slot shown p
-label_step ct Rd shown o p none e = let b = bind_ok (register_result shown) _ p e in inl (sym (ap (λ o. o.label) (same_ok {E = Rule} _ p b.2)) ∙ none)
-label_step ct Rs1 shown o p none e = let b = bind_ok (register_result shown) _ p e in inl (sym (ap (λ o. o.label) (same_ok {E = Rule} _ p b.2)) ∙ none)
-label_step ct Rs2 shown o p none e = let b = bind_ok (register_result shown) _ p e in inl (sym (ap (λ o. o.label) (same_ok {E = Rule} _ p b.2)) ∙ none)
-label_step ct Rs3 shown o p none e = let b = bind_ok (register_result shown) _ p e in inl (sym (ap (λ o. o.label) (same_ok {E = Rule} _ p b.2)) ∙ none)
 label_step ct (Value field) (name bytes) o p none e =
     let c = cond_ok (is_offset field) (record o { label = Some ct }) p NoOperand e in
     inr (record { label = sym (ap (λ o. o.label) c.1); is_name = (bytes, refl); offset = c.0 })
@@ -427,26 +377,15 @@ label_step ct (Value field) colon o p none e = absurd (cc)
 label_step ct Comma shown o p none e = let m = mark_yes 44 shown o p e in inl (sym (ap (λ o. o.label) m.1) ∙ none)
 label_step ct Open shown o p none e = let m = mark_yes 40 shown o p e in inl (sym (ap (λ o. o.label) m.1) ∙ none)
 label_step ct Close shown o p none e = let m = mark_yes 41 shown o p e in inl (sym (ap (λ o. o.label) m.1) ∙ none)
+label_step ct other shown o p none e = let b = bind_ok (register_result shown) _ p e in inl (sym (ap (λ o. o.label) (same_ok {E = Rule} _ p b.2)) ∙ none)
 
 offset_last : (slot : Slot) (slots : List Slot) → OffsetLast (slot ∷ slots) → IsOffsetSlot slot → slots ≡ []
 offset_last (Value field) slots last offset = last.0 offset
-offset_last Rd slots last offset = absurd offset
-offset_last Rs1 slots last offset = absurd offset
-offset_last Rs2 slots last offset = absurd offset
-offset_last Rs3 slots last offset = absurd offset
-offset_last Comma slots last offset = absurd offset
-offset_last Open slots last offset = absurd offset
-offset_last Close slots last offset = absurd offset
+offset_last other slots last offset = absurd offset
 
 offset_later : (slot : Slot) (slots : List Slot) → OffsetLast (slot ∷ slots) → OffsetLast slots
 offset_later (Value field) slots last = last.1
-offset_later Rd slots last = last
-offset_later Rs1 slots last = last
-offset_later Rs2 slots last = last
-offset_later Rs3 slots last = last
-offset_later Comma slots last = last
-offset_later Open slots last = last
-offset_later Close slots last = last
+offset_later other slots last = last
 
 -- the label that was read is the last token
 pub record HasTarget (line : List ℕ) (slots : List Slot) (first t : Token) (v w : Values) : Type 0 where

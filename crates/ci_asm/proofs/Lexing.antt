@@ -110,10 +110,7 @@ negative_found c text e =
     )
 
 directive_found : (c : ℕ) (text : List ℕ) → is_directive c text ≡ true → IsFound c text (Some (word, 4))
-directive_found c [] e = absurd (true_is_not_false (and_both _ false e).1 refl)
 directive_found c (w ∷ []) e = absurd (true_is_not_false (and_both _ false e).1 refl)
-directive_found c (w ∷ o ∷ []) e = absurd (true_is_not_false (and_both _ false e).1 refl)
-directive_found c (w ∷ o ∷ r ∷ []) e = absurd (true_is_not_false (and_both _ false e).1 refl)
 directive_found c (w ∷ o ∷ r ∷ d ∷ text) e =
     let p4 = and_both (eqb c 46 && eqb w 119 && eqb o 111 && eqb r 114) (eqb d 100) e in
     let p3 = and_both (eqb c 46 && eqb w 119 && eqb o 111) (eqb r 114) p4.0 in
@@ -125,6 +122,7 @@ directive_found c (w ∷ o ∷ r ∷ d ∷ text) e =
     let is_r = eqb-true r 114 p3.1 in
     let is_d = eqb-true d 100 p4.1 in
     (omega arith, record { is_token = tt; is_spelling = λ i. is_dot i ∷ is_w i ∷ is_o i ∷ is_r i ∷ is_d i ∷ [] })
+directive_found c other e = absurd (true_is_not_false (and_both _ false e).1 refl)
 
 mark_found : (c b : ℕ) (text : List ℕ) (t : Token) → IsToken t → spelling t ≡ b ∷ [] → eqb c b ≡ true → IsFound c text (Some (t, 0))
 mark_found c b text t proper spelled e =
@@ -203,11 +201,7 @@ spelling_found (hex_number []) rest proper = absurd proper
 spelling_found (hex_number (d ∷ digits)) rest proper =
     let most = run_most (belongs HexDigit) IsHexDigit hex_yes hex_no digits rest proper.1 in
     rw (hex_no d proper.0) (omega arith)
-spelling_found word rest proper = lit≤ tt
-spelling_found comma rest proper = lit≤ tt
-spelling_found open_bracket rest proper = lit≤ tt
-spelling_found close_bracket rest proper = lit≤ tt
-spelling_found colon rest proper = lit≤ tt
+spelling_found other rest proper = lit≤ tt
 
 pub begun : (text : List ℕ) (t : Token) (bytes rest : List ℕ) → BeginsWith line_format text t bytes rest → Finds text (length bytes)
 begun text t bytes rest b =
@@ -248,12 +242,7 @@ token_of-spelling (name (c ∷ cs)) proper = pick_true (is_letter c) _ _ (letter
 token_of-spelling (decimal_number true digits) proper = refl
 token_of-spelling (decimal_number false []) proper = absurd proper
 token_of-spelling (decimal_number false (d ∷ ds)) proper = digit_token d ds proper.0 (no_x_behind ds proper.1)
-token_of-spelling (hex_number digits) proper = refl
-token_of-spelling word proper = refl
-token_of-spelling comma proper = refl
-token_of-spelling open_bracket proper = refl
-token_of-spelling close_bracket proper = refl
-token_of-spelling colon proper = refl
+token_of-spelling other proper = refl
 
 pub same_spelling : (a b : Token) → IsToken a → IsToken b → spelling a ≡ spelling b → a ≡ b
 same_spelling a b first second e = sym (token_of-spelling a first) ∙ (ap token_of e ∙ token_of-spelling b second)

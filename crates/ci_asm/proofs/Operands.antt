@@ -86,24 +86,14 @@ register_of-below text r e =
 
 register_in-below : (line : List ℕ) (t : Token) (kind : Kind) (r : ℕ) → register_in line t kind ≡ Ok r → r < 32
 register_in-below line t Name r e = register_of-below (text_of line t) r (found_ok (register_of (text_of line t)) NoOperand r e)
-register_in-below line t Numeral r e = absurd (cc)
-register_in-below line t Directive r e = absurd (cc)
-register_in-below line t (Mark b) r e = absurd (cc)
-register_in-below line t End r e = absurd (cc)
-register_in-below line t Bad r e = absurd (cc)
+register_in-below line t other r e = absurd (cc)
 
 -- ---- numbers lie in their fields
 
 -- the slot has no number of another field
 abbrev pub IsFor : Field → Slot → Type 0
 IsFor field (Value other) = other ≡ field
-IsFor field Rd = ⊤
-IsFor field Rs1 = ⊤
-IsFor field Rs2 = ⊤
-IsFor field Rs3 = ⊤
-IsFor field Comma = ⊤
-IsFor field Open = ⊤
-IsFor field Close = ⊤
+IsFor field other = ⊤
 
 abbrev pub AreFor : Field → List Slot → Type 0
 AreFor field [] = ⊤
@@ -112,9 +102,6 @@ AreFor field (slot ∷ slots) = IsFor field slot × AreFor field slots
 pub slots_of-for : (m : Mnemonic) → AreFor (field_of m) (slots_of m)
 slots_of-for (RegisterRegister op) = (tt, (tt, (tt, (tt, (tt, tt)))))
 slots_of-for (RegisterImmediate op) = (tt, (tt, (tt, (tt, (refl, tt)))))
-slots_of-for Lui = (tt, (tt, (refl, tt)))
-slots_of-for Auipc = (tt, (tt, (refl, tt)))
-slots_of-for Jal = (tt, (tt, (refl, tt)))
 slots_of-for Jalr = (tt, (tt, (refl, (tt, (tt, (tt, tt))))))
 slots_of-for (Branch cond) = (tt, (tt, (tt, (tt, (refl, tt)))))
 slots_of-for (Load kind) = (tt, (tt, (refl, (tt, (tt, (tt, tt))))))
@@ -125,6 +112,7 @@ slots_of-for Ebreak = tt
 slots_of-for Custom = (refl, (tt, (tt, (tt, (tt, (tt, (tt, (tt, (tt, tt)))))))))
 slots_of-for Cread = (tt, tt)
 slots_of-for Data = (refl, tt)
+slots_of-for other = (tt, (tt, (refl, tt)))
 
 -- the operands' number lies in the field, and their label in a line of n bytes
 record AreSound (field : Field) (n : ℕ) (o : Operands) : Type 0 where
@@ -143,26 +131,15 @@ value_in-sound field n line t Numeral o more start e sound = number_in-sound fie
 value_in-sound field n line t Name o more start e sound =
     let c = cond_ok (is_offset field) (record o { label = Some t }) more NoOperand e in
     subst (AreSound field n) c.1 (record { in_field = sound.in_field; in_line = start; registers = record { rd = sound.registers.rd; rs1 = sound.registers.rs1; rs2 = sound.registers.rs2; rs3 = sound.registers.rs3 } })
-value_in-sound field n line t Directive o more start e sound = absurd (cc)
-value_in-sound field n line t (Mark b) o more start e sound = absurd (cc)
-value_in-sound field n line t End o more start e sound = absurd (cc)
-value_in-sound field n line t Bad o more start e sound = absurd (cc)
+value_in-sound field n line t other o more start e sound = absurd (cc)
 
 mark_in-same : (due : ℕ) (o more : Operands) (kind : Kind) → mark_in due o kind ≡ Ok more → o ≡ more
 mark_in-same due o more (Mark b) e = (cond_ok (b == due) o more NoOperand e).1
-mark_in-same due o more Name e = absurd (cc)
-mark_in-same due o more Numeral e = absurd (cc)
-mark_in-same due o more Directive e = absurd (cc)
-mark_in-same due o more End e = absurd (cc)
-mark_in-same due o more Bad e = absurd (cc)
+mark_in-same due o more other e = absurd (cc)
 
 ended-same : (place : ℕ) (o more : Operands) (kind : Kind) → ended place o kind ≡ Ok more → o ≡ more
 ended-same place o more End e = cc
-ended-same place o more (Mark b) e = absurd (cc)
-ended-same place o more Name e = absurd (cc)
-ended-same place o more Numeral e = absurd (cc)
-ended-same place o more Directive e = absurd (cc)
-ended-same place o more Bad e = absurd (cc)
+ended-same place o more other e = absurd (cc)
 
 filled-sound : (field : Field) (n : ℕ) (line : List ℕ) (slot : Slot) (t : Token) (o more : Operands) → t.start ≤ n → IsFor field slot → filled line slot t o ≡ Ok more → AreSound field n o → AreSound field n more
 unfolding filled
@@ -200,13 +177,7 @@ read_slots-sound field line (slot ∷ slots) from o more for e sound =
 
 zero_fits : (field : Field) → fits field zero_number ≡ true
 zero_fits Immediate = refl
-zero_fits Amount = refl
-zero_fits Upper = refl
-zero_fits BranchOffset = refl
-zero_fits JumpOffset = refl
-zero_fits FenceBits = refl
-zero_fits UnitNumber = refl
-zero_fits Whole = refl
+zero_fits other = refl
 
 -- ---- mnemonics
 
@@ -227,10 +198,7 @@ mnemonic_of-statement text m e = found_passes (is_named text) is_statement mnemo
 pub mnemonic_in-statement : (line : List ℕ) (t : Token) (kind : Kind) (m : Mnemonic) → mnemonic_in line t kind ≡ Ok m → is_statement m ≡ true
 mnemonic_in-statement line t Name m e = mnemonic_of-statement (text_of line t) m (found_ok (mnemonic_of (text_of line t)) NoMnemonic m e)
 mnemonic_in-statement line t Directive m e = mnemonic_of-statement (text_of line t) m (found_ok (mnemonic_of (text_of line t)) NoMnemonic m e)
-mnemonic_in-statement line t Numeral m e = absurd (cc)
-mnemonic_in-statement line t (Mark b) m e = absurd (cc)
-mnemonic_in-statement line t End m e = absurd (cc)
-mnemonic_in-statement line t Bad m e = absurd (cc)
+mnemonic_in-statement line t other m e = absurd (cc)
 
 -- ---- statements and lines
 
@@ -254,11 +222,7 @@ some_statement line label t full l near e =
 
 with_statement-line : (line : List ℕ) (label : Option Token) (t : Token) (full : Bool) (kind : Kind) (l : Line) → IfSome label (λ t. t.start ≤ length line) → with_statement line label t full kind ≡ Ok l → IsLineOf (length line) l
 with_statement-line line label t full End l near e = subst (IsLineOf (length line)) (same_ok _ l e) (record { label = near; statement = tt })
-with_statement-line line label t full Name l near e = some_statement line label t full l near e
-with_statement-line line label t full Numeral l near e = some_statement line label t full l near e
-with_statement-line line label t full Directive l near e = some_statement line label t full l near e
-with_statement-line line label t full (Mark b) l near e = some_statement line label t full l near e
-with_statement-line line label t full Bad l near e = some_statement line label t full l near e
+with_statement-line line label t full other l near e = some_statement line label t full l near e
 
 -- what is read in a line stands in it, with its number in its field
 pub line_by_statement : (line : List ℕ) (label : Option Token) (t : Token) (full : Bool) (kind : Kind) (r : Result Line Fault) → IfSome label (λ t. t.start ≤ length line) → r ≡ with_statement line label t full kind → IfOk r (IsLineOf (length line))

@@ -85,23 +85,7 @@ signed_same (negsuc n) = refl
 
 plain_number : (op : Op) (n : Number) → with_sign n ≡ spelled_number (immediate_field op) n
 plain_number ops.Add n = refl
-plain_number ops.Sub n = refl
-plain_number ops.Sll n = refl
-plain_number ops.Slt n = refl
-plain_number ops.Sltu n = refl
-plain_number ops.Xor n = refl
-plain_number ops.Srl n = refl
-plain_number ops.Sra n = refl
-plain_number ops.Or n = refl
-plain_number ops.And n = refl
-plain_number ops.Mul n = refl
-plain_number ops.Mulh n = refl
-plain_number ops.Mulhsu n = refl
-plain_number ops.Mulhu n = refl
-plain_number ops.Div n = refl
-plain_number ops.Divu n = refl
-plain_number ops.Rem n = refl
-plain_number ops.Remu n = refl
+plain_number other n = refl
 
 -- the last operand, as the code ends a line
 last : (front text other : List ℕ) → text ≡ other → front ++ text ≡ front ++ (other ++ [])

@@ -47,41 +47,18 @@ unfolding mnemonic_of
 named_so text m e = (bytes_eq-Decides text (name_of m)).0 (find_passes (is_named text) mnemonics m e)
 
 name_token : (m : Mnemonic) → IsToken (name (name_of m)) → mnemonic_token m ≡ name (name_of m)
-name_token (RegisterRegister op) proper = refl
-name_token (RegisterImmediate op) proper = refl
-name_token Lui proper = refl
-name_token Auipc proper = refl
-name_token Jal proper = refl
-name_token Jalr proper = refl
-name_token (Branch cond) proper = refl
-name_token (Load kind) proper = refl
-name_token (Store width) proper = refl
-name_token Fence proper = refl
-name_token Ecall proper = refl
-name_token Ebreak proper = refl
-name_token Custom proper = refl
-name_token Cread proper = refl
 name_token Data proper = let letter = proper.0 in absurd (grind arith)
+name_token other proper = refl
 
 abbrev pub mnemonic_result : lex.Token → Result Mnemonic Rule
 mnemonic_result (name bytes) = found (mnemonic_of bytes) NoMnemonic
 mnemonic_result word = Ok Data
-mnemonic_result (decimal_number negative digits) = Err NoMnemonic
-mnemonic_result (hex_number digits) = Err NoMnemonic
-mnemonic_result comma = Err NoMnemonic
-mnemonic_result open_bracket = Err NoMnemonic
-mnemonic_result close_bracket = Err NoMnemonic
-mnemonic_result colon = Err NoMnemonic
+mnemonic_result other = Err NoMnemonic
 
 mnemonic_kind : (line : List ℕ) (t : Token) (shown : lex.Token) → text_of line t ≡ spelling shown → mnemonic_in line t (kind_of shown) ≡ mnemonic_result shown
 mnemonic_kind line t (name bytes) text = ap (λ k. found (mnemonic_of k) NoMnemonic) text
 mnemonic_kind line t word text = ap (λ k. found (mnemonic_of k) NoMnemonic) text ∙ ap (λ o. found o NoMnemonic) (known_mnemonic Data refl).0
-mnemonic_kind line t (decimal_number negative digits) text = refl
-mnemonic_kind line t (hex_number digits) text = refl
-mnemonic_kind line t comma text = refl
-mnemonic_kind line t open_bracket text = refl
-mnemonic_kind line t close_bracket text = refl
-mnemonic_kind line t colon text = refl
+mnemonic_kind line t other text = refl
 
 pub mnemonic_shown : (line : List ℕ) (t : Token) (shown : lex.Token) → IsShown line t shown → mnemonic_in line t t.kind ≡ mnemonic_result shown
 mnemonic_shown line t shown is = ap (mnemonic_in line t) is.kind ∙ mnemonic_kind line t shown is.text
@@ -91,12 +68,7 @@ mnemonic_yes (name bytes) m proper e =
     let same = named_so bytes m (found_ok (mnemonic_of bytes) NoMnemonic m e) in
     ap name same ∙ sym (name_token m (subst (λ k. IsToken (name k)) same proper))
 mnemonic_yes word m proper e = let same : Data ≡ m = cc in ap mnemonic_token same
-mnemonic_yes (decimal_number negative digits) m proper e = absurd (cc)
-mnemonic_yes (hex_number digits) m proper e = absurd (cc)
-mnemonic_yes comma m proper e = absurd (cc)
-mnemonic_yes open_bracket m proper e = absurd (cc)
-mnemonic_yes close_bracket m proper e = absurd (cc)
-mnemonic_yes colon m proper e = absurd (cc)
+mnemonic_yes other m proper e = absurd (cc)
 
 found_again : (m : Mnemonic) → is_statement m ≡ true → mnemonic_result (name (name_of m)) ≡ Ok m
 found_again m named = ap (λ o. found o NoMnemonic) (known_mnemonic m named).0
@@ -208,34 +180,21 @@ label_parts Name Numeral e = absurd (cc)
 label_parts Name Directive e = absurd (cc)
 label_parts Name End e = absurd (cc)
 label_parts Name Bad e = absurd (cc)
-label_parts Numeral second e = absurd (cc)
-label_parts Directive second e = absurd (cc)
-label_parts (Mark b) second e = absurd (cc)
-label_parts End second e = absurd (cc)
-label_parts Bad second e = absurd (cc)
+label_parts other second e = absurd (cc)
 
 same_mark : (a b : ℕ) → Mark a ≡ Mark b → a ≡ b
 same_mark a b e = cc
 
 name_kind : (shown : lex.Token) → kind_of shown ≡ Name → shown ≡ name (spelling shown)
 name_kind (name bytes) e = refl
-name_kind (decimal_number negative digits) e = absurd (cc)
-name_kind (hex_number digits) e = absurd (cc)
-name_kind word e = absurd (cc)
-name_kind comma e = absurd (cc)
-name_kind open_bracket e = absurd (cc)
-name_kind close_bracket e = absurd (cc)
-name_kind colon e = absurd (cc)
+name_kind other e = absurd (cc)
 
 colon_kind : (shown : lex.Token) → kind_of shown ≡ Mark 58 → shown ≡ colon
-colon_kind (name bytes) e = absurd (cc)
-colon_kind (decimal_number negative digits) e = absurd (cc)
-colon_kind (hex_number digits) e = absurd (cc)
-colon_kind word e = absurd (cc)
 colon_kind comma e = let no = same_mark 44 58 e in absurd (omega arith)
 colon_kind open_bracket e = let no = same_mark 40 58 e in absurd (omega arith)
 colon_kind close_bracket e = let no = same_mark 41 58 e in absurd (omega arith)
 colon_kind colon e = refl
+colon_kind other e = absurd (cc)
 
 -- a token of this kind is shown as a name
 shown_name : (line : List ℕ) (t : Token) (symbol : lex.Symbol) → Shows line t symbol → t.kind ≡ Name → IsShown line t (name (text_of line t))
@@ -328,12 +287,8 @@ abbrev pub line_says : List ℕ → code_lines.Line → Line
 line_says line l = record { label = label_text line l.label; statement = statement_read line l.statement }
 
 pub with_other : (line : List ℕ) (label : Option Token) (t : Token) (full : Bool) (kind : Kind) → kind ≢ End → with_statement line label t full kind ≡ (read_statement line t full >>= λ s. Ok (record { label = label; statement = Some s }))
-with_other line label t full Name other = refl
-with_other line label t full Numeral other = refl
-with_other line label t full Directive other = refl
-with_other line label t full (Mark b) other = refl
-with_other line label t full Bad other = refl
 with_other line label t full End other = absurd (other refl)
+with_other line label t full it other = refl
 
 -- a statement that is read has room
 abbrev pub HasRoom : Bool → Option code.Statement → Type 0
@@ -393,11 +348,7 @@ line_read line full l e =
   where
     by : (b : HasBody line) (kind : Kind) → (next_token line b.from).kind ≡ kind → with_statement line b.label (next_token line b.from) full kind ≡ Ok l → IsReadLine line full l
     by b End at e = line_end_read line full b l at (same_ok _ l e)
-    by b Name at e = statement_line_read line full b l e
-    by b Numeral at e = statement_line_read line full b l e
-    by b Directive at e = statement_line_read line full b l e
-    by b (Mark m) at e = statement_line_read line full b l e
-    by b Bad at e = statement_line_read line full b l e
+    by b other at e = statement_line_read line full b l e
 
 -- and a line of the definitions is read
 abbrev pub IsRoomFor : Bool → Option Statement → Type 0

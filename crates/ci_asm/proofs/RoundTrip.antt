@@ -116,20 +116,7 @@ shown_assembles i text formed e = λ w is.
 
 named_by : (i : Insn) → FieldsFit i → is_statement (statement_of i).mnemonic ≡ true
 named_by (insn.AluImm op rd rs1 imm) f = ap is_some (form_of op imm f.2).form
-named_by (insn.Alu op rd rs1 rs2) f = refl
-named_by (insn.Lui rd upper) f = refl
-named_by (insn.Auipc rd upper) f = refl
-named_by (insn.Jal rd offset) f = refl
-named_by (insn.Jalr rd rs1 offset) f = refl
-named_by (insn.Branch cond rs1 rs2 offset) f = refl
-named_by (insn.Load kind rd rs1 offset) f = refl
-named_by (insn.Store width rs1 rs2 offset) f = refl
-named_by (insn.Fence bits rs1 rd) f = refl
-named_by insn.Ecall f = refl
-named_by insn.Ebreak f = refl
-named_by (insn.Unit n rd rs1 rs2 rs3) f = refl
-named_by (insn.Cread rd) f = refl
-named_by (insn.Illegal w) f = refl
+named_by other f = refl
 
 -- it has a mnemonic
 pub formed_named : (i : Insn) → IsWellFormed i → is_statement (statement_of i).mnemonic ≡ true
@@ -146,7 +133,6 @@ constant_small ShiftAmount (negsuc n) fits = absurd (omega (arith, ints, fits.0)
 constant_small NoForm imm fits = absurd fits
 
 small_by : (i : Insn) → FieldsFit i → (statement_of i).operands.number.magnitude < 2 ^ 32
-small_by (insn.Alu op rd rs1 rs2) f = lit< tt
 small_by (insn.AluImm op rd rs1 imm) f = magnitude_of imm (constant_small (constant_form op) imm f.2)
 small_by (insn.Lui rd upper) f = omega (arith, f.1)
 small_by (insn.Auipc rd upper) f = omega (arith, f.1)
@@ -156,11 +142,9 @@ small_by (insn.Branch cond rs1 rs2 offset) f = magnitude_of offset (near 4096 of
 small_by (insn.Load kind rd rs1 offset) f = magnitude_of offset (near 2048 offset (lit≤ tt) f.2.0 f.2.1)
 small_by (insn.Store width rs1 rs2 offset) f = magnitude_of offset (near 2048 offset (lit≤ tt) f.2.0 f.2.1)
 small_by (insn.Fence bits rs1 rd) f = omega (arith, f.0)
-small_by insn.Ecall f = lit< tt
-small_by insn.Ebreak f = lit< tt
 small_by (insn.Unit n rd rs1 rs2 rs3) f = omega (arith, f.0)
-small_by (insn.Cread rd) f = lit< tt
 small_by (insn.Illegal w) f = f
+small_by other f = lit< tt
 
 -- and its number is that of a word at most
 pub formed_small : (i : Insn) → IsWellFormed i → (statement_of i).operands.number.magnitude < 2 ^ 32

@@ -36,23 +36,11 @@ Meets line t (first ∷ tokens) symbol column = IsShown line t first × Meets li
 
 pub kind_no_end : (t : lex.Token) → kind_of t ≢ End
 kind_no_end (name bytes) = λ e. absurd (cc)
-kind_no_end (decimal_number negative digits) = λ e. absurd (cc)
-kind_no_end (hex_number digits) = λ e. absurd (cc)
-kind_no_end word = λ e. absurd (cc)
-kind_no_end comma = λ e. absurd (cc)
-kind_no_end open_bracket = λ e. absurd (cc)
-kind_no_end close_bracket = λ e. absurd (cc)
-kind_no_end colon = λ e. absurd (cc)
+kind_no_end other = λ e. absurd (cc)
 
 pub kind_no_bad : (t : lex.Token) → kind_of t ≢ Bad
 kind_no_bad (name bytes) = λ e. absurd (cc)
-kind_no_bad (decimal_number negative digits) = λ e. absurd (cc)
-kind_no_bad (hex_number digits) = λ e. absurd (cc)
-kind_no_bad word = λ e. absurd (cc)
-kind_no_bad comma = λ e. absurd (cc)
-kind_no_bad open_bracket = λ e. absurd (cc)
-kind_no_bad close_bracket = λ e. absurd (cc)
-kind_no_bad colon = λ e. absurd (cc)
+kind_no_bad other = λ e. absurd (cc)
 
 end_no_bad : End ≢ Bad
 end_no_bad = λ e. absurd (cc)

@@ -62,23 +62,7 @@ form_of None e = absurd (cc)
 
 no_label : (op : Op) → is_offset (immediate_field op) ≡ true → ⊥
 no_label ops.Add e = cc
-no_label ops.Sub e = cc
-no_label ops.Sll e = cc
-no_label ops.Slt e = cc
-no_label ops.Sltu e = cc
-no_label ops.Xor e = cc
-no_label ops.Srl e = cc
-no_label ops.Sra e = cc
-no_label ops.Or e = cc
-no_label ops.And e = cc
-no_label ops.Mul e = cc
-no_label ops.Mulh e = cc
-no_label ops.Mulhsu e = cc
-no_label ops.Mulhu e = cc
-no_label ops.Div e = cc
-no_label ops.Divu e = cc
-no_label ops.Rem e = cc
-no_label ops.Remu e = cc
+no_label other e = cc
 
 natural_number : (high n : ℤ) → (pos 0 ≤ℤ n) × (n ≤ℤ high) → n ≡ pos (unsigned_abs n)
 natural_number high (pos n) h = refl
@@ -185,19 +169,12 @@ HasLabelFor m v = v.label ≡ None
 pub label_for : (m : Mnemonic) {ts : List lex.Token} {w : Values} → Fills (slots_of m) ts no_values w → HasLabelFor m w
 label_for (RegisterRegister op) fills = keeps_label fills tt
 label_for (RegisterImmediate op) fills = keeps_label fills (by_test (is_offset (immediate_field op)) (λ e. absurd (no_label op e)) (λ e. e), tt)
-label_for Lui fills = keeps_label fills (refl, tt)
-label_for Auipc fills = keeps_label fills (refl, tt)
 label_for Jal fills = tt
-label_for Jalr fills = keeps_label fills (refl, tt)
 label_for (Branch cond) fills = tt
-label_for (Load kind) fills = keeps_label fills (refl, tt)
-label_for (Store width) fills = keeps_label fills (refl, tt)
-label_for Fence fills = keeps_label fills (refl, tt)
 label_for Ecall fills = keeps_label fills tt
 label_for Ebreak fills = keeps_label fills tt
-label_for Custom fills = keeps_label fills (refl, tt)
 label_for Cread fills = keeps_label fills tt
-label_for Data fills = keeps_label fills (refl, tt)
+label_for other fills = keeps_label fills (refl, tt)
 
 -- the mnemonics whose last operand may be a label
 pub data TakesLabel : Mnemonic → Type 0 where
@@ -207,49 +184,23 @@ pub data TakesLabel : Mnemonic → Type 0 where
 pub takes_label : (m : Mnemonic) (v : Values) (label : List ℕ) → HasLabelFor m v → v.label ≡ Some label → TakesLabel m
 takes_label Jal v label for some = jal
 takes_label (Branch cond) v label for some = branches
-takes_label (RegisterRegister op) v label for some = absurd (cc)
-takes_label (RegisterImmediate op) v label for some = absurd (cc)
-takes_label Lui v label for some = absurd (cc)
-takes_label Auipc v label for some = absurd (cc)
-takes_label Jalr v label for some = absurd (cc)
-takes_label (Load kind) v label for some = absurd (cc)
-takes_label (Store width) v label for some = absurd (cc)
-takes_label Fence v label for some = absurd (cc)
-takes_label Ecall v label for some = absurd (cc)
-takes_label Ebreak v label for some = absurd (cc)
-takes_label Custom v label for some = absurd (cc)
-takes_label Cread v label for some = absurd (cc)
-takes_label Data v label for some = absurd (cc)
+takes_label other v label for some = absurd (cc)
 
 -- ---- instructions
 
 -- a statement without a label says its instruction
 pub plain_says : (m : Mnemonic) (line : List ℕ) (rd rs1 rs2 rs3 : ℕ) (number : Number) → says m (values_of line (record { rd = rd; rs1 = rs1; rs2 = rs2; rs3 = rs3; number = number; label = None })) ≡ plain (insn_of m (record { rd = rd; rs1 = rs1; rs2 = rs2; rs3 = rs3; number = number; label = None }))
-plain_says (RegisterRegister op) line rd rs1 rs2 rs3 number = refl
-plain_says (RegisterImmediate op) line rd rs1 rs2 rs3 number = refl
 plain_says Lui line rd rs1 rs2 rs3 number = ap (λ m. plain (insn.Lui rd (4096 * m))) (abs_signed number)
 plain_says Auipc line rd rs1 rs2 rs3 number = ap (λ m. plain (insn.Auipc rd (4096 * m))) (abs_signed number)
-plain_says Jal line rd rs1 rs2 rs3 number = refl
-plain_says Jalr line rd rs1 rs2 rs3 number = refl
-plain_says (Branch cond) line rd rs1 rs2 rs3 number = refl
-plain_says (Load kind) line rd rs1 rs2 rs3 number = refl
-plain_says (Store width) line rd rs1 rs2 rs3 number = refl
 plain_says Fence line rd rs1 rs2 rs3 number = ap (λ m. plain (insn.Fence m rs1 rd)) (abs_signed number)
-plain_says Ecall line rd rs1 rs2 rs3 number = refl
-plain_says Ebreak line rd rs1 rs2 rs3 number = refl
 plain_says Custom line rd rs1 rs2 rs3 number = ap (λ m. plain (insn.Unit m rd rs1 rs2 rs3)) (abs_signed number)
-plain_says Cread line rd rs1 rs2 rs3 number = refl
 plain_says Data line rd rs1 rs2 rs3 number = ap (λ m. plain (insn.Illegal m)) (abs_signed number)
+plain_says other line rd rs1 rs2 rs3 number = refl
 
 -- the label of a branch or of JAL is its last operand
 pub offset_last : (m : Mnemonic) → OffsetLast (slots_of m)
 offset_last (RegisterRegister op) = tt
-offset_last (RegisterImmediate op) = (λ e. refl, tt)
-offset_last Lui = (λ e. refl, tt)
-offset_last Auipc = (λ e. refl, tt)
-offset_last Jal = (λ e. refl, tt)
 offset_last Jalr = (λ e. absurd (cc), tt)
-offset_last (Branch cond) = (λ e. refl, tt)
 offset_last (Load kind) = (λ e. absurd (cc), tt)
 offset_last (Store width) = (λ e. absurd (cc), tt)
 offset_last Fence = (λ e. absurd (cc), tt)
@@ -257,4 +208,4 @@ offset_last Ecall = tt
 offset_last Ebreak = tt
 offset_last Custom = (λ e. absurd (cc), tt)
 offset_last Cread = tt
-offset_last Data = (λ e. refl, tt)
+offset_last other = (λ e. refl, tt)

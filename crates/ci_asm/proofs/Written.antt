@@ -52,17 +52,13 @@ spelling_tail (name []) proper = tt
 spelling_tail (name (c ∷ bytes)) proper = proper.1
 spelling_tail (decimal_number true []) proper = tt
 spelling_tail (decimal_number true (d ∷ ds)) proper = (inr proper.0, all_weaker IsDigit IsNameByte (λ c. inr) ds proper.1)
-spelling_tail (decimal_number false []) proper = tt
 spelling_tail (decimal_number false (d ∷ ds)) proper = all_weaker IsDigit IsNameByte (λ c. inr) ds proper.1
 spelling_tail (hex_number []) proper = absurd proper
 spelling_tail (hex_number (d ∷ ds)) proper =
     (inl (inl (lit≤ tt, lit≤ tt)), (hex_name d proper.0, all_weaker IsHexDigit IsNameByte hex_name ds proper.1))
 spelling_tail word proper =
     (inl (inl (lit≤ tt, lit≤ tt)), (inl (inl (lit≤ tt, lit≤ tt)), (inl (inl (lit≤ tt, lit≤ tt)), (inl (inl (lit≤ tt, lit≤ tt)), tt))))
-spelling_tail comma proper = tt
-spelling_tail open_bracket proper = tt
-spelling_tail close_bracket proper = tt
-spelling_tail colon proper = tt
+spelling_tail other proper = tt
 
 pub spelt_tail : (bytes : List ℕ) (t : Token) → Spells bytes t → AllTail bytes
 spelt_tail bytes t s = subst AllTail (sym s.is_spelling) (spelling_tail t s.is_token)
@@ -241,15 +237,7 @@ form_of ops.And imm fits = signed_form ops.And _ imm refl refl fits
 form_of ops.Sll imm fits = shift_form ops.Sll _ imm refl refl fits
 form_of ops.Srl imm fits = shift_form ops.Srl _ imm refl refl fits
 form_of ops.Sra imm fits = shift_form ops.Sra _ imm refl refl fits
-form_of ops.Sub imm fits = absurd fits
-form_of ops.Mul imm fits = absurd fits
-form_of ops.Mulh imm fits = absurd fits
-form_of ops.Mulhsu imm fits = absurd fits
-form_of ops.Mulhu imm fits = absurd fits
-form_of ops.Div imm fits = absurd fits
-form_of ops.Divu imm fits = absurd fits
-form_of ops.Rem imm fits = absurd fits
-form_of ops.Remu imm fits = absurd fits
+form_of other imm fits = absurd fits
 
 -- ---- instructions
 

@@ -77,15 +77,7 @@ register_immediate And = Some (codes "andi", immediate)
 register_immediate Sll = Some (codes "slli", shift_amount)
 register_immediate Srl = Some (codes "srli", shift_amount)
 register_immediate Sra = Some (codes "srai", shift_amount)
-register_immediate Sub = None
-register_immediate Mul = None
-register_immediate Mulh = None
-register_immediate Mulhsu = None
-register_immediate Mulhu = None
-register_immediate Div = None
-register_immediate Divu = None
-register_immediate Rem = None
-register_immediate Remu = None
+register_immediate op = None
 
 abbrev pub branch_name : Cond → List ℕ
 branch_name Eq = codes "beq"
@@ -117,12 +109,7 @@ IsRegister t r = (t ≡ name (codes "x" ++ decimal r)) × (r < 32)
 abbrev pub IsNumber : Token → Type 0
 IsNumber (decimal_number negative digits) = Unit {0}
 IsNumber (hex_number digits) = Unit {0}
-IsNumber (name bytes) = ⊥
-IsNumber word = ⊥
-IsNumber comma = ⊥
-IsNumber open_bracket = ⊥
-IsNumber close_bracket = ⊥
-IsNumber colon = ⊥
+IsNumber t = ⊥
 
 -- the token writes the number n, with at most ten digits
 abbrev pub Writes : Token → ℤ → Type 0
@@ -130,12 +117,7 @@ Writes (decimal_number negative digits) n =
     (length digits ≤ 10)
     × (n ≡ (if negative then neg_ℤ (pos (digits_value 10 digits)) else pos (digits_value 10 digits)))
 Writes (hex_number digits) n = (length digits ≤ 10) × (n ≡ pos (digits_value 16 digits))
-Writes (name bytes) n = ⊥
-Writes word n = ⊥
-Writes comma n = ⊥
-Writes open_bracket n = ⊥
-Writes close_bracket n = ⊥
-Writes colon n = ⊥
+Writes t n = ⊥
 
 -- the token writes the number n, which fits the field
 abbrev pub HasNumber : Field → Token → ℤ → Type 0

@@ -62,11 +62,7 @@ abbrev pub IsToken : Token → Type 0
 IsToken (name bytes) = StartsWith IsLetter (λ c. IsLetter c ⊎ IsDigit c) bytes
 IsToken (decimal_number negative digits) = StartsWith IsDigit IsDigit digits
 IsToken (hex_number digits) = StartsWith IsHexDigit IsHexDigit digits
-IsToken word = Unit {0}
-IsToken comma = Unit {0}
-IsToken open_bracket = Unit {0}
-IsToken close_bracket = Unit {0}
-IsToken colon = Unit {0}
+IsToken t = Unit {0}
 
 -- the bytes spell the token
 pub record Spells (bytes : List ℕ) (t : Token) : Type 0 where

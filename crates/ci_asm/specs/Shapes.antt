@@ -94,11 +94,7 @@ abbrev pub lowest : Field → ℕ
 lowest Immediate = 2048
 lowest BranchOffset = 4096
 lowest JumpOffset = 1048576
-lowest Amount = 0
-lowest Upper = 0
-lowest FenceBits = 0
-lowest UnitNumber = 0
-lowest Whole = 0
+lowest field = 0
 
 abbrev pub highest : Field → ℕ
 highest Immediate = 2047
@@ -114,12 +110,7 @@ highest Whole = 0xffff_ffff
 abbrev pub is_offset : Field → Bool
 is_offset BranchOffset = true
 is_offset JumpOffset = true
-is_offset Immediate = false
-is_offset Amount = false
-is_offset Upper = false
-is_offset FenceBits = false
-is_offset UnitNumber = false
-is_offset Whole = false
+is_offset field = false
 
 -- the number lies in the field
 abbrev pub fits : Field → Number → Bool
@@ -151,7 +142,6 @@ slots_of Data = Value Whole ∷ []
 
 -- the field that holds the statement's number, and one that holds 0 where the statement has none
 abbrev pub field_of : Mnemonic → Field
-field_of (RegisterRegister op) = Amount
 field_of (RegisterImmediate op) = immediate_field op
 field_of Lui = Upper
 field_of Auipc = Upper
@@ -161,8 +151,6 @@ field_of (Branch cond) = BranchOffset
 field_of (Load kind) = Immediate
 field_of (Store width) = Immediate
 field_of Fence = FenceBits
-field_of Ecall = Amount
-field_of Ebreak = Amount
 field_of Custom = UnitNumber
-field_of Cread = Amount
 field_of Data = Whole
+field_of m = Amount

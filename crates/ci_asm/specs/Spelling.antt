@@ -57,12 +57,7 @@ with_sign n = if n.negative then codes "-" ++ decimal n.magnitude else decimal n
 abbrev pub spelled_number : Field → Number → List ℕ
 spelled_number Upper n = codes "0x" ++ digits 16 false n.magnitude
 spelled_number Whole n = codes "0x" ++ eight_hex_digits n.magnitude
-spelled_number Immediate n = with_sign n
-spelled_number Amount n = with_sign n
-spelled_number BranchOffset n = with_sign n
-spelled_number JumpOffset n = with_sign n
-spelled_number FenceBits n = with_sign n
-spelled_number UnitNumber n = with_sign n
+spelled_number field n = with_sign n
 
 abbrev pub spelled : Operands → Slot → List ℕ
 spelled o Rd = register_name o.rd
