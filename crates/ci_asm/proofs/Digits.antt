@@ -1,14 +1,14 @@
 -- The digits that a number is written by, and the name of a register, are read as these.
-use Rattle.std.proofs.Common.{◌≡◌, ℕ, zero, suc, ◌+◌, ◌*◌, ◌/◌, ◌%◌, ◌^◌, ◌<◌, ◌≤◌, Bool, true, false, cond, nat_lt, eqb, List, [], ◌∷◌, ◌++◌, length, refl, ap, ◌∙◌, arith, Some, lit<, lit≤, inl, inr}
+use Rattle.std.proofs.Common.{◌≡◌, ℕ, ◌+◌, ◌/◌, ◌%◌, ◌^◌, ◌<◌, ◌≤◌, true, false, nat_lt, List, [], ◌∷◌, ◌++◌, length, refl, ap, ◌∙◌, arith, Some, lit<, lit≤, inl, inr}
 use Rattle.std.specs.List.{AllByRecursion}
 use Rattle.std.specs.Char.{digit_value}
 use Rattle.std.specs.Str.Parse.{AllDigits, IsNumeral, digits_value}
-use Rattle.std.specs.Fmt.{decimal, digits, digits_onto, digit_glyph}
+use Rattle.std.specs.Fmt.{decimal, digits}
 use Rattle.std.proofs.lemmas.Fmt.{decimal_is_IsNumeral, digits_is_IsNumeral, length-decimal-le, decimal_digit, decimal_step}
 use Rattle.std.proofs.lemmas.Bool.{cases_lt}
 use Rattle.std.proofs.lemmas.Bool.Decides.{nat_tests}
-use Rattle.std.proofs.Math.Nat.{pow-suc}
 use Rattle.ci_reading.specs.Hex.{eight_hex_digits}
+use Rattle.ci_reading.proofs.DigitLaws.{eight_hex_digits_value, eight_hex_digits_all, length_hex}
 use Rattle.ci_asm.specs.Tokens.{is_digit, is_between, two_digits, register_at, has_one_digit, has_two_digits, register_of}
 use Rattle.ci_asm.specs.Lexicon.{IsDigit, IsHexDigit, StartsWith}
 use Rattle.ci_asm.specs.Shown.{register_name}
@@ -48,62 +48,16 @@ decimal_digits n below =
 
 -- ---- hex digits
 
-either_length : (b : Bool) (xs ys : List ℕ) (most : ℕ) → length xs ≤ most → length ys ≤ most → length (cond b xs ys) ≤ most
-either_length true xs ys most first second = first
-either_length false xs ys most first second = second
-
-suc-add-one : (j : ℕ) → suc j + 1 ≡ suc (j + 1)
-suc-add-one j = omega arith
-
--- how many hex digits a number has
-length_onto : (j k n : ℕ) (acc : List ℕ) → n < 16 ^ (j + 1) → length (digits_onto k 16 false n acc) ≤ length acc + (j + 1)
-length_onto j zero n acc h = omega arith
-length_onto zero (suc k) n acc h =
-    let last : eqb (n / 16) 0 ≡ true = grind (arith, nat_tests) in
-    rw last (omega arith)
-length_onto (suc j) (suc k) n acc h =
-    let power : 16 ^ (suc j + 1) ≡ 16 ^ (j + 1) * 16 = rw (suc-add-one j) (pow-suc 16 (j + 1)) in
-    let front : n / 16 < 16 ^ (j + 1) = omega arith in
-    let others = length_onto j k (n / 16) (digit_glyph false (n % 16) ∷ acc) front in
-    either_length (eqb (n / 16) 0) (digit_glyph false (n % 16) ∷ acc) _ (length acc + (suc j + 1)) (omega arith) (omega arith)
-
-hex_length : (n : ℕ) → n < 16 ^ 5 → length (digits 16 false n) ≤ 10
-unfolding digits
-hex_length n h = omega (arith, length_onto 4 64 n [] h)
-
 pub hex_digits : (n : ℕ) → n < 16 ^ 5 → AreDigitsOf IsHexDigit 16 n (digits 16 false n)
 hex_digits n h =
     let wide : n < 16 ^ 64 = omega arith in
     let numeral = digits_is_IsNumeral 16 false (lit≤ tt) (lit≤ tt) n wide in
-    digits_of IsHexDigit 16 n hex_byte (digits 16 false n) numeral.0 numeral.1 (hex_length n h)
-
--- ---- eight hex digits
-
-abbrev hex_digit : ℕ → ℕ → ℕ
-hex_digit n k = digit_glyph false (n / 16 ^ k % 16)
-
-glyph_value : (d : ℕ) → d < 16 → digit_value (digit_glyph false d) ≡ d
-glyph_value d h = grind (arith, nat_tests)
-
-hex_digit_value : (n k : ℕ) → digit_value (hex_digit n k) ≡ n / 16 ^ k % 16
-hex_digit_value n k = glyph_value (n / 16 ^ k % 16) (omega arith)
-
-eight_value : (n : ℕ) → n < 2 ^ 32 → digits_value 16 (eight_hex_digits n) ≡ n
-eight_value n h =
-    rw (hex_digit_value n 7, hex_digit_value n 6, hex_digit_value n 5, hex_digit_value n 4, hex_digit_value n 3, hex_digit_value n 2, hex_digit_value n 1, hex_digit_value n 0)
-    (by n h)
-  where
-    by : (n : ℕ) → n < 2 ^ 32 → (((((((0 * 16 + n / 16 ^ 7 % 16) * 16 + n / 16 ^ 6 % 16) * 16 + n / 16 ^ 5 % 16) * 16 + n / 16 ^ 4 % 16) * 16 + n / 16 ^ 3 % 16) * 16 + n / 16 ^ 2 % 16) * 16 + n / 16 ^ 1 % 16) * 16 + n / 16 ^ 0 % 16 ≡ n
-    by n h = omega arith
-
-below_16 : (n k : ℕ) → digit_value (hex_digit n k) < 16
-below_16 n k = rw (hex_digit_value n k) (omega arith)
+    digits_of IsHexDigit 16 n hex_byte (digits 16 false n) numeral.0 numeral.1 (omega (arith, length_hex 4 n h))
 
 pub eight_digits : (n : ℕ) → n < 2 ^ 32 → AreDigitsOf IsHexDigit 16 n (eight_hex_digits n)
 eight_digits n h = record {
-  proper = each_digit IsHexDigit 16 hex_byte (eight_hex_digits n)
-      (below_16 n 7, (below_16 n 6, (below_16 n 5, (below_16 n 4, (below_16 n 3, (below_16 n 2, (below_16 n 1, (below_16 n 0, tt))))))));
-  value = eight_value n h;
+  proper = each_digit IsHexDigit 16 hex_byte (eight_hex_digits n) (eight_hex_digits_all n);
+  value = eight_hex_digits_value n h;
   few = omega arith;
 }
 

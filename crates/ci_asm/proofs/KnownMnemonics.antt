@@ -1,13 +1,13 @@
 -- Each mnemonic is found by its name, and is spelt as a word.
 use Rattle.std.proofs.Common.{◌≡◌, ℕ, false, Bool, true, ◌&&◌, List, [], ◌∷◌, refl, Some}
 use Rattle.std.specs.List.{list_all}
-use Rattle.ci_word.specs.declared.arithmetic.Op.TheVariants.{Add, Sub, Sll, Slt, Sltu, Xor, Srl, Sra, Or, And, Mul, Mulh, Mulhsu, Mulhu, Div, Divu, Rem, Remu}
+use Rattle.ci_word.specs.declared.arithmetic.Op.TheVariants.{Add, Sub, Mul, Mulh, Mulhsu, Mulhu, Div, Divu, Rem, Remu}
 use Rattle.ci_isa.specs.declared.instruction.Cond.TheVariants as cond_of
 use Rattle.ci_isa.specs.declared.instruction.LoadKind.TheVariants as load_of
 use Rattle.ci_isa.specs.declared.instruction.Width.TheVariants as width_of
 use Rattle.ci_asm.specs.declared.scanner.ByteClass.TheVariants.{NameByte}
 use Rattle.ci_asm.specs.declared.mnemonics.Mnemonic.{Mnemonic}
-use Rattle.ci_asm.specs.declared.mnemonics.Mnemonic.TheVariants.{RegisterRegister, RegisterImmediate, Lui, Auipc, Jal, Jalr, Branch, Load, Store, Fence, Ecall, Ebreak, Custom, Cread, Data}
+use Rattle.ci_asm.specs.declared.mnemonics.Mnemonic.TheVariants.{RegisterRegister, RegisterImmediate, Branch, Load, Store, Data}
 use Rattle.ci_asm.specs.Tokens.{belongs, is_letter}
 use Rattle.ci_asm.specs.Shapes.{is_statement, name_of, mnemonic_of}
 

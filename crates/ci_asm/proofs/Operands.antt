@@ -4,14 +4,14 @@ use Rattle.std.proofs.lemmas.Bool.Decides.{nat_tests}
 use Rattle.std.specs.Prelude.{IfSome, IfOk, ⊤, find}
 use Rattle.std.specs.List.{list_all}
 use Rattle.ci_asm.specs.declared.scanner.Kind.{Kind}
-use Rattle.ci_asm.specs.declared.scanner.Kind.TheVariants.{Name, Numeral, Directive, Mark, End, Bad}
+use Rattle.ci_asm.specs.declared.scanner.Kind.TheVariants.{Name, Numeral, Directive, Mark, End}
 use Rattle.ci_asm.specs.declared.scanner.Token.{Token}
 use Rattle.ci_asm.specs.declared.scanner.ByteClass.TheVariants.{Blank}
 use Rattle.ci_asm.specs.declared.numbers.Number.{Number}
 use Rattle.ci_asm.specs.declared.mnemonics.Mnemonic.{Mnemonic}
-use Rattle.ci_asm.specs.declared.mnemonics.Mnemonic.TheVariants.{RegisterRegister, RegisterImmediate, Lui, Auipc, Jal, Jalr, Branch, Load, Store, Fence, Ecall, Ebreak, Custom, Cread, Data}
+use Rattle.ci_asm.specs.declared.mnemonics.Mnemonic.TheVariants.{RegisterRegister, RegisterImmediate, Jalr, Branch, Load, Store, Fence, Ecall, Ebreak, Custom, Cread, Data}
 use Rattle.ci_asm.specs.declared.slots.Field.{Field}
-use Rattle.ci_asm.specs.declared.slots.Field.TheVariants.{Immediate, Amount, Upper, BranchOffset, JumpOffset, FenceBits, UnitNumber, Whole}
+use Rattle.ci_asm.specs.declared.slots.Field.TheVariants.{Immediate}
 use Rattle.ci_asm.specs.declared.slots.Slot.{Slot}
 use Rattle.ci_asm.specs.declared.slots.Slot.TheVariants.{Rd, Rs1, Rs2, Rs3, Value, Comma, Open, Close}
 use Rattle.ci_asm.specs.declared.faults.Rule.{Rule}

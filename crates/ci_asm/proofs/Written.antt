@@ -13,10 +13,8 @@ use Rattle.ci_isa.specs.declared.instruction.Insn.TheVariants as insn
 use Rattle.ci_isa.specs.Table.{constant_form}
 use Rattle.ci_isa.specs.FieldBounds.{IsOfWidth, IsEven, ConstantFits, FieldsFit}
 use Rattle.ci_asm.specs.declared.scanner.ByteClass.TheVariants.{NameByte}
-use Rattle.ci_asm.specs.declared.mnemonics.Mnemonic.{Mnemonic}
 use Rattle.ci_asm.specs.declared.mnemonics.Mnemonic.TheVariants.{RegisterRegister, Branch, Load, Store}
 use Rattle.ci_asm.specs.Tokens.{belongs, is_letter, scan}
-use Rattle.ci_asm.specs.Shapes.{name_of}
 use Rattle.ci_asm.specs.Lexicon.{IsDigit, IsHexDigit, Token, name, decimal_number, hex_number, word, comma, open_bracket, close_bracket, colon, spelling, StartsWith, IsToken, Spells, line_format}
 use Rattle.ci_asm.specs.Forms.{Field, immediate, shift_amount, upper_bits, branch_offset, jump_offset, IsIn, operation_name, register_immediate, branch_name, load_name, store_name, Writes, HasNumber, plain, IsStatement, on_registers, on_immediate, lui, auipc, jump, jump_register, branch, load, store, fence, ecall, ebreak, custom, cread, data_word}
 use Rattle.ci_asm.specs.Shown.{register_name, upper_text, immediate_line, shown}
@@ -262,9 +260,6 @@ decimal_no_colon negative written = λ e. absurd (cc)
 
 hex_no_colon : (written : List ℕ) → hex_number written ≢ colon
 hex_no_colon written = λ e. absurd (cc)
-
-mnemonic_spelt : (m : Mnemonic) → is_word (name_of m) ≡ true → Spells (name_of m) (name (name_of m))
-mnemonic_spelt m is = word_spelt (name_of m) is
 
 constant_written : (op : Op) (rd rs1 : ℕ) (imm : ℤ) → rd < 32 → rs1 < 32 → HasForm op imm → IsWrittenAs (insn.AluImm op rd rs1 imm)
 constant_written op rd rs1 imm a b f = record {

@@ -12,7 +12,7 @@ use Rattle.ci_isa.specs.declared.instruction.Width.{Width}
 use Rattle.ci_isa.specs.declared.instruction.Width.TheVariants.{Byte, Half, Word}
 use Rattle.ci_isa.specs.declared.instruction.Insn.{Insn}
 use Rattle.ci_isa.specs.declared.instruction.Insn.TheVariants as insn
-use Rattle.ci_asm.specs.Lexicon.{Token, name, decimal_number, hex_number, word, comma, open_bracket, close_bracket, colon}
+use Rattle.ci_asm.specs.Lexicon.{Token, name, decimal_number, hex_number, word, comma, open_bracket, close_bracket}
 
 -- ---- fields
 
