@@ -1,5 +1,6 @@
 -- The digits that a number is written by, and the name of a register, are read as these.
-use Rattle.std.proofs.Common.{◌≡◌, ℕ, ◌+◌, ◌/◌, ◌%◌, ◌^◌, ◌<◌, ◌≤◌, true, false, nat_lt, List, [], ◌∷◌, ◌++◌, length, refl, ap, ◌∙◌, arith, Some, lit<, lit≤, inl, inr}
+use Rattle.std.proofs.Common.{◌≡◌, ℕ, ◌+◌, ◌/◌, ◌%◌, ◌^◌, ◌<◌, ◌≤◌, true, false, nat_lt, List, [], ◌∷◌, ◌++◌, length, refl, ap, ◌∙◌, arith, Some, lit<, lit≤}
+use Rattle.std.proofs.Common.{inl, inr}
 use Rattle.std.specs.List.{AllByRecursion}
 use Rattle.std.specs.Char.{digit_value}
 use Rattle.std.specs.Str.Parse.{AllDigits, IsNumeral, digits_value}
@@ -90,5 +91,6 @@ register_of-name n h =
     let wide : n < 2 ^ 64 = omega arith in
     elim (cases_lt n 10) [
       | inl few ↦ ap (λ ds. register_of (120 ∷ ds)) (decimal_digit n few) ∙ one_digit n few
-      | inr many ↦ ap (λ ds. register_of (120 ∷ ds)) (decimal_step n many wide ∙ ap (λ ds. ds ++ (48 + n % 10) ∷ []) (decimal_digit (n / 10) (omega arith))) ∙ more_digits n many h
+      | inr many ↦ ap (λ ds. register_of (120 ∷ ds)) (decimal_step n many wide ∙ ap (λ ds. ds ++ (48 + n % 10) ∷ []) (decimal_digit (n / 10) (omega arith)))
+          ∙ more_digits n many h
     ]

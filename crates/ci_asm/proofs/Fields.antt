@@ -1,5 +1,6 @@
 -- Registers and numbers, as tokens and as the code reads them.
-use Rattle.std.proofs.Common.{◌≡◌, ℕ, zero, suc, ◌+◌, ◌/◌, ◌%◌, ◌<◌, ◌≤◌, ◌⊎◌, inl, inr, Bool, true, false, cond, ◌&&◌, nat_le, nat_lt, eqb, List, [], ◌∷◌, ◌++◌, length, refl, sym, ap, ◌∙◌, arith, Option, Some, None, ℤ, pos, neg_ℤ, ◌≤ℤ◌}
+use Rattle.std.proofs.Common.{◌≡◌, ℕ, zero, suc, ◌+◌, ◌/◌, ◌%◌, ◌<◌, ◌≤◌, ◌⊎◌, inl, inr, Bool, true, false, cond, ◌&&◌, nat_le, nat_lt, eqb, List, [], ◌∷◌}
+use Rattle.std.proofs.Common.{◌++◌, length, refl, sym, ap, ◌∙◌, arith, Option, Some, None, ℤ, pos, neg_ℤ, ◌≤ℤ◌}
 use Rattle.std.specs.Prelude.{unsigned_abs}
 use Rattle.std.specs.Str.Parse.{digits_value}
 use Rattle.std.proofs.lemmas.Fmt.{decimal_digit, decimal_step}
@@ -34,7 +35,8 @@ register_at-same n r e = by (nat_lt n 32) refl e
     by true at e = let same : n ≡ r = cc in (same, grind (arith, nat_tests))
     by false at e = absurd (cc)
 
-one_digit_name : (text : List ℕ) (r : ℕ) → has_one_digit text ≡ true → register_at (two_digits 48 (byte_at text 1)) ≡ Some r → (text ≡ register_name r) × (r < 32)
+one_digit_name : (text : List ℕ) (r : ℕ) → has_one_digit text ≡ true → register_at (two_digits 48 (byte_at text 1)) ≡ Some r
+    → (text ≡ register_name r) × (r < 32)
 one_digit_name [] r e found = absurd (cc)
 one_digit_name (a ∷ []) r e found =
     let outer = and_both (eqb a 120 && eqb 1 2) (is_digit 0) e in
@@ -53,7 +55,8 @@ one_digit_name (a ∷ b ∷ c ∷ text) r e found =
     let size : length (a ∷ b ∷ c ∷ text) ≡ 2 = eqb-true _ 2 (and_both (eqb a 120) (eqb (length (a ∷ b ∷ c ∷ text)) 2) outer.0).1 in
     absurd (omega arith)
 
-two_digit_name : (text : List ℕ) (r : ℕ) → has_two_digits text ≡ true → register_at (two_digits (byte_at text 1) (byte_at text 2)) ≡ Some r → (text ≡ register_name r) × (r < 32)
+two_digit_name : (text : List ℕ) (r : ℕ) → has_two_digits text ≡ true → register_at (two_digits (byte_at text 1) (byte_at text 2)) ≡ Some r
+    → (text ≡ register_name r) × (r < 32)
 two_digit_name [] r e found = absurd (cc)
 two_digit_name (a ∷ []) r e found =
     let no : is_digit 0 ≡ true = (and_both (eqb a 120 && eqb 1 3 && is_between 49 57 0) (is_digit 0) e).1 in
@@ -72,8 +75,11 @@ two_digit_name (a ∷ b ∷ c ∷ []) r e found =
     let below = known.1 in
     let many : 10 ≤ r = omega arith in
     let first : b ≡ 48 + r / 10 = omega arith in
-    let second : c ≡ 48 + r % 10 = omega arith in
-    ((λ i. x i ∷ first i ∷ second i ∷ []) ∙ ap (λ ds. 120 ∷ ds) (sym (decimal_step r many (omega arith) ∙ ap (λ ds. ds ++ (48 + r % 10) ∷ []) (decimal_digit (r / 10) (omega arith)))), below)
+    let second : c ≡ 48 + r % 10 = omega arith in (
+      (λ i. x i ∷ first i ∷ second i ∷ [])
+          ∙ ap (λ ds. 120 ∷ ds) (sym (decimal_step r many (omega arith) ∙ ap (λ ds. ds ++ (48 + r % 10) ∷ []) (decimal_digit (r / 10) (omega arith)))),
+      below,
+    )
 two_digit_name (a ∷ b ∷ c ∷ d ∷ text) r e found =
     let all = a ∷ b ∷ c ∷ d ∷ text in
     let outer = and_both (eqb a 120 && eqb (length all) 3 && is_between 49 57 b) (is_digit c) e in
@@ -108,14 +114,17 @@ number_of-token (decimal_number false (d ∷ ds)) is proper =
 number_of-token (hex_number digits) is proper = refl
 number_of-token other is proper = absurd is
 
-number_small : (negative : Bool) (base : ℕ) (digits : List ℕ) (n : Number) → number negative base digits ≡ Some n → (length digits ≤ 10) × (record { negative = negative; magnitude = digits_value base digits } ≡ n)
+number_small : (negative : Bool) (base : ℕ) (digits : List ℕ) (n : Number) → number negative base digits ≡ Some n
+    → (length digits ≤ 10) × (record { negative = negative; magnitude = digits_value base digits } ≡ n)
 number_small negative base digits n e = by (nat_lt 10 (length digits)) refl e
   where
-    by : (b : Bool) → nat_lt 10 (length digits) ≡ b → cond b None (Some (record { negative = negative; magnitude = digits_value base digits })) ≡ Some n → (length digits ≤ 10) × (record { negative = negative; magnitude = digits_value base digits } ≡ n)
+    by : (b : Bool) → nat_lt 10 (length digits) ≡ b → cond b None (Some (record { negative = negative; magnitude = digits_value base digits })) ≡ Some n
+        → (length digits ≤ 10) × (record { negative = negative; magnitude = digits_value base digits } ≡ n)
     by true at e = absurd (cc)
     by false at e = (grind (arith, nat_tests), cc)
 
-number_capped : (negative : Bool) (base : ℕ) (digits : List ℕ) → length digits ≤ 10 → number negative base digits ≡ Some (record { negative = negative; magnitude = digits_value base digits })
+number_capped : (negative : Bool) (base : ℕ) (digits : List ℕ) → length digits ≤ 10
+    → number negative base digits ≡ Some (record { negative = negative; magnitude = digits_value base digits })
 number_capped negative base digits few =
     let room : nat_lt 10 (length digits) ≡ false = grind (arith, nat_tests) in
     pick_false (nat_lt 10 (length digits)) _ _ room
@@ -165,7 +174,8 @@ abs_signed n = by n.negative n.magnitude
 between_near : (low high : ℕ) (n : Number) → IsBetween (neg_ℤ (pos low)) (pos high) (signed_value n) → n.magnitude ≤ cond n.negative low high
 between_near low high n h = by n.negative n.magnitude h.0 h.1
   where
-    by : (negative : Bool) (m : ℕ) → neg_ℤ (pos low) ≤ℤ cond negative (neg_ℤ (pos m)) (pos m) → cond negative (neg_ℤ (pos m)) (pos m) ≤ℤ pos high → m ≤ cond negative low high
+    by : (negative : Bool) (m : ℕ) → neg_ℤ (pos low) ≤ℤ cond negative (neg_ℤ (pos m)) (pos m) → cond negative (neg_ℤ (pos m)) (pos m) ≤ℤ pos high
+        → m ≤ cond negative low high
     by true m a b = omega (arith, ints)
     by false m a b = omega (arith, ints)
 
@@ -176,13 +186,15 @@ near_between low high n h = by n.negative n.magnitude h
     by true m h = (omega (arith, ints), omega (arith, ints))
     by false m h = (omega (arith, ints), omega (arith, ints))
 
-pub fits_parts : (field : Field) (n : Number) → fits field n ≡ true → (n.magnitude ≤ cond n.negative (lowest field) (highest field)) × (cond (is_offset field) (eqb (n.magnitude % 2) 0) true ≡ true)
+pub fits_parts : (field : Field) (n : Number) → fits field n ≡ true → (n.magnitude ≤ cond n.negative (lowest field) (highest field)) ×
+    (cond (is_offset field) (eqb (n.magnitude % 2) 0) true ≡ true)
 fits_parts field n e =
     let both = and_both (nat_le n.magnitude (cond n.negative (lowest field) (highest field))) (cond (is_offset field) (eqb (n.magnitude % 2) 0) true) e in
     let near = both.0 in
     (grind (arith, nat_tests), both.1)
 
-parts_fit : (field : Field) (n : Number) → n.magnitude ≤ cond n.negative (lowest field) (highest field) → cond (is_offset field) (eqb (n.magnitude % 2) 0) true ≡ true → fits field n ≡ true
+parts_fit : (field : Field) (n : Number) → n.magnitude ≤ cond n.negative (lowest field) (highest field)
+    → cond (is_offset field) (eqb (n.magnitude % 2) 0) true ≡ true → fits field n ≡ true
 parts_fit field n near even =
     let test : nat_le n.magnitude (cond n.negative (lowest field) (highest field)) ≡ true = grind (arith, nat_tests) in
     rw test even

@@ -1,5 +1,6 @@
 -- The slots of a statement, filled by tokens.
-use Rattle.std.proofs.Common.{◌≡◌, ℕ, ◌⊎◌, inl, inr, true, cond, eqb, List, [], ◌∷◌, ◌++◌, refl, sym, ap, ◌∙◌, subst, arith, Option, Some, None, Result, Ok, Err, ℤ, pos}
+use Rattle.std.proofs.Common.{◌≡◌, ℕ, ◌⊎◌, inl, inr, true, cond, eqb, List, [], ◌∷◌, ◌++◌, refl, sym, ap, ◌∙◌, subst, arith, Option, Some, None, Result, Ok}
+use Rattle.std.proofs.Common.{Err, ℤ, pos}
 use Rattle.std.proofs.lemmas.Bool.{eqb-true}
 use Rattle.ci_reading.specs.Tokens as reading
 use Rattle.ci_asm.specs.declared.scanner.Kind.{Kind}
@@ -48,10 +49,14 @@ no_values = record { rd = 0; rs1 = 0; rs2 = 0; rs3 = 0; number = pos 0; label = 
 -- the tokens fill the slots
 pub data Fills : List Slot → List lex.Token → Values → Values → Type 0 where
   done : {v : Values} → Fills [] [] v v
-  fill_rd : {slots : List Slot} {t : lex.Token} {ts : List lex.Token} {v w : Values} {r : ℕ} → IsRegister t r → Fills slots ts (record v { rd = r }) w → Fills (Rd ∷ slots) (t ∷ ts) v w
-  fill_rs1 : {slots : List Slot} {t : lex.Token} {ts : List lex.Token} {v w : Values} {r : ℕ} → IsRegister t r → Fills slots ts (record v { rs1 = r }) w → Fills (Rs1 ∷ slots) (t ∷ ts) v w
-  fill_rs2 : {slots : List Slot} {t : lex.Token} {ts : List lex.Token} {v w : Values} {r : ℕ} → IsRegister t r → Fills slots ts (record v { rs2 = r }) w → Fills (Rs2 ∷ slots) (t ∷ ts) v w
-  fill_rs3 : {slots : List Slot} {t : lex.Token} {ts : List lex.Token} {v w : Values} {r : ℕ} → IsRegister t r → Fills slots ts (record v { rs3 = r }) w → Fills (Rs3 ∷ slots) (t ∷ ts) v w
+  fill_rd : {slots : List Slot} {t : lex.Token} {ts : List lex.Token} {v w : Values} {r : ℕ} → IsRegister t r → Fills slots ts (record v { rd = r }) w
+      → Fills (Rd ∷ slots) (t ∷ ts) v w
+  fill_rs1 : {slots : List Slot} {t : lex.Token} {ts : List lex.Token} {v w : Values} {r : ℕ} → IsRegister t r → Fills slots ts (record v { rs1 = r }) w
+      → Fills (Rs1 ∷ slots) (t ∷ ts) v w
+  fill_rs2 : {slots : List Slot} {t : lex.Token} {ts : List lex.Token} {v w : Values} {r : ℕ} → IsRegister t r → Fills slots ts (record v { rs2 = r }) w
+      → Fills (Rs2 ∷ slots) (t ∷ ts) v w
+  fill_rs3 : {slots : List Slot} {t : lex.Token} {ts : List lex.Token} {v w : Values} {r : ℕ} → IsRegister t r → Fills slots ts (record v { rs3 = r }) w
+      → Fills (Rs3 ∷ slots) (t ∷ ts) v w
   fill_number : {field : Field} {slots : List Slot} {t : lex.Token} {ts : List lex.Token} {v w : Values} {n : ℤ}
       → HasNumber (field_form field) t n → Fills slots ts (record v { number = n }) w → Fills (Value field ∷ slots) (t ∷ ts) v w
   fill_label : {field : Field} {slots : List Slot} {label : List ℕ} {ts : List lex.Token} {v w : Values}
@@ -93,14 +98,16 @@ value_result t field (decimal_number negative digits) o = number_in field (numbe
 value_result t field (hex_number digits) o = number_in field (number_result (hex_number digits)) o
 value_result t field other o = Err NoOperand
 
-value_kind : (line : List ℕ) (t : Token) (field : Field) (shown : lex.Token) (o : Operands) → IsToken shown → text_of line t ≡ spelling shown → value_in line t field o (kind_of shown) ≡ value_result t field shown o
+value_kind : (line : List ℕ) (t : Token) (field : Field) (shown : lex.Token) (o : Operands) → IsToken shown → text_of line t ≡ spelling shown
+    → value_in line t field o (kind_of shown) ≡ value_result t field shown o
 value_kind line t field (decimal_number negative digits) o proper text =
     ap (λ k. number_in field (number_of k) o) text ∙ ap (λ n. number_in field n o) (number_of-token (decimal_number negative digits) tt proper)
 value_kind line t field (hex_number digits) o proper text =
     ap (λ k. number_in field (number_of k) o) text ∙ ap (λ n. number_in field n o) (number_of-token (hex_number digits) tt proper)
 value_kind line t field other o proper text = refl
 
-value_shown : (line : List ℕ) (t : Token) (field : Field) (shown : lex.Token) (o : Operands) → IsShown line t shown → value_in line t field o t.kind ≡ value_result t field shown o
+value_shown : (line : List ℕ) (t : Token) (field : Field) (shown : lex.Token) (o : Operands) → IsShown line t shown
+    → value_in line t field o t.kind ≡ value_result t field shown o
 value_shown line t field shown o is = ap (value_in line t field o) is.kind ∙ value_kind line t field shown o is.proper is.text
 
 -- ---- one slot
@@ -116,7 +123,8 @@ result_of t Comma shown o = mark_result 44 shown o
 result_of t Open shown o = mark_result 40 shown o
 result_of t Close shown o = mark_result 41 shown o
 
-pub filled_shown : (line : List ℕ) (slot : Slot) (t : Token) (shown : lex.Token) (o : Operands) → IsShown line t shown → filled line slot t o ≡ result_of t slot shown o
+pub filled_shown : (line : List ℕ) (slot : Slot) (t : Token) (shown : lex.Token) (o : Operands) → IsShown line t shown
+    → filled line slot t o ≡ result_of t slot shown o
 unfolding filled
 filled_shown line Rd t shown o is = ap (λ r. r >>= λ r. Ok (record o { rd = r })) (register_shown line t shown is)
 filled_shown line Rs1 t shown o is = ap (λ r. r >>= λ r. Ok (record o { rs1 = r })) (register_shown line t shown is)
@@ -162,28 +170,34 @@ mark_yes due (name bytes) o more e = absurd (cc)
 mark_yes due other o more e = absurd (cc)
 
 -- what the number of a token adds to the operands
-number_in_yes : (field : Field) (shown : lex.Token) (o more : Operands) → number_in field (number_result shown) o ≡ Ok more → (n : Number) × HasNumber (field_form field) shown (signed_value n) × (record o { number = n } ≡ more)
+number_in_yes : (field : Field) (shown : lex.Token) (o more : Operands) → number_in field (number_result shown) o ≡ Ok more
+    → (n : Number) × HasNumber (field_form field) shown (signed_value n) × (record o { number = n } ≡ more)
 number_in_yes field shown o more e = by (number_result shown) refl e
   where
-    by : (r : Option Number) → number_result shown ≡ r → number_in field r o ≡ Ok more → (n : Number) × HasNumber (field_form field) shown (signed_value n) × (record o { number = n } ≡ more)
+    by : (r : Option Number) → number_result shown ≡ r → number_in field r o ≡ Ok more
+        → (n : Number) × HasNumber (field_form field) shown (signed_value n) × (record o { number = n } ≡ more)
     by None at e = absurd (cc)
     by (Some n) at e =
         let c = cond_ok (fits field n) (record o { number = n }) more OutOfField e in
         (n, (number_writes shown n at, fits_in field n c.0), c.1)
 
-pub number_in_no : (field : Field) (shown : lex.Token) (o : Operands) (z : ℤ) → HasNumber (field_form field) shown z → (n : Number) × (number_in field (number_result shown) o ≡ Ok (record o { number = n })) × (signed_value n ≡ z)
+pub number_in_no : (field : Field) (shown : lex.Token) (o : Operands) (z : ℤ) → HasNumber (field_form field) shown z
+    → (n : Number) × (number_in field (number_result shown) o ≡ Ok (record o { number = n })) × (signed_value n ≡ z)
 number_in_no field shown o z has =
     let w = writes_number shown z has.0 in
     let within : fits field w.0 ≡ true = in_fits field w.0 (subst (IsIn (field_form field)) (sym w.2) has.1) in
     (w.0, ap (λ r. number_in field r o) w.1 ∙ ap (λ b. cond b (Ok (record o { number = w.0 })) (Err OutOfField)) within, w.2)
 
-pub value_no : (t : Token) (field : Field) (shown : lex.Token) (o : Operands) → IsNumber shown → value_result t field shown o ≡ number_in field (number_result shown) o
+pub value_no : (t : Token) (field : Field) (shown : lex.Token) (o : Operands) → IsNumber shown
+    → value_result t field shown o ≡ number_in field (number_result shown) o
 value_no t field (decimal_number negative digits) o is = refl
 value_no t field (hex_number digits) o is = refl
 value_no t field other o is = absurd is
 
 -- the token fills the slot
-pub fill_step : (line : List ℕ) (t : Token) (shown : lex.Token) (slot : Slot) (slots : List Slot) (ts : List lex.Token) (o more : Operands) (w : Values) → IsShown line t shown → result_of t slot shown o ≡ Ok more → Fills slots ts (values_of line more) w → Fills (slot ∷ slots) (shown ∷ ts) (values_of line o) w
+pub fill_step : (line : List ℕ) (t : Token) (shown : lex.Token) (slot : Slot) (slots : List Slot) (ts : List lex.Token) (o more : Operands) (w : Values)
+    → IsShown line t shown → result_of t slot shown o ≡ Ok more → Fills slots ts (values_of line more) w
+    → Fills (slot ∷ slots) (shown ∷ ts) (values_of line o) w
 fill_step line t shown Rd slots ts o more w is e rest =
     let b = bind_ok (register_result shown) _ more e in
     fill_rd (register_yes shown b.0 b.1) (subst (λ p. Fills slots ts (values_of line p) w) (sym (same_ok _ more b.2)) rest)
@@ -213,22 +227,27 @@ fill_step line t close_bracket (Value field) slots ts o more w is e rest = absur
 fill_step line t colon (Value field) slots ts o more w is e rest = absurd (cc)
 fill_step line t shown Comma slots ts o more w is e rest =
     let m = mark_yes 44 shown o more e in
-    subst (λ s. Fills (Comma ∷ slots) (s ∷ ts) (values_of line o) w) (sym (m.0.0 refl)) (fill_comma (subst (λ p. Fills slots ts (values_of line p) w) (sym m.1) rest))
+    subst (λ s. Fills (Comma ∷ slots) (s ∷ ts) (values_of line o) w) (sym (m.0.0 refl))
+    (fill_comma (subst (λ p. Fills slots ts (values_of line p) w) (sym m.1) rest))
 fill_step line t shown Open slots ts o more w is e rest =
     let m = mark_yes 40 shown o more e in
-    subst (λ s. Fills (Open ∷ slots) (s ∷ ts) (values_of line o) w) (sym (m.0.1 refl)) (fill_open (subst (λ p. Fills slots ts (values_of line p) w) (sym m.1) rest))
+    subst (λ s. Fills (Open ∷ slots) (s ∷ ts) (values_of line o) w) (sym (m.0.1 refl))
+    (fill_open (subst (λ p. Fills slots ts (values_of line p) w) (sym m.1) rest))
 fill_step line t shown Close slots ts o more w is e rest =
     let m = mark_yes 41 shown o more e in
-    subst (λ s. Fills (Close ∷ slots) (s ∷ ts) (values_of line o) w) (sym (m.0.2 refl)) (fill_close (subst (λ p. Fills slots ts (values_of line p) w) (sym m.1) rest))
+    subst (λ s. Fills (Close ∷ slots) (s ∷ ts) (values_of line o) w) (sym (m.0.2 refl))
+    (fill_close (subst (λ p. Fills slots ts (values_of line p) w) (sym m.1) rest))
 
 -- ---- all slots
 
-pub read_step : (line : List ℕ) (slot : Slot) (slots : List Slot) (from : ℕ) (o more : Operands) → filled line slot (next_token line from) o ≡ Ok more → read_slots line (slot ∷ slots) from o ≡ read_slots line slots (next_token line from).end more
+pub read_step : (line : List ℕ) (slot : Slot) (slots : List Slot) (from : ℕ) (o more : Operands) → filled line slot (next_token line from) o ≡ Ok more
+    → read_slots line (slot ∷ slots) from o ≡ read_slots line slots (next_token line from).end more
 unfolding read_slots
 read_step line slot slots from o more gives =
     ap (λ r. at_place (next_token line from).start r >>= λ o. read_slots line slots (next_token line from).end o) gives
 
-pub read_stuck : (line : List ℕ) (slot : Slot) (slots : List Slot) (from : ℕ) (o : Operands) (rule : Rule) → filled line slot (next_token line from) o ≡ Err rule → read_slots line (slot ∷ slots) from o ≡ Err (fault rule (next_token line from).start)
+pub read_stuck : (line : List ℕ) (slot : Slot) (slots : List Slot) (from : ℕ) (o : Operands) (rule : Rule)
+    → filled line slot (next_token line from) o ≡ Err rule → read_slots line (slot ∷ slots) from o ≡ Err (fault rule (next_token line from).start)
 unfolding read_slots
 read_stuck line slot slots from o rule gives =
     ap (λ r. at_place (next_token line from).start r >>= λ o. read_slots line slots (next_token line from).end o) gives
@@ -264,7 +283,8 @@ filled_bad line Open t o bad = ap (mark_in 40 o) bad
 filled_bad line Close t o bad = ap (mark_in 41 o) bad
 
 -- the token that was read in a slot's place
-pub filled_token : (line : List ℕ) (slot : Slot) (t : Token) (o more : Operands) (symbol : lex.Symbol) → Shows line t symbol → filled line slot t o ≡ Ok more → (shown : lex.Token) × IsShown line t shown × (result_of t slot shown o ≡ Ok more)
+pub filled_token : (line : List ℕ) (slot : Slot) (t : Token) (o more : Operands) (symbol : lex.Symbol) → Shows line t symbol → filled line slot t o ≡ Ok more
+    → (shown : lex.Token) × IsShown line t shown × (result_of t slot shown o ≡ Ok more)
 filled_token line slot t o more (reading.token shown) shows e = (shown, shows, sym (filled_shown line slot t shown o shows) ∙ e)
 filled_token line slot t o more text_end shows e = let none = filled_end line slot t o shows in absurd (cc)
 filled_token line slot t o more stray_byte shows e = let none = filled_bad line slot t o shows in absurd (cc)
@@ -276,15 +296,18 @@ pub record HasRead (line : List ℕ) (slots : List Slot) (t : Token) (v w : Valu
   pub meets : Meets line t tokens text_end column
   pub fills : Fills slots tokens v w
 
-pub read_fills : (line : List ℕ) (slots : List Slot) (from : ℕ) (o more : Operands) → read_slots line slots from o ≡ Ok more → HasRead line slots (next_token line from) (values_of line o) (values_of line more)
+pub read_fills : (line : List ℕ) (slots : List Slot) (from : ℕ) (o more : Operands) → read_slots line slots from o ≡ Ok more
+    → HasRead line slots (next_token line from) (values_of line o) (values_of line more)
 read_fills line [] from o more e =
     let t = next_token line from in
     let ends = ended_ok t.start o more t.kind (sym (read_nil line from o) ∙ e) in
     record { tokens = []; column = t.start; meets = (ends.0, refl); fills = subst (λ p. Fills [] [] (values_of line o) (values_of line p)) ends.1 done }
-read_fills line (slot ∷ slots) from o more e = by (filled line slot (next_token line from) o) refl (λ p read. read_fills line slots (next_token line from).end p more read)
+read_fills line (slot ∷ slots) from o more e = by (filled line slot (next_token line from) o) refl
+    (λ p read. read_fills line slots (next_token line from).end p more read)
   where
     by : (r : Result Operands Rule) → filled line slot (next_token line from) o ≡ r
-        → ((p : Operands) → read_slots line slots (next_token line from).end p ≡ Ok more → HasRead line slots (next_token line (next_token line from).end) (values_of line p) (values_of line more))
+        → ((p : Operands) → read_slots line slots (next_token line from).end p ≡ Ok more
+        → HasRead line slots (next_token line (next_token line from).end) (values_of line p) (values_of line more))
         → HasRead line (slot ∷ slots) (next_token line from) (values_of line o) (values_of line more)
     by (Err rule) at rest = let stuck = read_stuck line slot slots from o rule at in absurd (cc)
     by (Ok p) at rest =
@@ -304,11 +327,19 @@ pub record WillRead (line : List ℕ) (slots : List Slot) (from : ℕ) (o : Oper
   pub reads : read_slots line slots from o ≡ Ok more
   pub values : values_of line more ≡ w
 
-will_step : (line : List ℕ) (slot : Slot) (slots : List Slot) (from : ℕ) (o p : Operands) (w : Values) (shown : lex.Token) → IsShown line (next_token line from) shown → result_of (next_token line from) slot shown o ≡ Ok p → WillRead line slots (next_token line from).end p w → WillRead line (slot ∷ slots) from o w
+will_step : (line : List ℕ) (slot : Slot) (slots : List Slot) (from : ℕ) (o p : Operands) (w : Values) (shown : lex.Token)
+    → IsShown line (next_token line from) shown → result_of (next_token line from) slot shown o ≡ Ok p → WillRead line slots (next_token line from).end p w
+    → WillRead line (slot ∷ slots) from o w
 will_step line slot slots from o p w shown is e rest =
-    record { more = rest.more; reads = read_step line slot slots from o p (filled_shown line slot (next_token line from) shown o is ∙ e) ∙ rest.reads; values = rest.values }
+    record {
+      more = rest.more;
+      reads = read_step line slot slots from o p (filled_shown line slot (next_token line from) shown o is ∙ e) ∙ rest.reads;
+      values =
+          rest.values;
+    }
 
-pub fills_read : {slots : List Slot} {ts : List lex.Token} {v w : Values} → Fills slots ts v w → (line : List ℕ) (from : ℕ) (o : Operands) (column : ℕ) → values_of line o ≡ v → Meets line (next_token line from) ts text_end column → WillRead line slots from o w
+pub fills_read : {slots : List Slot} {ts : List lex.Token} {v w : Values} → Fills slots ts v w → (line : List ℕ) (from : ℕ) (o : Operands) (column : ℕ)
+    → values_of line o ≡ v → Meets line (next_token line from) ts text_end column → WillRead line slots from o w
 fills_read done line from o column same meets =
     record { more = o; reads = read_nil line from o ∙ ap (ended (next_token line from).start o) meets.0; values = same }
 fills_read (fill_rd {slots} {t} {ts} {v} {w} {r} is rest) line from o column same meets =
@@ -325,11 +356,13 @@ fills_read (fill_rs3 {slots} {t} {ts} {v} {w} {r} is rest) line from o column sa
     (fills_read rest line (next_token line from).end (record o { rs3 = r }) column (λ i. record (same i) { rs3 = r }) meets.1)
 fills_read (fill_number {field} {slots} {t} {ts} {v} {w} {n} has rest) line from o column same meets =
     let m = number_in_no field t o n has in
-    will_step line (Value field) slots from o (record o { number = m.0 }) w t meets.0 (value_no (next_token line from) field t o (writes_is_number t n has.0) ∙ m.1)
+    will_step line (Value field) slots from o (record o { number = m.0 }) w t meets.0
+    (value_no (next_token line from) field t o (writes_is_number t n has.0) ∙ m.1)
     (fills_read rest line (next_token line from).end (record o { number = m.0 }) column (λ i. record (same i) { number = m.2 i }) meets.1)
 fills_read (fill_label {field} {slots} {label} {ts} {v} {w} offset rest) line from o column same meets =
     let t = next_token line from in
-    will_step line (Value field) slots from o (record o { label = Some t }) w (name label) meets.0 (ap (λ b. cond b (Ok (record o { label = Some t })) (Err NoOperand)) offset)
+    will_step line (Value field) slots from o (record o { label = Some t }) w (name label) meets.0
+    (ap (λ b. cond b (Ok (record o { label = Some t })) (Err NoOperand)) offset)
     (fills_read rest line t.end (record o { label = Some t }) column (λ i. record (same i) { label = Some (meets.0.text i) }) meets.1)
 fills_read (fill_comma {slots} {ts} {v} {w} rest) line from o column same meets =
     will_step line Comma slots from o o w comma meets.0 refl (fills_read rest line (next_token line from).end o column same meets.1)
@@ -363,7 +396,8 @@ number_keeps : (field : Field) (n : Option Number) (o p : Operands) → o.label 
 number_keeps field None o p none e = absurd (cc)
 number_keeps field (Some n) o p none e = let c = cond_ok (fits field n) (record o { number = n }) p OutOfField e in sym (ap (λ o. o.label) c.1) ∙ none
 
-label_step : (ct : Token) (slot : Slot) (shown : lex.Token) (o p : Operands) → o.label ≡ None → result_of ct slot shown o ≡ Ok p → (p.label ≡ None) ⊎ TakesLabel ct slot shown p
+label_step : (ct : Token) (slot : Slot) (shown : lex.Token) (o p : Operands) → o.label ≡ None → result_of ct slot shown o ≡ Ok p
+    → (p.label ≡ None) ⊎ TakesLabel ct slot shown p
 label_step ct (Value field) (name bytes) o p none e =
     let c = cond_ok (is_offset field) (record o { label = Some ct }) p NoOperand e in
     inr (record { label = sym (ap (λ o. o.label) c.1); is_name = (bytes, refl); offset = c.0 })
@@ -393,17 +427,20 @@ pub record HasTarget (line : List ℕ) (slots : List Slot) (first t : Token) (v 
   pub meets : Meets line first front (reading.token (name (text_of line t))) t.start
   pub fills : Fills slots (front ++ name (text_of line t) ∷ []) v w
 
-pub target_read : (line : List ℕ) (slots : List Slot) (from : ℕ) (o more : Operands) (t : Token) → OffsetLast slots → o.label ≡ None → more.label ≡ Some t → read_slots line slots from o ≡ Ok more
+pub target_read : (line : List ℕ) (slots : List Slot) (from : ℕ) (o more : Operands) (t : Token) → OffsetLast slots → o.label ≡ None → more.label ≡ Some t
+    → read_slots line slots from o ≡ Ok more
     → HasTarget line slots (next_token line from) t (values_of line o) (values_of line more)
 target_read line [] from o more t last none some e =
     let ends = ended_ok (next_token line from).start o more (next_token line from).kind (sym (read_nil line from o) ∙ e) in
     let same : more.label ≡ None = sym (ap (λ o. o.label) ends.1) ∙ none in
     absurd (cc)
 target_read line (slot ∷ slots) from o more t last none some e =
-    by (filled line slot (next_token line from) o) refl (λ p free read. target_read line slots (next_token line from).end p more t (offset_later slot slots last) free some read)
+    by (filled line slot (next_token line from) o) refl
+    (λ p free read. target_read line slots (next_token line from).end p more t (offset_later slot slots last) free some read)
   where
     by : (r : Result Operands Rule) → filled line slot (next_token line from) o ≡ r
-        → ((p : Operands) → p.label ≡ None → read_slots line slots (next_token line from).end p ≡ Ok more → HasTarget line slots (next_token line (next_token line from).end) t (values_of line p) (values_of line more))
+        → ((p : Operands) → p.label ≡ None → read_slots line slots (next_token line from).end p ≡ Ok more
+        → HasTarget line slots (next_token line (next_token line from).end) t (values_of line p) (values_of line more))
         → HasTarget line (slot ∷ slots) (next_token line from) t (values_of line o) (values_of line more)
     by (Err rule) at rest = let stuck = read_stuck line slot slots from o rule at in absurd (cc)
     by (Ok p) at rest =
@@ -417,15 +454,19 @@ target_read line (slot ∷ slots) from o more t last none some e =
         ]
       where
         goes_on : (p : Operands) → (shown : lex.Token) × IsShown line (next_token line from) shown × (result_of (next_token line from) slot shown o ≡ Ok p)
-            → HasTarget line slots (next_token line (next_token line from).end) t (values_of line p) (values_of line more) → HasTarget line (slot ∷ slots) (next_token line from) t (values_of line o) (values_of line more)
+            → HasTarget line slots (next_token line (next_token line from).end) t (values_of line p) (values_of line more)
+            → HasTarget line (slot ∷ slots) (next_token line from) t (values_of line o) (values_of line more)
         goes_on p (shown, is, read) others = record {
           front = shown ∷ others.front;
           meets = (is, others.meets);
-          fills = fill_step line (next_token line from) shown slot slots (others.front ++ name (text_of line t) ∷ []) o p (values_of line more) is read others.fills;
+          fills = fill_step line (next_token line from) shown slot slots (others.front ++ name (text_of line t) ∷ []) o p
+              (values_of line more) is read others.fills;
         }
 
-        is_last : (p : Operands) (shown : lex.Token) → IsShown line (next_token line from) shown → result_of (next_token line from) slot shown o ≡ Ok p → TakesLabel (next_token line from) slot shown p
-            → slots ≡ [] → read_slots line slots (next_token line from).end p ≡ Ok more → HasTarget line (slot ∷ slots) (next_token line from) t (values_of line o) (values_of line more)
+        is_last : (p : Operands) (shown : lex.Token) → IsShown line (next_token line from) shown → result_of (next_token line from) slot shown o ≡ Ok p
+            → TakesLabel (next_token line from) slot shown p
+            → slots ≡ [] → read_slots line slots (next_token line from).end p ≡ Ok more
+            → HasTarget line (slot ∷ slots) (next_token line from) t (values_of line o) (values_of line more)
         is_last p shown is read takes none_left later =
             let u = next_token line from in
             let there : read_slots line [] u.end p ≡ Ok more = ap (λ k. read_slots line k u.end p) (sym none_left) ∙ later in
@@ -434,7 +475,10 @@ target_read line (slot ∷ slots) from o more t last none some e =
             let same : u ≡ t = cc in
             let text : shown ≡ name (text_of line u) = takes.is_name.1 ∙ ap name (sym (subst (λ k. text_of line u ≡ spelling k) takes.is_name.1 is.text)) in
             let shows : IsShown line u (name (text_of line u)) = subst (IsShown line u) text is in
-            let filled_last : Fills (slot ∷ []) (shown ∷ []) (values_of line o) (values_of line more) = fill_step line u shown slot [] [] o p (values_of line more) is read (subst (λ q. Fills [] [] (values_of line p) (values_of line q)) ends.1 done) in
-            let all : Fills (slot ∷ slots) (shown ∷ []) (values_of line o) (values_of line more) = subst (λ k. Fills (slot ∷ k) (shown ∷ []) (values_of line o) (values_of line more)) (sym none_left) filled_last in
+            let filled_last : Fills (slot ∷ []) (shown ∷ []) (values_of line o) (values_of line more) =
+            fill_step line u shown slot [] [] o p (values_of line more) is read
+            (subst (λ q. Fills [] [] (values_of line p) (values_of line q)) ends.1 done) in
+            let all : Fills (slot ∷ slots) (shown ∷ []) (values_of line o) (values_of line more) =
+            subst (λ k. Fills (slot ∷ k) (shown ∷ []) (values_of line o) (values_of line more)) (sym none_left) filled_last in
             subst (λ k. HasTarget line (slot ∷ slots) u k (values_of line o) (values_of line more)) same
             (record { front = []; meets = (shows, refl); fills = subst (λ k. Fills (slot ∷ slots) (k ∷ []) (values_of line o) (values_of line more)) text all })

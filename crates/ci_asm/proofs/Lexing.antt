@@ -1,5 +1,6 @@
 -- The scan of a line finds the longest token that begins at its place.
-use Rattle.std.proofs.Common.{◌≡◌, ℕ, suc, ◌+◌, ◌≤◌, ◌⊎◌, inl, inr, Bool, true, false, cond, ◌&&◌, eqb, List, [], ◌∷◌, ◌++◌, length, take, drop, refl, sym, ap, ◌∙◌, subst, arith, lit≤, Option, Some, None}
+use Rattle.std.proofs.Common.{◌≡◌, ℕ, suc, ◌+◌, ◌≤◌, ◌⊎◌, inl, inr, Bool, true, false, cond, ◌&&◌, eqb, List, [], ◌∷◌, ◌++◌, length, take, drop, refl, sym, ap}
+use Rattle.std.proofs.Common.{◌∙◌, subst, arith, lit≤, Option, Some, None}
 use Rattle.std.specs.Prelude.{if◌then◌else◌, ◌==◌}
 use Rattle.std.specs.List.{prefix_len, AllByRecursion}
 use Rattle.std.proofs.lemmas.Bool.{cond_both, eqb-true}
@@ -10,7 +11,8 @@ use Rattle.ci_reading.specs.Tokens.{BeginsWith}
 use Rattle.ci_reading.specs.Lexers.{Lexer, IsClear, IsLexer}
 use Rattle.ci_asm.specs.declared.scanner.ByteClass.TheVariants.{Blank, NameByte, Digit, HexDigit}
 use Rattle.ci_asm.specs.Tokens.{belongs, byte_at, run, is_letter, is_digit, is_hex_start, is_negative_start, is_directive, hex_behind, scan}
-use Rattle.ci_asm.specs.Lexicon.{IsLetter, IsDigit, IsHexDigit, IsBlank, Token, name, decimal_number, hex_number, word, comma, open_bracket, close_bracket, colon, spelling, StartsWith, IsToken, Spells, line_format}
+use Rattle.ci_asm.specs.Lexicon.{IsLetter, IsDigit, IsHexDigit, IsBlank, Token, name, decimal_number, hex_number, word, comma, open_bracket, close_bracket}
+use Rattle.ci_asm.specs.Lexicon.{colon, spelling, StartsWith, IsToken, Spells, line_format}
 use Rattle.ci_asm.proofs.TestLaws.{and_both, true_is_not_false, pick_true}
 
 -- ---- bytes

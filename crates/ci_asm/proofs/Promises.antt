@@ -48,15 +48,18 @@ no_fault text words kind line column is fault =
     let b = fault_assembled text kind line column fault in
     absurd (cc)
 
-pub one_fault : (text : List ℕ) (kind line column other row place : ℕ) → HasFault text kind line column → HasFault text other row place → (kind ≡ other) × (line ≡ row) × (column ≡ place)
+pub one_fault : (text : List ℕ) (kind line column other row place : ℕ) → HasFault text kind line column → HasFault text other row place
+    → (kind ≡ other) × (line ≡ row) × (column ≡ place)
 one_fault text kind line column other row place first second =
     let a = fault_assembled text kind line column first in
     let b = fault_assembled text other row place second in
-    let same : ◌≡◌ {A = Result (List Insn) Position} (Err (record { kind = kind; line = line; column = column })) (Err (record { kind = other; line = row; column = place })) = sym a ∙ b in
+    let same : ◌≡◌ {A = Result (List Insn) Position} (Err (record { kind = kind; line = line; column = column }))
+    (Err (record { kind = other; line = row; column = place })) = sym a ∙ b in
     let told : ◌≡◌ {A = Position} (record { kind = kind; line = line; column = column }) (record { kind = other; line = row; column = place }) = cc in
     (ap (λ p. p.kind) told, ap (λ p. p.line) told, ap (λ p. p.column) told)
 
-pub only_told : {V : Type 0} (text : List ℕ) (r : Result V AsmFault) (items : V → List ℕ) → IfOk r (λ words. IsAssembly text (items words)) → IfOk r (λ words. IsOnlyAssembly text (items words))
+pub only_told : {V : Type 0} (text : List ℕ) (r : Result V AsmFault) (items : V → List ℕ) → IfOk r (λ words. IsAssembly text (items words))
+    → IfOk r (λ words. IsOnlyAssembly text (items words))
 only_told text (Ok words) items is = record {
   no_others = λ others also. one_assembly text others (items words) also is;
   no_fault = λ kind line column. no_fault text (items words) kind line column is;
@@ -65,7 +68,8 @@ only_told text (Err f) items is = tt
 
 -- ---- what is assembled
 
-pub words_told : {V : Type 0} (text : List ℕ) (r : Result V AsmFault) (items : V → List ℕ) → IfOk r (λ words. AreWordsIn (items words) (assembled text)) → IfOk r (λ words. IsAssembly text (items words))
+pub words_told : {V : Type 0} (text : List ℕ) (r : Result V AsmFault) (items : V → List ℕ) → IfOk r (λ words. AreWordsIn (items words) (assembled text))
+    → IfOk r (λ words. IsAssembly text (items words))
 words_told text (Ok words) items are = assembled_is text (items words) are
 words_told text (Err f) items are = tt
 
@@ -91,7 +95,8 @@ plain_number other n = refl
 last : (front text other : List ℕ) → text ≡ other → front ++ text ≡ front ++ (other ++ [])
 last front text other e = ap (λ t. front ++ t) (e ∙ sym (append-nil other))
 
-three : (mnemonic a b c other : List ℕ) → c ≡ other → statement_line mnemonic (a ∷ b ∷ c ∷ []) ≡ mnemonic ++ (codes " " ++ (a ++ (codes ", " ++ (b ++ (codes ", " ++ (other ++ []))))))
+three : (mnemonic a b c other : List ℕ) → c ≡ other → statement_line mnemonic (a ∷ b ∷ c ∷ []) ≡ mnemonic ++
+    (codes " " ++ (a ++ (codes ", " ++ (b ++ (codes ", " ++ (other ++ []))))))
 three mnemonic a b c other e = ap (λ t. mnemonic ++ (codes " " ++ (a ++ (codes ", " ++ (b ++ (codes ", " ++ t)))))) (last [] c other e)
 
 two : (mnemonic a b other : List ℕ) → b ≡ other → statement_line mnemonic (a ∷ b ∷ []) ≡ mnemonic ++ (codes " " ++ (a ++ (codes ", " ++ (other ++ []))))
@@ -100,29 +105,37 @@ two mnemonic a b other e = ap (λ t. mnemonic ++ (codes " " ++ (a ++ (codes ", "
 one : (mnemonic a other : List ℕ) → a ≡ other → statement_line mnemonic (a ∷ []) ≡ mnemonic ++ (codes " " ++ (other ++ []))
 one mnemonic a other e = ap (λ t. mnemonic ++ (codes " " ++ t)) (last [] a other e)
 
-at_address : (mnemonic a : List ℕ) (offset : ℤ) (r : ℕ) → statement_line mnemonic (a ∷ address offset r ∷ []) ≡ mnemonic ++ (codes " " ++ (a ++ (codes ", " ++ (with_sign (number_from offset) ++ (codes "(" ++ (register_name r ++ codes ")"))))))
-at_address mnemonic a offset r = ap (λ t. mnemonic ++ (codes " " ++ (a ++ (codes ", " ++ (t ++ (codes "(" ++ (register_name r ++ codes ")"))))))) (signed_same offset)
+at_address : (mnemonic a : List ℕ) (offset : ℤ) (r : ℕ) → statement_line mnemonic (a ∷ address offset r ∷ []) ≡ mnemonic ++
+    (codes " " ++ (a ++ (codes ", " ++ (with_sign (number_from offset) ++ (codes "(" ++ (register_name r ++ codes ")"))))))
+at_address mnemonic a offset r = ap (λ t. mnemonic ++ (codes " " ++ (a ++ (codes ", " ++ (t ++ (codes "(" ++ (register_name r ++ codes ")")))))))
+    (signed_same offset)
 
-immediate_same : (o : Option (List ℕ × Field)) (a b c other : List ℕ) → is_some o ≡ true → c ≡ other → immediate_line o (a ∷ b ∷ c ∷ []) ≡ form_name o ++ (codes " " ++ (a ++ (codes ", " ++ (b ++ (codes ", " ++ (other ++ []))))))
+immediate_same : (o : Option (List ℕ × Field)) (a b c other : List ℕ) → is_some o ≡ true → c ≡ other
+    → immediate_line o (a ∷ b ∷ c ∷ []) ≡ form_name o ++ (codes " " ++ (a ++ (codes ", " ++ (b ++ (codes ", " ++ (other ++ []))))))
 immediate_same (Some (mnemonic, field)) a b c other e same = three mnemonic a b c other same
 immediate_same None a b c other e same = absurd (cc)
 
 -- the line of the definitions is the one that the code writes
 same_shown : (i : Insn) → is_statement (statement_of i).mnemonic ≡ true → shown i ≡ spelling.shown i
 same_shown (insn.Alu op rd rs1 rs2) named = three (operation_name op) (register_name rd) (register_name rs1) (register_name rs2) _ refl
-same_shown (insn.AluImm op rd rs1 imm) named = immediate_same (register_immediate op) (register_name rd) (register_name rs1) (signed_decimal imm) _ named (signed_same imm ∙ plain_number op (number_from imm))
+same_shown (insn.AluImm op rd rs1 imm) named = immediate_same (register_immediate op) (register_name rd) (register_name rs1) (signed_decimal imm) _ named
+    (signed_same imm ∙ plain_number op (number_from imm))
 same_shown (insn.Lui rd upper) named = two (codes "lui") (register_name rd) (upper_text upper) _ refl
 same_shown (insn.Auipc rd upper) named = two (codes "auipc") (register_name rd) (upper_text upper) _ refl
 same_shown (insn.Jal rd offset) named = two (codes "jal") (register_name rd) (signed_decimal offset) _ (signed_same offset)
 same_shown (insn.Jalr rd rs1 offset) named = at_address (codes "jalr") (register_name rd) offset rs1
-same_shown (insn.Branch cond rs1 rs2 offset) named = three (branch_name cond) (register_name rs1) (register_name rs2) (signed_decimal offset) _ (signed_same offset)
+same_shown (insn.Branch cond rs1 rs2 offset) named = three (branch_name cond) (register_name rs1) (register_name rs2) (signed_decimal offset) _
+    (signed_same offset)
 same_shown (insn.Load kind rd rs1 offset) named = at_address (load_name kind) (register_name rd) offset rs1
 same_shown (insn.Store width rs1 rs2 offset) named = at_address (store_name width) (register_name rs2) offset rs1
 same_shown (insn.Fence bits rs1 rd) named = three (codes "fence") (decimal bits) (register_name rs1) (register_name rd) _ refl
 same_shown insn.Ecall named = sym (append-nil (codes "ecall"))
 same_shown insn.Ebreak named = sym (append-nil (codes "ebreak"))
 same_shown (insn.Unit number rd rs1 rs2 rs3) named =
-    ap (λ t. codes "ci" ++ (codes " " ++ (decimal number ++ (codes ", " ++ (register_name rd ++ (codes ", " ++ (register_name rs1 ++ (codes ", " ++ (register_name rs2 ++ (codes ", " ++ t)))))))))) (last [] (register_name rs3) (register_name rs3) refl)
+    ap (λ t. codes "ci" ++
+    (codes " " ++ (decimal number ++
+    (codes ", " ++ (register_name rd ++ (codes ", " ++ (register_name rs1 ++ (codes ", " ++ (register_name rs2 ++ (codes ", " ++ t))))))))))
+    (last [] (register_name rs3) (register_name rs3) refl)
 same_shown (insn.Cread rd) named = one (codes "cread") (register_name rd) _ refl
 same_shown (insn.Illegal word) named = one (codes ".word") (codes "0x" ++ eight_hex_digits word) _ refl
 

@@ -8,7 +8,8 @@ use Rattle.ci_asm.specs.declared.scanner.Kind.{Kind}
 use Rattle.ci_asm.specs.declared.scanner.Kind.TheVariants.{Name, Numeral, Directive, Mark, End, Bad}
 use Rattle.ci_asm.specs.declared.scanner.Token.{Token}
 use Rattle.ci_asm.specs.declared.mnemonics.Mnemonic.{Mnemonic}
-use Rattle.ci_asm.specs.declared.mnemonics.Mnemonic.TheVariants.{RegisterRegister, RegisterImmediate, Lui, Auipc, Jal, Jalr, Branch, Load, Store, Fence, Ecall, Ebreak, Custom, Cread, Data}
+use Rattle.ci_asm.specs.declared.mnemonics.Mnemonic.TheVariants.{RegisterRegister, RegisterImmediate, Lui, Auipc, Jal, Jalr, Branch, Load, Store, Fence, Ecall}
+use Rattle.ci_asm.specs.declared.mnemonics.Mnemonic.TheVariants.{Ebreak, Custom, Cread, Data}
 use Rattle.ci_asm.specs.declared.faults.Rule.{Rule}
 use Rattle.ci_asm.specs.declared.faults.Rule.TheVariants.{NoToken, NoMnemonic, Surplus}
 use Rattle.ci_asm.specs.declared.faults.Fault.{Fault}
@@ -34,7 +35,8 @@ use Rattle.ci_asm.proofs.Stated.{says, mnemonic_token, fills_statement, statemen
 
 -- ---- mnemonics
 
-find_by : (b : Bool) (p : Mnemonic → Bool) (x m : Mnemonic) (rest : Option Mnemonic) → p x ≡ b → (rest ≡ Some m → p m ≡ true) → cond b (Some x) rest ≡ Some m → p m ≡ true
+find_by : (b : Bool) (p : Mnemonic → Bool) (x m : Mnemonic) (rest : Option Mnemonic) → p x ≡ b → (rest ≡ Some m → p m ≡ true) → cond b (Some x) rest ≡ Some m
+    → p m ≡ true
 find_by true p x m rest at others e = let same : x ≡ m = cc in ap p (sym same) ∙ at
 find_by false p x m rest at others e = others e
 
@@ -108,7 +110,8 @@ pub record ReachesLast (line : List ℕ) (first t : Token) (statement : Statemen
   pub meets : Meets line first front (reading.token (name (text_of line t))) t.start
   pub is_statement : IsStatement (front ++ name (text_of line t) ∷ []) statement
 
-pub read_is : (line : List ℕ) (from : ℕ) (full : Bool) (s : code.Statement) → read_statement line (next_token line from) full ≡ Ok s → IsReadAs line (next_token line from) (statement_says line s) × (full ≡ false) × HasLabelFor s.mnemonic (values_of line s.operands)
+pub read_is : (line : List ℕ) (from : ℕ) (full : Bool) (s : code.Statement) → read_statement line (next_token line from) full ≡ Ok s
+    → IsReadAs line (next_token line from) (statement_says line s) × (full ≡ false) × HasLabelFor s.mnemonic (values_of line s.operands)
     × ((t : Token) → s.operands.label ≡ Some t → ReachesLast line (next_token line from) t (statement_says line s))
 unfolding read_statement
 read_is line from full s e =
@@ -129,7 +132,8 @@ read_is line from full s e =
           (λ u some. reaches line from m c.0 shown (mnemonic_in-statement line t t.kind m mnemonic) slots u some),
     )
   where
-    reaches : (line : List ℕ) (from : ℕ) (m : Mnemonic) (o : Operands) → IsShown line (next_token line from) (mnemonic_token m) → is_statement m ≡ true → read_slots line (slots_of m) (next_token line from).end no_operands ≡ Ok o
+    reaches : (line : List ℕ) (from : ℕ) (m : Mnemonic) (o : Operands) → IsShown line (next_token line from) (mnemonic_token m) → is_statement m ≡ true
+        → read_slots line (slots_of m) (next_token line from).end no_operands ≡ Ok o
         → (u : Token) → o.label ≡ Some u → ReachesLast line (next_token line from) u (says m (values_of line o))
     reaches line from m o shown named slots u some =
         let h = target_read line (slots_of m) (next_token line from).end no_operands o u (offset_last m) refl some slots in
@@ -139,12 +143,15 @@ read_is line from full s e =
     not_full true f r o e = absurd (cc)
     not_full false f r o e = refl
 
-    token_by : (line : List ℕ) (t : Token) (m : Mnemonic) (symbol : lex.Symbol) → Shows line t symbol → mnemonic_in line t t.kind ≡ Ok m → IsShown line t (mnemonic_token m)
-    token_by line t m (reading.token shown) shows e = subst (IsShown line t) (mnemonic_yes shown m shows.proper (sym (mnemonic_shown line t shown shows) ∙ e)) shows
+    token_by : (line : List ℕ) (t : Token) (m : Mnemonic) (symbol : lex.Symbol) → Shows line t symbol → mnemonic_in line t t.kind ≡ Ok m
+        → IsShown line t (mnemonic_token m)
+    token_by line t m (reading.token shown) shows e = subst (IsShown line t)
+        (mnemonic_yes shown m shows.proper (sym (mnemonic_shown line t shown shows) ∙ e)) shows
     token_by line t m text_end shows e = let none : mnemonic_in line t t.kind ≡ Err NoMnemonic = ap (mnemonic_in line t) shows in absurd (cc)
     token_by line t m stray_byte shows e = let none : mnemonic_in line t t.kind ≡ Err NoToken = ap (mnemonic_in line t) shows in absurd (cc)
 
-    token_read : (line : List ℕ) (from : ℕ) (m : Mnemonic) → mnemonic_in line (next_token line from) (next_token line from).kind ≡ Ok m → IsShown line (next_token line from) (mnemonic_token m)
+    token_read : (line : List ℕ) (from : ℕ) (m : Mnemonic) → mnemonic_in line (next_token line from) (next_token line from).kind ≡ Ok m
+        → IsShown line (next_token line from) (mnemonic_token m)
     token_read line from m e = let s = next_symbol line from in token_by line (next_token line from) m s.0 s.1 e
 
 -- a statement of the line is read
@@ -153,13 +160,16 @@ pub record WillReadAs (line : List ℕ) (t : Token) (statement : Statement) : Ty
   pub reads : read_statement line t false ≡ Ok read
   pub meaning : statement_says line read ≡ statement
 
-read_statement-by : (line : List ℕ) (t : Token) (m : Mnemonic) (o : Operands) → mnemonic_in line t t.kind ≡ Ok m → read_slots line (slots_of m) t.end no_operands ≡ Ok o → read_statement line t false ≡ Ok (record { mnemonic = m; operands = o })
+read_statement-by : (line : List ℕ) (t : Token) (m : Mnemonic) (o : Operands) → mnemonic_in line t t.kind ≡ Ok m
+    → read_slots line (slots_of m) t.end no_operands ≡ Ok o → read_statement line t false ≡ Ok (record { mnemonic = m; operands = o })
 unfolding read_statement
 read_statement-by line t m o named read =
-    ap (λ r. at_place t.start r >>= λ m. (cond false (Err (fault Surplus t.start)) (read_slots line (slots_of m) t.end no_operands)) >>= λ o. Ok (record { mnemonic = m; operands = o })) named
+    ap (λ r. at_place t.start r >>= λ m. (cond false (Err (fault Surplus t.start)) (read_slots line (slots_of m) t.end no_operands)) >>= λ o. Ok
+    (record { mnemonic = m; operands = o })) named
     ∙ ap (λ r. r >>= λ o. Ok (record { mnemonic = m; operands = o })) read
 
-pub is_read : (line : List ℕ) (t : Token) (tokens : List lex.Token) (column : ℕ) (statement : Statement) → Meets line t tokens text_end column → IsStatement tokens statement → WillReadAs line t statement
+pub is_read : (line : List ℕ) (t : Token) (tokens : List lex.Token) (column : ℕ) (statement : Statement) → Meets line t tokens text_end column
+    → IsStatement tokens statement → WillReadAs line t statement
 is_read line t tokens column statement meets is =
     let h = statement_slots is in
     let there = subst (λ ts. Meets line t ts text_end column) h.tokens meets in
@@ -217,8 +227,10 @@ pub record HasBody (line : List ℕ) : Type 0 where
   pub label : Option Token
   pub from : ℕ
   pub has_label : HasLabel line (label_text line label)
-  pub enters : (tokens : List lex.Token) (symbol : lex.Symbol) (column : ℕ) → Stands line (label_tokens (label_text line label) ++ tokens) symbol column → Meets line (next_token line from) tokens symbol column
-  pub leaves : (tokens : List lex.Token) (symbol : lex.Symbol) (column : ℕ) → Meets line (next_token line from) tokens symbol column → Stands line (label_tokens (label_text line label) ++ tokens) symbol column
+  pub enters : (tokens : List lex.Token) (symbol : lex.Symbol) (column : ℕ) → Stands line (label_tokens (label_text line label) ++ tokens) symbol column
+      → Meets line (next_token line from) tokens symbol column
+  pub leaves : (tokens : List lex.Token) (symbol : lex.Symbol) (column : ℕ) → Meets line (next_token line from) tokens symbol column
+      → Stands line (label_tokens (label_text line label) ++ tokens) symbol column
   pub reads : (full : Bool) → read_line line full ≡ with_statement line label (next_token line from) full (next_token line from).kind
   pub label_stands : (t : Token) → label ≡ Some t → Stands line [] (reading.token (name (text_of line t))) t.start
 
@@ -248,8 +260,10 @@ module _ (line : List ℕ) where
         has_label = (second.start, line_stands line (name text ∷ []) (reading.token colon) second.start (one, (two, refl)));
         enters = λ tokens symbol column s. (line_meets line (name text ∷ colon ∷ tokens) symbol column s).1.1;
         leaves = λ tokens symbol column m. line_stands line (name text ∷ colon ∷ tokens) symbol column (one, (two, m));
-        reads = λ full. ap (λ b. cond b (with_statement line (Some first) (next_token line second.end) full (next_token line second.end).kind) (with_statement line None first full first.kind)) e;
-        label_stands = λ t is. let same : first ≡ t = cc in subst (λ u. Stands line [] (reading.token (name (text_of line u))) u.start) same (line_stands line [] (reading.token (name text)) first.start (one, refl));
+        reads = λ full. ap (λ b. cond b (with_statement line (Some first) (next_token line second.end) full (next_token line second.end).kind)
+            (with_statement line None first full first.kind)) e;
+        label_stands = λ t is. let same : first ≡ t = cc in subst (λ u. Stands line [] (reading.token (name (text_of line u))) u.start) same
+            (line_stands line [] (reading.token (name text)) first.start (one, refl));
       }
 
   unlabelled : is_label first.kind second.kind ≡ false → HasBody line
@@ -257,10 +271,12 @@ module _ (line : List ℕ) where
   unlabelled e = record {
     label = None;
     from = 0;
-    has_label = λ label column s. let m = line_meets line (name label ∷ []) (reading.token colon) column s in true_is_not_false ((λ i. is_label (m.0.kind i) (m.1.0.kind i)) ∙ refl) e;
+    has_label = λ label column s. let m = line_meets line (name label ∷ []) (reading.token colon) column s in
+        true_is_not_false ((λ i. is_label (m.0.kind i) (m.1.0.kind i)) ∙ refl) e;
     enters = λ tokens symbol column s. line_meets line tokens symbol column s;
     leaves = λ tokens symbol column m. line_stands line tokens symbol column m;
-    reads = λ full. ap (λ b. cond b (with_statement line (Some first) (next_token line second.end) full (next_token line second.end).kind) (with_statement line None first full first.kind)) e;
+    reads = λ full. ap (λ b. cond b (with_statement line (Some first) (next_token line second.end) full (next_token line second.end).kind)
+        (with_statement line None first full first.kind)) e;
     label_stands = λ t is. absurd (cc);
   }
 
@@ -286,7 +302,8 @@ statement_read line (Some s) = Some (statement_says line s)
 abbrev pub line_says : List ℕ → code_lines.Line → Line
 line_says line l = record { label = label_text line l.label; statement = statement_read line l.statement }
 
-pub with_other : (line : List ℕ) (label : Option Token) (t : Token) (full : Bool) (kind : Kind) → kind ≢ End → with_statement line label t full kind ≡ (read_statement line t full >>= λ s. Ok (record { label = label; statement = Some s }))
+pub with_other : (line : List ℕ) (label : Option Token) (t : Token) (full : Bool) (kind : Kind) → kind ≢ End
+    → with_statement line label t full kind ≡ (read_statement line t full >>= λ s. Ok (record { label = label; statement = Some s }))
 with_other line label t full End other = absurd (other refl)
 with_other line label t full it other = refl
 
@@ -312,23 +329,38 @@ pub record IsReadLine (line : List ℕ) (full : Bool) (l : code_lines.Line) : Ty
   pub room : HasRoom full l.statement
   pub labels : HasLabels line l.statement
   pub label_stands : (t : Token) → l.label ≡ Some t → Stands line [] (reading.token (name (text_of line t))) t.start
-  pub target : (s : code.Statement) (t : Token) → l.statement ≡ Some s → s.operands.label ≡ Some t → ReachesInLine line (label_text line l.label) t (statement_says line s)
+  pub target : (s : code.Statement) (t : Token) → l.statement ≡ Some s → s.operands.label ≡ Some t
+      → ReachesInLine line (label_text line l.label) t (statement_says line s)
 
-line_end_read : (line : List ℕ) (full : Bool) (b : HasBody line) (l : code_lines.Line) → (next_token line b.from).kind ≡ End → record { label = b.label; statement = None } ≡ l → IsReadLine line full l
+line_end_read : (line : List ℕ) (full : Bool) (b : HasBody line) (l : code_lines.Line) → (next_token line b.from).kind ≡ End
+    → record { label = b.label; statement = None } ≡ l → IsReadLine line full l
 line_end_read line full b l end e = subst (IsReadLine line full) e (record {
-  is_line = record { tokens = []; end = (next_token line b.from).start; ends = record { has_label = b.has_label; stands = b.leaves [] text_end (next_token line b.from).start (end, refl) }; has_statement = refl };
+  is_line = record {
+    tokens = [];
+    end = (next_token line b.from).start;
+    ends =
+        record { has_label = b.has_label; stands = b.leaves [] text_end (next_token line b.from).start (end, refl) };
+    has_statement = refl;
+  };
   room = tt;
   labels = tt;
   label_stands = b.label_stands;
   target = λ s t none some. absurd (cc);
 })
 
-statement_line_read : (line : List ℕ) (full : Bool) (b : HasBody line) (l : code_lines.Line) → (read_statement line (next_token line b.from) full >>= λ s. Ok (record { label = b.label; statement = Some s })) ≡ Ok l → IsReadLine line full l
+statement_line_read : (line : List ℕ) (full : Bool) (b : HasBody line) (l : code_lines.Line)
+    → (read_statement line (next_token line b.from) full >>= λ s. Ok (record { label = b.label; statement = Some s })) ≡ Ok l → IsReadLine line full l
 statement_line_read line full b l e =
     let s = bind_ok (read_statement line (next_token line b.from) full) _ l e in
     let r = read_is line b.from full s.0 s.1 in
     subst (IsReadLine line full) (same_ok _ l s.2) (record {
-      is_line = record { tokens = r.0.tokens; end = r.0.column; ends = record { has_label = b.has_label; stands = b.leaves r.0.tokens text_end r.0.column r.0.meets }; has_statement = r.0.is_statement };
+      is_line = record {
+        tokens = r.0.tokens;
+        end = r.0.column;
+        ends = record
+            { has_label = b.has_label; stands = b.leaves r.0.tokens text_end r.0.column r.0.meets };
+        has_statement = r.0.is_statement;
+      };
       room = r.1;
       labels = r.2;
       label_stands = b.label_stands;
@@ -336,7 +368,13 @@ statement_line_read line full b l e =
           let is : s.0 ≡ u = cc in
           let last = r.3 t (ap (λ k. k.operands.label) is ∙ some) in
           subst (λ k. ReachesInLine line (label_text line b.label) t (statement_says line k)) is
-          (record { front = last.front; stands = record { has_label = b.has_label; stands = b.leaves last.front (reading.token (name (text_of line t))) t.start last.meets }; is_statement = last.is_statement });
+          (record {
+            front = last.front;
+            stands =
+                record { has_label = b.has_label; stands = b.leaves last.front (reading.token (name (text_of line t))) t.start last.meets };
+            is_statement =
+                last.is_statement;
+          });
     })
 
 pub line_read : (line : List ℕ) (full : Bool) (l : code_lines.Line) → read_line line full ≡ Ok l → IsReadLine line full l
@@ -346,7 +384,8 @@ line_read line full l e =
     let e' : with_statement line b.label t full t.kind ≡ Ok l = sym (b.reads full) ∙ e in
     by b t.kind refl e'
   where
-    by : (b : HasBody line) (kind : Kind) → (next_token line b.from).kind ≡ kind → with_statement line b.label (next_token line b.from) full kind ≡ Ok l → IsReadLine line full l
+    by : (b : HasBody line) (kind : Kind) → (next_token line b.from).kind ≡ kind → with_statement line b.label (next_token line b.from) full kind ≡ Ok l
+        → IsReadLine line full l
     by b End at e = line_end_read line full b l at (same_ok _ l e)
     by b other at e = statement_line_read line full b l e
 
@@ -370,7 +409,8 @@ line_is line full is l room =
     let meets = b.enters l.tokens text_end l.end (subst (λ label. Stands line (label_tokens label ++ l.tokens) text_end l.end) same l.ends.stands) in
     by b is.statement same meets l.has_statement room
   where
-    by : (b : HasBody line) (statement : Option Statement) → is.label ≡ label_text line b.label → Meets line (next_token line b.from) l.tokens text_end l.end → HasStatement l.tokens statement → IsRoomFor full statement
+    by : (b : HasBody line) (statement : Option Statement) → is.label ≡ label_text line b.label → Meets line (next_token line b.from) l.tokens text_end l.end
+        → HasStatement l.tokens statement → IsRoomFor full statement
         → WillReadLine line full (record { label = is.label; statement = statement })
     by b None same meets has room =
         let there = subst (λ ts. Meets line (next_token line b.from) ts text_end l.end) has meets in

@@ -1,5 +1,6 @@
 -- The line that shows an instruction assembles to that instruction.
-use Rattle.std.proofs.Common.{◌≡◌, ℕ, ◌+◌, ◌^◌, ◌<◌, true, false, not, ◌&&◌, eqb, List, [], ◌∷◌, ◌++◌, length, refl, sym, ap, ◌∙◌, subst, arith, lit<, lit≤, Some, None, ℤ, pos, negsuc}
+use Rattle.std.proofs.Common.{◌≡◌, ℕ, ◌+◌, ◌^◌, ◌<◌, true, false, not, ◌&&◌, eqb, List, [], ◌∷◌, ◌++◌, length, refl, sym, ap, ◌∙◌, subst, arith, lit<, lit≤}
+use Rattle.std.proofs.Common.{Some, None, ℤ, pos, negsuc}
 use Rattle.std.specs.Prelude.{is_some, unsigned_abs}
 use Rattle.std.specs.List.{AllByRecursion, list_all}
 use Rattle.std.proofs.lemmas.Int.{ints}
@@ -87,7 +88,8 @@ written_line i w =
 -- ---- the text
 
 -- a program of one statement that is an instruction
-one_resolved : (i : Insn) (program before : List Line) (line : Line) (after : List Line) → line_of i ∷ [] ≡ before ++ line ∷ after → IsResolved program before line
+one_resolved : (i : Insn) (program before : List Line) (line : Line) (after : List Line) → line_of i ∷ [] ≡ before ++ line ∷ after
+    → IsResolved program before line
 one_resolved i program [] line after split =
     let same : line_of i ≡ line = cc in
     subst (IsResolved program []) same (record { is_new = tt; has_insn = λ statement e. (i, by statement (cc)) })

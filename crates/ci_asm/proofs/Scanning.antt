@@ -1,5 +1,6 @@
 -- What the scanner meets in a line are the line's symbols.
-use Rattle.std.proofs.Common.{◌≡◌, ◌≢◌, ℕ, zero, suc, ◌+◌, ◌-◌, ◌≤◌, true, false, List, [], ◌∷◌, length, take, drop, refl, sym, ap, ◌∙◌, subst, arith, nat_le, eqb, Option, Some, None}
+use Rattle.std.proofs.Common.{◌≡◌, ◌≢◌, ℕ, zero, suc, ◌+◌, ◌-◌, ◌≤◌, true, false, List, [], ◌∷◌, length, take, drop, refl, sym, ap, ◌∙◌, subst, arith, nat_le}
+use Rattle.std.proofs.Common.{eqb, Option, Some, None}
 use Rattle.std.specs.List.{prefix_len}
 use Rattle.std.proofs.lemmas.Bool.Decides.{nat_tests}
 use Rattle.std.proofs.lemmas.List.{drop_all, drop-drop, length-drop, length-take-le}
@@ -125,7 +126,8 @@ module _ (line : List ℕ) where
           let same : token_at (length line) n (c ∷ text) ≡ shown = rw (inside, e) refl in
           subst (MeetsAll line (token_at (length line) n (c ∷ text)))
           (sym (found_first line_format line_lexer is_lexer n c text t more blank inside e))
-          (subst (λ u. MeetsAll line u (reading.at n (reading.token t) ∷ symbols_behind line_lexer 0 (n + length (c ∷ take more text)) (drop more text))) (sym same) (
+          (subst (λ u. MeetsAll line u (reading.at n (reading.token t) ∷ symbols_behind line_lexer 0 (n + length (c ∷ take more text)) (drop more text)))
+          (sym same) (
             record { kind = refl; text = text_is; proper = f.1.begins.spells.is_token },
             refl,
             subst (λ k. MeetsAll line (next_token line (n + 1 + more)) (symbols_behind line_lexer 0 k (drop more text))) end rest,
@@ -152,15 +154,21 @@ module _ (line : List ℕ) where
       (same, meets_stand symbols (next_token line t.end) tokens symbol column rest n.1)
 
   -- what stands in a line, the scanner meets
-  pub line_meets : (tokens : List lex.Token) (symbol : lex.Symbol) (column : ℕ) → Stands line tokens symbol column → Meets line (next_token line 0) tokens symbol column
+  pub line_meets : (tokens : List lex.Token) (symbol : lex.Symbol) (column : ℕ) → Stands line tokens symbol column
+      → Meets line (next_token line 0) tokens symbol column
   line_meets tokens symbol column s =
       let listed = subst (λ l. reading.Stands l tokens symbol column) (only_symbols line_format line_lexer is_lexer s.1) s.2 in
       all_meets (symbols_of line_lexer line) (next_token line 0) tokens symbol column line_meets_all listed
 
   -- and what it meets stands there
-  pub line_stands : (tokens : List lex.Token) (symbol : lex.Symbol) (column : ℕ) → Meets line (next_token line 0) tokens symbol column → Stands line tokens symbol column
-  line_stands tokens symbol column m =
-      (symbols_of line_lexer line, are_symbols line_format line_lexer is_lexer line, meets_stand (symbols_of line_lexer line) (next_token line 0) tokens symbol column line_meets_all m)
+  pub line_stands : (tokens : List lex.Token) (symbol : lex.Symbol) (column : ℕ) → Meets line (next_token line 0) tokens symbol column
+      → Stands line tokens symbol column
+  line_stands tokens symbol column m = (
+    symbols_of line_lexer line,
+    are_symbols line_format line_lexer is_lexer line,
+    meets_stand (symbols_of line_lexer line)
+        (next_token line 0) tokens symbol column line_meets_all m,
+  )
 
   first_shown : (t : Token) (symbols : List (Placed lex.Token)) → MeetsAll line t symbols → (symbol : lex.Symbol) × Shows line t symbol
   first_shown t [] m = absurd m

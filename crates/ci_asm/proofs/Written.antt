@@ -1,5 +1,6 @@
 -- The line that shows an instruction is written token by token, and its tokens are a statement that says the instruction.
-use Rattle.std.proofs.Common.{◌≡◌, ◌≢◌, ℕ, suc, ◌*◌, ◌/◌, ◌%◌, ◌^◌, ◌<◌, ◌≤◌, inl, inr, Bool, true, false, List, [], ◌∷◌, ◌++◌, refl, sym, ap, subst, arith, lit≤, append-nil, Some, ℤ, pos, negsuc, neg_ℤ, ◌≤ℤ◌, ◌<ℤ◌}
+use Rattle.std.proofs.Common.{◌≡◌, ◌≢◌, ℕ, suc, ◌*◌, ◌/◌, ◌%◌, ◌^◌, ◌<◌, ◌≤◌, inl, inr, Bool, true, false, List, [], ◌∷◌, ◌++◌, refl, sym, ap, subst, arith}
+use Rattle.std.proofs.Common.{lit≤, append-nil, Some, ℤ, pos, negsuc, neg_ℤ, ◌≤ℤ◌, ◌<ℤ◌}
 use Rattle.std.specs.Prelude.{codes, unsigned_abs}
 use Rattle.std.specs.List.{AllByRecursion, list_all}
 use Rattle.std.specs.Fmt.{decimal, signed_decimal, digits}
@@ -15,8 +16,11 @@ use Rattle.ci_isa.specs.FieldBounds.{IsOfWidth, IsEven, ConstantFits, FieldsFit}
 use Rattle.ci_asm.specs.declared.scanner.ByteClass.TheVariants.{NameByte}
 use Rattle.ci_asm.specs.declared.mnemonics.Mnemonic.TheVariants.{RegisterRegister, Branch, Load, Store}
 use Rattle.ci_asm.specs.Tokens.{belongs, is_letter, scan}
-use Rattle.ci_asm.specs.Lexicon.{IsDigit, IsHexDigit, Token, name, decimal_number, hex_number, word, comma, open_bracket, close_bracket, colon, spelling, StartsWith, IsToken, Spells, line_format}
-use Rattle.ci_asm.specs.Forms.{Field, immediate, shift_amount, upper_bits, branch_offset, jump_offset, IsIn, operation_name, register_immediate, branch_name, load_name, store_name, Writes, HasNumber, plain, IsStatement, on_registers, on_immediate, lui, auipc, jump, jump_register, branch, load, store, fence, ecall, ebreak, custom, cread, data_word}
+use Rattle.ci_asm.specs.Lexicon.{IsDigit, IsHexDigit, Token, name, decimal_number, hex_number, word, comma, open_bracket, close_bracket, colon, spelling}
+use Rattle.ci_asm.specs.Lexicon.{StartsWith, IsToken, Spells, line_format}
+use Rattle.ci_asm.specs.Forms.{Field, immediate, shift_amount, upper_bits, branch_offset, jump_offset, IsIn, operation_name, register_immediate, branch_name}
+use Rattle.ci_asm.specs.Forms.{load_name, store_name, Writes, HasNumber, plain, IsStatement, on_registers, on_immediate, lui, auipc, jump, jump_register}
+use Rattle.ci_asm.specs.Forms.{branch, load, store, fence, ecall, ebreak, custom, cread, data_word}
 use Rattle.ci_asm.specs.Shown.{register_name, upper_text, immediate_line, shown}
 use Rattle.ci_asm.proofs.TestLaws.{and_both}
 use Rattle.ci_asm.proofs.Lexing.{IsNameByte, letter_yes, name_yes, begun, format_clear}
@@ -217,7 +221,8 @@ pub record HasForm (op : Op) (imm : ℤ) : Type 0 where
   spelt : Spells mnemonic (name mnemonic)
   fits : IsNumberFor field imm
 
-signed_form : (op : Op) (mnemonic : List ℕ) (imm : ℤ) → register_immediate op ≡ Some (mnemonic, immediate) → is_word mnemonic ≡ true → IsOfWidth 12 imm → HasForm op imm
+signed_form : (op : Op) (mnemonic : List ℕ) (imm : ℤ) → register_immediate op ≡ Some (mnemonic, immediate) → is_word mnemonic ≡ true → IsOfWidth 12 imm
+    → HasForm op imm
 signed_form op mnemonic imm e is fits = record { mnemonic = mnemonic; field = immediate; form = e; spelt = word_spelt mnemonic is; fits = twelve imm fits }
 
 shift_form : (op : Op) (mnemonic : List ℕ) (imm : ℤ) → register_immediate op ≡ Some (mnemonic, shift_amount) → is_word mnemonic ≡ true

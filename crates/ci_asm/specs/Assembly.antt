@@ -1,5 +1,6 @@
 -- The words of a text, and its first fault.
-use Rattle.std.specs.Prelude.{◌≡◌, ◌≢◌, ℕ, ◌+◌, ◌*◌, ◌≤◌, ◌<◌, ◌⊎◌, List, [], ◌∷◌, ◌++◌, length, codes, Option, Some, None, ℤ, pos, ◌-ℤ◌}
+use Rattle.std.specs.Prelude.{◌≡◌, ◌≢◌, ℕ, ◌+◌, ◌*◌, ◌≤◌, ◌<◌, ◌⊎◌, List, [], ◌∷◌, ◌++◌, length, codes, Option, Some}
+use Rattle.std.specs.Prelude.{None, ℤ, pos, ◌-ℤ◌}
 use Rattle.ci_isa.specs.declared.instruction.Insn.{Insn}
 use Rattle.ci_isa.specs.Table.{IsWordOf}
 use Rattle.ci_asm.specs.declared.faults.AsmFault.{AsmFault}

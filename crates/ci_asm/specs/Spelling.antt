@@ -9,7 +9,9 @@ use Rattle.ci_isa.specs.declared.instruction.Insn.{Insn}
 use Rattle.ci_isa.specs.declared.instruction.Insn.TheVariants as insn
 use Rattle.ci_asm.specs.declared.numbers.Number.{Number}
 use Rattle.ci_asm.specs.declared.mnemonics.Mnemonic.{Mnemonic}
-use Rattle.ci_asm.specs.declared.mnemonics.Mnemonic.TheVariants.{RegisterRegister, RegisterImmediate, Lui, Auipc, Jal, Jalr, Branch, Load, Store, Fence, Ecall, Ebreak, Custom, Cread, Data}
+use Rattle.ci_asm.specs.declared.mnemonics.Mnemonic.TheVariants.{RegisterRegister, RegisterImmediate, Lui, Auipc, Jal}
+use Rattle.ci_asm.specs.declared.mnemonics.Mnemonic.TheVariants.{Jalr, Branch, Load, Store, Fence, Ecall, Ebreak}
+use Rattle.ci_asm.specs.declared.mnemonics.Mnemonic.TheVariants.{Custom, Cread, Data}
 use Rattle.ci_asm.specs.declared.slots.Field.{Field}
 use Rattle.ci_asm.specs.declared.slots.Field.TheVariants.{Upper, Whole}
 use Rattle.ci_asm.specs.declared.slots.Slot.{Slot}
@@ -32,19 +34,27 @@ abbrev pub statement : Mnemonic → Operands → Statement
 statement m o = record { mnemonic = m; operands = o }
 
 abbrev pub statement_of : Insn → Statement
-statement_of (insn.Alu op rd rs1 rs2) = statement (RegisterRegister op) (record no_operands { rd = rd; rs1 = rs1; rs2 = rs2 })
-statement_of (insn.AluImm op rd rs1 imm) = statement (RegisterImmediate op) (record no_operands { rd = rd; rs1 = rs1; number = number_from imm })
+statement_of (insn.Alu op rd rs1 rs2) = statement (RegisterRegister op)
+    (record no_operands { rd = rd; rs1 = rs1; rs2 = rs2 })
+statement_of (insn.AluImm op rd rs1 imm) = statement (RegisterImmediate op)
+    (record no_operands { rd = rd; rs1 = rs1; number = number_from imm })
 statement_of (insn.Lui rd upper) = statement Lui (record no_operands { rd = rd; number = unsigned (upper / 4096) })
 statement_of (insn.Auipc rd upper) = statement Auipc (record no_operands { rd = rd; number = unsigned (upper / 4096) })
 statement_of (insn.Jal rd offset) = statement Jal (record no_operands { rd = rd; number = number_from offset })
-statement_of (insn.Jalr rd rs1 offset) = statement Jalr (record no_operands { rd = rd; rs1 = rs1; number = number_from offset })
-statement_of (insn.Branch cond rs1 rs2 offset) = statement (Branch cond) (record no_operands { rs1 = rs1; rs2 = rs2; number = number_from offset })
-statement_of (insn.Load kind rd rs1 offset) = statement (Load kind) (record no_operands { rd = rd; rs1 = rs1; number = number_from offset })
-statement_of (insn.Store width rs1 rs2 offset) = statement (Store width) (record no_operands { rs1 = rs1; rs2 = rs2; number = number_from offset })
-statement_of (insn.Fence bits rs1 rd) = statement Fence (record no_operands { rd = rd; rs1 = rs1; number = unsigned bits })
+statement_of (insn.Jalr rd rs1 offset) = statement Jalr
+    (record no_operands { rd = rd; rs1 = rs1; number = number_from offset })
+statement_of (insn.Branch cond rs1 rs2 offset) = statement (Branch cond)
+    (record no_operands { rs1 = rs1; rs2 = rs2; number = number_from offset })
+statement_of (insn.Load kind rd rs1 offset) = statement (Load kind)
+    (record no_operands { rd = rd; rs1 = rs1; number = number_from offset })
+statement_of (insn.Store width rs1 rs2 offset) = statement (Store width)
+    (record no_operands { rs1 = rs1; rs2 = rs2; number = number_from offset })
+statement_of (insn.Fence bits rs1 rd) = statement Fence
+    (record no_operands { rd = rd; rs1 = rs1; number = unsigned bits })
 statement_of insn.Ecall = statement Ecall no_operands
 statement_of insn.Ebreak = statement Ebreak no_operands
-statement_of (insn.Unit number rd rs1 rs2 rs3) = statement Custom (record no_operands { rd = rd; rs1 = rs1; rs2 = rs2; rs3 = rs3; number = unsigned number })
+statement_of (insn.Unit number rd rs1 rs2 rs3) = statement Custom
+    (record no_operands { rd = rd; rs1 = rs1; rs2 = rs2; rs3 = rs3; number = unsigned number })
 statement_of (insn.Cread rd) = statement Cread (record no_operands { rd = rd })
 statement_of (insn.Illegal word) = statement Data (record no_operands { number = unsigned word })
 
@@ -53,7 +63,8 @@ statement_of (insn.Illegal word) = statement Data (record no_operands { number =
 abbrev pub with_sign : Number → List ℕ
 with_sign n = if n.negative then codes "-" ++ decimal n.magnitude else decimal n.magnitude
 
--- a number in the field's spelling: hex for the upper bits of a word and for a whole word, which has all its digits; else decimal
+-- a number in the field's spelling: hex for the upper bits of a word and for a whole word, which has all its digits;
+-- else decimal
 abbrev pub spelled_number : Field → Number → List ℕ
 spelled_number Upper n = codes "0x" ++ digits 16 false n.magnitude
 spelled_number Whole n = codes "0x" ++ eight_hex_digits n.magnitude

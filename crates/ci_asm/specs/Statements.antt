@@ -1,6 +1,7 @@
 -- For private contracts: what the reader of a line computes. The public definitions of lines are in Assembly.
 -- The statement of a line, or the first fault in it.
-use Rattle.std.specs.Prelude.{◌≡◌, ◌<◌, ◌≤◌, IfSome, ℕ, ◌*◌, ◌==◌, Bool, true, false, if◌then◌else◌, List, [], ◌∷◌, Option, Some, None, Result, Ok, Err, ℤ, pos, neg_ℤ}
+use Rattle.std.specs.Prelude.{◌≡◌, ◌<◌, ◌≤◌, IfSome, ℕ, ◌*◌, ◌==◌, Bool, true, false, if◌then◌else◌, List, [], ◌∷◌}
+use Rattle.std.specs.Prelude.{Option, Some, None, Result, Ok, Err, ℤ, pos, neg_ℤ}
 use Rattle.ci_isa.specs.declared.instruction.Insn.{Insn}
 use Rattle.ci_isa.specs.declared.instruction.Insn.TheVariants as insn
 use Rattle.ci_asm.specs.declared.scanner.Kind.{Kind}
@@ -8,7 +9,9 @@ use Rattle.ci_asm.specs.declared.scanner.Kind.TheVariants.{Name, Numeral, Direct
 use Rattle.ci_asm.specs.declared.scanner.Token.{Token}
 use Rattle.ci_asm.specs.declared.numbers.Number.{Number}
 use Rattle.ci_asm.specs.declared.mnemonics.Mnemonic.{Mnemonic}
-use Rattle.ci_asm.specs.declared.mnemonics.Mnemonic.TheVariants.{RegisterRegister, RegisterImmediate, Lui, Auipc, Jal, Jalr, Branch, Load, Store, Fence, Ecall, Ebreak, Custom, Cread, Data}
+use Rattle.ci_asm.specs.declared.mnemonics.Mnemonic.TheVariants.{RegisterRegister, RegisterImmediate, Lui, Auipc, Jal}
+use Rattle.ci_asm.specs.declared.mnemonics.Mnemonic.TheVariants.{Jalr, Branch, Load, Store, Fence, Ecall, Ebreak}
+use Rattle.ci_asm.specs.declared.mnemonics.Mnemonic.TheVariants.{Custom, Cread, Data}
 use Rattle.ci_asm.specs.declared.slots.Field.{Field}
 use Rattle.ci_asm.specs.declared.slots.Slot.{Slot}
 use Rattle.ci_asm.specs.declared.slots.Slot.TheVariants.{Rd, Rs1, Rs2, Rs3, Value, Comma, Open, Close}
@@ -99,7 +102,8 @@ ended place o kind = Err (fault Surplus place)
 unfoldable pub read_slots : List ℕ → List Slot → ℕ → Operands → Result Operands Fault
 read_slots line [] from o = ended (next_token line from).start o (next_token line from).kind
 read_slots line (slot ∷ slots) from o =
-    at_place (next_token line from).start (filled line slot (next_token line from) o) >>= λ o'. read_slots line slots (next_token line from).end o'
+    at_place (next_token line from).start (filled line slot (next_token line from) o) >>= λ o'. read_slots line slots
+    (next_token line from).end o'
 
 -- a mnemonic
 abbrev pub mnemonic_in : List ℕ → Token → Kind → Result Mnemonic Rule
@@ -124,7 +128,8 @@ is_label first second = false
 
 abbrev pub with_statement : List ℕ → Option Token → Token → Bool → Kind → Result Line Fault
 with_statement line label t full End = Ok (record { label = label; statement = None })
-with_statement line label t full kind = read_statement line t full >>= λ s. Ok (record { label = label; statement = Some s })
+with_statement line label t full kind = read_statement line t full >>= λ s. Ok
+    (record { label = label; statement = Some s })
 
 -- a label, a statement and a comment, each of which may be missing
 unfoldable pub read_line : List ℕ → Bool → Result Line Fault
@@ -142,7 +147,8 @@ pub record HasRegisters (o : Operands) : Type 0 where
   pub rs2 : o.rs2 < 32
   pub rs3 : o.rs3 < 32
 
--- what holds of each statement that was read in a line of n bytes: its number lies in its field, and its label in the line
+-- what holds of each statement that was read in a line of n bytes: its number lies in its field, and its label in the
+-- line
 pub record IsRead (n : ℕ) (s : Statement) : Type 0 where
   pub named : is_statement s.mnemonic ≡ true
   pub in_field : fits (field_of s.mnemonic) s.operands.number ≡ true

@@ -1,6 +1,8 @@
 -- For private contracts: what the scanner computes. The public definitions of tokens are in Lexicon.
--- The tokens of a line. A place in a line is the number of bytes before it, and a token is the longest one that begins at its place.
-use Rattle.std.specs.Prelude.{ℕ, ◌+◌, ◌-◌, ◌*◌, ◌==◌, Bool, true, false, ◌&&◌, not, ◌||◌, List, [], ◌∷◌, length, take, drop, Option, Some, None, nat_le, nat_lt, if◌then◌else◌, slice_index, slice_range}
+-- The tokens of a line. A place in a line is the number of bytes before it, and a token is the longest one that begins
+-- at its place.
+use Rattle.std.specs.Prelude.{ℕ, ◌+◌, ◌-◌, ◌*◌, ◌==◌, Bool, true, false, ◌&&◌, not, ◌||◌, List, [], ◌∷◌, length, take}
+use Rattle.std.specs.Prelude.{drop, Option, Some, None, nat_le, nat_lt, if◌then◌else◌, slice_index, slice_range}
 use Rattle.std.specs.List.{prefix_len}
 use Rattle.std.specs.Str.Parse.{digits_value}
 use Rattle.ci_asm.specs.declared.scanner.ByteClass.{ByteClass}
@@ -103,7 +105,8 @@ abbrev pub token_by : ℕ → Option (lex.Token × ℕ) → Token
 token_by i None = token Bad i (i + 1)
 token_by i (Some (t, size)) = token (kind_of t) i (i + 1 + size)
 
--- The token that begins a text which stands at place i of a line with this end. The end of the line stands behind its last byte,
+-- The token that begins a text which stands at place i of a line with this end. The end of the line stands behind its
+-- last byte,
 -- blanks and comment included.
 unfoldable pub token_at : ℕ → ℕ → List ℕ → Token
 token_at end i [] = token End end end
@@ -121,7 +124,8 @@ text_of line t = slice_range line t.start t.end
 -- at most ten digits write a number
 abbrev pub number : Bool → ℕ → List ℕ → Option Number
 number negative base digits =
-    if nat_lt 10 (length digits) then None else Some (record { negative = negative; magnitude = digits_value base digits })
+    if nat_lt 10 (length digits) then None else Some
+    (record { negative = negative; magnitude = digits_value base digits })
 
 -- the number that a numeral writes, if it has at most ten digits
 unfoldable pub number_of : List ℕ → Option Number
@@ -142,7 +146,8 @@ has_one_digit text = byte_at text 0 == 120 && length text == 2 && is_digit (byte
 
 -- `x` and two digits, of which the first isn't 0
 abbrev pub has_two_digits : List ℕ → Bool
-has_two_digits text = byte_at text 0 == 120 && length text == 3 && is_between 49 57 (byte_at text 1) && is_digit (byte_at text 2)
+has_two_digits text = byte_at text 0 == 120 && length text == 3 && is_between 49 57 (byte_at text 1) && is_digit
+    (byte_at text 2)
 
 -- the register that a name names: `x` and a number below 32 without a leading zero
 unfoldable pub register_of : List ℕ → Option ℕ

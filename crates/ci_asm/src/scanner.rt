@@ -1,6 +1,8 @@
 //! The tokens of a line.
 ghost use Rattle.std.specs.Prelude.{◌≡◌, ◌≤◌, length, drop, IfSome};
-ghost use Rattle.ci_asm.specs.Tokens.{is_between, is_letter, is_digit, belongs, byte_at, run_end, run, is_hex_start, is_negative_start, is_directive, kind_and_size, mark_of, scan, token_at, next_token, text_of};
+ghost use Rattle.ci_asm.specs.Tokens.{is_between, is_letter, is_digit, belongs, byte_at, run_end, run, is_hex_start};
+ghost use Rattle.ci_asm.specs.Tokens.{is_negative_start, is_directive, kind_and_size, mark_of, scan, token_at};
+ghost use Rattle.ci_asm.specs.Tokens.{next_token, text_of};
 
 /// A class of bytes.
 #[derive(Clone, Copy, Debug, PartialEq, Eq)]

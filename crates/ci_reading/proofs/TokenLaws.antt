@@ -1,9 +1,11 @@
 -- A text has one list of symbols, which its lexer gives, and a text that is written token by token has these tokens.
-use Rattle.std.proofs.Common.{◌≡◌, ℕ, zero, suc, ◌+◌, ◌≤◌, ◌⊎◌, inl, inr, Bool, true, false, List, [], ◌∷◌, ◌++◌, length, take, drop, refl, sym, ap, ◌∙◌, subst, arith, Option, Some, None}
+use Rattle.std.proofs.Common.{◌≡◌, ℕ, zero, suc, ◌+◌, ◌≤◌, ◌⊎◌, inl, inr, Bool, true, false, List, [], ◌∷◌, ◌++◌, length, take, drop, refl, sym, ap, ◌∙◌, subst}
+use Rattle.std.proofs.Common.{arith, Option, Some, None}
 use Rattle.std.specs.List.{AllByRecursion}
 use Rattle.std.proofs.Math.Seq.{take-append_seam, drop-append_seam}
 use Rattle.std.proofs.lemmas.List.{length-take-le, length-drop, length-append}
-use Rattle.ci_reading.specs.Tokens.{TokenFormat, token, stray_byte, text_end, Placed, at, BeginsWith, BeginsWithLongest, AreSymbols, behind_blank, behind_token, at_end, at_comment, at_stray_byte, Stands, IsApart, IsWritten, nothing, blank_before, token_before}
+use Rattle.ci_reading.specs.Tokens.{TokenFormat, token, stray_byte, text_end, Placed, at, BeginsWith, BeginsWithLongest, AreSymbols, behind_blank, behind_token}
+use Rattle.ci_reading.specs.Tokens.{at_end, at_comment, at_stray_byte, Stands, IsApart, IsWritten, nothing, blank_before, token_before}
 use Rattle.ci_reading.specs.Lexers.{Lexer, symbols_by, symbols_behind, symbols_of, IsLexer}
 use Rattle.ci_reading.proofs.BrokenLaws.{kept_append}
 

@@ -1,5 +1,6 @@
 -- For the formats of texts that consist of tokens: the function that gives the symbols of a text.
-use Rattle.std.specs.Prelude.{◌≡◌, ℕ, zero, suc, ◌+◌, ◌≤◌, Bool, true, if◌then◌else◌, List, [], ◌∷◌, length, take, drop, Option, Some, None}
+use Rattle.std.specs.Prelude.{◌≡◌, ℕ, zero, suc, ◌+◌, ◌≤◌, Bool, true, if◌then◌else◌, List, [], ◌∷◌, length, take, drop}
+use Rattle.std.specs.Prelude.{Option, Some, None}
 use Rattle.ci_reading.specs.Tokens.{TokenFormat, token, stray_byte, text_end, Placed, at, BeginsWith, BeginsWithLongest}
 
 -- the tests of a format, and its scan: the longest token that begins with a byte and stands before a text, and how many
