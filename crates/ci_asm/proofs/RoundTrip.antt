@@ -1,18 +1,14 @@
 -- The line that shows an instruction assembles to that instruction.
-use Rattle.std.proofs.Common.{◌≡◌, ℕ, ◌+◌, ◌^◌, ◌<◌, true, false, not, ◌&&◌, eqb, List, [], ◌∷◌, ◌++◌, length, refl, sym, ap, ◌∙◌, subst, arith, lit<, lit≤}
-use Rattle.std.proofs.Common.{Some, None, ℤ, pos, negsuc}
-use Rattle.std.specs.Prelude.{is_some, unsigned_abs}
+use Rattle.std.proofs.Common.{◌≡◌, ℕ, ◌+◌, true, false, not, ◌&&◌, eqb, List, [], ◌∷◌, ◌++◌, length, refl, sym, ap, ◌∙◌, subst, arith, lit≤}
+use Rattle.std.proofs.Common.{Some, None}
 use Rattle.std.specs.List.{AllByRecursion, list_all}
-use Rattle.std.proofs.lemmas.Int.{ints}
 use Rattle.std.proofs.lemmas.Bool.Decides.{nat_tests}
 use Rattle.std.proofs.lemmas.Bool.{eqb-true}
 use Rattle.ci_reading.specs.Tokens as reading
 use Rattle.ci_reading.specs.Tokens.{text_end, Placed}
 use Rattle.ci_reading.proofs.TokenLaws.{one_list, written_tokens, written_all}
 use Rattle.ci_isa.specs.declared.instruction.Insn.{Insn}
-use Rattle.ci_isa.specs.declared.instruction.Insn.TheVariants as insn
-use Rattle.ci_isa.specs.Table.{ConstantForm, SignedImmediate, ShiftAmount, NoForm, constant_form, IsWellFormed, IsWordOf}
-use Rattle.ci_isa.specs.FieldBounds.{ConstantFits, FieldsFit}
+use Rattle.ci_isa.specs.Table.{IsWellFormed, IsWordOf}
 use Rattle.ci_isa.proofs.WellFormed.{fields_fit}
 use Rattle.ci_asm.specs.declared.scanner.ByteClass.TheVariants.{InLine}
 use Rattle.ci_asm.specs.Tokens.{belongs, scan}
@@ -20,13 +16,11 @@ use Rattle.ci_asm.specs.Lexicon.{IsBlank, Token, name, colon, Spells, line_forma
 use Rattle.ci_asm.specs.Forms.{Statement, plain}
 use Rattle.ci_asm.specs.Lines.{lines_of}
 use Rattle.ci_asm.specs.Assembly.{Line, IsLine, AreLines, IsResolved, IsInsnOf, IsAssembly, IsLineOf}
-use Rattle.ci_asm.specs.Shapes.{is_statement}
 use Rattle.ci_asm.specs.Shown.{shown}
-use Rattle.ci_asm.specs.Spelling.{number_from, statement_of}
 use Rattle.ci_asm.proofs.TestLaws.{by_test}
 use Rattle.ci_asm.proofs.Texts.{lines_of-one}
 use Rattle.ci_asm.proofs.Lexing.{IsNameByte, Finds, begun, is_lexer, line_lexer}
-use Rattle.ci_asm.proofs.Written.{all_weaker, near, spelt_tail, form_of, IsNoColon, IsWrittenAs, written_as}
+use Rattle.ci_asm.proofs.Written.{all_weaker, spelt_tail, IsNoColon, IsWrittenAs, written_as}
 
 -- ---- no newline
 
@@ -113,41 +107,3 @@ assembles i w written is =
 pub shown_assembles : (i : Insn) (text : List ℕ) → IsWellFormed i → text ≡ shown i → IsLineOf text i
 shown_assembles i text formed e = λ w is.
     subst (λ t. IsAssembly (t ++ 10 ∷ []) (w ∷ [])) (sym e) (assembles i w (written_as i (fields_fit i formed)) is)
-
--- ---- the statement that the code shows
-
-named_by : (i : Insn) → FieldsFit i → is_statement (statement_of i).mnemonic ≡ true
-named_by (insn.AluImm op rd rs1 imm) f = ap is_some (form_of op imm f.2).form
-named_by other f = refl
-
--- it has a mnemonic
-pub formed_named : (i : Insn) → IsWellFormed i → is_statement (statement_of i).mnemonic ≡ true
-formed_named i formed = named_by i (fields_fit i formed)
-
-magnitude_of : (z : ℤ) → unsigned_abs z < 2 ^ 32 → (number_from z).magnitude < 2 ^ 32
-magnitude_of (pos n) h = h
-magnitude_of (negsuc n) h = h
-
-constant_small : (form : ConstantForm) (imm : ℤ) → ConstantFits form imm → unsigned_abs imm < 2 ^ 32
-constant_small SignedImmediate imm fits = near 2048 imm (lit≤ tt) fits.0 fits.1
-constant_small ShiftAmount (pos n) fits = omega (arith, ints, fits.1)
-constant_small ShiftAmount (negsuc n) fits = absurd (omega (arith, ints, fits.0))
-constant_small NoForm imm fits = absurd fits
-
-small_by : (i : Insn) → FieldsFit i → (statement_of i).operands.number.magnitude < 2 ^ 32
-small_by (insn.AluImm op rd rs1 imm) f = magnitude_of imm (constant_small (constant_form op) imm f.2)
-small_by (insn.Lui rd upper) f = omega (arith, f.1)
-small_by (insn.Auipc rd upper) f = omega (arith, f.1)
-small_by (insn.Jal rd offset) f = magnitude_of offset (near 1048576 offset (lit≤ tt) f.1.0 f.1.1)
-small_by (insn.Jalr rd rs1 offset) f = magnitude_of offset (near 2048 offset (lit≤ tt) f.2.0 f.2.1)
-small_by (insn.Branch cond rs1 rs2 offset) f = magnitude_of offset (near 4096 offset (lit≤ tt) f.2.0 f.2.1)
-small_by (insn.Load kind rd rs1 offset) f = magnitude_of offset (near 2048 offset (lit≤ tt) f.2.0 f.2.1)
-small_by (insn.Store width rs1 rs2 offset) f = magnitude_of offset (near 2048 offset (lit≤ tt) f.2.0 f.2.1)
-small_by (insn.Fence bits rs1 rd) f = omega (arith, f.0)
-small_by (insn.Unit n rd rs1 rs2 rs3) f = omega (arith, f.0)
-small_by (insn.Illegal w) f = f
-small_by other f = lit< tt
-
--- and its number is that of a word at most
-pub formed_small : (i : Insn) → IsWellFormed i → (statement_of i).operands.number.magnitude < 2 ^ 32
-formed_small i formed = small_by i (fields_fit i formed)

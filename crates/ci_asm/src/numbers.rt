@@ -2,7 +2,6 @@
 ghost use Rattle.std.specs.Prelude.{◌≡◌, ◌^◌, ◌<◌, ◌≤◌};
 ghost use Rattle.ci_asm.specs.Tokens.{number, number_of};
 ghost use Rattle.ci_asm.specs.Statements.{signed_value};
-ghost use Rattle.ci_asm.specs.Spelling.{number_from};
 
 use crate::scanner::{behind, byte_at};
 use ci_reading::digit_value;
@@ -44,16 +43,6 @@ fn capped(negative: bool, base: u64, digits: &[u8]) -> Option<Number>
         negative,
         magnitude,
     })
-}
-
-/// The number of a signed value.
-pub(crate) fn number_from(value: i32) -> Number
-    ensures { result ≡ number_from value }
-{
-    Number {
-        negative: value < 0,
-        magnitude: u64::from(value.unsigned_abs()),
-    }
 }
 
 /// The signed value of a number.
