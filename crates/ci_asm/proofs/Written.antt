@@ -7,6 +7,7 @@ use Rattle.std.specs.Fmt.{decimal, signed_decimal, digits}
 use Rattle.std.proofs.lemmas.Int.{ints}
 use Rattle.ci_reading.specs.Hex.{eight_hex_digits}
 use Rattle.ci_reading.specs.Tokens.{IsApart, IsWritten, nothing, blank_before, token_before}
+use Rattle.ci_reading.proofs.TokenLaws.{AllTail, apart_from}
 use Rattle.ci_word.specs.declared.arithmetic.Op.{Op}
 use Rattle.ci_word.specs.declared.arithmetic.Op.TheVariants as ops
 use Rattle.ci_isa.specs.declared.instruction.Insn.{Insn}
@@ -33,10 +34,6 @@ pub all_weaker : (P Q : ℕ → Type 0) → ((c : ℕ) → P c → Q c) → (byt
 all_weaker P Q weaker [] all = tt
 all_weaker P Q weaker (c ∷ bytes) all = (weaker c all.0, all_weaker P Q weaker bytes all.1)
 
-all_behind : (P : ℕ → Type 0) (front : List ℕ) (c : ℕ) (rest : List ℕ) → AllByRecursion P (front ++ c ∷ rest) → P c
-all_behind P [] c rest all = all.0
-all_behind P (d ∷ front) c rest all = all_behind P front c rest all.1
-
 hex_name : (c : ℕ) → IsHexDigit c → IsNameByte c
 hex_name c (inl digit) = inr digit
 hex_name c (inr (inl small)) = inl (inl (omega (arith, small.0), omega (arith, small.1)))
@@ -44,12 +41,8 @@ hex_name c (inr (inr large)) = inl (inr (inl (omega (arith, large.0), omega (ari
 
 -- ---- tokens that are apart
 
-abbrev pub AllTail : List ℕ → Type 0
-AllTail [] = Unit {0}
-AllTail (c ∷ bytes) = AllByRecursion IsNameByte bytes
-
 -- behind its first byte a token has letters and digits alone
-spelling_tail : (t : Token) → IsToken t → AllTail (spelling t)
+spelling_tail : (t : Token) → IsToken t → AllTail IsNameByte (spelling t)
 spelling_tail (name []) proper = tt
 spelling_tail (name (c ∷ bytes)) proper = proper.1
 spelling_tail (decimal_number true []) proper = tt
@@ -62,13 +55,12 @@ spelling_tail word proper =
     (inl (inl (lit≤ tt, lit≤ tt)), (inl (inl (lit≤ tt, lit≤ tt)), (inl (inl (lit≤ tt, lit≤ tt)), (inl (inl (lit≤ tt, lit≤ tt)), tt))))
 spelling_tail other proper = tt
 
-pub spelt_tail : (bytes : List ℕ) (t : Token) → Spells bytes t → AllTail bytes
-spelt_tail bytes t s = subst AllTail (sym s.is_spelling) (spelling_tail t s.is_token)
+pub spelt_tail : (bytes : List ℕ) (t : Token) → Spells bytes t → AllTail IsNameByte bytes
+spelt_tail bytes t s = subst (AllTail IsNameByte) (sym s.is_spelling) (spelling_tail t s.is_token)
 
 -- a token and a byte other than a letter or a digit don't join
-apart_from : (bytes : List ℕ) (t : Token) (c : ℕ) (rest : List ℕ) → Spells bytes t → ¬ IsNameByte c → IsApart line_format bytes (c ∷ rest)
-apart_from [] t c rest s other = absurd (format_clear.not_empty t s)
-apart_from (d ∷ bytes) t c rest s other = λ more u joined. other (all_behind IsNameByte bytes c more (spelt_tail (d ∷ bytes ++ c ∷ more) u joined))
+apart : (bytes : List ℕ) (t : Token) (c : ℕ) (rest : List ℕ) → Spells bytes t → ¬ IsNameByte c → IsApart line_format bytes (c ∷ rest)
+apart = apart_from line_format IsNameByte spelt_tail format_clear.not_empty
 
 no_blank_byte : ¬ IsNameByte 32
 no_blank_byte = λ h. absurd (grind arith)
@@ -98,7 +90,7 @@ last : (bytes : List ℕ) (t : Token) → Spells bytes t → Line bytes (t ∷ [
 last bytes t s = subst (λ text. Line text (t ∷ [])) (append-nil bytes) (token_before s tt nothing)
 
 spaced : (bytes rest : List ℕ) (t : Token) (tokens : List Token) → Spells bytes t → Line rest tokens → Line (bytes ++ 32 ∷ rest) (t ∷ tokens)
-spaced bytes rest t tokens s more = token_before s (apart_from bytes t 32 rest s no_blank_byte) (blank_before (inl refl) more)
+spaced bytes rest t tokens s more = token_before s (apart bytes t 32 rest s no_blank_byte) (blank_before (inl refl) more)
 
 comma_spelt : Spells (44 ∷ []) comma
 comma_spelt = record { is_token = tt; is_spelling = refl }
@@ -106,14 +98,14 @@ comma_spelt = record { is_token = tt; is_spelling = refl }
 listed : (bytes rest : List ℕ) (t : Token) (tokens : List Token) → Spells bytes t → Line rest tokens
     → Line (bytes ++ 44 ∷ 32 ∷ rest) (t ∷ comma ∷ tokens)
 listed bytes rest t tokens s more =
-    token_before s (apart_from bytes t 44 (32 ∷ rest) s no_comma_byte) (spaced (44 ∷ []) rest comma tokens comma_spelt more)
+    token_before s (apart bytes t 44 (32 ∷ rest) s no_comma_byte) (spaced (44 ∷ []) rest comma tokens comma_spelt more)
 
 in_brackets : (bytes inner : List ℕ) (t u : Token) → Spells bytes t → Spells inner u
     → Line (bytes ++ 40 ∷ (inner ++ 41 ∷ [])) (t ∷ open_bracket ∷ u ∷ close_bracket ∷ [])
 in_brackets bytes inner t u s v =
-    token_before s (apart_from bytes t 40 (inner ++ 41 ∷ []) s no_open_byte)
+    token_before s (apart bytes t 40 (inner ++ 41 ∷ []) s no_open_byte)
     (token_before (record { is_token = tt; is_spelling = refl }) (open_apart (inner ++ 41 ∷ []))
-    (token_before v (apart_from inner u 41 [] v no_close_byte) (last (41 ∷ []) close_bracket (record { is_token = tt; is_spelling = refl }))))
+    (token_before v (apart inner u 41 [] v no_close_byte) (last (41 ∷ []) close_bracket (record { is_token = tt; is_spelling = refl }))))
 
 -- ---- words and registers
 

@@ -149,7 +149,24 @@ front_cases (x ∷ xs) ys (u ∷ us) vs e =
       | inr longer ↦ inr (longer.0, longer.1, (λ i. sym head i ∷ longer.2 i), longer.3)
     ]
 
+-- each byte behind the first has the property
+abbrev pub AllTail : (ℕ → Type 0) → List ℕ → Type 0
+AllTail P [] = Unit {0}
+AllTail P (c ∷ bytes) = AllByRecursion P bytes
+
+all_behind : (P : ℕ → Type 0) (front : List ℕ) (c : ℕ) (rest : List ℕ) → AllByRecursion P (front ++ c ∷ rest) → P c
+all_behind P [] c rest all = all.0
+all_behind P (d ∷ front) c rest all = all_behind P front c rest all.1
+
 module _ {T : Type 0} (format : TokenFormat T) where
+  -- where a byte stands behind the first byte of no token, it joins with none
+  pub apart_from : (P : ℕ → Type 0) → ((bytes : List ℕ) (t : T) → format.Spells bytes t → AllTail P bytes)
+      → ((t : T) → ¬ format.Spells [] t) → (bytes : List ℕ) (t : T) (c : ℕ) (rest : List ℕ) → format.Spells bytes t → ¬ P c
+      → IsApart format bytes (c ∷ rest)
+  apart_from P tails some [] t c rest s without = absurd (some t s)
+  apart_from P tails some (d ∷ bytes) t c rest s without = λ more u joined.
+      without (all_behind P bytes c more (tails (d ∷ bytes ++ c ∷ more) u joined))
+
   -- tokens that are apart are the longest
   pub apart_longest : (t : T) (bytes rest : List ℕ) → format.Spells bytes t → IsApart format bytes rest
       → BeginsWithLongest format (bytes ++ rest) t bytes rest
