@@ -280,6 +280,14 @@ upper_written mnemonic rd upper is a h =
 upper_has : (upper : ℕ) → upper < 2 ^ 32 → HasNumber upper_bits (hex_number (digits 16 false (upper / 4096))) (pos (upper / 4096))
 upper_has upper h = (hex_writes (upper / 4096) _ (hex_digits (upper / 4096) (upper_near upper h)), unsigned_within (upper / 4096) 0xfffff (omega arith))
 
+access_written : (mnemonic : List ℕ) (first base : ℕ) (offset : ℤ) → is_word mnemonic ≡ true → first < 32 → base < 32
+    → Spells (signed_decimal offset) (number offset)
+    → Line (mnemonic ++ 32 ∷ (register_name first ++ 44 ∷ 32 ∷ (signed_decimal offset ++ 40 ∷ (register_name base ++ 41 ∷ []))))
+    (name mnemonic ∷ register first ∷ comma ∷ number offset ∷ open_bracket ∷ register base ∷ close_bracket ∷ [])
+access_written mnemonic first base offset is a b n =
+    spaced mnemonic _ (name mnemonic) _ (word_spelt mnemonic is)
+    (listed _ _ _ _ (register_spelt first a) (in_brackets _ _ _ _ n (register_spelt base b)))
+
 pub written_as : (i : Insn) → FieldsFit i → IsWrittenAs i
 written_as (insn.Alu op rd rs1 rs2) f = record {
   first = name (operation_name op);
@@ -320,8 +328,7 @@ written_as (insn.Jalr rd rs1 offset) f =
     record {
       first = name (codes "jalr");
       others = register rd ∷ comma ∷ number offset ∷ open_bracket ∷ register rs1 ∷ close_bracket ∷ [];
-      written = spaced (codes "jalr") _ _ _ (word_spelt _ refl)
-          (listed _ _ _ _ (register_spelt rd f.0) (in_brackets _ _ _ _ n.spelt (register_spelt rs1 f.1)));
+      written = access_written (codes "jalr") rd rs1 offset refl f.0 f.1 n.spelt;
       states = jump_register (refl, f.0) n.has (refl, f.1);
       no_colon = name_no_colon _;
     }
@@ -340,8 +347,7 @@ written_as (insn.Load kind rd rs1 offset) f =
     record {
       first = name (load_name kind);
       others = register rd ∷ comma ∷ number offset ∷ open_bracket ∷ register rs1 ∷ close_bracket ∷ [];
-      written = spaced (load_name kind) _ _ _ (word_spelt _ (known_mnemonic (Load kind) refl).1)
-          (listed _ _ _ _ (register_spelt rd f.0) (in_brackets _ _ _ _ n.spelt (register_spelt rs1 f.1)));
+      written = access_written (load_name kind) rd rs1 offset (known_mnemonic (Load kind) refl).1 f.0 f.1 n.spelt;
       states = load (refl, f.0) n.has (refl, f.1);
       no_colon = name_no_colon _;
     }
@@ -350,8 +356,7 @@ written_as (insn.Store width rs1 rs2 offset) f =
     record {
       first = name (store_name width);
       others = register rs2 ∷ comma ∷ number offset ∷ open_bracket ∷ register rs1 ∷ close_bracket ∷ [];
-      written = spaced (store_name width) _ _ _ (word_spelt _ (known_mnemonic (Store width) refl).1)
-          (listed _ _ _ _ (register_spelt rs2 f.1) (in_brackets _ _ _ _ n.spelt (register_spelt rs1 f.0)));
+      written = access_written (store_name width) rs2 rs1 offset (known_mnemonic (Store width) refl).1 f.1 f.0 n.spelt;
       states = store (refl, f.1) n.has (refl, f.0);
       no_colon = name_no_colon _;
     }
