@@ -27,18 +27,18 @@ use Rattle.ci_asm.specs.Forms.{Field, Statement, plain, to_label, IsIn, IsStatem
 use Rattle.ci_asm.specs.Assembly as asm
 use Rattle.ci_asm.specs.Assembly.{Line, label_tokens, StandsInLine, HasStatement, IsLine, AreLines, IsProgram, statements_of, Defines, IsOffset, IsNew}
 use Rattle.ci_asm.specs.Assembly.{IsResolved, AreResolved, IsGoodFront, IsFaultOfLine, IsFaultOfLabel, twice, undefined, too_far, HasFault, of_line, of_label}
-use Rattle.ci_asm.proofs.Filling.{values_of, label_text}
-use Rattle.ci_asm.proofs.Stated.{HasLabelFor, plain_says}
-use Rattle.ci_asm.proofs.Scanning.{Meets, same_symbol, line_meets}
+use Rattle.ci_asm.proofs.FilledSlots.{values_of, label_text}
+use Rattle.ci_asm.proofs.ReadStatements.{HasLabelFor, plain_says}
+use Rattle.ci_asm.proofs.SymbolsMet.{Meets, same_symbol, line_meets}
 use Rattle.ci_asm.proofs.TestLaws.{by_test}
-use Rattle.ci_asm.proofs.Fields.{field_form, fits_in}
-use Rattle.ci_asm.proofs.Assembly.{all_read-ok, all_read-err, insns_of-ok, insns_of-err, behind, assembled-read, assembled-unread}
+use Rattle.ci_asm.proofs.ReadOperands.{field_form, fits_in}
+use Rattle.ci_asm.proofs.AssemblySteps.{all_read-ok, all_read-err, insns_of-ok, insns_of-err, behind, assembled-read, assembled-unread}
 use Rattle.ci_asm.proofs.ReadLines.{statement_says, statement_read, line_says, HasRoom, HasLabels, line_read, body_of, same_label, ReachesInLine}
 use Rattle.ci_asm.proofs.ReadPrograms.{AreRead, program_of, words_with, program_read, read-all_read, IsDefinition, AreDefinitions, text_definitions}
 use Rattle.ci_asm.proofs.ReadPrograms.{definitions_known, defined_in, same_length, same_label_place, offset_signed, once_no, line_insn-read, line_no}
 use Rattle.ci_asm.proofs.ReadPrograms.{IsInsnOfLine, option_size, IsAt, next_at, start_at, AllResolved, resolved_first, resolved_rest}
-use Rattle.ci_asm.proofs.Faulty.{line_fault, statement_extends, one_kind}
-use Rattle.ci_asm.proofs.FaultyPrograms.{reaches_label}
+use Rattle.ci_asm.proofs.LineFaults.{line_fault, statement_extends, one_kind}
+use Rattle.ci_asm.proofs.ProgramFaults.{reaches_label}
 
 -- ---- what stands in a line
 

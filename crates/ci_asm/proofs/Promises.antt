@@ -9,7 +9,7 @@ use Rattle.ci_asm.specs.Assembly.{IsAssembly, IsOnlyAssembly, HasFault, IsFaultO
 use Rattle.ci_asm.proofs.ReadPrograms.{assembled_is, is_assembled}
 use Rattle.ci_asm.proofs.OneMeaning.{fault_assembled}
 use Rattle.ci_asm.proofs.OneWord.{one_word}
-use Rattle.ci_asm.proofs.FaultyPrograms.{fault_is}
+use Rattle.ci_asm.proofs.ProgramFaults.{fault_is}
 
 -- ---- one meaning
 

@@ -24,14 +24,14 @@ use Rattle.ci_reading.specs.Tokens.{text_end, stray_byte}
 use Rattle.ci_asm.specs.Lexicon.{IsLetter, name, decimal_number, hex_number, word, comma, open_bracket, close_bracket, colon, spelling, IsToken, Stands}
 use Rattle.ci_asm.specs.Forms.{Statement, IsStatement}
 use Rattle.ci_asm.specs.Assembly.{Line, HasLabel, label_tokens, StandsInLine, HasStatement, IsLine}
-use Rattle.ci_asm.proofs.Operands.{bind_ok, same_ok, at_place_ok, found_ok, unless_full, mnemonic_in-statement}
+use Rattle.ci_asm.proofs.SoundStatements.{bind_ok, same_ok, at_place_ok, found_ok, unless_full, mnemonic_in-statement}
 use Rattle.ci_asm.proofs.KnownMnemonics.{known_mnemonic}
 use Rattle.ci_asm.specs.Tokens.{kind_of}
 use Rattle.ci_asm.proofs.TestLaws.{true_is_not_false}
-use Rattle.ci_asm.proofs.Scanning.{IsShown, Shows, Meets, next_symbol, same_symbol, line_meets, line_stands, kind_no_end}
+use Rattle.ci_asm.proofs.SymbolsMet.{IsShown, Shows, Meets, next_symbol, same_symbol, line_meets, line_stands, kind_no_end}
 use Rattle.ci_asm.proofs.TestLaws.{by_test}
-use Rattle.ci_asm.proofs.Filling.{values_of, label_text, read_fills, fills_read, target_read}
-use Rattle.ci_asm.proofs.Stated.{says, mnemonic_token, fills_statement, statement_slots, HasLabelFor, label_for, offset_last}
+use Rattle.ci_asm.proofs.FilledSlots.{values_of, label_text, read_fills, fills_read, target_read}
+use Rattle.ci_asm.proofs.ReadStatements.{says, mnemonic_token, fills_statement, statement_slots, HasLabelFor, label_for, offset_last}
 
 -- ---- mnemonics
 

@@ -29,11 +29,11 @@ use Rattle.ci_asm.specs.Forms.{Statement, IsIn}
 use Rattle.ci_asm.specs.Assembly as asm
 use Rattle.ci_asm.specs.Assembly.{Line, IsLine, AreLines, IsProgram, with_statement_of, statements_of, Defines, IsLabelOf, IsOffset, IsInsnOf, AreWords, IsNew}
 use Rattle.ci_asm.specs.Assembly.{IsResolved, AreResolved, IsAssembly, most_words}
-use Rattle.ci_asm.proofs.Operands.{bind_ok, same_ok, cond_ok}
-use Rattle.ci_asm.proofs.Assembly.{all_read-nil, all_read-ok, definition_of-nil, definition_of-cons, insns_of-nil, insns_of-ok, assembled-read}
-use Rattle.ci_asm.proofs.Filling.{values_of, label_text}
-use Rattle.ci_asm.proofs.Fields.{field_form, fits_in, in_fits}
-use Rattle.ci_asm.proofs.Stated.{HasLabelFor, plain_says, TakesLabel, jal, branches, takes_label}
+use Rattle.ci_asm.proofs.SoundStatements.{bind_ok, same_ok, cond_ok}
+use Rattle.ci_asm.proofs.AssemblySteps.{all_read-nil, all_read-ok, definition_of-nil, definition_of-cons, insns_of-nil, insns_of-ok, assembled-read}
+use Rattle.ci_asm.proofs.FilledSlots.{values_of, label_text}
+use Rattle.ci_asm.proofs.ReadOperands.{field_form, fits_in, in_fits}
+use Rattle.ci_asm.proofs.ReadStatements.{HasLabelFor, plain_says, TakesLabel, jal, branches, takes_label}
 use Rattle.ci_asm.specs.declared.mnemonics.Mnemonic.{Mnemonic}
 use Rattle.ci_asm.specs.declared.mnemonics.Mnemonic.TheVariants.{Jal, Branch}
 use Rattle.ci_asm.proofs.TestLaws.{by_test}

@@ -3,9 +3,9 @@ use Rattle.std.proofs.lemmas.Result.{err_from_is_err_and}
 use Rattle.ci_asm.specs.LabelMap.{found_in, earlier}
 use Rattle.ci_asm.specs.Programs.{line_at, words_behind, all_read, definition_on, definition_of}
 use Rattle.ci_asm.specs.Lines.{lines_of}
-use Rattle.ci_asm.proofs.Texts.{lines_of-drop, lines_of-end, line_within}
-use Rattle.ci_asm.proofs.Assembly.{all_read-nil, all_read-ok, all_read-err, words_behind-ok, words_in-small, definition_of-nil, definition_of-cons}
-use Rattle.ci_asm.proofs.Assembly.{earlier-assoc, earlier-none, fault_carried}
+use Rattle.ci_asm.proofs.LinesOfTexts.{lines_of-drop, lines_of-end, line_within}
+use Rattle.ci_asm.proofs.AssemblySteps.{all_read-nil, all_read-ok, all_read-err, words_behind-ok, words_in-small, definition_of-nil, definition_of-cons}
+use Rattle.ci_asm.proofs.AssemblySteps.{earlier-assoc, earlier-none, fault_carried}
 use Rattle.ci_asm.proofs.assembler.definitions_of.Goals as goal
 
 pub returns-in_err-words-clause-fault : goal.returns-in_err-words-clause-fault

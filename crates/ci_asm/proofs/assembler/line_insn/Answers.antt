@@ -3,8 +3,8 @@ use Rattle.std.specs.Prelude.{IfSome}
 use Rattle.std.proofs.lemmas.Result.{err_from_is_err_and}
 use Rattle.ci_asm.specs.LabelMap.{found_in}
 use Rattle.ci_asm.specs.Statements.{IsRead}
-use Rattle.ci_asm.proofs.Assembly.{resolved-place, resolved-registers}
-use Rattle.ci_asm.proofs.Encodings.{well_formed}
+use Rattle.ci_asm.proofs.AssemblySteps.{resolved-place, resolved-registers}
+use Rattle.ci_asm.proofs.StatementsHaveWords.{well_formed}
 use Rattle.ci_asm.proofs.assembler.line_insn.Goals as goal
 
 pub returns-in_err-operands-in-Some-clause-bound : goal.returns-in_err-operands-in-Some-clause-bound

@@ -3,8 +3,8 @@ use Rattle.std.specs.Option.{option_to_list}
 use Rattle.ci_asm.specs.LabelMap.{found_in}
 use Rattle.ci_asm.specs.Programs.{line_insn, insns_of, option_length}
 use Rattle.ci_asm.specs.Lines.{lines_of}
-use Rattle.ci_asm.proofs.Texts.{lines_of-drop, lines_of-end, line_within}
-use Rattle.ci_asm.proofs.Assembly.{behind, behind-behind, behind-end, insns_of-nil, insns_of-ok, insns_of-err, option_length-small}
+use Rattle.ci_asm.proofs.LinesOfTexts.{lines_of-drop, lines_of-end, line_within}
+use Rattle.ci_asm.proofs.AssemblySteps.{behind, behind-behind, behind-end, insns_of-nil, insns_of-ok, insns_of-err, option_length-small}
 use Rattle.ci_asm.proofs.assembler.words_of.Goals as goal
 
 pub returns-in-Err-clause-fault : goal.returns-in-Err-clause-fault

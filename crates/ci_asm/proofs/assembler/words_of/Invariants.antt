@@ -3,7 +3,7 @@ use Rattle.ci_isa.specs.declared.instruction.Insn.{Insn}
 use Rattle.ci_asm.specs.LabelMap.{found_in}
 use Rattle.ci_asm.specs.Programs.{insns_of, AreWordsOf}
 use Rattle.ci_asm.specs.Lines.{lines_of}
-use Rattle.ci_asm.proofs.Assembly.{behind}
+use Rattle.ci_asm.proofs.AssemblySteps.{behind}
 use Rattle.ci_asm.proofs.assembler.words_of.Given as goal
 
 -- the lines that are left give the instructions that follow those so far, whose words are there

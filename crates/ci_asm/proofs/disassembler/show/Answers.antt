@@ -2,7 +2,7 @@ use Rattle.std.proofs.Common.{◌≡◌, arith}
 use Rattle.std.proofs.lemmas.Grind.{common_steps}
 use Rattle.std.specs.String.{string_bytes}
 use Rattle.ci_asm.specs.Shown.{shown}
-use Rattle.ci_asm.proofs.RoundTrip.{shown_assembles}
+use Rattle.ci_asm.proofs.ShownAssembles.{shown_assembles}
 use Rattle.ci_asm.proofs.disassembler.show.Goals as goal
 
 pub returns-clause-assembles : goal.returns-clause-assembles

@@ -1,5 +1,5 @@
 use Rattle.std.proofs.Common.{Some, None}
-use Rattle.ci_asm.proofs.Operands.{line_by_statement}
+use Rattle.ci_asm.proofs.SoundStatements.{line_by_statement}
 use Rattle.ci_asm.proofs.lines.read_line.Goals as goal
 
 pub returns-then-is_label-clause-line : goal.returns-then-is_label-clause-line

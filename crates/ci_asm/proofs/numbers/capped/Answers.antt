@@ -1,6 +1,6 @@
 use Rattle.std.proofs.Common.{◌+◌, arith}
 use Rattle.std.proofs.lemmas.Int.Digits.{digits_value_more}
-use Rattle.ci_asm.proofs.Numerals.{more_fits, ten_fit}
+use Rattle.ci_asm.proofs.TenDigitsFit.{more_fits, ten_fit}
 use Rattle.ci_asm.proofs.numbers.capped.Goals as goal
 
 pub overflow_mul-magnitude : goal.overflow_mul-magnitude

@@ -27,15 +27,15 @@ use Rattle.ci_asm.specs.Forms.{Statement, plain, to_label, IsIn, IsStatement}
 use Rattle.ci_asm.specs.Assembly as asm
 use Rattle.ci_asm.specs.Assembly.{Line, StandsInLine, IsLine, AreLines, IsProgram, statements_of, Defines, IsOffset, IsNew, IsResolved, AreResolved}
 use Rattle.ci_asm.specs.Assembly.{IsFaultOfLine, IsFaultOfLabel, twice, undefined, too_far, HasFault, of_line, of_label}
-use Rattle.ci_asm.proofs.Filling.{values_of, label_text}
-use Rattle.ci_asm.proofs.Stated.{HasLabelFor, TakesLabel, jal, branches, takes_label}
+use Rattle.ci_asm.proofs.FilledSlots.{values_of, label_text}
+use Rattle.ci_asm.proofs.ReadStatements.{HasLabelFor, TakesLabel, jal, branches, takes_label}
 use Rattle.ci_asm.proofs.TestLaws.{by_test}
-use Rattle.ci_asm.proofs.Fields.{field_form, in_fits}
+use Rattle.ci_asm.proofs.ReadOperands.{field_form, in_fits}
 use Rattle.ci_asm.proofs.ReadLines.{statement_says, statement_read, line_says, HasLabels, IsReadLine, line_read, ReachesInLine}
 use Rattle.ci_asm.proofs.ReadPrograms.{AreRead, program_of, statement_room, words_with, read_program, all_read-lines, IsDefinition, AreDefinitions}
 use Rattle.ci_asm.proofs.ReadPrograms.{text_definitions, definitions_known, split_less, offset_signed, label_at, once_yes, line_insn-read, line_yes}
 use Rattle.ci_asm.proofs.ReadPrograms.{option_size, resolved_from, resolved_cons, IsAt, next_at, start_at, nothing_left, AllResolved, on_line_ok}
-use Rattle.ci_asm.proofs.Faulty.{line_fault, bind_err, err_same, ok_not_err}
+use Rattle.ci_asm.proofs.LineFaults.{line_fault, bind_err, err_same, ok_not_err}
 
 -- ---- lines that can't be read
 

@@ -20,7 +20,7 @@ use Rattle.ci_asm.specs.Tokens.{text_of}
 use Rattle.ci_asm.specs.Shapes.{fits, field_of}
 use Rattle.ci_asm.specs.declared.statements.Operands.{Operands}
 use Rattle.ci_asm.specs.declared.numbers.Number.{Number}
-use Rattle.ci_asm.proofs.Operands.{same_ok}
+use Rattle.ci_asm.proofs.SoundStatements.{same_ok}
 use Rattle.ci_asm.specs.Statements.{◌>>=◌, HasRegisters}
 use Rattle.ci_asm.specs.LabelMap.{earlier}
 use Rattle.ci_asm.specs.Programs.{Position, position, on_line, option_words, words_in, words_behind, line_at, all_read, definition_on, definition_of}

@@ -24,8 +24,8 @@ use Rattle.ci_asm.specs.Forms.{load_name, store_name, Writes, HasNumber, plain, 
 use Rattle.ci_asm.specs.Forms.{branch, load, store, fence, ecall, ebreak, custom, cread, data_word}
 use Rattle.ci_asm.specs.Shown.{register_name, upper_text, immediate_line, shown}
 use Rattle.ci_asm.proofs.TestLaws.{and_both}
-use Rattle.ci_asm.proofs.Lexing.{IsNameByte, letter_yes, name_yes, begun, format_clear}
-use Rattle.ci_asm.proofs.Digits.{AreDigitsOf, decimal_digits, hex_digits, eight_digits}
+use Rattle.ci_asm.proofs.LongestTokens.{IsNameByte, letter_yes, name_yes, begun, format_clear}
+use Rattle.ci_asm.proofs.WrittenDigits.{AreDigitsOf, decimal_digits, hex_digits, eight_digits}
 use Rattle.ci_asm.proofs.KnownMnemonics.{is_word, known_mnemonic}
 
 -- ---- bytes of a class

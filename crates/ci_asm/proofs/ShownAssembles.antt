@@ -18,9 +18,9 @@ use Rattle.ci_asm.specs.Lines.{lines_of}
 use Rattle.ci_asm.specs.Assembly.{Line, IsLine, AreLines, IsResolved, IsInsnOf, IsAssembly, IsLineOf}
 use Rattle.ci_asm.specs.Shown.{shown}
 use Rattle.ci_asm.proofs.TestLaws.{by_test}
-use Rattle.ci_asm.proofs.Texts.{lines_of-one}
-use Rattle.ci_asm.proofs.Lexing.{IsNameByte, Finds, begun, is_lexer, line_lexer}
-use Rattle.ci_asm.proofs.Written.{all_weaker, spelt_tail, IsNoColon, IsWrittenAs, written_as}
+use Rattle.ci_asm.proofs.LinesOfTexts.{lines_of-one}
+use Rattle.ci_asm.proofs.LongestTokens.{IsNameByte, Finds, begun, is_lexer, line_lexer}
+use Rattle.ci_asm.proofs.WrittenLines.{all_weaker, spelt_tail, IsNoColon, IsWrittenAs, written_as}
 
 -- ---- no newline
 

@@ -32,15 +32,15 @@ use Rattle.ci_asm.specs.Lexicon.{name, decimal_number, hex_number, word, comma, 
 use Rattle.ci_asm.specs.Forms.{IsIn, IsRegister, IsNumber, HasNumber, Statement, IsStatement, IsMnemonic}
 use Rattle.ci_asm.specs.Assembly.{IsGoodFront, IsGoodNext, IsWhole, IsNumberDue, IsKind, no_token, no_statement, no_operand, too_short, out_of_field, surplus}
 use Rattle.ci_asm.specs.Assembly.{too_many, IsFaultOfLine}
-use Rattle.ci_asm.proofs.Operands.{mnemonic_in-statement, at_place_ok}
+use Rattle.ci_asm.proofs.SoundStatements.{mnemonic_in-statement, at_place_ok}
 use Rattle.ci_asm.specs.Tokens.{kind_of as kind_of_token}
-use Rattle.ci_asm.proofs.Scanning.{IsShown, Shows, Meets, next_symbol}
+use Rattle.ci_asm.proofs.SymbolsMet.{IsShown, Shows, Meets, next_symbol}
 use Rattle.ci_asm.proofs.TestLaws.{by_test}
-use Rattle.ci_asm.proofs.Fields.{number_result, field_form, writes_is_number}
-use Rattle.ci_asm.proofs.Filling.{Values, no_values, Fills, done, fill_rd, fill_rs1, fill_rs2, fill_rs3, fill_number, fill_label, fill_comma, fill_open}
-use Rattle.ci_asm.proofs.Filling.{fill_close, register_result, mark_result, value_result, result_of, register_no, number_in_no, value_no, filled_shown}
-use Rattle.ci_asm.proofs.Filling.{filled_end, filled_bad, filled_token, fill_step, values_of, label_text, read_step, read_stuck, read_nil}
-use Rattle.ci_asm.proofs.Stated.{mnemonic_token, fills_statement, statement_slots}
+use Rattle.ci_asm.proofs.ReadOperands.{number_result, field_form, writes_is_number}
+use Rattle.ci_asm.proofs.FilledSlots.{Values, no_values, Fills, done, fill_rd, fill_rs1, fill_rs2, fill_rs3, fill_number, fill_label, fill_comma, fill_open}
+use Rattle.ci_asm.proofs.FilledSlots.{fill_close, register_result, mark_result, value_result, result_of, register_no, number_in_no, value_no, filled_shown}
+use Rattle.ci_asm.proofs.FilledSlots.{filled_end, filled_bad, filled_token, fill_step, values_of, label_text, read_step, read_stuck, read_nil}
+use Rattle.ci_asm.proofs.ReadStatements.{mnemonic_token, fills_statement, statement_slots}
 use Rattle.ci_asm.proofs.ReadLines.{mnemonic_result, mnemonic_shown, mnemonic_yes, mnemonic_no, HasBody, body_of, with_other}
 
 -- ---- what a slot accepts

@@ -20,10 +20,11 @@ use Rattle.ci_asm.specs.Lexicon as lex
 use Rattle.ci_reading.specs.Tokens.{text_end, stray_byte}
 use Rattle.ci_asm.specs.Lexicon.{name, decimal_number, hex_number, word, comma, open_bracket, close_bracket, colon, spelling, IsToken}
 use Rattle.ci_asm.specs.Forms.{IsIn, IsRegister, IsNumber, HasNumber}
-use Rattle.ci_asm.proofs.Digits.{register_of-name}
-use Rattle.ci_asm.proofs.Operands.{bind_ok, same_ok, cond_ok, found_ok}
-use Rattle.ci_asm.proofs.Scanning.{IsShown, Shows, Meets, next_symbol}
-use Rattle.ci_asm.proofs.Fields.{register_named, number_result, number_of-token, number_writes, writes_number, writes_is_number, field_form, fits_in, in_fits}
+use Rattle.ci_asm.proofs.WrittenDigits.{register_of-name}
+use Rattle.ci_asm.proofs.SoundStatements.{bind_ok, same_ok, cond_ok, found_ok}
+use Rattle.ci_asm.proofs.SymbolsMet.{IsShown, Shows, Meets, next_symbol}
+use Rattle.ci_asm.proofs.ReadOperands.{register_named, number_result, number_of-token, number_writes, writes_number, writes_is_number, field_form, fits_in}
+use Rattle.ci_asm.proofs.ReadOperands.{in_fits}
 
 -- ---- values
 

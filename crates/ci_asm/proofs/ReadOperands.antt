@@ -19,7 +19,7 @@ use Rattle.ci_asm.specs.Lexicon.{IsDigit, name, decimal_number, hex_number, word
 use Rattle.ci_asm.specs.Forms as forms
 use Rattle.ci_asm.specs.Forms.{IsBetween, IsEven, IsIn, IsRegister, IsNumber, Writes, HasNumber}
 use Rattle.ci_asm.proofs.TestLaws.{and_both, pick_false}
-use Rattle.ci_asm.proofs.Lexing.{no_x_behind}
+use Rattle.ci_asm.proofs.LongestTokens.{no_x_behind}
 
 -- ---- registers
 

@@ -19,11 +19,11 @@ use Rattle.ci_asm.specs.Programs.{Position, on_line, line_at, Definitions, defin
 use Rattle.ci_asm.specs.Programs.{option_length, insns_of, all_read, assembled, AreWordsOf}
 use Rattle.ci_asm.specs.Lines.{lines_of}
 use Rattle.ci_asm.specs.Assembly.{IsAssembly, HasFault}
-use Rattle.ci_asm.proofs.Operands.{bind_ok, same_ok, cond_ok, next_token-start, line_by_statement}
-use Rattle.ci_asm.proofs.Assembly.{resolved-registers}
-use Rattle.ci_asm.proofs.Encodings.{well_formed}
+use Rattle.ci_asm.proofs.SoundStatements.{bind_ok, same_ok, cond_ok, next_token-start, line_by_statement}
+use Rattle.ci_asm.proofs.AssemblySteps.{resolved-registers}
+use Rattle.ci_asm.proofs.StatementsHaveWords.{well_formed}
 use Rattle.ci_asm.proofs.ReadPrograms.{assembled_is, on_line_ok}
-use Rattle.ci_asm.proofs.FaultyPrograms.{fault_is}
+use Rattle.ci_asm.proofs.ProgramFaults.{fault_is}
 
 module _ (line : List ℕ) (full : Bool) where
   abbrev first : Token

@@ -21,9 +21,9 @@ use Rattle.ci_asm.specs.Forms as forms
 use Rattle.ci_asm.specs.Forms.{register_immediate, IsIn, IsRegister, HasNumber, Statement, plain, to_label, IsStatement, on_registers, on_immediate, lui, auipc}
 use Rattle.ci_asm.specs.Forms.{jump, jump_label, jump_register, branch, branch_label, load, store, fence, ecall, ebreak, custom, cread, data_word}
 use Rattle.ci_asm.proofs.TestLaws.{by_test}
-use Rattle.ci_asm.proofs.Fields.{field_form, field_again, abs_signed}
-use Rattle.ci_asm.proofs.Filling.{Values, no_values, values_of, OffsetLast, Fills, done, fill_rd, fill_rs1, fill_rs2, fill_rs3, fill_number, fill_label}
-use Rattle.ci_asm.proofs.Filling.{fill_comma, fill_open, fill_close}
+use Rattle.ci_asm.proofs.ReadOperands.{field_form, field_again, abs_signed}
+use Rattle.ci_asm.proofs.FilledSlots.{Values, no_values, values_of, OffsetLast, Fills, done, fill_rd, fill_rs1, fill_rs2, fill_rs3, fill_number, fill_label}
+use Rattle.ci_asm.proofs.FilledSlots.{fill_comma, fill_open, fill_close}
 
 -- ---- what a statement says
 
