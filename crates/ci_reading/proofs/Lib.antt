@@ -10,3 +10,4 @@ pub mod NumberReading
 pub mod Readers
 pub mod Repetitions
 pub mod WordReading
+pub mod TokenLaws

@@ -1,15 +1,17 @@
 -- Each statement that was read has a word.
-use Rattle.std.proofs.Common.{◌≡◌, ℕ, zero, suc, ◌*◌, ◌%◌, ◌^◌, ◌<◌, ◌≤◌, Bool, true, false, cond, ◌&&◌, nat_le, eqb, pos, neg_ℤ, ◌≤ℤ◌, ◌<ℤ◌, refl, arith, lit<, lit≤}
+use Rattle.std.proofs.Common.{◌≡◌, ℕ, zero, suc, ◌*◌, ◌%◌, ◌^◌, ◌<◌, ◌≤◌, Bool, true, false, cond, ◌&&◌, nat_le, eqb, pos, neg_ℤ, ◌≤ℤ◌, ◌<ℤ◌, refl, arith, lit<}
+use Rattle.std.proofs.Common.{lit≤}
 use Rattle.std.proofs.lemmas.Int.{ints}
 use Rattle.std.proofs.lemmas.Bool.Decides.{nat_tests}
 use Rattle.ci_word.specs.declared.arithmetic.Op.{Op}
-use Rattle.ci_word.specs.declared.arithmetic.Op.TheVariants.{Add, Sub, Sll, Slt, Sltu, Xor, Srl, Sra, Or, And, Mul, Mulh, Mulhsu, Mulhu, Div, Divu, Rem, Remu}
+use Rattle.ci_word.specs.declared.arithmetic.Op.TheVariants.{Add, Sll, Slt, Sltu, Xor, Srl, Sra, Or, And}
 use Rattle.ci_isa.specs.Table.{constant_form, IsWellFormed}
 use Rattle.ci_isa.proofs.WellFormed as isa
 use Rattle.ci_isa.specs.FieldBounds.{IsOfWidth, IsEven, ConstantFits, FieldsFit}
 use Rattle.ci_asm.specs.declared.numbers.Number.{Number}
 use Rattle.ci_asm.specs.declared.mnemonics.Mnemonic.{Mnemonic}
-use Rattle.ci_asm.specs.declared.mnemonics.Mnemonic.TheVariants.{RegisterRegister, RegisterImmediate, Lui, Auipc, Jal, Jalr, Branch, Load, Store, Fence, Ecall, Ebreak, Custom, Cread, Data}
+use Rattle.ci_asm.specs.declared.mnemonics.Mnemonic.TheVariants.{RegisterRegister, RegisterImmediate, Lui, Auipc, Jal, Jalr, Branch, Load, Store, Fence, Ecall}
+use Rattle.ci_asm.specs.declared.mnemonics.Mnemonic.TheVariants.{Ebreak, Custom, Cread, Data}
 use Rattle.ci_asm.specs.declared.slots.Field.{Field}
 use Rattle.ci_asm.specs.declared.slots.Field.TheVariants.{Immediate, Amount, Upper, BranchOffset, JumpOffset, FenceBits, UnitNumber, Whole}
 use Rattle.ci_asm.specs.declared.statements.Operands.{Operands}
@@ -45,7 +47,8 @@ below_both true m low high limit a b near = omega arith
 below_both false m low high limit a b near = omega arith
 
 -- a signed number between two limits
-between : (negative : Bool) (m low high half : ℕ) → low ≤ half → high < half → m ≤ cond negative low high → (neg_ℤ (pos half) ≤ℤ cond negative (neg_ℤ (pos m)) (pos m)) × (cond negative (neg_ℤ (pos m)) (pos m) <ℤ pos half)
+between : (negative : Bool) (m low high half : ℕ) → low ≤ half → high < half → m ≤ cond negative low high
+    → (neg_ℤ (pos half) ≤ℤ cond negative (neg_ℤ (pos m)) (pos m)) × (cond negative (neg_ℤ (pos m)) (pos m) <ℤ pos half)
 between true m low high half a b near = (omega (arith, ints), omega (arith, ints))
 between false m low high half a b near = (omega (arith, ints), omega (arith, ints))
 
@@ -70,14 +73,16 @@ offset_even field n offset ok = signed_even n.negative n.magnitude (fits_even fi
 amount_between : (n : Number) → fits Amount n ≡ true → (pos 0 ≤ℤ signed_value n) × (signed_value n <ℤ pos 32)
 amount_between n ok = by n.negative n.magnitude (fits_near Amount n ok)
   where
-    by : (negative : Bool) (m : ℕ) → m ≤ cond negative 0 31 → (pos 0 ≤ℤ cond negative (neg_ℤ (pos m)) (pos m)) × (cond negative (neg_ℤ (pos m)) (pos m) <ℤ pos 32)
+    by : (negative : Bool) (m : ℕ) → m ≤ cond negative 0 31 → (pos 0 ≤ℤ cond negative (neg_ℤ (pos m)) (pos m)) ×
+        (cond negative (neg_ℤ (pos m)) (pos m) <ℤ pos 32)
     by false m near = (omega (arith, ints), omega (arith, ints))
     by true zero near = (omega (arith, ints), omega (arith, ints))
     by true (suc k) near = absurd (omega arith)
 
 -- ---- instructions
 
-constant_fits : (op : Op) (n : Number) → is_statement (RegisterImmediate op) ≡ true → fits (field_of (RegisterImmediate op)) n ≡ true → ConstantFits (constant_form op) (signed_value n)
+constant_fits : (op : Op) (n : Number) → is_statement (RegisterImmediate op) ≡ true → fits (field_of (RegisterImmediate op)) n ≡ true
+    → ConstantFits (constant_form op) (signed_value n)
 constant_fits Add n named ok = width_12 n ok
 constant_fits Slt n named ok = width_12 n ok
 constant_fits Sltu n named ok = width_12 n ok
@@ -87,15 +92,7 @@ constant_fits And n named ok = width_12 n ok
 constant_fits Sll n named ok = amount_between n ok
 constant_fits Srl n named ok = amount_between n ok
 constant_fits Sra n named ok = amount_between n ok
-constant_fits Sub n named ok = absurd (cc)
-constant_fits Mul n named ok = absurd (cc)
-constant_fits Mulh n named ok = absurd (cc)
-constant_fits Mulhsu n named ok = absurd (cc)
-constant_fits Mulhu n named ok = absurd (cc)
-constant_fits Div n named ok = absurd (cc)
-constant_fits Divu n named ok = absurd (cc)
-constant_fits Rem n named ok = absurd (cc)
-constant_fits Remu n named ok = absurd (cc)
+constant_fits other n named ok = absurd (cc)
 
 -- the upper bits of a word
 upper_whole : (m : ℕ) → m < 2 ^ 20 → (4096 * m < 2 ^ 32) × (4096 * m % 2 ^ 12 ≡ 0)
@@ -114,10 +111,12 @@ fields_fit Jalr o named r ok = (r.rd, r.rs1, width_12 o.number ok)
 fields_fit (Branch c) o named r ok = (r.rs1, r.rs2, width_13 o.number ok, offset_even BranchOffset o.number refl ok)
 fields_fit (Load k) o named r ok = (r.rd, r.rs1, width_12 o.number ok)
 fields_fit (Store w) o named r ok = (r.rs1, r.rs2, width_12 o.number ok)
-fields_fit Fence o named r ok = (below_both o.number.negative o.number.magnitude 0 4095 (2 ^ 12) (lit< tt) (lit< tt) (fits_near FenceBits o.number ok), r.rs1, r.rd)
+fields_fit Fence o named r ok =
+    (below_both o.number.negative o.number.magnitude 0 4095 (2 ^ 12) (lit< tt) (lit< tt) (fits_near FenceBits o.number ok), r.rs1, r.rd)
 fields_fit Ecall o named r ok = tt
 fields_fit Ebreak o named r ok = tt
-fields_fit Custom o named r ok = (below_both o.number.negative o.number.magnitude 0 31 32 (lit< tt) (lit< tt) (fits_near UnitNumber o.number ok), r.rd, r.rs1, r.rs2, r.rs3)
+fields_fit Custom o named r ok =
+    (below_both o.number.negative o.number.magnitude 0 31 32 (lit< tt) (lit< tt) (fits_near UnitNumber o.number ok), r.rd, r.rs1, r.rs2, r.rs3)
 fields_fit Cread o named r ok = r.rd
 fields_fit Data o named r ok = below_both o.number.negative o.number.magnitude 0 0xffff_ffff (2 ^ 32) (lit< tt) (lit< tt) (fits_near Whole o.number ok)
 

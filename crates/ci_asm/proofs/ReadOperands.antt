@@ -1,5 +1,6 @@
 -- Registers and numbers, as tokens and as the code reads them.
-use Rattle.std.proofs.Common.{◌≡◌, ℕ, zero, suc, ◌+◌, ◌/◌, ◌%◌, ◌<◌, ◌≤◌, ◌⊎◌, inl, inr, Bool, true, false, cond, ◌&&◌, nat_le, nat_lt, eqb, List, [], ◌∷◌, ◌++◌, length, refl, sym, ap, ◌∙◌, arith, Option, Some, None, ℤ, pos, neg_ℤ, ◌≤ℤ◌}
+use Rattle.std.proofs.Common.{◌≡◌, ℕ, zero, suc, ◌+◌, ◌/◌, ◌%◌, ◌<◌, ◌≤◌, ◌⊎◌, inl, inr, Bool, true, false, cond, ◌&&◌, nat_le, nat_lt, eqb, List, [], ◌∷◌}
+use Rattle.std.proofs.Common.{◌++◌, length, refl, sym, ap, ◌∙◌, arith, Option, Some, None, ℤ, pos, neg_ℤ, ◌≤ℤ◌}
 use Rattle.std.specs.Prelude.{unsigned_abs}
 use Rattle.std.specs.Str.Parse.{digits_value}
 use Rattle.std.proofs.lemmas.Fmt.{decimal_digit, decimal_step}
@@ -17,8 +18,8 @@ use Rattle.ci_asm.specs.Lexicon as lex
 use Rattle.ci_asm.specs.Lexicon.{IsDigit, name, decimal_number, hex_number, word, comma, open_bracket, close_bracket, colon, spelling, IsToken}
 use Rattle.ci_asm.specs.Forms as forms
 use Rattle.ci_asm.specs.Forms.{IsBetween, IsEven, IsIn, IsRegister, IsNumber, Writes, HasNumber}
-use Rattle.ci_asm.proofs.Tokens.{and_both, pick_false}
-use Rattle.ci_asm.proofs.Scanning.{no_x}
+use Rattle.ci_asm.proofs.TestLaws.{and_both, pick_false}
+use Rattle.ci_asm.proofs.LongestTokens.{no_x_behind}
 
 -- ---- registers
 
@@ -34,7 +35,8 @@ register_at-same n r e = by (nat_lt n 32) refl e
     by true at e = let same : n ≡ r = cc in (same, grind (arith, nat_tests))
     by false at e = absurd (cc)
 
-one_digit_name : (text : List ℕ) (r : ℕ) → has_one_digit text ≡ true → register_at (two_digits 48 (byte_at text 1)) ≡ Some r → (text ≡ register_name r) × (r < 32)
+one_digit_name : (text : List ℕ) (r : ℕ) → has_one_digit text ≡ true → register_at (two_digits 48 (byte_at text 1)) ≡ Some r
+    → (text ≡ register_name r) × (r < 32)
 one_digit_name [] r e found = absurd (cc)
 one_digit_name (a ∷ []) r e found =
     let outer = and_both (eqb a 120 && eqb 1 2) (is_digit 0) e in
@@ -53,7 +55,8 @@ one_digit_name (a ∷ b ∷ c ∷ text) r e found =
     let size : length (a ∷ b ∷ c ∷ text) ≡ 2 = eqb-true _ 2 (and_both (eqb a 120) (eqb (length (a ∷ b ∷ c ∷ text)) 2) outer.0).1 in
     absurd (omega arith)
 
-two_digit_name : (text : List ℕ) (r : ℕ) → has_two_digits text ≡ true → register_at (two_digits (byte_at text 1) (byte_at text 2)) ≡ Some r → (text ≡ register_name r) × (r < 32)
+two_digit_name : (text : List ℕ) (r : ℕ) → has_two_digits text ≡ true → register_at (two_digits (byte_at text 1) (byte_at text 2)) ≡ Some r
+    → (text ≡ register_name r) × (r < 32)
 two_digit_name [] r e found = absurd (cc)
 two_digit_name (a ∷ []) r e found =
     let no : is_digit 0 ≡ true = (and_both (eqb a 120 && eqb 1 3 && is_between 49 57 0) (is_digit 0) e).1 in
@@ -72,8 +75,11 @@ two_digit_name (a ∷ b ∷ c ∷ []) r e found =
     let below = known.1 in
     let many : 10 ≤ r = omega arith in
     let first : b ≡ 48 + r / 10 = omega arith in
-    let second : c ≡ 48 + r % 10 = omega arith in
-    ((λ i. x i ∷ first i ∷ second i ∷ []) ∙ ap (λ ds. 120 ∷ ds) (sym (decimal_step r many (omega arith) ∙ ap (λ ds. ds ++ (48 + r % 10) ∷ []) (decimal_digit (r / 10) (omega arith)))), below)
+    let second : c ≡ 48 + r % 10 = omega arith in (
+      (λ i. x i ∷ first i ∷ second i ∷ [])
+          ∙ ap (λ ds. 120 ∷ ds) (sym (decimal_step r many (omega arith) ∙ ap (λ ds. ds ++ (48 + r % 10) ∷ []) (decimal_digit (r / 10) (omega arith)))),
+      below,
+    )
 two_digit_name (a ∷ b ∷ c ∷ d ∷ text) r e found =
     let all = a ∷ b ∷ c ∷ d ∷ text in
     let outer = and_both (eqb a 120 && eqb (length all) 3 && is_between 49 57 b) (is_digit c) e in
@@ -95,12 +101,7 @@ register_named text r e = elim (chosen (has_one_digit text) (has_two_digits text
 abbrev pub number_result : lex.Token → Option Number
 number_result (decimal_number negative digits) = number negative 10 digits
 number_result (hex_number digits) = number false 16 digits
-number_result (name bytes) = None
-number_result word = None
-number_result comma = None
-number_result open_bracket = None
-number_result close_bracket = None
-number_result colon = None
+number_result other = None
 
 pub number_of-token : (t : lex.Token) → IsNumber t → IsToken t → number_of (spelling t) ≡ number_result t
 unfolding number_of
@@ -109,23 +110,21 @@ number_of-token (decimal_number false []) is proper = absurd proper
 number_of-token (decimal_number false (d ∷ ds)) is proper =
     let digit = proper.0 in
     let minus : eqb d 45 ≡ false = grind (arith, nat_tests) in
-    rw (minus, no_x ds proper.1) refl
+    rw (minus, no_x_behind ds proper.1) refl
 number_of-token (hex_number digits) is proper = refl
-number_of-token (name bytes) is proper = absurd is
-number_of-token word is proper = absurd is
-number_of-token comma is proper = absurd is
-number_of-token open_bracket is proper = absurd is
-number_of-token close_bracket is proper = absurd is
-number_of-token colon is proper = absurd is
+number_of-token other is proper = absurd is
 
-number_small : (negative : Bool) (base : ℕ) (digits : List ℕ) (n : Number) → number negative base digits ≡ Some n → (length digits ≤ 10) × (record { negative = negative; magnitude = digits_value base digits } ≡ n)
+number_small : (negative : Bool) (base : ℕ) (digits : List ℕ) (n : Number) → number negative base digits ≡ Some n
+    → (length digits ≤ 10) × (record { negative = negative; magnitude = digits_value base digits } ≡ n)
 number_small negative base digits n e = by (nat_lt 10 (length digits)) refl e
   where
-    by : (b : Bool) → nat_lt 10 (length digits) ≡ b → cond b None (Some (record { negative = negative; magnitude = digits_value base digits })) ≡ Some n → (length digits ≤ 10) × (record { negative = negative; magnitude = digits_value base digits } ≡ n)
+    by : (b : Bool) → nat_lt 10 (length digits) ≡ b → cond b None (Some (record { negative = negative; magnitude = digits_value base digits })) ≡ Some n
+        → (length digits ≤ 10) × (record { negative = negative; magnitude = digits_value base digits } ≡ n)
     by true at e = absurd (cc)
     by false at e = (grind (arith, nat_tests), cc)
 
-number_capped : (negative : Bool) (base : ℕ) (digits : List ℕ) → length digits ≤ 10 → number negative base digits ≡ Some (record { negative = negative; magnitude = digits_value base digits })
+number_capped : (negative : Bool) (base : ℕ) (digits : List ℕ) → length digits ≤ 10
+    → number negative base digits ≡ Some (record { negative = negative; magnitude = digits_value base digits })
 number_capped negative base digits few =
     let room : nat_lt 10 (length digits) ≡ false = grind (arith, nat_tests) in
     pick_false (nat_lt 10 (length digits)) _ _ room
@@ -134,32 +133,17 @@ number_capped negative base digits few =
 pub number_writes : (t : lex.Token) (n : Number) → number_result t ≡ Some n → Writes t (signed_value n)
 number_writes (decimal_number negative digits) n e = let s = number_small negative 10 digits n e in (s.0, sym (ap signed_value s.1))
 number_writes (hex_number digits) n e = let s = number_small false 16 digits n e in (s.0, sym (ap signed_value s.1))
-number_writes (name bytes) n e = absurd (cc)
-number_writes word n e = absurd (cc)
-number_writes comma n e = absurd (cc)
-number_writes open_bracket n e = absurd (cc)
-number_writes close_bracket n e = absurd (cc)
-number_writes colon n e = absurd (cc)
+number_writes other n e = absurd (cc)
 
 pub writes_number : (t : lex.Token) (z : ℤ) → Writes t z → (n : Number) × (number_result t ≡ Some n) × (signed_value n ≡ z)
 writes_number (decimal_number negative digits) z w = (_, number_capped negative 10 digits w.0, sym w.1)
 writes_number (hex_number digits) z w = (_, number_capped false 16 digits w.0, sym w.1)
-writes_number (name bytes) z w = absurd w
-writes_number word z w = absurd w
-writes_number comma z w = absurd w
-writes_number open_bracket z w = absurd w
-writes_number close_bracket z w = absurd w
-writes_number colon z w = absurd w
+writes_number other z w = absurd w
 
 pub writes_is_number : (t : lex.Token) (z : ℤ) → Writes t z → IsNumber t
 writes_is_number (decimal_number negative digits) z w = tt
 writes_is_number (hex_number digits) z w = tt
-writes_is_number (name bytes) z w = absurd w
-writes_is_number word z w = absurd w
-writes_is_number comma z w = absurd w
-writes_is_number open_bracket z w = absurd w
-writes_is_number close_bracket z w = absurd w
-writes_is_number colon z w = absurd w
+writes_is_number other z w = absurd w
 
 -- ---- fields
 
@@ -176,13 +160,7 @@ field_form Whole = forms.whole_word
 
 pub field_again : (field : forms.Field) → field_form (field_from field) ≡ field
 field_again forms.immediate = refl
-field_again forms.shift_amount = refl
-field_again forms.upper_bits = refl
-field_again forms.branch_offset = refl
-field_again forms.jump_offset = refl
-field_again forms.fence_bits = refl
-field_again forms.unit_number = refl
-field_again forms.whole_word = refl
+field_again other = refl
 
 pub abs_signed : (n : Number) → unsigned_abs (signed_value n) ≡ n.magnitude
 abs_signed n = by n.negative n.magnitude
@@ -196,7 +174,8 @@ abs_signed n = by n.negative n.magnitude
 between_near : (low high : ℕ) (n : Number) → IsBetween (neg_ℤ (pos low)) (pos high) (signed_value n) → n.magnitude ≤ cond n.negative low high
 between_near low high n h = by n.negative n.magnitude h.0 h.1
   where
-    by : (negative : Bool) (m : ℕ) → neg_ℤ (pos low) ≤ℤ cond negative (neg_ℤ (pos m)) (pos m) → cond negative (neg_ℤ (pos m)) (pos m) ≤ℤ pos high → m ≤ cond negative low high
+    by : (negative : Bool) (m : ℕ) → neg_ℤ (pos low) ≤ℤ cond negative (neg_ℤ (pos m)) (pos m) → cond negative (neg_ℤ (pos m)) (pos m) ≤ℤ pos high
+        → m ≤ cond negative low high
     by true m a b = omega (arith, ints)
     by false m a b = omega (arith, ints)
 
@@ -207,13 +186,15 @@ near_between low high n h = by n.negative n.magnitude h
     by true m h = (omega (arith, ints), omega (arith, ints))
     by false m h = (omega (arith, ints), omega (arith, ints))
 
-pub fits_parts : (field : Field) (n : Number) → fits field n ≡ true → (n.magnitude ≤ cond n.negative (lowest field) (highest field)) × (cond (is_offset field) (eqb (n.magnitude % 2) 0) true ≡ true)
+pub fits_parts : (field : Field) (n : Number) → fits field n ≡ true → (n.magnitude ≤ cond n.negative (lowest field) (highest field)) ×
+    (cond (is_offset field) (eqb (n.magnitude % 2) 0) true ≡ true)
 fits_parts field n e =
     let both = and_both (nat_le n.magnitude (cond n.negative (lowest field) (highest field))) (cond (is_offset field) (eqb (n.magnitude % 2) 0) true) e in
     let near = both.0 in
     (grind (arith, nat_tests), both.1)
 
-parts_fit : (field : Field) (n : Number) → n.magnitude ≤ cond n.negative (lowest field) (highest field) → cond (is_offset field) (eqb (n.magnitude % 2) 0) true ≡ true → fits field n ≡ true
+parts_fit : (field : Field) (n : Number) → n.magnitude ≤ cond n.negative (lowest field) (highest field)
+    → cond (is_offset field) (eqb (n.magnitude % 2) 0) true ≡ true → fits field n ≡ true
 parts_fit field n near even =
     let test : nat_le n.magnitude (cond n.negative (lowest field) (highest field)) ≡ true = grind (arith, nat_tests) in
     rw test even

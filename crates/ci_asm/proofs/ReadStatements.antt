@@ -9,7 +9,8 @@ use Rattle.ci_isa.specs.declared.instruction.Insn.{Insn}
 use Rattle.ci_isa.specs.declared.instruction.Insn.TheVariants as insn
 use Rattle.ci_asm.specs.declared.numbers.Number.{Number}
 use Rattle.ci_asm.specs.declared.mnemonics.Mnemonic.{Mnemonic}
-use Rattle.ci_asm.specs.declared.mnemonics.Mnemonic.TheVariants.{RegisterRegister, RegisterImmediate, Lui, Auipc, Jal, Jalr, Branch, Load, Store, Fence, Ecall, Ebreak, Custom, Cread, Data}
+use Rattle.ci_asm.specs.declared.mnemonics.Mnemonic.TheVariants.{RegisterRegister, RegisterImmediate, Lui, Auipc, Jal, Jalr, Branch, Load, Store, Fence, Ecall}
+use Rattle.ci_asm.specs.declared.mnemonics.Mnemonic.TheVariants.{Ebreak, Custom, Cread, Data}
 use Rattle.ci_asm.specs.declared.slots.Slot.{Slot}
 use Rattle.ci_asm.specs.declared.slots.Slot.TheVariants.{Value}
 use Rattle.ci_asm.specs.Shapes.{name_of, is_statement, is_offset, form_name, form_field, immediate_name, immediate_field, slots_of}
@@ -17,10 +18,12 @@ use Rattle.ci_asm.specs.Statements.{insn_of}
 use Rattle.ci_asm.specs.Lexicon as lex
 use Rattle.ci_asm.specs.Lexicon.{name, decimal_number, hex_number, word, comma, open_bracket, close_bracket, colon}
 use Rattle.ci_asm.specs.Forms as forms
-use Rattle.ci_asm.specs.Forms.{register_immediate, IsIn, IsRegister, HasNumber, Statement, plain, to_label, IsStatement, on_registers, on_immediate, lui, auipc, jump, jump_label, jump_register, branch, branch_label, load, store, fence, ecall, ebreak, custom, cread, data_word}
-use Rattle.ci_asm.proofs.Scanning.{by_test}
-use Rattle.ci_asm.proofs.Fields.{field_form, field_again, abs_signed}
-use Rattle.ci_asm.proofs.Filling.{Values, no_values, values_of, OffsetLast, Fills, done, fill_rd, fill_rs1, fill_rs2, fill_rs3, fill_number, fill_label, fill_comma, fill_open, fill_close}
+use Rattle.ci_asm.specs.Forms.{register_immediate, IsIn, IsRegister, HasNumber, Statement, plain, to_label, IsStatement, on_registers, on_immediate, lui, auipc}
+use Rattle.ci_asm.specs.Forms.{jump, jump_label, jump_register, branch, branch_label, load, store, fence, ecall, ebreak, custom, cread, data_word}
+use Rattle.ci_asm.proofs.TestLaws.{by_test}
+use Rattle.ci_asm.proofs.ReadOperands.{field_form, field_again, abs_signed}
+use Rattle.ci_asm.proofs.FilledSlots.{Values, no_values, values_of, OffsetLast, Fills, done, fill_rd, fill_rs1, fill_rs2, fill_rs3, fill_number, fill_label}
+use Rattle.ci_asm.proofs.FilledSlots.{fill_comma, fill_open, fill_close}
 
 -- ---- what a statement says
 
@@ -52,7 +55,8 @@ mnemonic_token Data = word
 mnemonic_token m = name (name_of m)
 
 -- a field of numbers that are not below 0
-natural : (field : forms.Field) (t : lex.Token) (n : ℤ) → ((n : ℤ) → IsIn field n → n ≡ pos (unsigned_abs n)) → HasNumber field t n → HasNumber field t (pos (unsigned_abs n))
+natural : (field : forms.Field) (t : lex.Token) (n : ℤ) → ((n : ℤ) → IsIn field n → n ≡ pos (unsigned_abs n)) → HasNumber field t n
+    → HasNumber field t (pos (unsigned_abs n))
 natural field t n unsigned has = subst (HasNumber field t) (unsigned n has.1) has
 
 -- the register-immediate form of an operation that has one
@@ -62,32 +66,18 @@ form_of None e = absurd (cc)
 
 no_label : (op : Op) → is_offset (immediate_field op) ≡ true → ⊥
 no_label ops.Add e = cc
-no_label ops.Sub e = cc
-no_label ops.Sll e = cc
-no_label ops.Slt e = cc
-no_label ops.Sltu e = cc
-no_label ops.Xor e = cc
-no_label ops.Srl e = cc
-no_label ops.Sra e = cc
-no_label ops.Or e = cc
-no_label ops.And e = cc
-no_label ops.Mul e = cc
-no_label ops.Mulh e = cc
-no_label ops.Mulhsu e = cc
-no_label ops.Mulhu e = cc
-no_label ops.Div e = cc
-no_label ops.Divu e = cc
-no_label ops.Rem e = cc
-no_label ops.Remu e = cc
+no_label other e = cc
 
 natural_number : (high n : ℤ) → (pos 0 ≤ℤ n) × (n ≤ℤ high) → n ≡ pos (unsigned_abs n)
 natural_number high (pos n) h = refl
 natural_number high (negsuc n) h = absurd (omega (arith, ints, h.0))
 
 -- tokens that fill the slots are a statement
-pub fills_statement : (m : Mnemonic) {ts : List lex.Token} {w : Values} → is_statement m ≡ true → Fills (slots_of m) ts no_values w → IsStatement (mnemonic_token m ∷ ts) (says m w)
+pub fills_statement : (m : Mnemonic) {ts : List lex.Token} {w : Values} → is_statement m ≡ true → Fills (slots_of m) ts no_values w
+    → IsStatement (mnemonic_token m ∷ ts) (says m w)
 fills_statement (RegisterRegister op) st (fill_rd a (fill_comma (fill_rs1 b (fill_comma (fill_rs2 c done))))) = on_registers a b c
-fills_statement (RegisterImmediate op) st (fill_rd a (fill_comma (fill_rs1 b (fill_comma (fill_number n done))))) = on_immediate (form_of (register_immediate op) st) a b n
+fills_statement (RegisterImmediate op) st (fill_rd a (fill_comma (fill_rs1 b (fill_comma (fill_number n done))))) =
+    on_immediate (form_of (register_immediate op) st) a b n
 fills_statement (RegisterImmediate op) st (fill_rd a (fill_comma (fill_rs1 b (fill_comma (fill_label offset done))))) = absurd (no_label op offset)
 fills_statement Lui st (fill_rd a (fill_comma (fill_number {n} h done))) = lui a (natural forms.upper_bits _ n (natural_number (pos 0xfffff)) h)
 fills_statement Lui st (fill_rd a (fill_comma (fill_label offset done))) = absurd (cc)
@@ -103,13 +93,15 @@ fills_statement (Load kind) st (fill_rd a (fill_comma (fill_number h (fill_open 
 fills_statement (Load kind) st (fill_rd a (fill_comma (fill_label offset (fill_open (fill_rs1 b (fill_close done)))))) = absurd (cc)
 fills_statement (Store width) st (fill_rs2 b (fill_comma (fill_number h (fill_open (fill_rs1 a (fill_close done)))))) = store b h a
 fills_statement (Store width) st (fill_rs2 b (fill_comma (fill_label offset (fill_open (fill_rs1 a (fill_close done)))))) = absurd (cc)
-fills_statement Fence st (fill_number {n} h (fill_comma (fill_rs1 a (fill_comma (fill_rd d done))))) = fence (natural forms.fence_bits _ n (natural_number (pos 4095)) h) a d
+fills_statement Fence st (fill_number {n} h (fill_comma (fill_rs1 a (fill_comma (fill_rd d done))))) =
+    fence (natural forms.fence_bits _ n (natural_number (pos 4095)) h) a d
 fills_statement Fence st (fill_label offset (fill_comma (fill_rs1 a (fill_comma (fill_rd d done))))) = absurd (cc)
 fills_statement Ecall st done = ecall
 fills_statement Ebreak st done = ebreak
 fills_statement Custom st (fill_number {n} h (fill_comma (fill_rd d (fill_comma (fill_rs1 a (fill_comma (fill_rs2 b (fill_comma (fill_rs3 c done))))))))) =
     custom (natural forms.unit_number _ n (natural_number (pos 31)) h) d a b c
-fills_statement Custom st (fill_label offset (fill_comma (fill_rd d (fill_comma (fill_rs1 a (fill_comma (fill_rs2 b (fill_comma (fill_rs3 c done))))))))) = absurd (cc)
+fills_statement Custom st (fill_label offset (fill_comma (fill_rd d (fill_comma (fill_rs1 a (fill_comma (fill_rs2 b (fill_comma (fill_rs3 c done))))))))) =
+    absurd (cc)
 fills_statement Cread st (fill_rd a done) = cread a
 fills_statement Data st (fill_number {n} h done) = data_word (natural forms.whole_word _ n (natural_number (pos 0xffff_ffff)) h)
 fills_statement Data st (fill_label offset done) = absurd (cc)
@@ -124,11 +116,13 @@ pub record HasSlots (ts : List lex.Token) (statement : Statement) : Type 0 where
   pub fills : Fills (slots_of mnemonic) others no_values values
   pub meaning : says mnemonic values ≡ statement
 
-slots_from : (m : Mnemonic) {ts : List lex.Token} {w : Values} → is_statement m ≡ true → Fills (slots_of m) ts no_values w → HasSlots (mnemonic_token m ∷ ts) (says m w)
+slots_from : (m : Mnemonic) {ts : List lex.Token} {w : Values} → is_statement m ≡ true → Fills (slots_of m) ts no_values w
+    → HasSlots (mnemonic_token m ∷ ts) (says m w)
 slots_from m {ts} {w} named fills = record { mnemonic = m; others = ts; values = w; named = named; tokens = refl; fills = fills; meaning = refl }
 
 -- of a register-immediate form
-immediate_slots : (op : Op) (x y z : lex.Token) (d a : ℕ) (n : ℤ) (mnemonic : List ℕ) (field : forms.Field) → register_immediate op ≡ Some (mnemonic, field) → IsRegister x d → IsRegister y a → HasNumber field z n → HasSlots (name mnemonic ∷ x ∷ comma ∷ y ∷ comma ∷ z ∷ []) (plain (insn.AluImm op d a n))
+immediate_slots : (op : Op) (x y z : lex.Token) (d a : ℕ) (n : ℤ) (mnemonic : List ℕ) (field : forms.Field) → register_immediate op ≡ Some (mnemonic, field)
+    → IsRegister x d → IsRegister y a → HasNumber field z n → HasSlots (name mnemonic ∷ x ∷ comma ∷ y ∷ comma ∷ z ∷ []) (plain (insn.AluImm op d a n))
 immediate_slots op x y z d a n mnemonic field e rd rs1 number =
     let named : is_statement (RegisterImmediate op) ≡ true = ap is_some e in
     let text : immediate_name op ≡ mnemonic = ap form_name e in
@@ -152,7 +146,8 @@ statement_slots (store {width} b h a) = slots_from (Store width) refl (fill_rs2 
 statement_slots (fence h a d) = slots_from Fence refl (fill_number h (fill_comma (fill_rs1 a (fill_comma (fill_rd d done)))))
 statement_slots ecall = slots_from Ecall refl done
 statement_slots ebreak = slots_from Ebreak refl done
-statement_slots (custom h d a b c) = slots_from Custom refl (fill_number h (fill_comma (fill_rd d (fill_comma (fill_rs1 a (fill_comma (fill_rs2 b (fill_comma (fill_rs3 c done)))))))))
+statement_slots (custom h d a b c) =
+    slots_from Custom refl (fill_number h (fill_comma (fill_rd d (fill_comma (fill_rs1 a (fill_comma (fill_rs2 b (fill_comma (fill_rs3 c done)))))))))
 statement_slots (cread a) = slots_from Cread refl (fill_rd a done)
 statement_slots (data_word h) = slots_from Data refl (fill_number h done)
 
@@ -185,19 +180,12 @@ HasLabelFor m v = v.label ≡ None
 pub label_for : (m : Mnemonic) {ts : List lex.Token} {w : Values} → Fills (slots_of m) ts no_values w → HasLabelFor m w
 label_for (RegisterRegister op) fills = keeps_label fills tt
 label_for (RegisterImmediate op) fills = keeps_label fills (by_test (is_offset (immediate_field op)) (λ e. absurd (no_label op e)) (λ e. e), tt)
-label_for Lui fills = keeps_label fills (refl, tt)
-label_for Auipc fills = keeps_label fills (refl, tt)
 label_for Jal fills = tt
-label_for Jalr fills = keeps_label fills (refl, tt)
 label_for (Branch cond) fills = tt
-label_for (Load kind) fills = keeps_label fills (refl, tt)
-label_for (Store width) fills = keeps_label fills (refl, tt)
-label_for Fence fills = keeps_label fills (refl, tt)
 label_for Ecall fills = keeps_label fills tt
 label_for Ebreak fills = keeps_label fills tt
-label_for Custom fills = keeps_label fills (refl, tt)
 label_for Cread fills = keeps_label fills tt
-label_for Data fills = keeps_label fills (refl, tt)
+label_for other fills = keeps_label fills (refl, tt)
 
 -- the mnemonics whose last operand may be a label
 pub data TakesLabel : Mnemonic → Type 0 where
@@ -207,49 +195,25 @@ pub data TakesLabel : Mnemonic → Type 0 where
 pub takes_label : (m : Mnemonic) (v : Values) (label : List ℕ) → HasLabelFor m v → v.label ≡ Some label → TakesLabel m
 takes_label Jal v label for some = jal
 takes_label (Branch cond) v label for some = branches
-takes_label (RegisterRegister op) v label for some = absurd (cc)
-takes_label (RegisterImmediate op) v label for some = absurd (cc)
-takes_label Lui v label for some = absurd (cc)
-takes_label Auipc v label for some = absurd (cc)
-takes_label Jalr v label for some = absurd (cc)
-takes_label (Load kind) v label for some = absurd (cc)
-takes_label (Store width) v label for some = absurd (cc)
-takes_label Fence v label for some = absurd (cc)
-takes_label Ecall v label for some = absurd (cc)
-takes_label Ebreak v label for some = absurd (cc)
-takes_label Custom v label for some = absurd (cc)
-takes_label Cread v label for some = absurd (cc)
-takes_label Data v label for some = absurd (cc)
+takes_label other v label for some = absurd (cc)
 
 -- ---- instructions
 
 -- a statement without a label says its instruction
-pub plain_says : (m : Mnemonic) (line : List ℕ) (rd rs1 rs2 rs3 : ℕ) (number : Number) → says m (values_of line (record { rd = rd; rs1 = rs1; rs2 = rs2; rs3 = rs3; number = number; label = None })) ≡ plain (insn_of m (record { rd = rd; rs1 = rs1; rs2 = rs2; rs3 = rs3; number = number; label = None }))
-plain_says (RegisterRegister op) line rd rs1 rs2 rs3 number = refl
-plain_says (RegisterImmediate op) line rd rs1 rs2 rs3 number = refl
+pub plain_says : (m : Mnemonic) (line : List ℕ) (rd rs1 rs2 rs3 : ℕ) (number : Number)
+    → says m (values_of line (record { rd = rd; rs1 = rs1; rs2 = rs2; rs3 = rs3; number = number; label = None })) ≡ plain
+    (insn_of m (record { rd = rd; rs1 = rs1; rs2 = rs2; rs3 = rs3; number = number; label = None }))
 plain_says Lui line rd rs1 rs2 rs3 number = ap (λ m. plain (insn.Lui rd (4096 * m))) (abs_signed number)
 plain_says Auipc line rd rs1 rs2 rs3 number = ap (λ m. plain (insn.Auipc rd (4096 * m))) (abs_signed number)
-plain_says Jal line rd rs1 rs2 rs3 number = refl
-plain_says Jalr line rd rs1 rs2 rs3 number = refl
-plain_says (Branch cond) line rd rs1 rs2 rs3 number = refl
-plain_says (Load kind) line rd rs1 rs2 rs3 number = refl
-plain_says (Store width) line rd rs1 rs2 rs3 number = refl
 plain_says Fence line rd rs1 rs2 rs3 number = ap (λ m. plain (insn.Fence m rs1 rd)) (abs_signed number)
-plain_says Ecall line rd rs1 rs2 rs3 number = refl
-plain_says Ebreak line rd rs1 rs2 rs3 number = refl
 plain_says Custom line rd rs1 rs2 rs3 number = ap (λ m. plain (insn.Unit m rd rs1 rs2 rs3)) (abs_signed number)
-plain_says Cread line rd rs1 rs2 rs3 number = refl
 plain_says Data line rd rs1 rs2 rs3 number = ap (λ m. plain (insn.Illegal m)) (abs_signed number)
+plain_says other line rd rs1 rs2 rs3 number = refl
 
 -- the label of a branch or of JAL is its last operand
 pub offset_last : (m : Mnemonic) → OffsetLast (slots_of m)
 offset_last (RegisterRegister op) = tt
-offset_last (RegisterImmediate op) = (λ e. refl, tt)
-offset_last Lui = (λ e. refl, tt)
-offset_last Auipc = (λ e. refl, tt)
-offset_last Jal = (λ e. refl, tt)
 offset_last Jalr = (λ e. absurd (cc), tt)
-offset_last (Branch cond) = (λ e. refl, tt)
 offset_last (Load kind) = (λ e. absurd (cc), tt)
 offset_last (Store width) = (λ e. absurd (cc), tt)
 offset_last Fence = (λ e. absurd (cc), tt)
@@ -257,4 +221,4 @@ offset_last Ecall = tt
 offset_last Ebreak = tt
 offset_last Custom = (λ e. absurd (cc), tt)
 offset_last Cread = tt
-offset_last Data = (λ e. refl, tt)
+offset_last other = (λ e. refl, tt)
