@@ -1,14 +1,5 @@
-mod Listed
-mod Sinks
-mod Told
-mod Writes
-mod Makes
-mod FormLaws
-mod OneBlock
-mod WordLaws
-mod ListedLaws
-mod Causes
+mod BestLimits
+mod Bounds
 mod Dues
 mod Runs
-mod RunTexts
 mod Kept

@@ -3,20 +3,16 @@
 
 ghost use Rattle.std.specs.Prelude.{◌≡◌, ◌≢◌, ◌⊎◌, ℕ, List, [], ◌∷◌, Some, IfSome, Contains, map};
 ghost use Rattle.std.specs.String.{string_bytes};
-ghost use Rattle.ci_find.specs.Endings.{changed, Ends, IsDue, IsAnswered};
+ghost use Rattle.ci_calls.specs.Finishing.{changed};
+ghost use Rattle.ci_find.specs.Endings.{Ends, IsDue, IsAnswered};
 ghost use Rattle.ci_find.specs.Endings.{HasNoRefusal, HasNoFault, AreLeft, HasPrinted};
 
+use ci_calls::{finish, refuse};
 use ci_io::{Shelf, Sink};
-use commands::make;
-use faults::refuse;
-use finish::finish;
+use commands::evaluate;
 use std::alloc::Global;
 
-mod analysis;
 mod commands;
-mod faults;
-mod finish;
-mod inputs;
 #[cfg(test)]
 mod tests;
 
@@ -95,7 +91,7 @@ fn answer<F: Shelf, O: Sink>(alloc: Global, words: &Vec<String>, shelf: &mut F, 
         (F.state shelf.old) (F.state shelf.new) (O.state out.old) (O.state out.new))
         result }
 {
-    match make(alloc, words, shelf) {
+    match evaluate(alloc, words, shelf) {
         Ok(success) => finish(alloc, &success, shelf, out),
         Err(refusal) => refuse(alloc, &refusal, out),
     }

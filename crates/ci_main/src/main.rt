@@ -4,7 +4,8 @@
 ghost use Rattle.std.specs.Prelude.{map};
 ghost use Rattle.std.specs.String.{string_bytes};
 ghost use Rattle.std.specs.Process.{exit_status};
-ghost use Rattle.ci_find.specs.Endings.{changed, Ends};
+ghost use Rattle.ci_calls.specs.Finishing.{changed};
+ghost use Rattle.ci_find.specs.Endings.{Ends};
 
 use ci_find::run;
 use ci_io::{FileShelf, Shelf, Sink, StdSink};

@@ -1,0 +1,7 @@
+pub mod Counts
+mod Told
+mod FormLaws
+pub mod InputLaws
+pub mod OneRefusal
+pub mod Writes
+pub mod Contents

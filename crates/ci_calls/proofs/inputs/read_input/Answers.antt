@@ -1,0 +1,7 @@
+-- An input that is given is the bytes of its file.
+use Rattle.ci_calls.proofs.InputLaws.{input_given}
+use Rattle.ci_calls.proofs.inputs.read_input.Goals as goal
+
+pub returns-in-Some-clause-read : goal.returns-in-Some-clause-read
+returns-in-Some-clause-read g c =
+    rw c.in-Some.is (input_given _ _ c.read_file.result c.read_file.ensures.there c.read_file.ensures.within_limit)

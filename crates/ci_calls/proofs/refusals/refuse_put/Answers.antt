@@ -1,0 +1,7 @@
+-- The line that is put is that of the refusal.
+use Rattle.std.specs.Fmt.{digits}
+use Rattle.ci_calls.proofs.refusals.refuse_put.Goals as goal
+
+pub returns-clause-put : goal.returns-clause-put
+unfolding digits
+returns-clause-put g c = c.put_fault.ensures.put

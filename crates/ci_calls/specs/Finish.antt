@@ -1,0 +1,51 @@
+-- For private contracts only: the steps from a success or a refusal to the end of the call.
+use Rattle.std.specs.Prelude.{◌≡◌, ◌≢◌, ℕ, ◌≤◌, Bool, IsTrue, ◌⊎◌, List, [], ◌∷◌, ◌++◌, Option, take}
+use Rattle.std.specs.Option.{option_map}
+use Rattle.std.specs.String.{string_bytes}
+use Rattle.ci_io.specs.Outcomes.{Rises, ShelfState, SinkState, with_file}
+use Rattle.ci_calls.specs.declared.finishing.WriteErr.{WriteErr}
+use Rattle.ci_calls.specs.declared.finishing.WriteErr.TheVariants as unwritten
+use Rattle.ci_calls.specs.declared.refusals.Refusal.{Refusal}
+use Rattle.ci_calls.specs.declared.refusals.Refusal.TheVariants.{Write, Put, NoMemory}
+use Rattle.ci_calls.specs.declared.success.Written.{Written}
+use Rattle.ci_calls.specs.Finishing.{Takes, NeverFalls, IsPut, AreWritten}
+use Rattle.ci_calls.specs.Refusals.{status_of, line_of}
+
+-- The refusal's status, and its line was put; or memory ran out for the line, and then that is the refusal.
+abbrev pub IsRefused : Refusal → ℕ → SinkState → SinkState → Type 0
+IsRefused refusal status before after =
+    ((status ≡ status_of refusal) × IsPut before after (line_of refusal))
+    ⊎ ((status ≡ status_of NoMemory) × IsPut before after (line_of NoMemory))
+
+-- Why a file was not written: its write failed, and this is the refusal that names it, with its fault line; or memory ran out.
+abbrev pub IsUnwrittenFile : (List ℕ → Bool) → Written → ShelfState → ShelfState → WriteErr → Type 0
+IsUnwrittenFile may_fail file before after (unwritten.Fault refusal line) =
+    (content : Option (List ℕ)) × (after.files ≡ option_map (with_file file.name.now content) before.files)
+    × IsTrue (may_fail file.name.now) × Rises before.write_faults after.write_faults
+    × (refusal ≡ Write file.name) × (string_bytes line ≡ line_of refusal)
+IsUnwrittenFile may_fail file before after unwritten.NoMemory = after.files ≡ before.files
+
+-- the same of the first of several files that was not written
+pub record AreUnwritten
+    (may_fail : List ℕ → Bool) (writes : List Written) (before after : ShelfState) (error : WriteErr) : Type 0 where
+  pub front : List Written
+  pub failed : Written
+  pub others : List Written
+  pub in_order : writes ≡ front ++ failed ∷ others
+  pub between : ShelfState
+  pub front_written : AreWritten before between front
+  pub never_falls : before.write_faults ≤ between.write_faults
+  pub unwritten : IsUnwrittenFile may_fail failed between after error
+
+-- The text of success was taken; or its put failed or ran out of memory, and then the fault line was put.
+pub data IsTextPut (text : List ℕ) (before after : SinkState) : ℕ → Type 0 where
+  taken : Takes before after text → IsTextPut text before after 0
+  fault :
+      text ≢ [] → (between : SinkState) → NeverFalls before between → Rises before.faults between.faults →
+      (n : ℕ) × Takes before between (take n text) → IsPut between after (line_of Put) →
+      IsTextPut text before after (status_of Put)
+  no_memory :
+      text ≢ [] → (between : SinkState) → NeverFalls before between →
+      Rises before.memory_faults between.memory_faults →
+      between.taken ≡ before.taken →
+      IsPut between after (line_of NoMemory) → IsTextPut text before after (status_of NoMemory)

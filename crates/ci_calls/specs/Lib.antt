@@ -1,0 +1,10 @@
+pub mod Refusals
+pub mod Texts
+pub mod Forms
+pub mod Inputs
+pub mod Files
+pub mod Success
+pub mod Evaluations
+pub mod Finishing
+pub mod Refused
+pub mod Finish

@@ -1,0 +1,128 @@
+//! The files that a command reads.
+ghost use Rattle.std.specs.Prelude.{◌≡◌, ◌≤◌, ◌∷◌, ◌++◌, ℕ, List, Option, IfOk, IfErr, length};
+ghost use Rattle.ci_elf.specs.Executables.{IsImageOf};
+ghost use Rattle.ci_lat.specs.Faults.{AreTable};
+ghost use Rattle.ci_calls.specs.Files.{executable_input, table_input, program_input, optional_input, optional_bytes, name_in, AreGiven, AreLatencies, input_bytes};
+ghost use Rattle.ci_calls.specs.Forms.{Form};
+ghost use Rattle.ci_calls.specs.Inputs.{Input, MayHold, IsGood, AreRead};
+ghost use Rattle.ci_calls.specs.Refused.{AreUnread};
+
+use crate::refusals::Refusal;
+use ci_elf::Image;
+use ci_io::{Shelf, ShelfErr};
+use ci_lat::Table;
+use std::alloc::Global;
+
+/// The maximum length of an executable file, in bytes.
+const EXECUTABLE_LIMIT: u64 = 16_777_216;
+
+/// The maximum length of a latency table, in bytes.
+const TABLE_LIMIT: u64 = 65_536;
+
+/// The maximum length of the input of a program, in bytes.
+const INPUT_LIMIT: u64 = 16_777_216;
+
+/// The bytes of the file of a name, which may have up to `limit`.
+pub fn read_file<'a, F: Shelf>(
+    alloc: Global,
+    name: &'a str,
+    limit: u64,
+    shelf: &mut F,
+) -> Result<Vec<u8>, Refusal<'a>>
+    ensures there { IfOk result (λ bytes. MayHold (F.state shelf.old).files name.now bytes.items) }
+    ensures within_limit { IfOk result (λ bytes. length bytes.items ≤ limit) }
+    // Whatever form the file has, and whatever files come after it.
+    ensures refused { IfErr result (λ refusal. (form : Form) (others : List Input) → AreUnread F.read_may_fail
+        (F.state shelf.old) (F.state shelf.new) (record { name = name.now; limit = limit; form = form } ∷ others) refusal) }
+    ensures never_falls { (F.state shelf.old).read_faults ≤ (F.state shelf.new).read_faults }
+    ensures files_stay { (F.state shelf.new).files ≡ (F.state shelf.old).files }
+    ensures no_write { (F.state shelf.new).write_faults ≡ (F.state shelf.old).write_faults }
+{
+    match shelf.read(alloc, name, limit) {
+        Ok(bytes) => Ok(bytes),
+        Err(ShelfErr::Absent) => Err(Refusal::Read(name)),
+        Err(ShelfErr::Fault) => Err(Refusal::Read(name)),
+        Err(ShelfErr::TooLarge) => Err(Refusal::TooLarge(name)),
+        Err(ShelfErr::NoMemory) => Err(Refusal::NoMemory),
+    }
+}
+
+/// The image of the executable file of a name.
+pub fn read_image<'a, F: Shelf>(
+    alloc: Global,
+    name: &'a str,
+    shelf: &mut F,
+) -> Result<Image, Refusal<'a>>
+    ensures read { IfOk result (λ image. (bytes : List ℕ)
+        × IsGood (F.state shelf.old).files (executable_input name.now) bytes × IsImageOf bytes image) }
+    ensures refused { IfErr result (λ refusal. (others : List Input) → AreUnread F.read_may_fail
+        (F.state shelf.old) (F.state shelf.new) (executable_input name.now ∷ others) refusal) }
+    ensures never_falls { (F.state shelf.old).read_faults ≤ (F.state shelf.new).read_faults }
+    ensures files_stay { (F.state shelf.new).files ≡ (F.state shelf.old).files }
+    ensures no_write { (F.state shelf.new).write_faults ≡ (F.state shelf.old).write_faults }
+{
+    let bytes = read_file(alloc, name, EXECUTABLE_LIMIT, shelf)?;
+    let image = ci_elf::read(alloc, bytes.as_slice())?;
+    Ok(image)
+}
+
+/// The latency table in the file of a name.
+fn read_table_file<'a, F: Shelf>(
+    alloc: Global,
+    name: &'a str,
+    shelf: &mut F,
+) -> Result<Table, Refusal<'a>>
+    ensures read { IfOk result (λ table. (bytes : List ℕ)
+        × IsGood (F.state shelf.old).files (table_input name.now) bytes × AreTable bytes table) }
+    ensures refused { IfErr result (λ refusal. (others : List Input) → AreUnread F.read_may_fail
+        (F.state shelf.old) (F.state shelf.new) (table_input name.now ∷ others) refusal) }
+    ensures never_falls { (F.state shelf.old).read_faults ≤ (F.state shelf.new).read_faults }
+    ensures files_stay { (F.state shelf.new).files ≡ (F.state shelf.old).files }
+    ensures no_write { (F.state shelf.new).write_faults ≡ (F.state shelf.old).write_faults }
+{
+    let bytes = read_file(alloc, name, TABLE_LIMIT, shelf)?;
+    let table = Table::from_toml(alloc, bytes.as_slice())?;
+    Ok(table)
+}
+
+/// The latency table in the file of a name, or the usual table where none is given.
+pub fn read_table<'a, F: Shelf>(
+    alloc: Global,
+    name: Option<&'a str>,
+    shelf: &mut F,
+) -> Result<Table, Refusal<'a>>
+    ensures read { IfOk result (λ table. (bytes : Option (List ℕ)) × AreGiven (name_in name.entry) bytes
+        × AreRead (F.state shelf.old).files (optional_input table_input (name_in name.entry)) (optional_bytes bytes)
+        × AreLatencies bytes table) }
+    ensures refused { IfErr result (λ refusal. (others : List Input) → AreUnread F.read_may_fail
+        (F.state shelf.old) (F.state shelf.new) (optional_input table_input (name_in name.entry) ++ others) refusal) }
+    ensures never_falls { (F.state shelf.old).read_faults ≤ (F.state shelf.new).read_faults }
+    ensures files_stay { (F.state shelf.new).files ≡ (F.state shelf.old).files }
+    ensures no_write { (F.state shelf.new).write_faults ≡ (F.state shelf.old).write_faults }
+{
+    match name {
+        Some(name) => read_table_file(alloc, name, shelf),
+        None => Ok(Table::usual()),
+    }
+}
+
+/// The input of a program, from the file of a name, or none where no name is given.
+pub fn read_input<'a, F: Shelf>(
+    alloc: Global,
+    name: Option<&'a str>,
+    shelf: &mut F,
+) -> Result<Vec<u8>, Refusal<'a>>
+    ensures read { IfOk result (λ input. (bytes : Option (List ℕ)) × AreGiven (name_in name.entry) bytes
+        × AreRead (F.state shelf.old).files (optional_input program_input (name_in name.entry)) (optional_bytes bytes)
+        × (input.items ≡ input_bytes bytes)) }
+    ensures refused { IfErr result (λ refusal. (others : List Input) → AreUnread F.read_may_fail
+        (F.state shelf.old) (F.state shelf.new) (optional_input program_input (name_in name.entry) ++ others) refusal) }
+    ensures never_falls { (F.state shelf.old).read_faults ≤ (F.state shelf.new).read_faults }
+    ensures files_stay { (F.state shelf.new).files ≡ (F.state shelf.old).files }
+    ensures no_write { (F.state shelf.new).write_faults ≡ (F.state shelf.old).write_faults }
+{
+    match name {
+        Some(name) => read_file(alloc, name, INPUT_LIMIT, shelf),
+        None => Ok(Vec::new(alloc)),
+    }
+}

@@ -1,0 +1,35 @@
+-- The words of the text that the file holds, or its first fault.
+use Rattle.std.proofs.Common.{[], ◌∷◌, inl, refl}
+use Rattle.std.proofs.lemmas.Result.{err_from_is_err_and}
+use Rattle.ci_calls.proofs.InputLaws.{one_read}
+use Rattle.ci_commands.proofs.Causes.{unread_text}
+use Rattle.ci_commands.proofs.asm.evaluate.Goals as goal
+
+pub returns-in_err-bytes-clause-refused : goal.returns-in_err-bytes-clause-refused
+returns-in_err-bytes-clause-refused g c =
+    let p = err_from_is_err_and c.from_residual-in_err-bytes.result c.from_residual-in_err-bytes.ensures.1 in
+    let bad = rw c.as_slice.ensures.value at c.in_err-bytes.ensures.fault in
+    let read = c.in_ok-read.ensures in
+    rw (p.1, p.2) (inl
+    (unread_text g.F.Shelf.read_may_fail (g.F.Shelf.state c.args.shelf.now) (g.F.Shelf.state c.read_file.new.shelf)
+    c.args.text.now c.in_ok-read.read.items read.there read.within_limit c.in_err-bytes.field-0.0 bad))
+
+pub returns-clause-made : goal.returns-clause-made
+returns-clause-made g c =
+    let bytes = c.in_ok-read.read.items in
+    let assembled = rw c.as_slice.ensures.value at c.in_ok-bytes.ensures.bytes in
+    record {
+      read = bytes ∷ [];
+      files = one_read _ _ bytes c.in_ok-read.ensures.there c.in_ok-read.ensures.within_limit (assembled.0, assembled.1);
+      made = record {
+        bytes = bytes;
+        words = assembled.0;
+        read_is = refl;
+        text = assembled.1;
+        file = record { name = c.args.out; bytes = c.in_ok-bytes.bytes };
+        writes_one = c.in_ok-vec.ensures.items;
+        name_is = refl;
+        words_are = assembled.2;
+        puts_nothing = c.new.ensures.items;
+      };
+    }

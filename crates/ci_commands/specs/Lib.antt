@@ -1,0 +1,10 @@
+pub mod Lines
+pub mod WordBlocks
+pub mod ListedBlocks
+pub mod BestCommand
+pub mod BlocksCommand
+pub mod AsmCommand
+pub mod DisCommand
+pub mod RunCommand
+pub mod Causes
+pub mod BlockFiles

@@ -1,0 +1,119 @@
+//! The command `best`: the best cut of a block.
+ghost use Rattle.std.specs.Prelude.{◌≡◌, ℕ, List, Option, ◌≤◌, IfOk, IfErr, length};
+ghost use Rattle.std.specs.FinSet as set;
+ghost use Rattle.std.specs.Ordering.{nat_cmp};
+ghost use Rattle.std.specs.String.{string_bytes};
+ghost use Rattle.ci_dfg.specs.BlockGraph.{graph_of};
+ghost use Rattle.ci_isa.specs.declared.instruction.Insn.{Insn as Instruction};
+ghost use Rattle.ci_calls.specs.Evaluations.{Evaluates};
+ghost use Rattle.ci_calls.specs.Files.{name_in};
+ghost use Rattle.ci_calls.specs.Refused.{IsRefusedBy};
+ghost use Rattle.ci_commands.specs.BestCommand.{best_inputs, IsBestMade, IsBestRefused, HoldsBlock, HoldsNoBlock};
+ghost use Rattle.ci_commands.specs.BlockFiles.{IsFileOf, IsWithinLimit};
+ghost use Rattle.ci_commands.specs.Causes.{IsCause};
+ghost use Rattle.ci_commands.specs.Lines.{IsBestLine};
+
+use ci_calls::{Refusal, Success, read_table};
+use ci_cut::Limits;
+use ci_dfg::graph;
+use ci_io::Shelf;
+use ci_isa::Insn;
+use ci_lat::Table;
+use ci_word::Row;
+use cut::best_cut_line;
+use file::{BlockFile, read_block_file};
+use listed::listed_block;
+use std::alloc::Global;
+use words::word_block;
+
+mod cut;
+mod file;
+mod line;
+mod listed;
+mod words;
+
+/// The instructions of a block, and the registers that are live after it.
+#[derive(Drop)]
+pub struct LiveBlock {
+    pub insns: Vec<Insn>,
+    pub live_out: Row,
+}
+
+/// Which block is meant, and how its best cut is searched for.
+#[derive(Clone, Copy)]
+pub struct BestSettings<'a, 'b> {
+    /// The address of the block in an executable. Where there is none, the file is the words of the block.
+    pub at: Option<u32>,
+    /// The addresses at which blocks of an executable begin too.
+    pub leaders: &'b [u32],
+    /// The greatest numbers of inputs and of outputs of a cut.
+    pub limits: Limits,
+    /// The greatest number of branches of the log of the search.
+    pub budget: u32,
+    /// The file with the latency table, which is the usual one where there is none.
+    pub table: Option<&'a str>,
+}
+
+/// Makes the line of the best cut of the block in the file.
+pub fn evaluate<'a, F: Shelf>(
+    alloc: Global,
+    file: &'a str,
+    settings: &BestSettings<'a, '_>,
+    shelf: &mut F,
+) -> Result<Success<'a>, Refusal<'a>>
+    requires { settings.now.budget ≤ 4194304 }
+    ensures made { IfOk result (Evaluates (F.state shelf.old).files
+        (best_inputs settings.now.at file.now (name_in settings.now.table))
+        (IsBestMade settings.now.at settings.now.leaders.now
+        settings.now.limits settings.now.budget (name_in settings.now.table))) }
+    ensures refused { IfErr result (IsRefusedBy F.read_may_fail (F.state shelf.old) (F.state shelf.new)
+        (best_inputs settings.now.at file.now (name_in settings.now.table))
+        (IsBestRefused settings.now.at settings.now.leaders.now)) }
+    ensures files_stay { (F.state shelf.new).files ≡ (F.state shelf.old).files }
+    ensures no_write { (F.state shelf.new).write_faults ≡ (F.state shelf.old).write_faults }
+{
+    let block = read_block_file(alloc, file, settings.at, shelf)?;
+    let table = read_table(alloc, settings.table, shelf)?;
+    let line = best_line(alloc, &block, settings, &table)?;
+    Ok(Success {
+        writes: Vec::new(alloc),
+        text: line.into_bytes(),
+    })
+}
+
+/// The line of the best cut of the block that the file holds.
+fn best_line<'a>(
+    alloc: Global,
+    file: &BlockFile,
+    settings: &BestSettings<'_, '_>,
+    table: &Table,
+) -> Result<String, Refusal<'a>>
+    requires within { IsWithinLimit file.now }
+    requires budget { settings.now.budget ≤ 4194304 }
+    ensures done { IfOk result (λ line. (at : Option ℕ) (bytes : List ℕ) → IsFileOf at bytes file.now
+        → (insns : List Instruction) × (live_out : set.FinSet nat_cmp)
+        × HoldsBlock at settings.now.leaders.now bytes insns live_out
+        × IsBestLine (graph_of insns live_out table.now) settings.now.limits settings.now.budget (string_bytes line)) }
+    ensures cause { IfErr result (λ error. (at : Option ℕ) (bytes : List ℕ) → IsFileOf at bytes file.now
+        → IsCause (HoldsNoBlock at settings.now.leaders.now bytes) error) }
+{
+    let block = block_in(alloc, file, settings.leaders)?;
+    let graph = graph(alloc, block.insns.as_slice(), block.live_out, table)?;
+    let line = best_cut_line(alloc, &graph, &settings.limits, settings.budget)?;
+    Ok(line)
+}
+
+/// The block that the file holds.
+fn block_in<'a>(alloc: Global, file: &BlockFile, named: &[u32]) -> Result<LiveBlock, Refusal<'a>>
+    requires { IsWithinLimit file.now }
+    ensures few { IfOk result (λ block. length block.insns.items ≤ 256) }
+    ensures held { IfOk result (λ block. (at : Option ℕ) (bytes : List ℕ) → IsFileOf at bytes file.now
+        → HoldsBlock at named.now bytes block.insns.items block.live_out) }
+    ensures cause { IfErr result (λ error. (at : Option ℕ) (bytes : List ℕ) → IsFileOf at bytes file.now
+        → IsCause (HoldsNoBlock at named.now bytes) error) }
+{
+    match file {
+        BlockFile::Words(bytes) => word_block(alloc, bytes.as_slice()),
+        BlockFile::Program { image, address } => listed_block(alloc, image, named, *address),
+    }
+}

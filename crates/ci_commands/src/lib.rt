@@ -1,0 +1,10 @@
+//! The commands that need no rounds: what each makes of its files, or why it makes nothing. They take names and settings,
+//! and know nothing of the words that say them.
+#![tactic(auto)]
+
+mod analysis;
+pub mod asm;
+pub mod best;
+pub mod blocks;
+pub mod dis;
+pub mod run;

@@ -1,0 +1,126 @@
+//! The command `run`: the run of an executable file.
+ghost use Rattle.std.specs.Prelude.{◌≡◌, ◌≤◌, ◌++◌, IfOk, IfErr, codes};
+ghost use Rattle.std.specs.String.{string_bytes};
+ghost use Rattle.std.specs.Fmt.{decimal};
+ghost use Rattle.ci_reading.specs.Hex.{eight_hex_digits};
+ghost use Rattle.ci_isa.specs.Effects.{width_bytes};
+ghost use Rattle.ci_calls.specs.Evaluations.{Evaluates, RefusesNothing};
+ghost use Rattle.ci_calls.specs.Files.{name_in};
+ghost use Rattle.ci_calls.specs.Refused.{IsRefusedBy};
+ghost use Rattle.ci_commands.specs.Lines.{end_line, end_text};
+ghost use Rattle.ci_commands.specs.RunCommand.{run_inputs, IsRunMade, IsRunText};
+
+use ci_calls::{Refusal, Success, read_image, read_input, read_table};
+use ci_elf::Image;
+use ci_emu::{End, Profile};
+use ci_io::Shelf;
+use ci_isa::Width;
+use ci_lat::Table;
+use ci_machine::State;
+use ci_reading::hex_text;
+use std::alloc::{AllocError, Global};
+
+/// How a file is run.
+#[derive(Clone, Copy)]
+pub struct RunSettings<'a> {
+    /// The greatest number of steps.
+    pub steps: u64,
+    /// The file with the input of the program, which reads nothing where there is none.
+    pub input: Option<&'a str>,
+    /// The file with the latency table, which is the usual one where there is none.
+    pub table: Option<&'a str>,
+}
+
+/// Makes the output and the end line of the run of the executable in the file.
+pub fn evaluate<'a, F: Shelf>(
+    alloc: Global,
+    file: &'a str,
+    settings: &RunSettings<'a>,
+    shelf: &mut F,
+) -> Result<Success<'a>, Refusal<'a>>
+    requires { settings.now.steps ≤ 4294967296 }
+    ensures made { IfOk result (Evaluates (F.state shelf.old).files
+        (run_inputs file.now (name_in settings.now.table) (name_in settings.now.input))
+        (IsRunMade settings.now.steps (name_in settings.now.table) (name_in settings.now.input))) }
+    ensures refused { IfErr result (IsRefusedBy F.read_may_fail
+        (F.state shelf.old) (F.state shelf.new)
+        (run_inputs file.now (name_in settings.now.table) (name_in settings.now.input)) RefusesNothing) }
+    ensures files_stay { (F.state shelf.new).files ≡ (F.state shelf.old).files }
+    ensures no_write { (F.state shelf.new).write_faults ≡ (F.state shelf.old).write_faults }
+{
+    let image = read_image(alloc, file, shelf)?;
+    let table = read_table(alloc, settings.table, shelf)?;
+    let input = read_input(alloc, settings.input, shelf)?;
+    let text = run_text(alloc, &image, &table, input.as_slice(), settings.steps)?;
+    Ok(Success {
+        writes: Vec::new(alloc),
+        text,
+    })
+}
+
+/// The output and the end line of the run.
+fn run_text(
+    alloc: Global,
+    image: &Image,
+    table: &Table,
+    input: &[u8],
+    steps: u64,
+) -> Result<Vec<u8>, AllocError>
+    requires { steps ≤ 4294967296 }
+    ensures { IfOk result (λ text. IsRunText image.now table.now input.now steps text.items) }
+{
+    let mut state = State::start(alloc, image, input)?;
+    let profile = ci_emu::run(alloc, &mut state, table, steps)?;
+    let line = end_line(alloc, &profile)?;
+    let mut text = Vec::from_slice(alloc, state.output())?;
+    text.extend_from_slice(line.as_bytes())?;
+    Ok(text)
+}
+
+/// The end line: how the run ended, its steps, and their cost.
+fn end_line(alloc: Global, profile: &Profile) -> Result<String, AllocError>
+    ensures { IfOk result (λ text. string_bytes text ≡ end_line profile.now.end profile.now.steps profile.now.cost) }
+{
+    let mut text = String::from_str(alloc, "end ")?;
+    let end = end_text(alloc, profile.end)?;
+    text.push_str(end.as_str())?;
+    let steps = profile.steps;
+    let cost = profile.cost;
+    write!(text, " steps {steps}")?;
+    writeln!(text, " cost {cost}")?;
+    Ok(text)
+}
+
+/// How a run ended, or `limit` where it made as many steps as it may.
+fn end_text(alloc: Global, end: Option<End>) -> Result<String, AllocError>
+    ensures { IfOk result (λ text. string_bytes text ≡ end_text end) }
+{
+    match end {
+        Some(End::Exit(code)) => word_text(alloc, "exit ", code),
+        Some(End::Break) => String::from_str(alloc, "break"),
+        Some(End::Access(address, width)) => access_text(alloc, address, width),
+        Some(End::Misaligned(target)) => word_text(alloc, "misaligned ", target),
+        Some(End::Fetch(pc)) => word_text(alloc, "fetch ", pc),
+        Some(End::Illegal(word)) => word_text(alloc, "illegal ", word),
+        None => String::from_str(alloc, "limit"),
+    }
+}
+
+/// A name and the eight digits of a word.
+fn word_text(alloc: Global, name: &str, word: u32) -> Result<String, AllocError>
+    ensures { IfOk result (λ text. string_bytes text ≡ name.now ++ eight_hex_digits word) }
+{
+    let digits = hex_text(alloc, word)?;
+    format!(in alloc; "{name}{digits}")
+}
+
+/// The address of an access, and how many bytes it moves.
+fn access_text(alloc: Global, address: u32, width: Width) -> Result<String, AllocError>
+    ensures { IfOk result (λ text. string_bytes text
+        ≡ codes "access " ++ eight_hex_digits address ++ codes " " ++ decimal (width_bytes width)) }
+{
+    let mut text = word_text(alloc, "access ", address)?;
+    let bytes = width.bytes();
+    write!(text, " {bytes}")?;
+    Ok(text)
+}

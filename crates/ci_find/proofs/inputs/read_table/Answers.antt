@@ -1,7 +1,0 @@
--- A table that is given is that of its file.
-use Rattle.ci_find.proofs.Makes.{table_given}
-use Rattle.ci_find.proofs.inputs.read_table.Goals as goal
-
-pub returns-in-Some-clause-read : goal.returns-in-Some-clause-read
-returns-in-Some-clause-read g c =
-    rw c.in-Some.is (table_given _ _ c.read_table_file.result c.read_table_file.ensures.read)
