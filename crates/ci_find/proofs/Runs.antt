@@ -1,5 +1,5 @@
 -- How a call of the program ends, and that what is due comes.
-use Rattle.std.proofs.Common.{◌≡◌, ℕ, Bool, inl, inr, List, ◌∷◌, [], Contains, lit<, Option, Some, None, IfSome, refl, sym, ap, subst, ◌∙◌}
+use Rattle.std.proofs.Common.{◌≡◌, ℕ, inl, inr, List, ◌∷◌, [], Contains, lit<, Option, Some, None, IfSome, refl, sym, subst}
 use Rattle.ci_io.specs.Outcomes.{Files}
 use Rattle.ci_calls.specs.declared.refusals.Refusal.{Refusal}
 use Rattle.ci_calls.specs.declared.refusals.Refusal.TheVariants.{Usage, Read, Write, Put, TooLarge, BadElf, BadTable, Unsupported, NoMemory, BadAsm}
@@ -8,7 +8,7 @@ use Rattle.ci_calls.specs.Finish.{IsRefused}
 use Rattle.ci_calls.specs.Finishing.{Change, IsPut, IsUnwritten, Finishes, done, write_fault, put_fault, no_memory_in_write, no_memory_in_put}
 use Rattle.ci_calls.specs.Refusals.{status_of, line_of}
 use Rattle.ci_calls.proofs.Counts.{Rises-earlier}
-use Rattle.ci_find.specs.Endings.{IsRefusal, usage, file, once_read, IsDue, Ends, finished, refused, read_fault, no_memory, IsAnswered}
+use Rattle.ci_find.specs.Endings.{usage, file, once_read, IsDue, Ends, finished, refused, read_fault, no_memory, IsAnswered}
 use Rattle.ci_find.specs.Explained.{Explains}
 use Rattle.ci_find.proofs.Dues.{IsDue-same}
 

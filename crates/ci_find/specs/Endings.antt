@@ -1,5 +1,5 @@
 -- For every reader: how a call of the program ends, by its status, what the sink took, and the files of the shelf.
-use Rattle.std.specs.Prelude.{◌≡◌, ℕ, ◌⊎◌, IsTrue, List, [], ◌++◌, Option, Some, IfSome, Contains, take}
+use Rattle.std.specs.Prelude.{◌≡◌, ℕ, ◌⊎◌, IsTrue, List, [], Option, Some, IfSome, Contains, take}
 use Rattle.std.specs.FinMap as map
 use Rattle.ci_io.specs.Outcomes.{Files, Rises, SinkState}
 use Rattle.ci_words.specs.Words.{Reading, ReadsAs, HasNoReading}

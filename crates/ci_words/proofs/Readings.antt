@@ -1,11 +1,11 @@
 -- The readings of words, against the matches of the command that the first word names.
-use Rattle.std.proofs.Common.{◌≡◌, ◌≢◌, ◌∙◌, ◌≤◌, ◌<◌, ◌⊎◌, ◌&&◌, ℕ, Bool, true, false, not, List, [], ◌∷◌, ◌++◌, length, map, codes, Some, refl, sym, ap, ap₂, subst, arith, inl, inr, drop, get_or, zero, suc}
-use Rattle.std.specs.Prelude.{All, AllPairs, Contains, filter, slice_get, zip, unwrap_or, if◌then◌else◌}
+use Rattle.std.proofs.Common.{◌≡◌, ◌≢◌, ◌∙◌, ◌≤◌, ◌<◌, ◌⊎◌, ◌&&◌, ℕ, Bool, true, false, not, List, [], ◌∷◌, ◌++◌, length, map, codes, Some, refl, sym, ap, ap₂, subst, arith, inl, inr, drop, zero, suc}
+use Rattle.std.specs.Prelude.{All, AllPairs, Contains, slice_get, zip, unwrap_or}
 use Rattle.std.specs.Char.{digit_value}
-use Rattle.std.specs.List.{AllZip, list_any, slice_index_or}
+use Rattle.std.specs.List.{AllZip, slice_index_or}
 use Rattle.std.specs.Str.{bytes_eq}
 use Rattle.std.proofs.lemmas.List.{get_or-map, length-map}
-use Rattle.std.proofs.lemmas.List.Elements.{All-cons, All-filter, All-head, All-map, All-nil, All-tail, All-weaker}
+use Rattle.std.proofs.lemmas.List.Elements.{All-cons, All-head, All-map, All-nil, All-tail}
 use Rattle.std.proofs.lemmas.List.Folds.{Any-from_list_any, list_any-from_Any}
 use Rattle.std.proofs.lemmas.Slice.Eq.{bytes_eq-Decides}
 use Rattle.std.proofs.lemmas.Slice.Zip.{seconds-zip}
@@ -18,8 +18,8 @@ use Rattle.ci_words.specs.declared.tables.Kind.{Kind}
 use Rattle.ci_words.specs.declared.tables.Kind.TheVariants as kind
 use Rattle.ci_words.specs.declared.tables.OptionName.{OptionName}
 use Rattle.ci_words.specs.Tables.{CommandRow, OptionRow, commands}
-use Rattle.ci_words.specs.Words.{AreApart, AreDigits, AreMixed, AreSaid, AreSet, Gives, IsDefault, IsName, IsWord, Reading, ReadsAs, ReadsBy, ReadsIn, Says, Sets, Text, Value, file, is_named, number, settings_in, values_of, word}
-use Rattle.ci_words.specs.Parses.{IsParsed, MatchesGive, app_by, are_rows, is_row, known_in, names_in, repeats_in, values_in}
+use Rattle.ci_words.specs.Words.{AreApart, AreDigits, AreSaid, AreSet, Gives, IsDefault, IsName, IsWord, Reading, ReadsAs, ReadsBy, ReadsIn, Says, Sets, Text, Value, file, number, settings_in, values_of, word}
+use Rattle.ci_words.specs.Parses.{IsParsed, MatchesGive, app_by, are_rows, is_row, known_in, names_in, values_in}
 use Rattle.ci_words.proofs.Levels.{AreRead, passed_reads, read_meets}
 use Rattle.ci_words.proofs.Matches.{some-same}
 use Rattle.ci_words.proofs.Rows.{AreOf, listed}

@@ -169,8 +169,8 @@ module _ (known : Known) where
   }
 
   module _
-      (rows : List Row) (names : List Text) (given : List (Text × Text)) (option value : Text) (apart : bytes_eq
-      (codes "names") option ≡ false) (among : Contains known.names option) where
+      (rows : List Row) (names : List Text) (given : List (Text × Text)) (option value : Text)
+      (apart : bytes_eq (codes "names") option ≡ false) (among : Contains known.names option) where
     -- the fault of an option with its value, once it is used
     filled_fault : settle_fault (rules known) false (filled rows option value) ≡ use_fault false (option_rule known option) (value ∷ []) rows
     filled_fault = ap (λ o. option_map_or (λ a. use_fault false a (value ∷ []) rows) o []) (id_known known option apart among)

@@ -139,7 +139,7 @@ pub fn read_words(alloc: Global, words: &[String]) -> Result<Words<'_>, WordsErr
     ensures ok { IfOk result (λ said. ReadsAs (map string_bytes words.entry.now) (reading_of said)) }
     ensures only { IfOk result (λ said. (other : Reading)
         → ReadsAs (map string_bytes words.entry.now) other → other ≡ reading_of said) }
-    ensures ranges { IfOk result (λ said. KeepsRanges (reading_of said)) }
+    ensures ranges { IfOk result (λ said. KeepsRanges (reading_of said).command (reading_of said)) }
     ensures no_reading { IfErr result (λ error. error ≡ WordsErr.NoReading
         → HasNoReading (map string_bytes words.entry.now)) }
 {

@@ -1,6 +1,5 @@
 -- The parser has the word and the options of the row.
-use Rattle.std.proofs.Common.{◌≡◌, map}
-use Rattle.ci_words.specs.Parses.{command_row, option_row, repeats_in}
+use Rattle.ci_words.specs.Parses.{command_row, repeats_in}
 use Rattle.ci_words.proofs.TableLaws.{repeats_alike}
 use Rattle.ci_words.proofs.parse.clap_command.Goals as goal
 

@@ -1,5 +1,5 @@
 -- The first word names no row where it is the word of none.
-use Rattle.std.proofs.Common.{◌≡◌, ◌∙◌, sym}
+use Rattle.std.proofs.Common.{◌∙◌, sym}
 use Rattle.std.specs.String.{string_bytes}
 use Rattle.ci_words.proofs.Matches.{first_text, if_none_then, some-same}
 use Rattle.ci_words.proofs.parse.row_in_front.Goals as goal

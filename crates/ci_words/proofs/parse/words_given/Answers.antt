@@ -1,5 +1,5 @@
 -- The values that `clap` found, or none.
-use Rattle.std.proofs.Common.{◌≡◌, ◌∙◌, Some, None, ap, map, sym, take_all}
+use Rattle.std.proofs.Common.{◌∙◌, Some, None, ap, sym, take_all}
 use Rattle.clap.specs.Words.{found_of}
 use Rattle.ci_words.proofs.Matches.{values_are}
 use Rattle.ci_words.proofs.SettingLaws.{texts}

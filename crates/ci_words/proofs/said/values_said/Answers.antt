@@ -1,5 +1,5 @@
 -- A text that is not of its kind; or one more that is.
-use Rattle.std.proofs.Common.{◌≡◌, ◌∙◌, ◌<◌, ◌≤◌, arith, length, map, subst, sym, take, take_all}
+use Rattle.std.proofs.Common.{◌∙◌, ◌≤◌, arith, length, map, subst, sym, take_all}
 use Rattle.std.specs.List.{AllZip}
 use Rattle.std.proofs.lemmas.List.{length-map}
 use Rattle.ci_words.specs.Words.{Says, Text, Value}

@@ -1,5 +1,5 @@
 -- A text that is not of the option's kind; or one more that is.
-use Rattle.std.proofs.Common.{◌≡◌, ◌∙◌, ◌<◌, [], arith, get_or, length, map, subst, sym, take}
+use Rattle.std.proofs.Common.{[], arith, subst, sym}
 use Rattle.std.proofs.lemmas.List.{get_or-map, length-map}
 use Rattle.ci_words.specs.Words.{Says}
 use Rattle.ci_words.specs.Parses.{option_row}

@@ -1,5 +1,5 @@
 -- The first setting of the option.
-use Rattle.std.proofs.Common.{◌≡◌, ◌∙◌, Some, ap, get_or, map, sym}
+use Rattle.std.proofs.Common.{◌∙◌, ap, map, sym}
 use Rattle.std.specs.Prelude.{slice_get}
 use Rattle.ci_words.specs.Words.{settings_in}
 use Rattle.ci_words.specs.Read.{setting_in}
