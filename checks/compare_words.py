@@ -17,10 +17,10 @@ import usage
 
 TOP = os.path.join(os.path.dirname(os.path.abspath(__file__)), "..")
 EXPLAIN = 'root=$1; shift; . "$root/script/explain.sh"; explain_words "$@"'
-COMMANDS, _, OPTIONS = usage.usage()
+COMMANDS, _, OPTIONS, WORDS = usage.usage()
 OPTIONS = {option.name: option for option in OPTIONS}
-ADDRESSES = ["0x0", "0x10094", "0xFFFFFFFF", "0xabCD", "0x000010094", "0x100000000", "0x", "0X10", "10", "0x1g", "-0x1",
-             ""]
+ADDRESSES = ["0x0", "0x10094", "0xFFFFFFFF", "0xabCD"]
+BAD_ADDRESSES = ["0x000010094", "0x100000000", "0x", "0X10", "10", "0x1g", "-0x1", ""]
 NAMES = ["a", "b", "./a", "a b", "ü", "0x10", "best", "a=b", "*"]
 BAD_NAMES = ["", "-", "-x", "--", "--input"]
 BAD_NUMBERS = ["00000000003", "99999999999", "x", "+1", "-1", "1 ", "2.0", "", "--"]
@@ -28,40 +28,47 @@ ODD = ["", "-", "-x", "--", "--", "--help", "--version", "--foo", "--in", "--lea
        "extra"]
 
 
-def values(option):
-    """Good values of an option and bad ones."""
-    if option.range:
-        least, greatest = map(int, option.range)
+def value(rng, of, faults=1):
+    """A value of an option, or a word behind a command, and in `faults` of four cases a bad one, perhaps."""
+    is_good = rng.randrange(4) >= faults
+    if of.kind == usage.NUMBER:
+        least, greatest = map(int, of.range)
         good = [str(least), str(greatest), f"{greatest:010}"]
-        return good * 3 + [str(least - 1), str(greatest + 1)] + BAD_NUMBERS
-    return ADDRESSES if option.value in usage.ADDRESSES else NAMES * 2 + BAD_NAMES
+        return rng.choice(good if is_good else [str(least - 1), str(greatest + 1), *BAD_NUMBERS])
+    if of.kind == usage.ADDRESS:
+        return rng.choice(ADDRESSES if is_good else BAD_ADDRESSES)
+    return rng.choice(NAMES if is_good else BAD_NAMES)
 
 
 def option(rng, name):
     """An option of this name with a value, as one word or as two."""
-    value = rng.choice(values(OPTIONS[name]))
-    return [f"--{name}={value}"] if rng.random() < 0.5 else [f"--{name}", value]
+    word = value(rng, OPTIONS[name])
+    return [f"--{name}={word}"] if rng.random() < 0.5 else [f"--{name}", word]
 
 
 def words(rng):
-    """Words of a command, mostly with few faults."""
+    """Words of a command, mostly with few faults. Numbers and names stand in their order, and options anywhere."""
     command = rng.choice(COMMANDS)
-    options = rng.sample([*command.options], min(len(command.options), rng.randrange(3)))
-    parts = [[name] for name in rng.choices(NAMES, k=len(command.files))] + [option(rng, name) for name in options]
-    command = command.name
-    fault = rng.randrange(12)
-    if fault == 0:
+    name, fault = command.name, rng.randrange(12)
+    given = [value(rng, WORDS[word], 4 * (fault == 0)) for word in command.words]
+    options = {*command.needed, *rng.sample(command.options, min(len(command.options), rng.randrange(3)))}
+    parts = [option(rng, it) for it in sorted(options)]
+    if fault == 1:
         parts.append([rng.choice(ODD)])
-    elif fault == 1:
-        parts.append(option(rng, rng.choice([*OPTIONS])))
     elif fault == 2:
-        parts.pop(0)
+        parts.append(option(rng, rng.choice([*OPTIONS])))
     elif fault == 3:
-        command = rng.choice(["", "bset", "Best", "--help", "-h", "asm dis", "@", "*"])
-    rng.shuffle(parts)
-    if fault == 4:
-        parts.insert(rng.randrange(len(parts) + 1), ["--"])
-    return [command, *(word for part in parts for word in part)]
+        given.pop(0)
+    elif fault == 4:
+        name = rng.choice(["", "bset", "Best", "--help", "-h", "asm dis", "@", "*"])
+    elif fault == 5:
+        parts.append(["--"])
+    elif fault == 6:
+        given = given[:1] * len(given)
+    rest = [[it] for it in given]
+    for part in parts:
+        rest.insert(rng.randrange(len(rest) + 1), part)
+    return [name, *(word for part in rest for word in part)]
 
 
 def main():

@@ -21,6 +21,20 @@ SYSTEM = "/usr/bin:/bin"
 TOOLS = ["bash", "awk", "find", "sort", "xargs", "sha256sum", "flock"]
 CRATES = "# what each crate uses\nci_main: middle\nlow:\nunused:\nmiddle: low clap\n"
 USAGE = "rumtsafi best FILE\n"
+# Commands with words of other kinds, an option that has to stand, and words that go over two lines.
+MORE_USAGE = """\
+rumtsafi eval UNITS K A B
+                       gives what a module does
+rumtsafi area OLD --limit N [--in N]
+                       [--log FILE]
+                       says what fits
+
+  --in N        inputs, 1 to 3
+  --limit N     gates, 0 to 9
+  --log FILE    a log
+  K             a number, 0 to 31
+  A, B          words, as 0x and hex digits
+"""
 TOOLCHAIN = "kit of the tests"
 # What a call of the script asks of `rt`, with the folder that it does so in.
 BUILDS = ["a clone all check --jobs N", "ci_main run -- dis /dev/null"]
@@ -32,7 +46,7 @@ echo "$folder $*" | sed 's/--jobs [1-9][0-9]*$/--jobs N/' >> "$CALLS"
 sleep "${LASTS:-0}"
 [ -z "$CHANGES" ] || echo "// $$" >> src/lib.rt
 if [ "$1" = all ]; then
-    for crate in low middle ci_main; do
+    for crate in low middle unused; do
         echo "== $crate"
         echo "fn $crate::good: proved"
         if grep -q wrong crates/$crate/src/*; then
@@ -137,7 +151,7 @@ class Built(Repository):
         status, output, told = self.use("best", "a file", "--in", "3")
         self.assertEqual((status, output), (0, "built from first with best a file --in 3\n"))
         self.assertEqual(self.new_calls(), BUILDS)
-        for line in ("3 crates", "linking the program", "built in"):
+        for line in ("4 crates", "linking the program", "built in"):
             self.assertIn(line, told)
 
     def test_a_second_use_builds_nothing_and_tells_nothing(self):
@@ -179,7 +193,7 @@ class Built(Repository):
         self.assertEqual((status, output), (70, ""))
         self.assertIn("fn middle::bad: no proof\n", told)
         self.assertNotIn("middle::good", told)
-        self.assertIn("crate middle did not build", told)
+        self.assertIn("crate middle: the program did not build", told)
         self.assertEqual(self.new_calls(), BUILDS[:1])
         self.write("crates/middle/src/lib.rt", "middle")
         self.assertEqual(self.use("three"), (0, "built from first with three\n", ""))
@@ -212,6 +226,17 @@ class Built(Repository):
             status, _, told = self.use(*words, STATUS="1")
             self.assertEqual(status, 1)
             self.assertTrue(told.startswith(f"{USAGE}rumtsafi: {why}"), told)
+
+    def test_numbers_words_and_needed_options_are_read_from_the_usage(self):
+        self.write("docs/usage.txt", MORE_USAGE)
+        self.assertEqual(self.call("checks/usage.py")[0], 0)
+        self.use("one")
+        for words, why in ((["eval", "a", "32", "0x0", "0x0"], "K takes a number from 0 to 31, which '32' is not"),
+                           (["eval", "a", "0", "0x0", "1"], "B takes 0x and one to eight hex digits, which '1' is not"),
+                           (["eval", "a", "0", "0x0"], "eval takes UNITS K A B, and B is missing"),
+                           (["area", "a", "--log=b"], "area needs --limit"),
+                           (["area", "a", "--log=a", "--limit", "3"], "area can't write 'a', which it names twice")):
+            self.assertEqual(self.use(*words, STATUS="1")[2], f"{MORE_USAGE}rumtsafi: {why}\n")
 
     def test_two_uses_at_once_build_once(self):
         uses = [self.start(word, LASTS="1") for word in ("one", "two", "three")]
@@ -297,6 +322,8 @@ class Shipped(Repository):
 
     def test_the_shipped_program_is_renewed_and_compared(self):
         built = os.path.join(self.root, "out", "rumtsafi")
+        status, said = self.call("checks/compare_shipped.sh", built)
+        self.assertEqual((status, said[:6]), (0, "stale:"))
         self.assertEqual(self.call("checks/renew_program.sh")[0], 0)
         self.assertEqual(self.call("checks/compare_shipped.sh", built), (0, "bin/rumtsafi has the same bits\n"))
         self.assertEqual(self.use("--build")[:2], (0, "out/rumtsafi has the same bits as bin/rumtsafi\n"))
@@ -320,11 +347,21 @@ class Shipped(Repository):
         process = self.start("one")
         self.assertEqual(process.stdout.readline(), "begun\n")
         process.send_signal(signal.SIGTERM)
-        self.assertEqual(process.wait(timeout=10), 3)
+        self.assertEqual(process.wait(timeout=10), 143)
         self.assertTrue(os.path.exists(mark))
         process.communicate()
 
 
+def has_terminals():
+    try:
+        for end in pty.openpty():
+            os.close(end)
+    except OSError:
+        return False
+    return True
+
+
+@unittest.skipUnless(has_terminals(), "there are no terminals")
 class AtTerminal(Repository):
     """Uses whose standard output is a terminal, and mostly their standard error too."""
 
@@ -393,14 +430,14 @@ class AtTerminal(Repository):
         self.ship("sleep 3.4; echo cut")
         status, shown, _ = self.at_terminal("best", "a")
         self.assertEqual(status, 0)
-        self.assertRegex(shown.decode(), r"^\rrumtsafi: running, 2 s\rrumtsafi: running, 3 s\r +\rcut\n$")
+        self.assertRegex(shown.decode(), r"^(\rrumtsafi: running, [2-9] s)+\r {22}\rcut\n$")
         self.assertEqual(self.at_terminal("best", "a", with_error=False), (0, b"cut\n", ""))
 
     def test_control_c_ends_the_program_and_the_script(self):
         mark = os.path.join(self.room, "mark")
         self.ship(f"trap 'echo ended > \"{mark}\"; kill $!; trap - INT; kill -INT $$' INT\n"
                   "sleep 30 > /dev/null 2>&1 & wait")
-        status, shown, _ = self.at_terminal("best", "a", keys="\x03", before=b"running, 2 s")
+        status, shown, _ = self.at_terminal("best", "a", keys="\x03", before=b"running, ")
         self.assertEqual(status, 130)
         self.assertTrue(os.path.exists(mark))
         self.assertTrue(shown.endswith(b"\r"), shown)

@@ -14,29 +14,32 @@ import sys
 TOP = os.path.join(os.path.dirname(os.path.abspath(__file__)), "..")
 MADE = "Made by checks/usage.py from docs/usage.txt"
 DOCUMENTS = ["README.md", "docs/GUIDE.md"]
-# What the value of an option, or a word behind a command, may be, by the word that stands for it.
-NUMBERS, ADDRESSES = {"N"}, {"ADDR"}
+NUMBER, ADDRESS, FILE = "number", "address", "file"
 COLUMNS = 120
 
 
 class Command:
-    """A command: its name, the words behind it, its options, each with whether it may be repeated, and what it does."""
+    """A command: its name, the words behind it, its options and those that must stand or may be repeated."""
 
     def __init__(self, name, form, about):
         self.name, self.form, self.about = name, form, about
-        self.options = {option: bool(dots) for option, dots in re.findall(r"--(\w+) \w+\]?(\.\.)?", form)}
-        self.files = re.sub(r"\[?--\w+ \w+\]?(\.\.)?", "", form).split()
+        found = re.findall(r"(\[?)--(\w+) \w+\]?(\.\.)?", form)
+        self.options = [option for _, option, _ in found]
+        self.needed = [option for bracket, option, _ in found if not bracket]
+        self.repeated = [option for _, option, dots in found if dots]
+        self.words = re.sub(r"\[?--\w+ \w+\]?(\.\.)?", "", form).split()
 
 
-class Option:
-    """An option: its name, the word that stands for its value, the range of a number, and what it means."""
+class Value:
+    """An option's value, or a word behind a command: a number where its line says a range, an address, or a file."""
 
-    def __init__(self, name, value, about):
-        self.name, self.value, self.about = name, value, about
+    def __init__(self, name, word, about):
+        self.name, self.word, self.about = name, word, about
         found = re.search(r"(\d+) (?:to|or) (\d+)", about)
         self.range = found.groups() if found else None
-        if (value in NUMBERS) != bool(found):
-            sys.exit(f"docs/usage.txt: --{name} takes a number where its range is said, and nowhere else")
+        self.kind = NUMBER if found else ADDRESS if word == "ADDR" or "0x" in about else FILE
+        if word == "N" and not found:
+            sys.exit(f"docs/usage.txt: the line of --{name} lacks the range of its number")
 
 
 def read(name):
@@ -49,18 +52,22 @@ def read(name):
 
 
 def usage():
-    """The commands, the calls of the script itself (each with what it does) and the options of docs/usage.txt."""
-    commands, calls, options = [], [], []
+    """What docs/usage.txt has: the commands, the calls of the script itself (each with what it does), the options, and
+    the words behind commands, each by its name."""
+    commands, calls, options, words = [], [], [], {}
     for line in read("docs/usage.txt").splitlines():
         call = re.fullmatch(r"rumtsafi (\S+) ?(.*?)(?:  +(.*))?", line)
         option = re.fullmatch(r"  --(\w+) (\w+) +(.*)", line)
+        word = re.fullmatch(r"  ([A-Z]+(?:, [A-Z]+)*)  +(.*)", line)
         more = re.fullmatch(r" {20,}(.*)", line)
         if call and call[1].startswith("-"):
             calls.append((call[1], call[3]))
         elif call:
             commands.append([call[1], call[2], call[3] or ""])
         elif option:
-            options.append(Option(*option.groups()))
+            options.append(Value(*option.groups()))
+        elif word:
+            words.update({name: Value(name, name, word[2]) for name in word[1].split(", ")})
         elif more and commands and more[1].startswith("["):
             commands[-1][1] += f" {more[1]}"
         elif more and commands:
@@ -70,9 +77,10 @@ def usage():
     commands = [Command(*it) for it in commands]
     known = {option.name for option in options}
     for command in commands:
-        if not command.options.keys() <= known:
+        if not set(command.options) <= known:
             sys.exit(f"docs/usage.txt: an option of {command.name} has no line of its own")
-    return commands, calls, options
+        words.update({name: Value(name, name, "") for name in command.words if name not in words})
+    return commands, calls, options, words
 
 
 def faults():
@@ -93,25 +101,27 @@ def table_of_faults():
     return "\n".join(lines)
 
 
-def words_of_script(commands, options):
+def words_of_script(commands, options, words):
     """The tables of words that script/explain.sh reads."""
     def table(name, rows):
         return [f"declare -A {name}=(", *[f"    [{key}]='{value}'" for key, value in rows], ")"]
 
-    numbers = [option for option in options if option.range]
-    repeated = sorted({name for command in commands for name, dots in command.options.items() if dots})
+    values = [*options, *words.values()]
+    numbers = [value for value in values if value.kind == NUMBER]
+    repeated = sorted({name for command in commands for name in command.repeated})
     return "\n".join([
         "# shellcheck shell=bash disable=SC2034",
         f"# {MADE}: the words of each command, for script/explain.sh.",
         "",
         f"commands='{' '.join(command.name for command in commands)}'",
-        "# The words behind a command, in order, and its options.",
-        *table("words_of", [(command.name, " ".join(command.files)) for command in commands]),
+        "# The words behind a command, in order; its options; and those that must stand.",
+        *table("words_of", [(command.name, " ".join(command.words)) for command in commands]),
         *table("options_of", [(command.name, " ".join(command.options)) for command in commands]),
-        "# What stands for the value of an option, and the range of a number.",
-        *table("value_of", [(option.name, option.value) for option in options]),
-        *table("least_of", [(option.name, option.range[0]) for option in numbers]),
-        *table("greatest_of", [(option.name, option.range[1]) for option in numbers]),
+        *table("needed_of", [(command.name, " ".join(command.needed)) for command in commands]),
+        "# What an option's value is, or a word behind a command; and the range of a number.",
+        *table("kind_of", [(value.name, value.kind) for value in values]),
+        *table("least_of", [(value.name, value.range[0]) for value in numbers]),
+        *table("greatest_of", [(value.name, value.range[1]) for value in numbers]),
         "# The options that may stand more than once.",
         f"repeated='{' '.join(repeated)}'",
         "",
@@ -121,7 +131,7 @@ def words_of_script(commands, options):
 def completions(commands, calls, options):
     """The completions for bash: of the command, of its options, and of files where a name is due."""
     names = " ".join([command.name for command in commands] + [call for call, _ in calls])
-    texts = "|".join(f"--{option.name}" for option in options if option.value in NUMBERS | ADDRESSES)
+    texts = " | ".join(f"--{option.name}" for option in options if option.kind != FILE)
     cases = [f"        {command.name}) options='{' '.join('--' + name for name in command.options)}' ;;"
              for command in commands]
     return "\n".join([
@@ -157,7 +167,7 @@ def for_man(text):
     return f"\\&{text}" if text.startswith((".", "'")) else text
 
 
-def man_page(commands, calls, options):
+def man_page(commands, calls, options, words):
     """The man page, of section 1."""
     lines = [
         f'.\\" {MADE} and docs/faults.tsv.',
@@ -172,14 +182,17 @@ def man_page(commands, calls, options):
         lines += [".br", f".B rumtsafi {for_man(call)}"]
     lines += [".SH COMMANDS"]
     for command in commands:
-        lines += [".TP", f".B {command.name} {' '.join(command.files)}", f"{for_man(command.about)}."]
+        lines += [".TP", f".B {command.name} {' '.join(command.words)}", f"{for_man(command.about)}."]
     for call, about in calls:
         lines += [".TP", f".B {for_man(call)}", f"{for_man(about)}."]
     lines += [".SH OPTIONS", "An option stands anywhere behind the command, also as \\fB\\-\\-name=VALUE\\fR;",
               "\\fB\\-\\-\\fR ends the options.", "A number is one to ten decimal digits, and an address is",
               "\\fB0x\\fR and one to eight hex digits."]
     for option in options:
-        lines += [".TP", f".B \\-\\-{option.name} {option.value}", f"{for_man(option.about)}."]
+        lines += [".TP", f".B \\-\\-{option.name} {option.word}", f"{for_man(option.about)}."]
+    for word in words.values():
+        if word.about:
+            lines += [".TP", f".B {word.name}", f"{for_man(word.about)}."]
     lines += [
         ".SH EXIT STATUS",
         "0 comes with the answer, any other status of the program but 16 with a fault line on standard output,",
@@ -206,11 +219,11 @@ def document(text):
 def main():
     if sys.argv[1:] not in ([], ["--check"]):
         sys.exit(__doc__)
-    commands, calls, options = usage()
+    commands, calls, options, words = usage()
     made = {
-        "share/man/man1/rumtsafi.1": man_page(commands, calls, options),
+        "share/man/man1/rumtsafi.1": man_page(commands, calls, options, words),
         "share/bash-completion/completions/rumtsafi": completions(commands, calls, options),
-        "script/words.sh": words_of_script(commands, options),
+        "script/words.sh": words_of_script(commands, options, words),
         **{name: document(read(name)) for name in DOCUMENTS if read(name) is not None},
     }
     stale = [name for name, text in made.items() if read(name) != text]

@@ -32,7 +32,7 @@ call_rt() {
         sleep 0.1 9>&-
         if [ $((SECONDS - said)) -ge "$pause" ]; then
             said=$SECONDS
-            say "$(crates_done) of $count crates are proved ($SECONDS s)"
+            say "$(crates_done) of $count crates are done ($SECONDS s)"
         fi
     done
     wait "$child" || show_failure
@@ -44,15 +44,16 @@ show_failure() {
     child=''
     local failed
     failed=$(sed -n 's/^\([a-z0-9_]*\): failed.*/\1/p' "$out/build.log" | xargs)
-    grep -vE ': (proved|ok)$|^(logic |statements |axioms |crate )' "$out/build.log" | tail -n 60 >&2 || true
-    fail "crate ${failed:-$main} did not build, so the program was not run; out/build.log has all that rt said"
+    grep -vE ': (proved|ok)$|^(logic|statements|axioms|library|crate) ' "$out/build.log" | tail -n 60 >&2 || true
+    fail "${failed:+crate $failed: }the program did not build, and was not run; out/build.log has all that rt said"
 }
 
 # Proves the crates and builds the program, for the given reason. The old program stays until the new one is whole.
 build() {
     local why=$1 count side_by_side before
-    count=$(crates | wc -l)
-    [ "$count" -gt 0 ] || fail "crates.txt names no crate $main"
+    [ -n "$(crates)" ] || fail "crates.txt names no crate $main"
+    # All crates are proved, also one that the program doesn't use.
+    count=$(grep -cE '^ *[a-z0-9_]+[^#]*:' "$root/crates.txt")
     before=$(sources)
     side_by_side=$(lanes)
     child=''

@@ -60,7 +60,7 @@ explain_words() {
             *) names+=("$word") ;;
         esac
     done
-    explain_names "$command" "${names[@]}" || explain_files "$command" "${names[@]}" "${files[@]}"
+    explain_names "$command" "${names[@]}" || explain_needed "$command" || explain_files "$command" "${files[@]}"
 }
 
 # Says what is wrong with an option of a command, given with the words behind it; fails where nothing is. It adds the
@@ -74,33 +74,43 @@ explain_option() {
     ! is_among "$option" "$seen" || is_among "$option" "$repeated" || { echo "--$option stands twice"; return; }
     seen="$seen $option"
     if [[ $word == *=* ]]; then
-        explain_value "$option" "${word#*=}"
+        explain_value "--$option" "$option" "${word#*=}"
     elif [ "$#" = 0 ]; then
         echo "--$option lacks its value"
     else
-        explain_value "$option" "$1"
+        explain_value "--$option" "$option" "$1"
     fi
 }
 
-# Says what is wrong with the value of an option; fails where nothing is.
+# Says which option of a command is missing that must stand; fails where none is.
+explain_needed() {
+    local option
+    for option in ${needed_of[$1]}; do
+        is_among "$option" "$seen" || { echo "$1 needs --$option"; return; }
+    done
+    return 1
+}
+
+# Says what is wrong with the value of an option, or with a word behind a command, that is shown as the first word and
+# stands in the tables as the second; fails where nothing is. It adds a file to `files`.
 explain_value() {
-    local option=$1 value=$2 least=${least_of[$1]-} greatest=${greatest_of[$1]-}
+    local shown=$1 name=$2 value=$3 least=${least_of[$2]-} greatest=${greatest_of[$2]-}
     case $value in
-        '') echo "the value of --$option is empty"; return ;;
-        -*) echo "the value of --$option begins with -: '$value'"; return ;;
+        '') echo "$shown is empty"; return ;;
+        -*) echo "$shown can't begin with -, as '$value' does"; return ;;
     esac
-    case ${value_of[$option]} in
-        N)
+    case ${kind_of[$name]} in
+        number)
             if ! [[ $value =~ ^[0-9]{1,10}$ ]] || ((10#$value < least || 10#$value > greatest)); then
-                echo "--$option takes a number from $least to $greatest, which '$value' is not"
+                echo "$shown takes a number from $least to $greatest, which '$value' is not"
                 return
             fi
             ;;
-        FILE) files+=("$value") ;;
-        ADDR)
+        address)
             [[ $value =~ ^0x[0-9A-Fa-f]{1,8}$ ]] ||
-                { echo "--$option takes an address, 0x and one to eight hex digits, which '$value' is not"; return; }
+                { echo "$shown takes 0x and one to eight hex digits, which '$value' is not"; return; }
             ;;
+        file) files+=("$value") ;;
     esac
     return 1
 }
@@ -110,20 +120,13 @@ explain_names() {
     local command=$1 wanted name
     read -r -a wanted <<< "${words_of[$command]}"
     shift
-    for name; do
-        case $name in
-            '') echo "a name is empty"; return ;;
-            -*) echo "no name begins with -: '$name'"; return ;;
-        esac
+    for name in "${wanted[@]}"; do
+        [ "$#" -gt 0 ] || { echo "$command takes ${wanted[*]}, and $name is missing"; return; }
+        explain_value "$name" "$name" "$1" && return
+        shift
     done
-    if [ "$#" -lt "${#wanted[@]}" ]; then
-        echo "$command takes ${wanted[*]}, and ${wanted[$#]} is missing"
-    elif [ "$#" -gt "${#wanted[@]}" ]; then
-        shift "${#wanted[@]}"
-        echo "$command takes ${wanted[*]}, and '$1' is a word too many"
-    else
-        return 1
-    fi
+    [ "$#" -gt 0 ] || return 1
+    echo "$command takes ${wanted[*]}, and '$1' is a word too many"
 }
 
 # Says which file of a command is named twice. Where nothing else is wrong with the words, the command would write it.

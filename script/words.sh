@@ -2,7 +2,7 @@
 # Made by checks/usage.py from docs/usage.txt: the words of each command, for script/explain.sh.
 
 commands='best blocks run asm dis'
-# The words behind a command, in order, and its options.
+# The words behind a command, in order; its options; and those that must stand.
 declare -A words_of=(
     [best]='FILE'
     [blocks]='FILE'
@@ -17,16 +17,26 @@ declare -A options_of=(
     [asm]=''
     [dis]=''
 )
-# What stands for the value of an option, and the range of a number.
-declare -A value_of=(
-    [at]='ADDR'
-    [leader]='ADDR'
-    [in]='N'
-    [out]='N'
-    [budget]='N'
-    [steps]='N'
-    [input]='FILE'
-    [table]='FILE'
+declare -A needed_of=(
+    [best]=''
+    [blocks]=''
+    [run]=''
+    [asm]=''
+    [dis]=''
+)
+# What an option's value is, or a word behind a command; and the range of a number.
+declare -A kind_of=(
+    [at]='address'
+    [leader]='address'
+    [in]='number'
+    [out]='number'
+    [budget]='number'
+    [steps]='number'
+    [input]='file'
+    [table]='file'
+    [FILE]='file'
+    [TEXT]='file'
+    [OUT]='file'
 )
 declare -A least_of=(
     [in]='1'

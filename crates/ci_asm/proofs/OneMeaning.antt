@@ -1,10 +1,12 @@
 -- A text has one meaning at most, or one fault.
-use Rattle.std.proofs.Common.{◌≡◌, ◌≢◌, ℕ, ◌+◌, ◌*◌, ◌<◌, ◌≤◌, inl, inr, cond, eqb, List, [], ◌∷◌, ◌++◌, length, refl, sym, ap, ◌∙◌, subst, arith, append-nil, Option, Some, None, Result, Ok, Err, ℤ, pos, ◌-ℤ◌}
+use Rattle.std.proofs.Common.{◌≡◌, ◌≢◌, ℕ, ◌+◌, ◌*◌, ◌<◌, ◌≤◌, inl, inr, cond, eqb, List, [], ◌∷◌, ◌++◌, length, refl, sym, ap, ◌∙◌, subst, arith, append-nil}
+use Rattle.std.proofs.Common.{Option, Some, None, Result, Ok, Err, ℤ, pos, ◌-ℤ◌}
 use Rattle.std.specs.Option.{option_to_list}
 use Rattle.std.proofs.lemmas.Bool.{eqb-true}
 use Rattle.std.proofs.lemmas.Bool.Decides.{nat_tests}
 use mathlib.Core.List.{append_assoc}
 use Rattle.ci_isa.specs.declared.instruction.Insn.{Insn}
+use Rattle.ci_reading.specs.Tokens as reading
 use Rattle.ci_asm.specs.declared.scanner.Token.{Token}
 use Rattle.ci_asm.specs.declared.faults.Rule.{Rule}
 use Rattle.ci_asm.specs.declared.faults.Rule.TheVariants.{OutOfField, Undefined, DefinedTwice}
@@ -15,36 +17,42 @@ use Rattle.ci_asm.specs.declared.lines.Line as code_lines
 use Rattle.ci_asm.specs.Tokens.{next_token, text_of}
 use Rattle.ci_asm.specs.Shapes.{fits, field_of}
 use Rattle.ci_asm.specs.Statements.{◌>>=◌, fault, read_line, insn_of, signed_value}
-use Rattle.ci_asm.specs.Programs.{position, kind_of, on_line, line_at, option_words, all_read, Definitions, once_at, defined_once, offset_between, reaching, resolved, statement_insn, line_insn, option_length, insns_of, assembled}
+use Rattle.ci_asm.specs.Programs.{position, kind_of, on_line, line_at, option_words, all_read, Definitions, once_at, defined_once, offset_between, reaching}
+use Rattle.ci_asm.specs.Programs.{resolved, statement_insn, line_insn, option_length, insns_of, assembled}
 use Rattle.ci_asm.specs.Lines.{lines_of}
 use Rattle.ci_asm.specs.Lexicon as lex
-use Rattle.ci_asm.specs.Lexicon.{name, line_end, Stands}
+use Rattle.ci_reading.specs.Tokens.{text_end}
+use Rattle.ci_asm.specs.Lexicon.{name, Stands}
 use Rattle.ci_asm.specs.Forms.{Field, Statement, plain, to_label, IsIn, IsStatement}
 use Rattle.ci_asm.specs.Assembly as asm
-use Rattle.ci_asm.specs.Assembly.{Line, label_tokens, StandsInLine, HasStatement, IsLine, AreLines, IsProgram, statements_of, Defines, IsOffset, IsNew, IsResolved, AreResolved, IsGoodFront, IsFaultOfLine, IsFaultOfLabel, twice, undefined, too_far, HasFault, of_line, of_label}
-use Rattle.ci_asm.proofs.Filling.{values_of, label_text}
-use Rattle.ci_asm.proofs.Stated.{HasLabelFor, plain_says}
-use Rattle.ci_asm.proofs.Scanning.{Meets, same_symbol, line_meets, by_test}
-use Rattle.ci_asm.proofs.Fields.{field_form, fits_in}
-use Rattle.ci_asm.proofs.Assembly.{all_read-ok, all_read-err, insns_of-ok, insns_of-err, behind, assembled-read, assembled-unread}
+use Rattle.ci_asm.specs.Assembly.{Line, label_tokens, StandsInLine, HasStatement, IsLine, AreLines, IsProgram, statements_of, Defines, IsOffset, IsNew}
+use Rattle.ci_asm.specs.Assembly.{IsResolved, AreResolved, IsGoodFront, IsFaultOfLine, IsFaultOfLabel, twice, undefined, too_far, HasFault, of_line, of_label}
+use Rattle.ci_asm.proofs.FilledSlots.{values_of, label_text}
+use Rattle.ci_asm.proofs.ReadStatements.{HasLabelFor, plain_says}
+use Rattle.ci_asm.proofs.SymbolsMet.{Meets, same_symbol, line_meets}
+use Rattle.ci_asm.proofs.TestLaws.{by_test}
+use Rattle.ci_asm.proofs.ReadOperands.{field_form, fits_in}
+use Rattle.ci_asm.proofs.AssemblySteps.{all_read-ok, all_read-err, insns_of-ok, insns_of-err, behind, assembled-read, assembled-unread}
 use Rattle.ci_asm.proofs.ReadLines.{statement_says, statement_read, line_says, HasRoom, HasLabels, line_read, body_of, same_label, ReachesInLine}
-use Rattle.ci_asm.proofs.ReadPrograms.{AreRead, program_of, words_with, program_read, read-all_read, IsDefinition, AreDefinitions, text_definitions, definitions_known, defined_in, same_length, same_label_place, offset_signed, once_no, line_insn-read, line_no, IsInsnOfLine, option_size, IsAt, next_at, start_at, AllResolved, resolved_first, resolved_rest}
-use Rattle.ci_asm.proofs.Faulty.{line_fault, statement_extends, one_kind}
-use Rattle.ci_asm.proofs.FaultyPrograms.{reaches_label}
+use Rattle.ci_asm.proofs.ReadPrograms.{AreRead, program_of, words_with, program_read, read-all_read, IsDefinition, AreDefinitions, text_definitions}
+use Rattle.ci_asm.proofs.ReadPrograms.{definitions_known, defined_in, same_length, same_label_place, offset_signed, once_no, line_insn-read, line_no}
+use Rattle.ci_asm.proofs.ReadPrograms.{IsInsnOfLine, option_size, IsAt, next_at, start_at, AllResolved, resolved_first, resolved_rest}
+use Rattle.ci_asm.proofs.LineFaults.{line_fault, statement_extends, one_kind}
+use Rattle.ci_asm.proofs.ProgramFaults.{reaches_label}
 
 -- ---- what stands in a line
 
 pub data Compares (a b : List lex.Token) (s u : lex.Symbol) (c d : ℕ) : Type 0 where
   equal : a ≡ b → s ≡ u → c ≡ d → Compares a b s u c d
-  shorter : (x : lex.Token) (rest : List lex.Token) → b ≡ a ++ x ∷ rest → s ≡ lex.token x → Compares a b s u c d
-  longer : (x : lex.Token) (rest : List lex.Token) → a ≡ b ++ x ∷ rest → u ≡ lex.token x → Compares a b s u c d
+  shorter : (x : lex.Token) (rest : List lex.Token) → b ≡ a ++ x ∷ rest → s ≡ reading.token x → Compares a b s u c d
+  longer : (x : lex.Token) (rest : List lex.Token) → a ≡ b ++ x ∷ rest → u ≡ reading.token x → Compares a b s u c d
 
 compares : (line : List ℕ) (t : Token) (a b : List lex.Token) (s u : lex.Symbol) (c d : ℕ) → Meets line t a s c → Meets line t b u d → Compares a b s u c d
 compares line t [] [] s u c d m n = equal refl (same_symbol line t s u m.0 n.0) (sym m.1 ∙ n.1)
-compares line t [] (y ∷ b) s u c d m n = shorter y b refl (same_symbol line t s (lex.token y) m.0 n.0)
-compares line t (x ∷ a) [] s u c d m n = longer x a refl (same_symbol line t u (lex.token x) n.0 m.0)
+compares line t [] (y ∷ b) s u c d m n = shorter y b refl (same_symbol line t s (reading.token y) m.0 n.0)
+compares line t (x ∷ a) [] s u c d m n = longer x a refl (same_symbol line t u (reading.token x) n.0 m.0)
 compares line t (x ∷ a) (y ∷ b) s u c d m n =
-    let symbols : lex.token x ≡ lex.token y = same_symbol line t (lex.token x) (lex.token y) m.0 n.0 in
+    let symbols : reading.token x ≡ reading.token y = same_symbol line t (reading.token x) (reading.token y) m.0 n.0 in
     let e : x ≡ y = cc in
     elim (compares line (next_token line t.end) a b s u c d m.1 n.1) [
       | equal p q r ↦ equal (λ i. e i ∷ p i) q r
@@ -52,13 +60,15 @@ compares line t (x ∷ a) (y ∷ b) s u c d m n =
       | longer z rest p q ↦ longer z rest (λ i. e i ∷ p i) q
     ]
 
-standing_meets : (line : List ℕ) (label : Option (List ℕ)) (tokens : List lex.Token) (symbol : lex.Symbol) (column : ℕ) → StandsInLine line label tokens symbol column → Meets line (next_token line (body_of line).from) tokens symbol column
+standing_meets : (line : List ℕ) (label : Option (List ℕ)) (tokens : List lex.Token) (symbol : lex.Symbol) (column : ℕ)
+    → StandsInLine line label tokens symbol column → Meets line (next_token line (body_of line).from) tokens symbol column
 standing_meets line label tokens symbol column s =
     let b = body_of line in
     let e = same_label line label (label_text line b.label) s.has_label b.has_label in
-    b.enters tokens symbol column (subst (λ l. Stands 0 line (label_tokens l ++ tokens) symbol column) e s.stands)
+    b.enters tokens symbol column (subst (λ l. Stands line (label_tokens l ++ tokens) symbol column) e s.stands)
 
-pub stand_compared : (line : List ℕ) (k l : Option (List ℕ)) (a b : List lex.Token) (s u : lex.Symbol) (c d : ℕ) → StandsInLine line k a s c → StandsInLine line l b u d → Compares a b s u c d
+pub stand_compared : (line : List ℕ) (k l : Option (List ℕ)) (a b : List lex.Token) (s u : lex.Symbol) (c d : ℕ) → StandsInLine line k a s c
+    → StandsInLine line l b u d → Compares a b s u c d
 stand_compared line k l a b s u c d one two =
     compares line (next_token line (body_of line).from) a b s u c d (standing_meets line k a s c one) (standing_meets line l b u d two)
 
@@ -70,10 +80,19 @@ front_of words a x rest (inl e) = absurd (not_empty a x rest e)
     not_empty [] x rest = λ e. absurd (cc)
     not_empty (y ∷ a) x rest = λ e. absurd (cc)
 front_of words a x rest (inr (room, (others, statement, is))) =
-    inr (room, (rest ++ others, statement, subst (λ ts. IsStatement ts statement) (append_assoc a (x ∷ rest) others ∙ sym (append_assoc a (x ∷ []) (rest ++ others))) is))
+    inr (
+      room,
+      (
+        rest ++ others,
+        statement,
+        subst (λ ts. IsStatement ts statement)
+            (append_assoc a (x ∷ rest) others ∙ sym (append_assoc a (x ∷ []) (rest ++ others))) is,
+      ),
+    )
 
 -- a line has one fault at most
-one_fault : (words : ℕ) (line : List ℕ) (kind column other place : ℕ) → IsFaultOfLine words line kind column → IsFaultOfLine words line other place → (kind ≡ other) × (column ≡ place)
+one_fault : (words : ℕ) (line : List ℕ) (kind column other place : ℕ) → IsFaultOfLine words line kind column → IsFaultOfLine words line other place
+    → (kind ≡ other) × (column ≡ place)
 one_fault words line kind column other place f g = elim (stand_compared line f.label g.label f.front g.front f.symbol g.symbol column place f.stands g.stands) [
   | equal p q r ↦ (one_kind f.is_kind (subst (λ s. asm.IsKind f.front s other) (sym q) (subst (λ a. asm.IsKind a g.symbol other) (sym p) g.is_kind)), r)
   | shorter x rest p q ↦ absurd (f.bad (subst (asm.IsGoodNext words f.front) (sym q) (front_of words f.front x rest (subst (IsGoodFront words) p g.good))))
@@ -86,15 +105,17 @@ HasSpace words None = Unit {0}
 HasSpace words (Some s) = words < 262144
 
 no_fault : (words : ℕ) (line : List ℕ) (is : Line) (kind column : ℕ) → IsLine line is → HasSpace words is.statement → ¬ IsFaultOfLine words line kind column
-no_fault words line is kind column l room f = elim (stand_compared line f.label is.label f.front l.tokens f.symbol line_end column l.end f.stands l.ends) [
+no_fault words line is kind column l room f = elim (stand_compared line f.label is.label f.front l.tokens f.symbol text_end column l.end f.stands l.ends) [
   | equal p q r ↦ f.bad (subst (asm.IsGoodNext words f.front) (sym q) (is.statement, subst (λ a. HasStatement a is.statement) (sym p) l.has_statement))
   | shorter x rest p q ↦ f.bad (subst (asm.IsGoodNext words f.front) (sym q) (good_front x rest is.statement p l.has_statement room))
   | longer x rest p q ↦ absurd (cc)
 ]
   where
-    good_front : (x : lex.Token) (rest : List lex.Token) (s : Option Statement) → l.tokens ≡ f.front ++ x ∷ rest → HasStatement l.tokens s → HasSpace words s → IsGoodFront words (f.front ++ x ∷ [])
+    good_front : (x : lex.Token) (rest : List lex.Token) (s : Option Statement) → l.tokens ≡ f.front ++ x ∷ rest → HasStatement l.tokens s → HasSpace words s
+        → IsGoodFront words (f.front ++ x ∷ [])
     good_front x rest None p has room = front_of words f.front x rest (inl (sym p ∙ has))
-    good_front x rest (Some s) p has room = front_of words f.front x rest (inr (room, ([], s, subst (λ ts. IsStatement ts s) (p ∙ sym (append-nil (f.front ++ x ∷ rest))) has)))
+    good_front x rest (Some s) p has room = front_of words f.front x rest
+        (inr (room, ([], s, subst (λ ts. IsStatement ts s) (p ∙ sym (append-nil (f.front ++ x ∷ rest))) has)))
 
 space_in : (words : ℕ) (line : List ℕ) (s : Option code.Statement) → words ≤ 262144 → HasRoom (eqb words 262144) s → HasSpace words (statement_read line s)
 space_in words line None few room = tt
@@ -107,30 +128,37 @@ record IsToldAs (r : Result code_lines.Line Fault) (kind column : ℕ) : Type 0 
   is_kind : kind_of f.rule ≡ kind
   is_column : f.place ≡ column
 
-fault_read : (words : ℕ) (line : List ℕ) (kind column : ℕ) → words ≤ 262144 → IsFaultOfLine words line kind column → IsToldAs (read_line line (eqb words 262144)) kind column
+fault_read : (words : ℕ) (line : List ℕ) (kind column : ℕ) → words ≤ 262144 → IsFaultOfLine words line kind column
+    → IsToldAs (read_line line (eqb words 262144)) kind column
 fault_read words line kind column few is = by (read_line line (eqb words 262144)) refl
   where
     by : (r : Result code_lines.Line Fault) → read_line line (eqb words 262144) ≡ r → IsToldAs r kind column
-    by (Err f) e = let same = one_fault words line (kind_of f.rule) f.place kind column (line_fault words line f few e) is in record { f = f; told = refl; is_kind = same.0; is_column = same.1 }
-    by (Ok l) e = let r = line_read line (eqb words 262144) l e in absurd (no_fault words line (line_says line l) kind column r.is_line (space_in words line l.statement few r.room) is)
+    by (Err f) e = let same = one_fault words line (kind_of f.rule) f.place kind column (line_fault words line f few e) is in
+        record { f = f; told = refl; is_kind = same.0; is_column = same.1 }
+    by (Ok l) e = let r = line_read line (eqb words 262144) l e in absurd
+        (no_fault words line (line_says line l) kind column r.is_line (space_in words line l.statement few r.room) is)
 
 -- ---- lines of a text
 
 -- where a line has a fault, the lines up to it are read, and no more
-all_read-bad : (n words : ℕ) (before : List (List ℕ)) (ls : List code_lines.Line) (bytes : List ℕ) (after : List (List ℕ)) (f : Fault) → AreRead words before ls → line_at (words + asm.words_in (program_of before ls)) bytes ≡ Err f
+all_read-bad : (n words : ℕ) (before : List (List ℕ)) (ls : List code_lines.Line) (bytes : List ℕ) (after : List (List ℕ)) (f : Fault) → AreRead words before ls
+    → line_at (words + asm.words_in (program_of before ls)) bytes ≡ Err f
     → all_read n words (before ++ bytes ∷ after) ≡ Err (position (n + length before) f)
 all_read-bad n words [] [] bytes after f read e =
     let count : words + 0 ≡ words = omega arith in
     let place : n + 0 ≡ n = omega arith in
     let here : line_at words bytes ≡ Err f = ap (λ k. line_at k bytes) (sym count) ∙ e in
-    all_read-err n words bytes after (position n f) (ap (λ r. on_line n r >>= λ l. Ok (words + option_words l.statement)) here) ∙ ap (λ k. Err (position k f)) (sym place)
+    all_read-err n words bytes after (position n f) (ap (λ r. on_line n r >>= λ l. Ok (words + option_words l.statement)) here)
+    ∙ ap (λ k. Err (position k f)) (sym place)
 all_read-bad n words [] (l ∷ ls) bytes after f read e = absurd read
 all_read-bad n words (line ∷ before) [] bytes after f read e = absurd read
 all_read-bad n words (line ∷ before) (l ∷ ls) bytes after f read e =
     let count = words_with line l.statement (statements_of (program_of before ls)) in
-    let same : words + asm.words_in (program_of (line ∷ before) (l ∷ ls)) ≡ words + option_words l.statement + asm.words_in (program_of before ls) = omega arith in
+    let same : words + asm.words_in (program_of (line ∷ before) (l ∷ ls)) ≡ words + option_words l.statement + asm.words_in (program_of before ls) =
+    omega arith in
     let place : n + length (line ∷ before) ≡ n + 1 + length before = omega arith in
-    all_read-ok n words (words + option_words l.statement) line (before ++ bytes ∷ after) (ap (λ r. on_line n r >>= λ l. Ok (words + option_words l.statement)) read.0)
+    all_read-ok n words (words + option_words l.statement) line (before ++ bytes ∷ after)
+    (ap (λ r. on_line n r >>= λ l. Ok (words + option_words l.statement)) read.0)
     ∙ (all_read-bad (n + 1) (words + option_words l.statement) before ls bytes after f read.1 (ap (λ k. line_at k bytes) (sym same) ∙ e)
     ∙ ap (λ k. Err (position k f)) (sym place))
 
@@ -143,7 +171,8 @@ record IsToldBy (r : Result (Option Insn) Fault) (kind column : ℕ) : Type 0 wh
   is_column : f.place ≡ column
 
 module _ (program : List Line) (definitions : Definitions) (known : AreDefinitions program definitions) (words : ℕ) (line : List ℕ) where
-  again : (before after : List Line) (here : Line) (n : ℕ) (t : Token) → program ≡ before ++ here ∷ after → here.label ≡ Some (text_of line t) → n ≡ 1 + length before → Defines before (text_of line t) → defined_once definitions n line (Some t) ≡ Err (fault DefinedTwice t.start)
+  again : (before after : List Line) (here : Line) (n : ℕ) (t : Token) → program ≡ before ++ here ∷ after → here.label ≡ Some (text_of line t)
+      → n ≡ 1 + length before → Defines before (text_of line t) → defined_once definitions n line (Some t) ≡ Err (fault DefinedTwice t.start)
   again before after here n t split at place defined = by (definitions (text_of line t)) (known (text_of line t))
     where
       by : (d : Option Definition) → IsDefinition program (text_of line t) 1 0 d → once_at n t d ≡ Err (fault DefinedTwice t.start)
@@ -157,14 +186,16 @@ module _ (program : List Line) (definitions : Definitions) (known : AreDefinitio
           absurd (found.is_new (subst (λ b. Defines b (text_of line t)) (sym lines) defined)))
           (λ other. ap (λ b. cond b (Ok tt) (Err (fault DefinedTwice t.start))) other)
 
-  nowhere_told : (s : code.Statement) (t : Token) → ¬ Defines program (text_of line t) → reaching words s t (definitions (text_of line t)) ≡ Err (fault Undefined t.start)
+  nowhere_told : (s : code.Statement) (t : Token) → ¬ Defines program (text_of line t)
+      → reaching words s t (definitions (text_of line t)) ≡ Err (fault Undefined t.start)
   nowhere_told s t none = by (definitions (text_of line t)) (known (text_of line t))
     where
       by : (d : Option Definition) → IsDefinition program (text_of line t) 1 0 d → reaching words s t d ≡ Err (fault Undefined t.start)
       by None is = refl
       by (Some d) is = absurd (none (defined_in program is.before is.line is.after (text_of line t) is.split is.labelled))
 
-  far_told : (s : code.Statement) (t : Token) (n : ℤ) → IsOffset program words (text_of line t) n → ¬ IsIn (field_form (field_of s.mnemonic)) n → reaching words s t (definitions (text_of line t)) ≡ Err (fault OutOfField t.start)
+  far_told : (s : code.Statement) (t : Token) (n : ℤ) → IsOffset program words (text_of line t) n → ¬ IsIn (field_form (field_of s.mnemonic)) n
+      → reaching words s t (definitions (text_of line t)) ≡ Err (fault OutOfField t.start)
   far_told s t n offset outside = by (definitions (text_of line t)) (known (text_of line t))
     where
       by : (d : Option Definition) → IsDefinition program (text_of line t) 1 0 d → reaching words s t d ≡ Err (fault OutOfField t.start)
@@ -184,14 +215,16 @@ module _ (program : List Line) (definitions : Definitions) (known : AreDefinitio
     text : text_of line token ≡ label
     is_field : field_form (field_of s.mnemonic) ≡ field
 
-  label_token : (s : code.Statement) (field : Field) (with_offset : ℤ → Insn) (label : List ℕ) → HasLabelFor s.mnemonic (values_of line s.operands) → statement_says line s ≡ to_label field with_offset label → HasLabelToken s field label
+  label_token : (s : code.Statement) (field : Field) (with_offset : ℤ → Insn) (label : List ℕ) → HasLabelFor s.mnemonic (values_of line s.operands)
+      → statement_says line s ≡ to_label field with_offset label → HasLabelToken s field label
   label_token s field with_offset label for says = by s.operands.label refl
     where
       plain_by : s.operands.label ≡ None → ⊥
       plain_by same =
           let o = s.operands in
           let plain_is = plain_says s.mnemonic line o.rd o.rs1 o.rs2 o.rs3 o.number in
-          let there : statement_says line s ≡ plain (insn_of s.mnemonic (record o { label = None })) = ap (λ l. statement_says line (record s { operands = record o { label = l } })) same ∙ plain_is in
+          let there : statement_says line s ≡ plain (insn_of s.mnemonic (record o { label = None })) =
+          ap (λ l. statement_says line (record s { operands = record o { label = l } })) same ∙ plain_is in
           cc
 
       by : (o : Option Token) → s.operands.label ≡ o → HasLabelToken s field label
@@ -204,19 +237,25 @@ module _ (program : List Line) (definitions : Definitions) (known : AreDefinitio
           record { token = t; has = same; text = text; is_field = r.same ∙ fields }
 
   -- the column of the label
-  same_column : (label : Option (List ℕ)) (s : code.Statement) (t : Token) (said : Statement) (front : List lex.Token) (column : ℕ) → ReachesInLine line label t (statement_says line s) → IsStatement (front ++ name (text_of line t) ∷ []) said → StandsInLine line label front (lex.token (name (text_of line t))) column → t.start ≡ column
+  same_column : (label : Option (List ℕ)) (s : code.Statement) (t : Token) (said : Statement) (front : List lex.Token) (column : ℕ)
+      → ReachesInLine line label t (statement_says line s) → IsStatement (front ++ name (text_of line t) ∷ []) said
+      → StandsInLine line label front (reading.token (name (text_of line t))) column → t.start ≡ column
   same_column label s t said front column target is stands = elim (stand_compared line label label target.front front _ _ t.start column target.stands stands) [
     | equal p q r ↦ r
     | shorter x rest p q ↦ absurd (no_more target.front x rest front (statement_says line s) said p q target.is_statement is)
     | longer x rest p q ↦ absurd (no_more front x rest target.front said (statement_says line s) p q is target.is_statement)
   ]
     where
-      more : (a : List lex.Token) (x : lex.Token) (rest : List lex.Token) (one two : Statement) → IsStatement (a ++ x ∷ []) one → IsStatement ((a ++ x ∷ rest) ++ x ∷ []) two → ⊥
+      more : (a : List lex.Token) (x : lex.Token) (rest : List lex.Token) (one two : Statement) → IsStatement (a ++ x ∷ []) one
+          → IsStatement ((a ++ x ∷ rest) ++ x ∷ []) two → ⊥
       more a x [] one two first second = statement_extends (a ++ x ∷ []) x [] one two first second
       more a x (y ∷ rest) one two first second =
-          statement_extends (a ++ x ∷ []) y (rest ++ x ∷ []) one two first (subst (λ k. IsStatement k two) (append_assoc a (x ∷ y ∷ rest) (x ∷ []) ∙ sym (append_assoc a (x ∷ []) (y ∷ (rest ++ x ∷ [])))) second)
+          statement_extends (a ++ x ∷ []) y (rest ++ x ∷ []) one two first
+          (subst (λ k. IsStatement k two) (append_assoc a (x ∷ y ∷ rest) (x ∷ []) ∙ sym (append_assoc a (x ∷ []) (y ∷ (rest ++ x ∷ [])))) second)
 
-      no_more : (a : List lex.Token) (x : lex.Token) (rest b : List lex.Token) (one two : Statement) → b ≡ a ++ x ∷ rest → lex.token (name (text_of line t)) ≡ lex.token x → IsStatement (a ++ name (text_of line t) ∷ []) one → IsStatement (b ++ name (text_of line t) ∷ []) two → ⊥
+      no_more : (a : List lex.Token) (x : lex.Token) (rest b : List lex.Token) (one two : Statement) → b ≡ a ++ x ∷ rest
+          → reading.token (name (text_of line t)) ≡ reading.token x → IsStatement (a ++ name (text_of line t) ∷ []) one
+          → IsStatement (b ++ name (text_of line t) ∷ []) two → ⊥
       no_more a x rest b one two p q first second =
           let last = name (text_of line t) in
           let e : last ≡ x = cc in
@@ -230,19 +269,24 @@ module _ (program : List Line) (definitions : Definitions) (known : AreDefinitio
     is_kind : kind_of rule ≡ kind
     reaches : reaching words s t (definitions (text_of line t)) ≡ Err (fault rule t.start)
 
-  statement_told : (n : ℕ) (l : code_lines.Line) (s : code.Statement) (f : Fault) → line_at words line ≡ Ok l → l.statement ≡ Some s → defined_once definitions n line l.label ≡ Ok tt → resolved definitions words line s s.operands.label ≡ Err f → line_insn definitions n words line ≡ Err f
+  statement_told : (n : ℕ) (l : code_lines.Line) (s : code.Statement) (f : Fault) → line_at words line ≡ Ok l → l.statement ≡ Some s
+      → defined_once definitions n line l.label ≡ Ok tt → resolved definitions words line s s.operands.label ≡ Err f
+      → line_insn definitions n words line ≡ Err f
   statement_told n l s f read same once e =
       line_insn-read program definitions known words line n l read
       ∙ (ap (λ r. r >>= λ _. statement_insn definitions words line l.statement) once
       ∙ (ap (statement_insn definitions words line) same ∙ ap (λ r. r >>= λ o. Ok (Some (insn_of s.mnemonic o))) e))
 
-  reach_told : (n : ℕ) (l : code_lines.Line) (field : Field) (with_offset : ℤ → Insn) (label : List ℕ) (front : List lex.Token) (column kind : ℕ) → line_at words line ≡ Ok l → defined_once definitions n line l.label ≡ Ok tt
-      → statement_read line l.statement ≡ Some (to_label field with_offset label) → IsStatement (front ++ name label ∷ []) (to_label field with_offset label) → StandsInLine line (label_text line l.label) front (lex.token (name label)) column
+  reach_told : (n : ℕ) (l : code_lines.Line) (field : Field) (with_offset : ℤ → Insn) (label : List ℕ) (front : List lex.Token) (column kind : ℕ)
+      → line_at words line ≡ Ok l → defined_once definitions n line l.label ≡ Ok tt
+      → statement_read line l.statement ≡ Some (to_label field with_offset label) → IsStatement (front ++ name label ∷ []) (to_label field with_offset label)
+      → StandsInLine line (label_text line l.label) front (reading.token (name label)) column
       → ((s : code.Statement) (t : Token) → text_of line t ≡ label → field_form (field_of s.mnemonic) ≡ field → IsToldReach s t kind)
       → IsToldBy (line_insn definitions n words line) kind column
   reach_told n l field with_offset label front column kind read once says is stands told = by l.statement refl says
     where
-      by : (s : Option code.Statement) → l.statement ≡ s → statement_read line s ≡ Some (to_label field with_offset label) → IsToldBy (line_insn definitions n words line) kind column
+      by : (s : Option code.Statement) → l.statement ≡ s → statement_read line s ≡ Some (to_label field with_offset label)
+          → IsToldBy (line_insn definitions n words line) kind column
       by None same says = absurd (cc)
       by (Some s) same says =
           let r = line_read line (eqb words 262144) l read in
@@ -250,9 +294,10 @@ module _ (program : List Line) (definitions : Definitions) (known : AreDefinitio
           let h = label_token s field with_offset label (subst (HasLabels line) same r.labels) said in
           let t = h.token in
           let reach = told s t h.text h.is_field in
-          let resolves : resolved definitions words line s s.operands.label ≡ Err (fault reach.rule t.start) = ap (resolved definitions words line s) h.has ∙ reach.reaches in
+          let resolves : resolved definitions words line s s.operands.label ≡ Err (fault reach.rule t.start) = ap (resolved definitions words line s) h.has
+          ∙ reach.reaches in
           let is_here = subst (λ k. IsStatement (front ++ name k ∷ []) (to_label field with_offset label)) (sym h.text) is in
-          let stands_here = subst (λ k. StandsInLine line (label_text line l.label) front (lex.token (name k)) column) (sym h.text) stands in
+          let stands_here = subst (λ k. StandsInLine line (label_text line l.label) front (reading.token (name k)) column) (sym h.text) stands in
           record {
             f = fault reach.rule t.start;
             told = statement_told n l s (fault reach.rule t.start) read same once resolves;
@@ -261,7 +306,8 @@ module _ (program : List Line) (definitions : Definitions) (known : AreDefinitio
           }
 
   -- a line with a fault by a label is read as that fault
-  label_told : (before after : List Line) (n : ℕ) (l : code_lines.Line) (kind column : ℕ) → program ≡ before ++ line_says line l ∷ after → n ≡ 1 + length before → words ≡ asm.words_in before → line_at words line ≡ Ok l
+  label_told : (before after : List Line) (n : ℕ) (l : code_lines.Line) (kind column : ℕ) → program ≡ before ++ line_says line l ∷ after → n ≡ 1 + length before
+      → words ≡ asm.words_in before → line_at words line ≡ Ok l
       → IsFaultOfLabel program before line (line_says line l) kind column → IsToldBy (line_insn definitions n words line) kind column
   label_told before after n l kind _ split place count read (twice {label} {column} at defined stands) = by l.label refl at
     where
@@ -270,39 +316,47 @@ module _ (program : List Line) (definitions : Definitions) (known : AreDefinitio
       by (Some t) same e =
           let text : text_of line t ≡ label = cc in
           let r = line_read line (eqb words 262144) l read in
-          let one = line_meets line [] (lex.token (name (text_of line t))) t.start (r.label_stands t same) in
-          let two = line_meets line [] (lex.token (name label)) column stands in
+          let one = line_meets line [] (reading.token (name (text_of line t))) t.start (r.label_stands t same) in
+          let two = line_meets line [] (reading.token (name label)) column stands in
           let here : label_text line l.label ≡ Some (text_of line t) = ap (label_text line) same in
           let told = again before after (line_says line l) n t split here place (subst (Defines before) (sym text) defined) in
           record {
             f = fault DefinedTwice t.start;
             told = line_insn-read program definitions known words line n l read
-                ∙ (ap (λ o. defined_once definitions n line o >>= λ _. statement_insn definitions words line l.statement) same ∙ ap (λ r. r >>= λ _. statement_insn definitions words line l.statement) told);
+                ∙ (ap (λ o. defined_once definitions n line o >>= λ _. statement_insn definitions words line l.statement) same
+                ∙ ap (λ r. r >>= λ _. statement_insn definitions words line l.statement) told);
             is_kind = refl;
             is_column = sym one.1 ∙ two.1;
           }
   label_told before after n l kind _ split place count read (undefined {label} {field} {with_offset} {front} {column} new says is stands none) =
-      reach_told n l field with_offset label front column 5 read (once_no program definitions known words line before after (line_says line l) n l.label split refl place new) says is stands
+      reach_told n l field with_offset label front column 5 read
+      (once_no program definitions known words line before after (line_says line l) n l.label split refl place new) says is stands
       (λ s t text same. record { rule = Undefined; is_kind = refl; reaches = nowhere_told s t (λ defines. none (subst (Defines program) text defines)) })
   label_told before after n l kind _ split place count read (too_far {label} {field} {with_offset} {front} {column} {n = z} new says is stands offset outside) =
-      reach_told n l field with_offset label front column 4 read (once_no program definitions known words line before after (line_says line l) n l.label split refl place new) says is stands
+      reach_told n l field with_offset label front column 4 read
+      (once_no program definitions known words line before after (line_says line l) n l.label split refl place new) says is stands
       (λ s t text same. record {
         rule = OutOfField;
         is_kind = refl;
-        reaches = far_told s t z (subst (λ k. IsOffset program words k z) (sym text) (subst (λ k. IsOffset program k label z) (sym count) offset)) (λ within. outside (subst (λ f. IsIn f z) same within));
+        reaches = far_told s t z (subst (λ k. IsOffset program words k z) (sym text) (subst (λ k. IsOffset program k label z) (sym count) offset))
+            (λ within. outside (subst (λ f. IsIn f z) same within));
       })
 
 -- ---- the lines before a fault by a label
 
-first_for : (program done : List Line) (words : ℕ) (here : Line) → IsResolved program done here → words ≡ asm.words_in done → (first : Option Insn) × IsInsnOfLine program words here.statement first
+first_for : (program done : List Line) (words : ℕ) (here : Line) → IsResolved program done here → words ≡ asm.words_in done
+    → (first : Option Insn) × IsInsnOfLine program words here.statement first
 first_for program done words here is count = by here.statement refl
   where
     by : (s : Option Statement) → here.statement ≡ s → (first : Option Insn) × IsInsnOfLine program words s first
     by None e = (None, tt)
     by (Some s) e = let has = is.has_insn s e in (Some has.0, subst (λ k. asm.IsInsnOf program k s has.0) (sym count) has.1)
 
-insns_bad : (program : List Line) (definitions : Definitions) → AreDefinitions program definitions → (n words : ℕ) (before : List (List ℕ)) (bytes : List ℕ) (after : List (List ℕ)) (ls : List code_lines.Line) (done front : List Line) (here : Line) (back : List Line) (kind column : ℕ)
-    → AreRead words (before ++ bytes ∷ after) ls → IsAt program done (program_of (before ++ bytes ∷ after) ls) n words → program_of (before ++ bytes ∷ after) ls ≡ front ++ here ∷ back → AreLines before front
+insns_bad : (program : List Line) (definitions : Definitions) → AreDefinitions program definitions
+    → (n words : ℕ) (before : List (List ℕ)) (bytes : List ℕ) (after : List (List ℕ)) (ls : List code_lines.Line) (done front : List Line) (here : Line)
+    (back : List Line) (kind column : ℕ)
+    → AreRead words (before ++ bytes ∷ after) ls → IsAt program done (program_of (before ++ bytes ∷ after) ls) n words
+    → program_of (before ++ bytes ∷ after) ls ≡ front ++ here ∷ back → AreLines before front
     → AllResolved program done front → IsFaultOfLabel program (done ++ front) bytes here kind column
     → insns_of definitions n words (before ++ bytes ∷ after) ≡ Err (record { kind = kind; line = n + length before; column = column + 1 })
 insns_bad program definitions known n words [] bytes after [] done front here back kind column read at split are all is = absurd read
@@ -310,9 +364,11 @@ insns_bad program definitions known n words [] bytes after (l ∷ ls) done (x �
 insns_bad program definitions known n words [] bytes after (l ∷ ls) done [] here back kind column read at split are all is =
     let here_is : here ≡ line_says bytes l = cc in
     let there = subst (λ d. IsFaultOfLabel program d bytes here kind column) (append-nil done) is in
-    let told = label_told program definitions known words bytes done (program_of after ls) n l kind column at.split at.line_is at.words_is read.0 (subst (λ h. IsFaultOfLabel program done bytes h kind column) here_is there) in
+    let told = label_told program definitions known words bytes done (program_of after ls) n l kind column at.split at.line_is at.words_is read.0
+    (subst (λ h. IsFaultOfLabel program done bytes h kind column) here_is there) in
     let place : n ≡ n + 0 = omega arith in
-    insns_of-err definitions n words bytes after told.f (sym told.told) ∙ (λ i. Err (record { kind = told.is_kind i; line = place i; column = told.is_column i + 1 }))
+    insns_of-err definitions n words bytes after told.f (sym told.told)
+    ∙ (λ i. Err (record { kind = told.is_kind i; line = place i; column = told.is_column i + 1 }))
 insns_bad program definitions known n words (line ∷ before) bytes after [] done front here back kind column read at split are all is = absurd read
 insns_bad program definitions known n words (line ∷ before) bytes after (l ∷ ls) done [] here back kind column read at split are all is = absurd are
 insns_bad program definitions known n words (line ∷ before) bytes after (l ∷ ls) done (x ∷ front) here back kind column read at split are all is =
@@ -320,21 +376,27 @@ insns_bad program definitions known n words (line ∷ before) bytes after (l ∷
     let tail : program_of (before ++ bytes ∷ after) ls ≡ front ++ here ∷ back = cc in
     let resolved_here = subst (IsResolved program done) (sym head) (resolved_first program done front x all) in
     let f = first_for program done words (line_says line l) resolved_here at.words_is in
-    let one = line_no program definitions known words line done (program_of (before ++ bytes ∷ after) ls) n l f.0 at.split at.line_is read.0 (record { is_new = resolved_here.is_new; is_insn = f.1 }) in
+    let one = line_no program definitions known words line done (program_of (before ++ bytes ∷ after) ls) n l f.0 at.split at.line_is read.0
+    (record { is_new = resolved_here.is_new; is_insn = f.1 }) in
     let size = option_size program words line l.statement f.0 f.1 in
     let place : n + 1 + length before ≡ n + length (line ∷ before) = omega arith in
     let later = subst (λ d. AllResolved program d front) (ap (λ k. done ++ k ∷ []) (sym head)) (resolved_rest program done front x all) in
-    let fault_there = subst (λ d. IsFaultOfLabel program d bytes here kind column) (ap (λ k. done ++ k ∷ front) (sym head) ∙ sym (append_assoc done (line_says line l ∷ []) front)) is in
-    let more = insns_bad program definitions known (n + 1) (words + option_words l.statement) before bytes after ls (done ++ line_says line l ∷ []) front here back kind column read.1
+    let fault_there = subst (λ d. IsFaultOfLabel program d bytes here kind column)
+    (ap (λ k. done ++ k ∷ front) (sym head) ∙ sym (append_assoc done (line_says line l ∷ []) front)) is in
+    let more = insns_bad program definitions known (n + 1) (words + option_words l.statement) before bytes after ls
+    (done ++ line_says line l ∷ []) front here back kind column read.1
     (next_at program done line l (program_of (before ++ bytes ∷ after) ls) n words at) tail are.1 later fault_there in
-    let rest : insns_of definitions (n + 1) (words + option_length f.0) (before ++ bytes ∷ after) ≡ Err (record { kind = kind; line = n + 1 + length before; column = column + 1 }) = ap (λ k. insns_of definitions (n + 1) (words + k) (before ++ bytes ∷ after)) size ∙ more in
+    let rest : insns_of definitions (n + 1) (words + option_length f.0) (before ++ bytes ∷ after) ≡ Err
+    (record { kind = kind; line = n + 1 + length before; column = column + 1 }) =
+    ap (λ k. insns_of definitions (n + 1) (words + k) (before ++ bytes ∷ after)) size ∙ more in
     insns_of-ok definitions n words line (before ++ bytes ∷ after) f.0 (sym one)
     ∙ (ap (behind (option_to_list f.0)) rest ∙ (λ i. Err (record { kind = kind; line = place i; column = column + 1 })))
 
 -- ---- texts
 
 -- a text with a fault is assembled to that fault
-pub fault_assembled : (text : List ℕ) (kind line column : ℕ) → HasFault text kind line column → assembled text ≡ Err (record { kind = kind; line = line; column = column })
+pub fault_assembled : (text : List ℕ) (kind line column : ℕ) → HasFault text kind line column
+    → assembled text ≡ Err (record { kind = kind; line = line; column = column })
 fault_assembled text kind _ _ (of_line before after bytes program {column} split is_program is) =
     let fits = is_program.fits in
     let w = program_read 0 before program is_program.are_lines (omega arith) in
@@ -358,12 +420,19 @@ fault_assembled text kind _ _ (of_label lines lines_after bytes before after her
     assembled-read text (text_definitions text) (read-all_read 1 0 (lines_of text) w.ls w.are_read) (λ label. refl)
     ∙ (whole ∙ (λ i. Err (record { kind = kind; line = place i; column = column + 1 })))
   where
-    by : (all_lines : List (List ℕ)) → all_lines ≡ lines ++ bytes ∷ lines_after → (ls : List code_lines.Line) → AreRead 0 all_lines ls → program_of all_lines ls ≡ before ++ here ∷ after
+    by : (all_lines : List (List ℕ)) → all_lines ≡ lines ++ bytes ∷ lines_after → (ls : List code_lines.Line) → AreRead 0 all_lines ls
+        → program_of all_lines ls ≡ before ++ here ∷ after
         → IsAt (program_of all_lines ls) [] (program_of all_lines ls) 1 0 → AreDefinitions (program_of all_lines ls) (text_definitions text)
         → AllResolved (program_of all_lines ls) [] before → IsFaultOfLabel (program_of all_lines ls) before bytes here kind column
         → insns_of (text_definitions text) 1 0 all_lines ≡ Err (record { kind = kind; line = 1 + length lines; column = column + 1 })
     by all_lines e ls read same at known all is =
-        let P : List (List ℕ) → Type 0 = λ k. AreRead 0 k ls × ((program_of k ls ≡ before ++ here ∷ after) × (IsAt (program_of k ls) [] (program_of k ls) 1 0 × (AreDefinitions (program_of k ls) (text_definitions text) × (AllResolved (program_of k ls) [] before × IsFaultOfLabel (program_of k ls) before bytes here kind column)))) in
+        let P : List (List ℕ) → Type 0 =
+        λ k. AreRead 0 k ls ×
+        ((program_of k ls ≡ before ++ here ∷ after) ×
+        (IsAt (program_of k ls) [] (program_of k ls) 1 0 ×
+        (AreDefinitions (program_of k ls) (text_definitions text) ×
+        (AllResolved (program_of k ls) [] before × IsFaultOfLabel (program_of k ls) before bytes here kind column)))) in
         let q = subst P e (read, (same, (at, (known, (all, is))))) in
         ap (insns_of (text_definitions text) 1 0) e
-        ∙ insns_bad (program_of (lines ++ bytes ∷ lines_after) ls) (text_definitions text) q.1.1.1.0 1 0 lines bytes lines_after ls [] before here after kind column q.0 q.1.1.0 q.1.0 are q.1.1.1.1.0 q.1.1.1.1.1
+        ∙ insns_bad (program_of (lines ++ bytes ∷ lines_after) ls) (text_definitions text) q.1.1.1.0 1 0 lines bytes lines_after ls [] before here after kind
+        column q.0 q.1.1.0 q.1.0 are q.1.1.1.1.0 q.1.1.1.1.1

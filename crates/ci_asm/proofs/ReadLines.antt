@@ -3,11 +3,13 @@ use Rattle.std.proofs.Common.{◌≡◌, ◌≢◌, ℕ, Bool, true, false, cond
 use Rattle.std.specs.Prelude.{find}
 use Rattle.std.proofs.lemmas.Bool.{eqb-true}
 use Rattle.std.proofs.lemmas.Slice.Eq.{bytes_eq-Decides}
+use Rattle.ci_reading.specs.Tokens as reading
 use Rattle.ci_asm.specs.declared.scanner.Kind.{Kind}
 use Rattle.ci_asm.specs.declared.scanner.Kind.TheVariants.{Name, Numeral, Directive, Mark, End, Bad}
 use Rattle.ci_asm.specs.declared.scanner.Token.{Token}
 use Rattle.ci_asm.specs.declared.mnemonics.Mnemonic.{Mnemonic}
-use Rattle.ci_asm.specs.declared.mnemonics.Mnemonic.TheVariants.{RegisterRegister, RegisterImmediate, Lui, Auipc, Jal, Jalr, Branch, Load, Store, Fence, Ecall, Ebreak, Custom, Cread, Data}
+use Rattle.ci_asm.specs.declared.mnemonics.Mnemonic.TheVariants.{RegisterRegister, RegisterImmediate, Lui, Auipc, Jal, Jalr, Branch, Load, Store, Fence, Ecall}
+use Rattle.ci_asm.specs.declared.mnemonics.Mnemonic.TheVariants.{Ebreak, Custom, Cread, Data}
 use Rattle.ci_asm.specs.declared.faults.Rule.{Rule}
 use Rattle.ci_asm.specs.declared.faults.Rule.TheVariants.{NoToken, NoMnemonic, Surplus}
 use Rattle.ci_asm.specs.declared.faults.Fault.{Fault}
@@ -18,19 +20,23 @@ use Rattle.ci_asm.specs.Tokens.{next_token, text_of}
 use Rattle.ci_asm.specs.Shapes.{name_of, mnemonics, mnemonic_of, is_named, is_statement, slots_of}
 use Rattle.ci_asm.specs.Statements.{◌>>=◌, found, fault, at_place, no_operands, read_slots, mnemonic_in, read_statement, is_label, with_statement, read_line}
 use Rattle.ci_asm.specs.Lexicon as lex
-use Rattle.ci_asm.specs.Lexicon.{IsLetter, name, decimal_number, hex_number, word, comma, open_bracket, close_bracket, colon, spelling, IsToken, line_end, stray_byte, Stands}
+use Rattle.ci_reading.specs.Tokens.{text_end, stray_byte}
+use Rattle.ci_asm.specs.Lexicon.{IsLetter, name, decimal_number, hex_number, word, comma, open_bracket, close_bracket, colon, spelling, IsToken, Stands}
 use Rattle.ci_asm.specs.Forms.{Statement, IsStatement}
 use Rattle.ci_asm.specs.Assembly.{Line, HasLabel, label_tokens, StandsInLine, HasStatement, IsLine}
-use Rattle.ci_asm.proofs.Operands.{bind_ok, same_ok, at_place_ok, found_ok, unless_full, mnemonic_in-statement}
-use Rattle.ci_asm.proofs.Shown.{found_by_name}
-use Rattle.ci_asm.proofs.Lexing.{kind_of, true_is_not_false}
-use Rattle.ci_asm.proofs.Scanning.{IsShown, Shows, Meets, next_symbol, by_test, same_symbol, line_meets, line_stands, kind_no_end}
-use Rattle.ci_asm.proofs.Filling.{values_of, label_text, read_fills, fills_read, target_read}
-use Rattle.ci_asm.proofs.Stated.{says, mnemonic_token, fills_statement, statement_slots, HasLabelFor, label_for, offset_last}
+use Rattle.ci_asm.proofs.SoundStatements.{bind_ok, same_ok, at_place_ok, found_ok, unless_full, mnemonic_in-statement}
+use Rattle.ci_asm.proofs.KnownMnemonics.{known_mnemonic}
+use Rattle.ci_asm.specs.Tokens.{kind_of}
+use Rattle.ci_asm.proofs.TestLaws.{true_is_not_false}
+use Rattle.ci_asm.proofs.SymbolsMet.{IsShown, Shows, Meets, next_symbol, same_symbol, line_meets, line_stands, kind_no_end}
+use Rattle.ci_asm.proofs.TestLaws.{by_test}
+use Rattle.ci_asm.proofs.FilledSlots.{values_of, label_text, read_fills, fills_read, target_read}
+use Rattle.ci_asm.proofs.ReadStatements.{says, mnemonic_token, fills_statement, statement_slots, HasLabelFor, label_for, offset_last}
 
 -- ---- mnemonics
 
-find_by : (b : Bool) (p : Mnemonic → Bool) (x m : Mnemonic) (rest : Option Mnemonic) → p x ≡ b → (rest ≡ Some m → p m ≡ true) → cond b (Some x) rest ≡ Some m → p m ≡ true
+find_by : (b : Bool) (p : Mnemonic → Bool) (x m : Mnemonic) (rest : Option Mnemonic) → p x ≡ b → (rest ≡ Some m → p m ≡ true) → cond b (Some x) rest ≡ Some m
+    → p m ≡ true
 find_by true p x m rest at others e = let same : x ≡ m = cc in ap p (sym same) ∙ at
 find_by false p x m rest at others e = others e
 
@@ -43,41 +49,18 @@ unfolding mnemonic_of
 named_so text m e = (bytes_eq-Decides text (name_of m)).0 (find_passes (is_named text) mnemonics m e)
 
 name_token : (m : Mnemonic) → IsToken (name (name_of m)) → mnemonic_token m ≡ name (name_of m)
-name_token (RegisterRegister op) proper = refl
-name_token (RegisterImmediate op) proper = refl
-name_token Lui proper = refl
-name_token Auipc proper = refl
-name_token Jal proper = refl
-name_token Jalr proper = refl
-name_token (Branch cond) proper = refl
-name_token (Load kind) proper = refl
-name_token (Store width) proper = refl
-name_token Fence proper = refl
-name_token Ecall proper = refl
-name_token Ebreak proper = refl
-name_token Custom proper = refl
-name_token Cread proper = refl
 name_token Data proper = let letter = proper.0 in absurd (grind arith)
+name_token other proper = refl
 
 abbrev pub mnemonic_result : lex.Token → Result Mnemonic Rule
 mnemonic_result (name bytes) = found (mnemonic_of bytes) NoMnemonic
 mnemonic_result word = Ok Data
-mnemonic_result (decimal_number negative digits) = Err NoMnemonic
-mnemonic_result (hex_number digits) = Err NoMnemonic
-mnemonic_result comma = Err NoMnemonic
-mnemonic_result open_bracket = Err NoMnemonic
-mnemonic_result close_bracket = Err NoMnemonic
-mnemonic_result colon = Err NoMnemonic
+mnemonic_result other = Err NoMnemonic
 
 mnemonic_kind : (line : List ℕ) (t : Token) (shown : lex.Token) → text_of line t ≡ spelling shown → mnemonic_in line t (kind_of shown) ≡ mnemonic_result shown
 mnemonic_kind line t (name bytes) text = ap (λ k. found (mnemonic_of k) NoMnemonic) text
-mnemonic_kind line t word text = ap (λ k. found (mnemonic_of k) NoMnemonic) text ∙ ap (λ o. found o NoMnemonic) (found_by_name Data refl)
-mnemonic_kind line t (decimal_number negative digits) text = refl
-mnemonic_kind line t (hex_number digits) text = refl
-mnemonic_kind line t comma text = refl
-mnemonic_kind line t open_bracket text = refl
-mnemonic_kind line t close_bracket text = refl
-mnemonic_kind line t colon text = refl
+mnemonic_kind line t word text = ap (λ k. found (mnemonic_of k) NoMnemonic) text ∙ ap (λ o. found o NoMnemonic) (known_mnemonic Data refl).0
+mnemonic_kind line t other text = refl
 
 pub mnemonic_shown : (line : List ℕ) (t : Token) (shown : lex.Token) → IsShown line t shown → mnemonic_in line t t.kind ≡ mnemonic_result shown
 mnemonic_shown line t shown is = ap (mnemonic_in line t) is.kind ∙ mnemonic_kind line t shown is.text
@@ -87,15 +70,10 @@ mnemonic_yes (name bytes) m proper e =
     let same = named_so bytes m (found_ok (mnemonic_of bytes) NoMnemonic m e) in
     ap name same ∙ sym (name_token m (subst (λ k. IsToken (name k)) same proper))
 mnemonic_yes word m proper e = let same : Data ≡ m = cc in ap mnemonic_token same
-mnemonic_yes (decimal_number negative digits) m proper e = absurd (cc)
-mnemonic_yes (hex_number digits) m proper e = absurd (cc)
-mnemonic_yes comma m proper e = absurd (cc)
-mnemonic_yes open_bracket m proper e = absurd (cc)
-mnemonic_yes close_bracket m proper e = absurd (cc)
-mnemonic_yes colon m proper e = absurd (cc)
+mnemonic_yes other m proper e = absurd (cc)
 
 found_again : (m : Mnemonic) → is_statement m ≡ true → mnemonic_result (name (name_of m)) ≡ Ok m
-found_again m named = ap (λ o. found o NoMnemonic) (found_by_name m named)
+found_again m named = ap (λ o. found o NoMnemonic) (known_mnemonic m named).0
 
 pub mnemonic_no : (m : Mnemonic) → is_statement m ≡ true → mnemonic_result (mnemonic_token m) ≡ Ok m
 mnemonic_no (RegisterRegister op) named = found_again (RegisterRegister op) named
@@ -123,16 +101,17 @@ statement_says line s = says s.mnemonic (values_of line s.operands)
 pub record IsReadAs (line : List ℕ) (t : Token) (statement : Statement) : Type 0 where
   pub tokens : List lex.Token
   pub column : ℕ
-  pub meets : Meets line t tokens line_end column
+  pub meets : Meets line t tokens text_end column
   pub is_statement : IsStatement tokens statement
 
 -- the label that the statement reaches is its last token
 pub record ReachesLast (line : List ℕ) (first t : Token) (statement : Statement) : Type 0 where
   pub front : List lex.Token
-  pub meets : Meets line first front (lex.token (name (text_of line t))) t.start
+  pub meets : Meets line first front (reading.token (name (text_of line t))) t.start
   pub is_statement : IsStatement (front ++ name (text_of line t) ∷ []) statement
 
-pub read_is : (line : List ℕ) (from : ℕ) (full : Bool) (s : code.Statement) → read_statement line (next_token line from) full ≡ Ok s → IsReadAs line (next_token line from) (statement_says line s) × (full ≡ false) × HasLabelFor s.mnemonic (values_of line s.operands)
+pub read_is : (line : List ℕ) (from : ℕ) (full : Bool) (s : code.Statement) → read_statement line (next_token line from) full ≡ Ok s
+    → IsReadAs line (next_token line from) (statement_says line s) × (full ≡ false) × HasLabelFor s.mnemonic (values_of line s.operands)
     × ((t : Token) → s.operands.label ≡ Some t → ReachesLast line (next_token line from) t (statement_says line s))
 unfolding read_statement
 read_is line from full s e =
@@ -153,7 +132,8 @@ read_is line from full s e =
           (λ u some. reaches line from m c.0 shown (mnemonic_in-statement line t t.kind m mnemonic) slots u some),
     )
   where
-    reaches : (line : List ℕ) (from : ℕ) (m : Mnemonic) (o : Operands) → IsShown line (next_token line from) (mnemonic_token m) → is_statement m ≡ true → read_slots line (slots_of m) (next_token line from).end no_operands ≡ Ok o
+    reaches : (line : List ℕ) (from : ℕ) (m : Mnemonic) (o : Operands) → IsShown line (next_token line from) (mnemonic_token m) → is_statement m ≡ true
+        → read_slots line (slots_of m) (next_token line from).end no_operands ≡ Ok o
         → (u : Token) → o.label ≡ Some u → ReachesLast line (next_token line from) u (says m (values_of line o))
     reaches line from m o shown named slots u some =
         let h = target_read line (slots_of m) (next_token line from).end no_operands o u (offset_last m) refl some slots in
@@ -163,12 +143,15 @@ read_is line from full s e =
     not_full true f r o e = absurd (cc)
     not_full false f r o e = refl
 
-    token_by : (line : List ℕ) (t : Token) (m : Mnemonic) (symbol : lex.Symbol) → Shows line t symbol → mnemonic_in line t t.kind ≡ Ok m → IsShown line t (mnemonic_token m)
-    token_by line t m (lex.token shown) shows e = subst (IsShown line t) (mnemonic_yes shown m shows.proper (sym (mnemonic_shown line t shown shows) ∙ e)) shows
-    token_by line t m line_end shows e = let none : mnemonic_in line t t.kind ≡ Err NoMnemonic = ap (mnemonic_in line t) shows in absurd (cc)
+    token_by : (line : List ℕ) (t : Token) (m : Mnemonic) (symbol : lex.Symbol) → Shows line t symbol → mnemonic_in line t t.kind ≡ Ok m
+        → IsShown line t (mnemonic_token m)
+    token_by line t m (reading.token shown) shows e = subst (IsShown line t)
+        (mnemonic_yes shown m shows.proper (sym (mnemonic_shown line t shown shows) ∙ e)) shows
+    token_by line t m text_end shows e = let none : mnemonic_in line t t.kind ≡ Err NoMnemonic = ap (mnemonic_in line t) shows in absurd (cc)
     token_by line t m stray_byte shows e = let none : mnemonic_in line t t.kind ≡ Err NoToken = ap (mnemonic_in line t) shows in absurd (cc)
 
-    token_read : (line : List ℕ) (from : ℕ) (m : Mnemonic) → mnemonic_in line (next_token line from) (next_token line from).kind ≡ Ok m → IsShown line (next_token line from) (mnemonic_token m)
+    token_read : (line : List ℕ) (from : ℕ) (m : Mnemonic) → mnemonic_in line (next_token line from) (next_token line from).kind ≡ Ok m
+        → IsShown line (next_token line from) (mnemonic_token m)
     token_read line from m e = let s = next_symbol line from in token_by line (next_token line from) m s.0 s.1 e
 
 -- a statement of the line is read
@@ -177,16 +160,19 @@ pub record WillReadAs (line : List ℕ) (t : Token) (statement : Statement) : Ty
   pub reads : read_statement line t false ≡ Ok read
   pub meaning : statement_says line read ≡ statement
 
-read_statement-by : (line : List ℕ) (t : Token) (m : Mnemonic) (o : Operands) → mnemonic_in line t t.kind ≡ Ok m → read_slots line (slots_of m) t.end no_operands ≡ Ok o → read_statement line t false ≡ Ok (record { mnemonic = m; operands = o })
+read_statement-by : (line : List ℕ) (t : Token) (m : Mnemonic) (o : Operands) → mnemonic_in line t t.kind ≡ Ok m
+    → read_slots line (slots_of m) t.end no_operands ≡ Ok o → read_statement line t false ≡ Ok (record { mnemonic = m; operands = o })
 unfolding read_statement
 read_statement-by line t m o named read =
-    ap (λ r. at_place t.start r >>= λ m. (cond false (Err (fault Surplus t.start)) (read_slots line (slots_of m) t.end no_operands)) >>= λ o. Ok (record { mnemonic = m; operands = o })) named
+    ap (λ r. at_place t.start r >>= λ m. (cond false (Err (fault Surplus t.start)) (read_slots line (slots_of m) t.end no_operands)) >>= λ o. Ok
+    (record { mnemonic = m; operands = o })) named
     ∙ ap (λ r. r >>= λ o. Ok (record { mnemonic = m; operands = o })) read
 
-pub is_read : (line : List ℕ) (t : Token) (tokens : List lex.Token) (column : ℕ) (statement : Statement) → Meets line t tokens line_end column → IsStatement tokens statement → WillReadAs line t statement
+pub is_read : (line : List ℕ) (t : Token) (tokens : List lex.Token) (column : ℕ) (statement : Statement) → Meets line t tokens text_end column
+    → IsStatement tokens statement → WillReadAs line t statement
 is_read line t tokens column statement meets is =
     let h = statement_slots is in
-    let there = subst (λ ts. Meets line t ts line_end column) h.tokens meets in
+    let there = subst (λ ts. Meets line t ts text_end column) h.tokens meets in
     let w = fills_read h.fills line t.end no_operands column refl there.1 in
     let mnemonic = mnemonic_shown line t (mnemonic_token h.mnemonic) there.0 ∙ mnemonic_no h.mnemonic h.named in
     record {
@@ -204,47 +190,34 @@ label_parts Name Numeral e = absurd (cc)
 label_parts Name Directive e = absurd (cc)
 label_parts Name End e = absurd (cc)
 label_parts Name Bad e = absurd (cc)
-label_parts Numeral second e = absurd (cc)
-label_parts Directive second e = absurd (cc)
-label_parts (Mark b) second e = absurd (cc)
-label_parts End second e = absurd (cc)
-label_parts Bad second e = absurd (cc)
+label_parts other second e = absurd (cc)
 
 same_mark : (a b : ℕ) → Mark a ≡ Mark b → a ≡ b
 same_mark a b e = cc
 
 name_kind : (shown : lex.Token) → kind_of shown ≡ Name → shown ≡ name (spelling shown)
 name_kind (name bytes) e = refl
-name_kind (decimal_number negative digits) e = absurd (cc)
-name_kind (hex_number digits) e = absurd (cc)
-name_kind word e = absurd (cc)
-name_kind comma e = absurd (cc)
-name_kind open_bracket e = absurd (cc)
-name_kind close_bracket e = absurd (cc)
-name_kind colon e = absurd (cc)
+name_kind other e = absurd (cc)
 
 colon_kind : (shown : lex.Token) → kind_of shown ≡ Mark 58 → shown ≡ colon
-colon_kind (name bytes) e = absurd (cc)
-colon_kind (decimal_number negative digits) e = absurd (cc)
-colon_kind (hex_number digits) e = absurd (cc)
-colon_kind word e = absurd (cc)
 colon_kind comma e = let no = same_mark 44 58 e in absurd (omega arith)
 colon_kind open_bracket e = let no = same_mark 40 58 e in absurd (omega arith)
 colon_kind close_bracket e = let no = same_mark 41 58 e in absurd (omega arith)
 colon_kind colon e = refl
+colon_kind other e = absurd (cc)
 
 -- a token of this kind is shown as a name
 shown_name : (line : List ℕ) (t : Token) (symbol : lex.Symbol) → Shows line t symbol → t.kind ≡ Name → IsShown line t (name (text_of line t))
-shown_name line t (lex.token shown) shows e =
+shown_name line t (reading.token shown) shows e =
     let named = name_kind shown (sym shows.kind ∙ e) in
     let same : shown ≡ name (text_of line t) = named ∙ ap name (sym shows.text) in
     subst (IsShown line t) same shows
-shown_name line t line_end shows e = absurd (cc)
+shown_name line t text_end shows e = absurd (cc)
 shown_name line t stray_byte shows e = absurd (cc)
 
 shown_colon : (line : List ℕ) (t : Token) (symbol : lex.Symbol) → Shows line t symbol → t.kind ≡ Mark 58 → IsShown line t colon
-shown_colon line t (lex.token shown) shows e = subst (IsShown line t) (colon_kind shown (sym shows.kind ∙ e)) shows
-shown_colon line t line_end shows e = absurd (cc)
+shown_colon line t (reading.token shown) shows e = subst (IsShown line t) (colon_kind shown (sym shows.kind ∙ e)) shows
+shown_colon line t text_end shows e = absurd (cc)
 shown_colon line t stray_byte shows e = absurd (cc)
 
 -- ---- lines
@@ -254,10 +227,12 @@ pub record HasBody (line : List ℕ) : Type 0 where
   pub label : Option Token
   pub from : ℕ
   pub has_label : HasLabel line (label_text line label)
-  pub enters : (tokens : List lex.Token) (symbol : lex.Symbol) (column : ℕ) → Stands 0 line (label_tokens (label_text line label) ++ tokens) symbol column → Meets line (next_token line from) tokens symbol column
-  pub leaves : (tokens : List lex.Token) (symbol : lex.Symbol) (column : ℕ) → Meets line (next_token line from) tokens symbol column → Stands 0 line (label_tokens (label_text line label) ++ tokens) symbol column
+  pub enters : (tokens : List lex.Token) (symbol : lex.Symbol) (column : ℕ) → Stands line (label_tokens (label_text line label) ++ tokens) symbol column
+      → Meets line (next_token line from) tokens symbol column
+  pub leaves : (tokens : List lex.Token) (symbol : lex.Symbol) (column : ℕ) → Meets line (next_token line from) tokens symbol column
+      → Stands line (label_tokens (label_text line label) ++ tokens) symbol column
   pub reads : (full : Bool) → read_line line full ≡ with_statement line label (next_token line from) full (next_token line from).kind
-  pub label_stands : (t : Token) → label ≡ Some t → Stands 0 line [] (lex.token (name (text_of line t))) t.start
+  pub label_stands : (t : Token) → label ≡ Some t → Stands line [] (reading.token (name (text_of line t))) t.start
 
 module _ (line : List ℕ) where
   abbrev first : Token
@@ -282,11 +257,13 @@ module _ (line : List ℕ) where
       record {
         label = Some first;
         from = second.end;
-        has_label = (second.start, line_stands line (name text ∷ []) (lex.token colon) second.start (one, (two, refl)));
+        has_label = (second.start, line_stands line (name text ∷ []) (reading.token colon) second.start (one, (two, refl)));
         enters = λ tokens symbol column s. (line_meets line (name text ∷ colon ∷ tokens) symbol column s).1.1;
         leaves = λ tokens symbol column m. line_stands line (name text ∷ colon ∷ tokens) symbol column (one, (two, m));
-        reads = λ full. ap (λ b. cond b (with_statement line (Some first) (next_token line second.end) full (next_token line second.end).kind) (with_statement line None first full first.kind)) e;
-        label_stands = λ t is. let same : first ≡ t = cc in subst (λ u. Stands 0 line [] (lex.token (name (text_of line u))) u.start) same (line_stands line [] (lex.token (name text)) first.start (one, refl));
+        reads = λ full. ap (λ b. cond b (with_statement line (Some first) (next_token line second.end) full (next_token line second.end).kind)
+            (with_statement line None first full first.kind)) e;
+        label_stands = λ t is. let same : first ≡ t = cc in subst (λ u. Stands line [] (reading.token (name (text_of line u))) u.start) same
+            (line_stands line [] (reading.token (name text)) first.start (one, refl));
       }
 
   unlabelled : is_label first.kind second.kind ≡ false → HasBody line
@@ -294,10 +271,12 @@ module _ (line : List ℕ) where
   unlabelled e = record {
     label = None;
     from = 0;
-    has_label = λ label column s. let m = line_meets line (name label ∷ []) (lex.token colon) column s in true_is_not_false ((λ i. is_label (m.0.kind i) (m.1.0.kind i)) ∙ refl) e;
+    has_label = λ label column s. let m = line_meets line (name label ∷ []) (reading.token colon) column s in
+        true_is_not_false ((λ i. is_label (m.0.kind i) (m.1.0.kind i)) ∙ refl) e;
     enters = λ tokens symbol column s. line_meets line tokens symbol column s;
     leaves = λ tokens symbol column m. line_stands line tokens symbol column m;
-    reads = λ full. ap (λ b. cond b (with_statement line (Some first) (next_token line second.end) full (next_token line second.end).kind) (with_statement line None first full first.kind)) e;
+    reads = λ full. ap (λ b. cond b (with_statement line (Some first) (next_token line second.end) full (next_token line second.end).kind)
+        (with_statement line None first full first.kind)) e;
     label_stands = λ t is. absurd (cc);
   }
 
@@ -307,9 +286,9 @@ module _ (line : List ℕ) where
   -- a line has one label at most
   pub same_label : (a b : Option (List ℕ)) → HasLabel line a → HasLabel line b → a ≡ b
   same_label (Some a) (Some b) one two =
-      let m = line_meets line (name a ∷ []) (lex.token colon) one.0 one.1 in
-      let n = line_meets line (name b ∷ []) (lex.token colon) two.0 two.1 in
-      let same : lex.token (name a) ≡ lex.token (name b) = same_symbol line first (lex.token (name a)) (lex.token (name b)) m.0 n.0 in
+      let m = line_meets line (name a ∷ []) (reading.token colon) one.0 one.1 in
+      let n = line_meets line (name b ∷ []) (reading.token colon) two.0 two.1 in
+      let same : reading.token (name a) ≡ reading.token (name b) = same_symbol line first (reading.token (name a)) (reading.token (name b)) m.0 n.0 in
       cc
   same_label (Some a) None one two = absurd (two a one.0 one.1)
   same_label None (Some b) one two = absurd (one b two.0 two.1)
@@ -323,13 +302,10 @@ statement_read line (Some s) = Some (statement_says line s)
 abbrev pub line_says : List ℕ → code_lines.Line → Line
 line_says line l = record { label = label_text line l.label; statement = statement_read line l.statement }
 
-pub with_other : (line : List ℕ) (label : Option Token) (t : Token) (full : Bool) (kind : Kind) → kind ≢ End → with_statement line label t full kind ≡ (read_statement line t full >>= λ s. Ok (record { label = label; statement = Some s }))
-with_other line label t full Name other = refl
-with_other line label t full Numeral other = refl
-with_other line label t full Directive other = refl
-with_other line label t full (Mark b) other = refl
-with_other line label t full Bad other = refl
+pub with_other : (line : List ℕ) (label : Option Token) (t : Token) (full : Bool) (kind : Kind) → kind ≢ End
+    → with_statement line label t full kind ≡ (read_statement line t full >>= λ s. Ok (record { label = label; statement = Some s }))
 with_other line label t full End other = absurd (other refl)
+with_other line label t full it other = refl
 
 -- a statement that is read has room
 abbrev pub HasRoom : Bool → Option code.Statement → Type 0
@@ -344,7 +320,7 @@ HasLabels line (Some s) = HasLabelFor s.mnemonic (values_of line s.operands)
 -- the same behind the line's label
 pub record ReachesInLine (line : List ℕ) (label : Option (List ℕ)) (t : Token) (statement : Statement) : Type 0 where
   pub front : List lex.Token
-  pub stands : StandsInLine line label front (lex.token (name (text_of line t))) t.start
+  pub stands : StandsInLine line label front (reading.token (name (text_of line t))) t.start
   pub is_statement : IsStatement (front ++ name (text_of line t) ∷ []) statement
 
 -- a line that is read is a line of the definitions
@@ -352,24 +328,39 @@ pub record IsReadLine (line : List ℕ) (full : Bool) (l : code_lines.Line) : Ty
   pub is_line : IsLine line (line_says line l)
   pub room : HasRoom full l.statement
   pub labels : HasLabels line l.statement
-  pub label_stands : (t : Token) → l.label ≡ Some t → Stands 0 line [] (lex.token (name (text_of line t))) t.start
-  pub target : (s : code.Statement) (t : Token) → l.statement ≡ Some s → s.operands.label ≡ Some t → ReachesInLine line (label_text line l.label) t (statement_says line s)
+  pub label_stands : (t : Token) → l.label ≡ Some t → Stands line [] (reading.token (name (text_of line t))) t.start
+  pub target : (s : code.Statement) (t : Token) → l.statement ≡ Some s → s.operands.label ≡ Some t
+      → ReachesInLine line (label_text line l.label) t (statement_says line s)
 
-line_end_read : (line : List ℕ) (full : Bool) (b : HasBody line) (l : code_lines.Line) → (next_token line b.from).kind ≡ End → record { label = b.label; statement = None } ≡ l → IsReadLine line full l
+line_end_read : (line : List ℕ) (full : Bool) (b : HasBody line) (l : code_lines.Line) → (next_token line b.from).kind ≡ End
+    → record { label = b.label; statement = None } ≡ l → IsReadLine line full l
 line_end_read line full b l end e = subst (IsReadLine line full) e (record {
-  is_line = record { tokens = []; end = (next_token line b.from).start; ends = record { has_label = b.has_label; stands = b.leaves [] line_end (next_token line b.from).start (end, refl) }; has_statement = refl };
+  is_line = record {
+    tokens = [];
+    end = (next_token line b.from).start;
+    ends =
+        record { has_label = b.has_label; stands = b.leaves [] text_end (next_token line b.from).start (end, refl) };
+    has_statement = refl;
+  };
   room = tt;
   labels = tt;
   label_stands = b.label_stands;
   target = λ s t none some. absurd (cc);
 })
 
-statement_line_read : (line : List ℕ) (full : Bool) (b : HasBody line) (l : code_lines.Line) → (read_statement line (next_token line b.from) full >>= λ s. Ok (record { label = b.label; statement = Some s })) ≡ Ok l → IsReadLine line full l
+statement_line_read : (line : List ℕ) (full : Bool) (b : HasBody line) (l : code_lines.Line)
+    → (read_statement line (next_token line b.from) full >>= λ s. Ok (record { label = b.label; statement = Some s })) ≡ Ok l → IsReadLine line full l
 statement_line_read line full b l e =
     let s = bind_ok (read_statement line (next_token line b.from) full) _ l e in
     let r = read_is line b.from full s.0 s.1 in
     subst (IsReadLine line full) (same_ok _ l s.2) (record {
-      is_line = record { tokens = r.0.tokens; end = r.0.column; ends = record { has_label = b.has_label; stands = b.leaves r.0.tokens line_end r.0.column r.0.meets }; has_statement = r.0.is_statement };
+      is_line = record {
+        tokens = r.0.tokens;
+        end = r.0.column;
+        ends = record
+            { has_label = b.has_label; stands = b.leaves r.0.tokens text_end r.0.column r.0.meets };
+        has_statement = r.0.is_statement;
+      };
       room = r.1;
       labels = r.2;
       label_stands = b.label_stands;
@@ -377,7 +368,13 @@ statement_line_read line full b l e =
           let is : s.0 ≡ u = cc in
           let last = r.3 t (ap (λ k. k.operands.label) is ∙ some) in
           subst (λ k. ReachesInLine line (label_text line b.label) t (statement_says line k)) is
-          (record { front = last.front; stands = record { has_label = b.has_label; stands = b.leaves last.front (lex.token (name (text_of line t))) t.start last.meets }; is_statement = last.is_statement });
+          (record {
+            front = last.front;
+            stands =
+                record { has_label = b.has_label; stands = b.leaves last.front (reading.token (name (text_of line t))) t.start last.meets };
+            is_statement =
+                last.is_statement;
+          });
     })
 
 pub line_read : (line : List ℕ) (full : Bool) (l : code_lines.Line) → read_line line full ≡ Ok l → IsReadLine line full l
@@ -387,13 +384,10 @@ line_read line full l e =
     let e' : with_statement line b.label t full t.kind ≡ Ok l = sym (b.reads full) ∙ e in
     by b t.kind refl e'
   where
-    by : (b : HasBody line) (kind : Kind) → (next_token line b.from).kind ≡ kind → with_statement line b.label (next_token line b.from) full kind ≡ Ok l → IsReadLine line full l
+    by : (b : HasBody line) (kind : Kind) → (next_token line b.from).kind ≡ kind → with_statement line b.label (next_token line b.from) full kind ≡ Ok l
+        → IsReadLine line full l
     by b End at e = line_end_read line full b l at (same_ok _ l e)
-    by b Name at e = statement_line_read line full b l e
-    by b Numeral at e = statement_line_read line full b l e
-    by b Directive at e = statement_line_read line full b l e
-    by b (Mark m) at e = statement_line_read line full b l e
-    by b Bad at e = statement_line_read line full b l e
+    by b other at e = statement_line_read line full b l e
 
 -- and a line of the definitions is read
 abbrev pub IsRoomFor : Bool → Option Statement → Type 0
@@ -412,13 +406,14 @@ pub line_is : (line : List ℕ) (full : Bool) (is : Line) → IsLine line is →
 line_is line full is l room =
     let b = body_of line in
     let same = same_label line is.label (label_text line b.label) l.ends.has_label b.has_label in
-    let meets = b.enters l.tokens line_end l.end (subst (λ label. Stands 0 line (label_tokens label ++ l.tokens) line_end l.end) same l.ends.stands) in
+    let meets = b.enters l.tokens text_end l.end (subst (λ label. Stands line (label_tokens label ++ l.tokens) text_end l.end) same l.ends.stands) in
     by b is.statement same meets l.has_statement room
   where
-    by : (b : HasBody line) (statement : Option Statement) → is.label ≡ label_text line b.label → Meets line (next_token line b.from) l.tokens line_end l.end → HasStatement l.tokens statement → IsRoomFor full statement
+    by : (b : HasBody line) (statement : Option Statement) → is.label ≡ label_text line b.label → Meets line (next_token line b.from) l.tokens text_end l.end
+        → HasStatement l.tokens statement → IsRoomFor full statement
         → WillReadLine line full (record { label = is.label; statement = statement })
     by b None same meets has room =
-        let there = subst (λ ts. Meets line (next_token line b.from) ts line_end l.end) has meets in
+        let there = subst (λ ts. Meets line (next_token line b.from) ts text_end l.end) has meets in
         record {
           read = record { label = b.label; statement = None };
           reads = b.reads full ∙ ap (with_statement line b.label (next_token line b.from) full) there.0;
@@ -428,7 +423,7 @@ line_is line full is l room =
         let t = next_token line b.from in
         let r = is_read line t l.tokens l.end statement meets has in
         let h = statement_slots has in
-        let there = subst (λ ts. Meets line t ts line_end l.end) h.tokens meets in
+        let there = subst (λ ts. Meets line t ts text_end l.end) h.tokens meets in
         record {
           read = record { label = b.label; statement = Some r.read };
           reads = b.reads full ∙ (with_other line b.label t full t.kind (shown_not_end line t (mnemonic_token h.mnemonic) there.0)

@@ -1,5 +1,6 @@
 -- The programs that the code reads are those of the definitions.
-use Rattle.std.proofs.Common.{◌≡◌, ◌≢◌, ℕ, ◌+◌, ◌-◌, ◌*◌, ◌<◌, ◌≤◌, inl, inr, Bool, true, false, cond, eqb, nat_lt, List, [], ◌∷◌, ◌++◌, length, refl, sym, ap, ◌∙◌, subst, arith, lit≤, append-nil, length-append, Option, Some, None, Result, Ok, Err, ℤ, pos, neg_ℤ, ◌-ℤ◌}
+use Rattle.std.proofs.Common.{◌≡◌, ◌≢◌, ℕ, ◌+◌, ◌-◌, ◌*◌, ◌<◌, ◌≤◌, inl, inr, Bool, true, false, cond, eqb, nat_lt, List, [], ◌∷◌, ◌++◌, length, refl, sym, ap}
+use Rattle.std.proofs.Common.{◌∙◌, subst, arith, lit≤, append-nil, length-append, Option, Some, None, Result, Ok, Err, ℤ, pos, neg_ℤ, ◌-ℤ◌}
 use Rattle.std.specs.Option.{option_to_list}
 use Rattle.std.proofs.lemmas.Int.{ints}
 use Rattle.std.proofs.lemmas.Bool.{eqb-true}
@@ -20,19 +21,22 @@ use Rattle.ci_asm.specs.Tokens.{text_of}
 use Rattle.ci_asm.specs.Shapes.{fits, field_of}
 use Rattle.ci_asm.specs.Statements.{◌>>=◌, insn_of, signed_value}
 use Rattle.ci_asm.specs.LabelMap.{earlier}
-use Rattle.ci_asm.specs.Programs.{Position, position, on_line, line_at, option_words, words_in, label_in, words_behind, all_read, is_labelled, definition_on, definition_of, Definitions, once_at, defined_once, offset_between, reaching, resolved, statement_insn, line_insn, option_length, insns_of, assembled, AreWordsOf, AreWordsIn}
+use Rattle.ci_asm.specs.Programs.{Position, position, on_line, line_at, option_words, words_in, label_in, words_behind, all_read, is_labelled, definition_on}
+use Rattle.ci_asm.specs.Programs.{definition_of, Definitions, once_at, defined_once, offset_between, reaching, resolved, statement_insn, line_insn}
+use Rattle.ci_asm.specs.Programs.{option_length, insns_of, assembled, AreWordsOf, AreWordsIn}
 use Rattle.ci_asm.specs.Lines.{lines_of}
 use Rattle.ci_asm.specs.Forms.{Statement, IsIn}
 use Rattle.ci_asm.specs.Assembly as asm
-use Rattle.ci_asm.specs.Assembly.{Line, IsLine, AreLines, IsProgram, with_statement_of, statements_of, Defines, IsLabelOf, IsOffset, IsInsnOf, AreWords, IsNew, IsResolved, AreResolved, IsAssembly, most_words}
-use Rattle.ci_asm.proofs.Operands.{bind_ok, same_ok, cond_ok}
-use Rattle.ci_asm.proofs.Assembly.{all_read-nil, all_read-ok, definition_of-nil, definition_of-cons, insns_of-nil, insns_of-ok, assembled-read}
-use Rattle.ci_asm.proofs.Filling.{values_of, label_text}
-use Rattle.ci_asm.proofs.Fields.{field_form, fits_in, in_fits}
-use Rattle.ci_asm.proofs.Stated.{HasLabelFor, plain_says, TakesLabel, jal, branches, takes_label}
+use Rattle.ci_asm.specs.Assembly.{Line, IsLine, AreLines, IsProgram, with_statement_of, statements_of, Defines, IsLabelOf, IsOffset, IsInsnOf, AreWords, IsNew}
+use Rattle.ci_asm.specs.Assembly.{IsResolved, AreResolved, IsAssembly, most_words}
+use Rattle.ci_asm.proofs.SoundStatements.{bind_ok, same_ok, cond_ok}
+use Rattle.ci_asm.proofs.AssemblySteps.{all_read-nil, all_read-ok, definition_of-nil, definition_of-cons, insns_of-nil, insns_of-ok, assembled-read}
+use Rattle.ci_asm.proofs.FilledSlots.{values_of, label_text}
+use Rattle.ci_asm.proofs.ReadOperands.{field_form, fits_in, in_fits}
+use Rattle.ci_asm.proofs.ReadStatements.{HasLabelFor, plain_says, TakesLabel, jal, branches, takes_label}
 use Rattle.ci_asm.specs.declared.mnemonics.Mnemonic.{Mnemonic}
 use Rattle.ci_asm.specs.declared.mnemonics.Mnemonic.TheVariants.{Jal, Branch}
-use Rattle.ci_asm.proofs.Scanning.{by_test}
+use Rattle.ci_asm.proofs.TestLaws.{by_test}
 use Rattle.ci_asm.proofs.ReadLines.{statement_says, statement_read, line_says, HasRoom, HasLabels, line_read, IsRoomFor, line_is}
 
 -- ---- lines that were read
@@ -60,7 +64,8 @@ pub statement_room : (words : ℕ) (s : Option code.Statement) → HasRoom (eqb 
 statement_room words None room fits = omega arith
 statement_room words (Some s) room fits = room_left words room fits
 
-pub words_with : (line : List ℕ) (s : Option code.Statement) (others : List Statement) → length (with_statement_of (statement_read line s) others) ≡ option_words s + length others
+pub words_with : (line : List ℕ) (s : Option code.Statement) (others : List Statement)
+    → length (with_statement_of (statement_read line s) others) ≡ option_words s + length others
 words_with line None others = omega arith
 words_with line (Some s) others = omega arith
 
@@ -88,14 +93,17 @@ all_read-lines n words (line ∷ lines) e =
     let b = bind_ok (words_behind n words line) _ tt e in
     by (line_at words line) refl b.0 b.1 (all_read-lines (n + 1) b.0 lines b.2)
   where
-    by : (r : Result code_lines.Line Fault) → line_at words line ≡ r → (after : ℕ) → (on_line n (line_at words line) >>= λ l. Ok (words + option_words l.statement)) ≡ Ok after
+    by : (r : Result code_lines.Line Fault) → line_at words line ≡ r → (after : ℕ)
+        → (on_line n (line_at words line) >>= λ l. Ok (words + option_words l.statement)) ≡ Ok after
         → (ls : List code_lines.Line) × AreRead after lines ls → (ls : List code_lines.Line) × AreRead words (line ∷ lines) ls
     by (Ok l) at after e more =
-        let known : (on_line n (line_at words line) >>= λ l. Ok (words + option_words l.statement)) ≡ Ok (words + option_words l.statement) = ap (λ r. on_line n r >>= λ l. Ok (words + option_words l.statement)) at in
+        let known : (on_line n (line_at words line) >>= λ l. Ok (words + option_words l.statement)) ≡ Ok (words + option_words l.statement) =
+        ap (λ r. on_line n r >>= λ l. Ok (words + option_words l.statement)) at in
         let same : after ≡ words + option_words l.statement = same_ok {E = Position} after (words + option_words l.statement) (sym e ∙ known) in
         (l ∷ more.0, (at, subst (λ k. AreRead k lines more.0) same more.1))
     by (Err f) at after e more =
-        let known : (on_line n (line_at words line) >>= λ l. Ok (words + option_words l.statement)) ≡ Err (position n f) = ap (λ r. on_line n r >>= λ l. Ok (words + option_words l.statement)) at in
+        let known : (on_line n (line_at words line) >>= λ l. Ok (words + option_words l.statement)) ≡ Err (position n f) =
+        ap (λ r. on_line n r >>= λ l. Ok (words + option_words l.statement)) at in
         absurd (cc)
 
 pub read-all_read : (n words : ℕ) (lines : List (List ℕ)) (ls : List code_lines.Line) → AreRead words lines ls → all_read n words lines ≡ Ok tt
@@ -116,20 +124,24 @@ room_of : (words : ℕ) (s : Option Statement) (others : List Statement) → wor
 room_of words None others fits = tt
 room_of words (Some s) others fits = room_for words (omega arith)
 
-with_same : (words : ℕ) (line : List ℕ) (s : Option code.Statement) (is : Option Statement) (others : List Statement) → statement_read line s ≡ is → words + length (with_statement_of is others) ≤ 262144 → words + option_words s + length others ≤ 262144
+with_same : (words : ℕ) (line : List ℕ) (s : Option code.Statement) (is : Option Statement) (others : List Statement) → statement_read line s ≡ is
+    → words + length (with_statement_of is others) ≤ 262144 → words + option_words s + length others ≤ 262144
 with_same words line s is others same fits =
     let count = words_with line s others in
-    let there : words + length (with_statement_of (statement_read line s) others) ≤ 262144 = subst (λ k. words + length (with_statement_of k others) ≤ 262144) (sym same) fits in
+    let there : words + length (with_statement_of (statement_read line s) others) ≤ 262144 =
+    subst (λ k. words + length (with_statement_of k others) ≤ 262144) (sym same) fits in
     omega arith
 
-pub program_read : (words : ℕ) (lines : List (List ℕ)) (program : List Line) → AreLines lines program → words + asm.words_in program ≤ 262144 → WillReadLines words lines program
+pub program_read : (words : ℕ) (lines : List (List ℕ)) (program : List Line) → AreLines lines program → words + asm.words_in program ≤ 262144
+    → WillReadLines words lines program
 program_read words [] [] are fits = record { ls = []; are_read = tt; says = refl }
 program_read words [] (l ∷ program) are fits = absurd are
 program_read words (line ∷ lines) [] are fits = absurd are
 program_read words (line ∷ lines) (is ∷ program) are fits =
     let r = line_is line (eqb words 262144) is are.0 (room_of words is.statement (statements_of program) fits) in
     let same : statement_read line r.read.statement ≡ is.statement = ap (λ l. l.statement) r.says in
-    let more = program_read (words + option_words r.read.statement) lines program are.1 (with_same words line r.read.statement is.statement (statements_of program) same fits) in
+    let more = program_read (words + option_words r.read.statement) lines program are.1
+    (with_same words line r.read.statement is.statement (statements_of program) same fits) in
     record { ls = r.read ∷ more.ls; are_read = (r.reads, more.are_read); says = λ i. r.says i ∷ more.says i }
 
 -- ---- labels
@@ -157,10 +169,12 @@ labelled_no : (name line : List ℕ) (label : Option Token) → label_text line 
 labelled_no name line None e = absurd (cc)
 labelled_no name line (Some t) e = let same : text_of line t ≡ name = cc in (bytes_eq-Decides (text_of line t) name).1 same
 
-count_cons : (line : Line) (lines : List Line) (words : ℕ) → words + asm.words_in (line ∷ lines) ≡ words + length (with_statement_of line.statement []) + asm.words_in lines
+count_cons : (line : Line) (lines : List Line) (words : ℕ) → words + asm.words_in (line ∷ lines) ≡ words + length (with_statement_of line.statement [])
+    + asm.words_in lines
 count_cons line lines words = by line.statement
   where
-    by : (s : Option Statement) → words + length (with_statement_of s (statements_of lines)) ≡ words + length (with_statement_of s []) + length (statements_of lines)
+    by : (s : Option Statement) → words + length (with_statement_of s (statements_of lines)) ≡ words + length (with_statement_of s []) + length
+        (statements_of lines)
     by None = omega arith
     by (Some s) = omega arith
 
@@ -168,7 +182,8 @@ words_here : (line : List ℕ) (s : Option code.Statement) → length (with_stat
 words_here line None = refl
 words_here line (Some s) = refl
 
-further : (label : List ℕ) (n words more : ℕ) (line : Line) (program : List Line) (o : Option Definition) → ¬ (line.label ≡ Some label) → more ≡ words + length (with_statement_of line.statement []) → IsDefinition program label (n + 1) more o → IsDefinition (line ∷ program) label n words o
+further : (label : List ℕ) (n words more : ℕ) (line : Line) (program : List Line) (o : Option Definition) → ¬ (line.label ≡ Some label)
+    → more ≡ words + length (with_statement_of line.statement []) → IsDefinition program label (n + 1) more o → IsDefinition (line ∷ program) label n words o
 further label n words more line program None other count none = λ defines. elim defines [ inl here ↦ other here | inr there ↦ none there ]
 further label n words more line program (Some d) other count f =
     let line_is = f.line_is in
@@ -186,7 +201,8 @@ further label n words more line program (Some d) other count f =
     }
 
 -- the code's definitions are those of the program
-pub definition_is : (label : List ℕ) (n words : ℕ) (lines : List (List ℕ)) (ls : List code_lines.Line) → AreRead words lines ls → IsDefinition (program_of lines ls) label n words (definition_of label n words lines)
+pub definition_is : (label : List ℕ) (n words : ℕ) (lines : List (List ℕ)) (ls : List code_lines.Line) → AreRead words lines ls
+    → IsDefinition (program_of lines ls) label n words (definition_of label n words lines)
 definition_is label n words [] [] read = subst (IsDefinition [] label n words) (sym (definition_of-nil label n words)) (λ none. none)
 definition_is label n words [] (l ∷ ls) read = absurd read
 definition_is label n words (line ∷ lines) [] read = absurd read
@@ -195,13 +211,17 @@ definition_is label n words (line ∷ lines) (l ∷ ls) read =
     let first : definition_on label n words line ≡ cond (is_labelled label line l.label) (Some (record { line = n; words = words })) None =
     ap (λ r. cond (is_labelled label line (label_in r)) (Some (record { line = n; words = words })) None) read.0 in
     let count : words + words_in (line_at words line) ≡ words + option_words l.statement = ap (λ r. words + words_in r) read.0 in
-    let rest : definition_of label (n + 1) (words + words_in (line_at words line)) lines ≡ definition_of label (n + 1) (words + option_words l.statement) lines = ap (λ k. definition_of label (n + 1) k lines) count in
-    let all : definition_of label n words (line ∷ lines) ≡ earlier (cond (is_labelled label line l.label) (Some (record { line = n; words = words })) None) (definition_of label (n + 1) (words + option_words l.statement) lines) =
+    let rest : definition_of label (n + 1) (words + words_in (line_at words line)) lines ≡ definition_of label (n + 1)
+    (words + option_words l.statement) lines = ap (λ k. definition_of label (n + 1) k lines) count in
+    let all : definition_of label n words (line ∷ lines) ≡ earlier (cond (is_labelled label line l.label) (Some (record { line = n; words = words })) None)
+    (definition_of label (n + 1) (words + option_words l.statement) lines) =
     definition_of-cons label n words line lines ∙ (λ i. earlier (first i) (rest i)) in
     subst (IsDefinition (program_of (line ∷ lines) (l ∷ ls)) label n words) (sym all) (by (is_labelled label line l.label) refl more)
   where
-    by : (b : Bool) → is_labelled label line l.label ≡ b → IsDefinition (program_of lines ls) label (n + 1) (words + option_words l.statement) (definition_of label (n + 1) (words + option_words l.statement) lines)
-        → IsDefinition (program_of (line ∷ lines) (l ∷ ls)) label n words (earlier (cond b (Some (record { line = n; words = words })) None) (definition_of label (n + 1) (words + option_words l.statement) lines))
+    by : (b : Bool) → is_labelled label line l.label ≡ b → IsDefinition (program_of lines ls) label (n + 1) (words + option_words l.statement)
+        (definition_of label (n + 1) (words + option_words l.statement) lines)
+        → IsDefinition (program_of (line ∷ lines) (l ∷ ls)) label n words
+        (earlier (cond b (Some (record { line = n; words = words })) None) (definition_of label (n + 1) (words + option_words l.statement) lines))
     by true at more = record {
       before = [];
       line = line_says line l;
@@ -212,7 +232,8 @@ definition_is label n words (line ∷ lines) (l ∷ ls) read =
       line_is = omega arith;
       words_is = omega arith;
     }
-    by false at more = further label n words (words + option_words l.statement) (line_says line l) (program_of lines ls) _ (λ e. let no = labelled_no label line l.label e in absurd (cc)) (ap (λ k. words + k) (sym (words_here line l.statement))) more
+    by false at more = further label n words (words + option_words l.statement) (line_says line l) (program_of lines ls) _
+        (λ e. let no = labelled_no label line l.label e in absurd (cc)) (ap (λ k. words + k) (sym (words_here line l.statement))) more
 
 -- ---- splits of a program
 
@@ -220,7 +241,8 @@ Defines-append : (before : List Line) (line : Line) (after : List Line) (label :
 Defines-append [] line after label e = inl e
 Defines-append (l ∷ before) line after label e = inr (Defines-append before line after label e)
 
-pub defined_in : (program before : List Line) (line : Line) (after : List Line) (label : List ℕ) → program ≡ before ++ line ∷ after → line.label ≡ Some label → Defines program label
+pub defined_in : (program before : List Line) (line : Line) (after : List Line) (label : List ℕ) → program ≡ before ++ line ∷ after → line.label ≡ Some label
+    → Defines program label
 defined_in program before line after label split e = subst (λ p. Defines p label) (sym split) (Defines-append before line after label e)
 
 -- at one place of a program stands one line
@@ -234,7 +256,8 @@ same_length (x ∷ a) (y ∷ b) k l rest others size e =
     λ i. head i ∷ same_length a b k l rest others (omega arith) tail i
 
 -- an earlier line stands among the lines before a later one
-pub split_less : (a b : List Line) (k l : Line) (rest others : List Line) (label : List ℕ) → length a < length b → a ++ k ∷ rest ≡ b ++ l ∷ others → k.label ≡ Some label → Defines b label
+pub split_less : (a b : List Line) (k l : Line) (rest others : List Line) (label : List ℕ) → length a < length b → a ++ k ∷ rest ≡ b ++ l ∷ others
+    → k.label ≡ Some label → Defines b label
 split_less a [] k l rest others label less e labelled = absurd (omega arith)
 split_less [] (y ∷ b) k l rest others label less e labelled = let head : k ≡ y = cc in inl (ap (λ x. x.label) (sym head) ∙ labelled)
 split_less (x ∷ a) (y ∷ b) k l rest others label less e labelled =
@@ -242,7 +265,8 @@ split_less (x ∷ a) (y ∷ b) k l rest others label less e labelled =
     inr (split_less a b k l rest others label (omega arith) tail labelled)
 
 -- a label is first defined at one place
-pub same_first : (a b : List Line) (k l : Line) (rest others : List Line) (label : List ℕ) → a ++ k ∷ rest ≡ b ++ l ∷ others → k.label ≡ Some label → l.label ≡ Some label → ¬ Defines a label → ¬ Defines b label → a ≡ b
+pub same_first : (a b : List Line) (k l : Line) (rest others : List Line) (label : List ℕ) → a ++ k ∷ rest ≡ b ++ l ∷ others → k.label ≡ Some label
+    → l.label ≡ Some label → ¬ Defines a label → ¬ Defines b label → a ≡ b
 same_first a b k l rest others label e at_k at_l new_a new_b =
     by_test (nat_lt (length a) (length b))
     (λ t. let less : length a < length b = grind (arith, nat_tests) in absurd (new_b (split_less a b k l rest others label less e at_k)))
@@ -259,20 +283,23 @@ offset_signed from to = by_test (nat_lt to from) back forth
     back e =
         let less : to < from = grind (arith, nat_tests) in
         let size : neg_ℤ (pos (4 * (from - to))) ≡ pos (4 * to) -ℤ pos (4 * from) = omega (arith, ints) in
-        ap (λ b. signed_value (cond b (record { negative = true; magnitude = 4 * (from - to) }) (record { negative = false; magnitude = 4 * (to - from) }))) e ∙ size
+        ap (λ b. signed_value (cond b (record { negative = true; magnitude = 4 * (from - to) }) (record { negative = false; magnitude = 4 * (to - from) }))) e
+        ∙ size
 
     forth : nat_lt to from ≡ false → signed_value (offset_between from to) ≡ pos (4 * to) -ℤ pos (4 * from)
     forth e =
         let more : from ≤ to = grind (arith, nat_tests) in
         let size : pos (4 * (to - from)) ≡ pos (4 * to) -ℤ pos (4 * from) = omega (arith, ints) in
-        ap (λ b. signed_value (cond b (record { negative = true; magnitude = 4 * (from - to) }) (record { negative = false; magnitude = 4 * (to - from) }))) e ∙ size
+        ap (λ b. signed_value (cond b (record { negative = true; magnitude = 4 * (from - to) }) (record { negative = false; magnitude = 4 * (to - from) }))) e
+        ∙ size
 
 -- what the code knows of the labels of a program
 abbrev pub AreDefinitions : List Line → Definitions → Type 0
 AreDefinitions program definitions = (label : List ℕ) → IsDefinition program label 1 0 (definitions label)
 
 pub label_at : (program : List Line) (label : List ℕ) (d : Definition) → IsFoundAt program label 1 0 d → IsLabelOf program label d.words
-label_at program label d f = let words_is = f.words_is in let count : d.words ≡ asm.words_in f.before = omega arith in (f.before, f.line, f.after, f.split, f.labelled, f.is_new, count)
+label_at program label d f = let words_is = f.words_is in let count : d.words ≡ asm.words_in f.before = omega arith in
+    (f.before, f.line, f.after, f.split, f.labelled, f.is_new, count)
 
 -- the offset to a label that is in its field
 record HasOffset (program : List Line) (words : ℕ) (s : code.Statement) (label : List ℕ) (o : Operands) : Type 0 where
@@ -281,12 +308,19 @@ record HasOffset (program : List Line) (words : ℕ) (s : code.Statement) (label
   is_offset : IsOffset program words label (signed_value number)
   is_in : IsIn (field_form (field_of s.mnemonic)) (signed_value number)
 
-reaching_yes : (program : List Line) (words : ℕ) (s : code.Statement) (t : Token) (label : List ℕ) (d : Option Definition) (o : Operands) → IsDefinition program label 1 0 d → reaching words s t d ≡ Ok o → HasOffset program words s label o
+reaching_yes : (program : List Line) (words : ℕ) (s : code.Statement) (t : Token) (label : List ℕ) (d : Option Definition) (o : Operands)
+    → IsDefinition program label 1 0 d → reaching words s t d ≡ Ok o → HasOffset program words s label o
 reaching_yes program words s t label None o is e = absurd (cc)
 reaching_yes program words s t label (Some d) o is e =
     let n = offset_between words d.words in
     let c = cond_ok (fits (field_of s.mnemonic) n) (record s.operands { number = n }) o _ e in
-    record { number = n; same = c.1; is_offset = (d.words, label_at program label d is, offset_signed words d.words); is_in = fits_in (field_of s.mnemonic) n c.0 }
+    record {
+      number = n;
+      same = c.1;
+      is_offset = (d.words, label_at program label d is, offset_signed words d.words);
+      is_in =
+          fits_in (field_of s.mnemonic) n c.0;
+    }
 
 record WillReach (words : ℕ) (s : code.Statement) (t : Token) (d : Option Definition) (z : ℤ) : Type 0 where
   number : Number
@@ -294,14 +328,16 @@ record WillReach (words : ℕ) (s : code.Statement) (t : Token) (d : Option Defi
   signed : signed_value number ≡ z
 
 -- a label has one place
-pub same_label_place : (program : List Line) (label : List ℕ) (d : Definition) (to : ℕ) → IsFoundAt program label 1 0 d → IsLabelOf program label to → d.words ≡ to
+pub same_label_place : (program : List Line) (label : List ℕ) (d : Definition) (to : ℕ) → IsFoundAt program label 1 0 d → IsLabelOf program label to
+    → d.words ≡ to
 same_label_place program label d to f at =
     let same = same_first f.before at.0 f.line at.1 f.after at.2 label (sym f.split ∙ at.3) f.labelled at.4 f.is_new at.5 in
     let words_is = f.words_is in
     let count : d.words ≡ asm.words_in f.before = omega arith in
     count ∙ (ap asm.words_in same ∙ sym at.6)
 
-reaching_no : (program : List Line) (words : ℕ) (s : code.Statement) (t : Token) (label : List ℕ) (d : Option Definition) (z : ℤ) → IsDefinition program label 1 0 d → IsOffset program words label z → IsIn (field_form (field_of s.mnemonic)) z → WillReach words s t d z
+reaching_no : (program : List Line) (words : ℕ) (s : code.Statement) (t : Token) (label : List ℕ) (d : Option Definition) (z : ℤ)
+    → IsDefinition program label 1 0 d → IsOffset program words label z → IsIn (field_form (field_of s.mnemonic)) z → WillReach words s t d z
 reaching_no program words s t label None z is offset within =
     let at = offset.1 in
     absurd (is (defined_in program at.0 at.1 at.2 label at.3 at.4))
@@ -310,11 +346,17 @@ reaching_no program words s t label (Some d) z is offset within =
     let place = same_label_place program label d offset.0 is offset.1 in
     let signed : signed_value n ≡ z = offset_signed words d.words ∙ (ap (λ k. pos (4 * k) -ℤ pos (4 * words)) place ∙ sym offset.2) in
     let ok = in_fits (field_of s.mnemonic) n (subst (IsIn (field_form (field_of s.mnemonic))) (sym signed) within) in
-    record { number = n; reaches = ap (λ b. cond b (Ok (record s.operands { number = n })) (Err (record { rule = OutOfField; place = t.start }))) ok; signed = signed }
+    record {
+      number = n;
+      reaches = ap (λ b. cond b (Ok (record s.operands { number = n })) (Err (record { rule = OutOfField; place = t.start }))) ok;
+      signed =
+          signed;
+    }
 
 -- the statement with these parts
 abbrev statement_with : Mnemonic → ℕ → ℕ → ℕ → ℕ → Number → Option Token → code.Statement
-statement_with m rd rs1 rs2 rs3 number label = record { mnemonic = m; operands = record { rd = rd; rs1 = rs1; rs2 = rs2; rs3 = rs3; number = number; label = label } }
+statement_with m rd rs1 rs2 rs3 number label =
+    record { mnemonic = m; operands = record { rd = rd; rs1 = rs1; rs2 = rs2; rs3 = rs3; number = number; label = label } }
 
 no_label_for : (m : Mnemonic) (o : Operands) (line : List ℕ) (t : Token) → o.label ≡ Some t → (values_of line o).label ≢ None
 no_label_for m o line t e = λ none. let some : label_text line o.label ≡ Some (text_of line t) = ap (label_text line) e in absurd (cc)
@@ -352,9 +394,11 @@ module _ (program : List Line) (definitions : Definitions) (known : AreDefinitio
   insn_parts m rd rs1 rs2 rs3 number None o for e =
       subst (λ s. IsInsnOf program words s (insn_of m o)) (sym (plain_says m line rd rs1 rs2 rs3 number)) (ap (insn_of m) (sym (same_ok {E = Fault} _ o e)))
   insn_parts m rd rs1 rs2 rs3 number (Some t) o for e =
-      insn_label (takes_label m (values_of line (statement_with m rd rs1 rs2 rs3 number (Some t)).operands) (text_of line t) for refl) rd rs1 rs2 rs3 number t o e
+      insn_label (takes_label m (values_of line (statement_with m rd rs1 rs2 rs3 number (Some t)).operands) (text_of line t) for refl) rd rs1 rs2 rs3 number t o
+      e
 
-  pub insn_yes : (s : code.Statement) (o : Operands) → HasLabelFor s.mnemonic (values_of line s.operands) → resolved definitions words line s s.operands.label ≡ Ok o → IsInsnOf program words (statement_says line s) (insn_of s.mnemonic o)
+  pub insn_yes : (s : code.Statement) (o : Operands) → HasLabelFor s.mnemonic (values_of line s.operands)
+      → resolved definitions words line s s.operands.label ≡ Ok o → IsInsnOf program words (statement_says line s) (insn_of s.mnemonic o)
   insn_yes s o for e = insn_parts s.mnemonic s.operands.rd s.operands.rs1 s.operands.rs2 s.operands.rs3 s.operands.number s.operands.label o for e
 
   -- and back
@@ -383,18 +427,22 @@ module _ (program : List Line) (definitions : Definitions) (known : AreDefinitio
       let o = (statement_with m rd rs1 rs2 rs3 number None).operands in
       record { operands = o; resolves = refl; gives = sym (subst (λ s. IsInsnOf program words s i) (plain_says m line rd rs1 rs2 rs3 number) is) }
   resolve_parts m rd rs1 rs2 rs3 number (Some t) i for is =
-      resolve_label (takes_label m (values_of line (statement_with m rd rs1 rs2 rs3 number (Some t)).operands) (text_of line t) for refl) rd rs1 rs2 rs3 number t i is
+      resolve_label (takes_label m (values_of line (statement_with m rd rs1 rs2 rs3 number (Some t)).operands) (text_of line t) for refl) rd rs1 rs2 rs3 number
+      t i is
 
-  pub insn_no : (s : code.Statement) (i : Insn) → HasLabelFor s.mnemonic (values_of line s.operands) → IsInsnOf program words (statement_says line s) i → WillResolve s i
+  pub insn_no : (s : code.Statement) (i : Insn) → HasLabelFor s.mnemonic (values_of line s.operands) → IsInsnOf program words (statement_says line s) i
+      → WillResolve s i
   insn_no s i for is = resolve_parts s.mnemonic s.operands.rd s.operands.rs1 s.operands.rs2 s.operands.rs3 s.operands.number s.operands.label i for is
 
-  statement_yes : (s : Option code.Statement) (first : Option Insn) → HasLabels line s → statement_insn definitions words line s ≡ Ok first → IsInsnOfLine program words (statement_read line s) first
+  statement_yes : (s : Option code.Statement) (first : Option Insn) → HasLabels line s → statement_insn definitions words line s ≡ Ok first
+      → IsInsnOfLine program words (statement_read line s) first
   statement_yes None first for e = subst (IsInsnOfLine program words None) (same_ok {E = Fault} _ first e) tt
   statement_yes (Some s) first for e =
       let b = bind_ok (resolved definitions words line s s.operands.label) _ first e in
       subst (IsInsnOfLine program words (Some (statement_says line s))) (same_ok {E = Fault} _ first b.2) (insn_yes s b.0 for b.1)
 
-  statement_no : (s : Option code.Statement) (first : Option Insn) → HasLabels line s → IsInsnOfLine program words (statement_read line s) first → statement_insn definitions words line s ≡ Ok first
+  statement_no : (s : Option code.Statement) (first : Option Insn) → HasLabels line s → IsInsnOfLine program words (statement_read line s) first
+      → statement_insn definitions words line s ≡ Ok first
   statement_no None None for is = refl
   statement_no None (Some i) for is = absurd is
   statement_no (Some s) None for is = absurd is
@@ -403,7 +451,8 @@ module _ (program : List Line) (definitions : Definitions) (known : AreDefinitio
       ap (λ r. r >>= λ o. Ok (Some (insn_of s.mnemonic o))) w.resolves ∙ ap (λ i. Ok (Some i)) w.gives
 
   -- a label that is defined on this line
-  pub once_yes : (before after : List Line) (here : Line) (n : ℕ) (label : Option Token) → program ≡ before ++ here ∷ after → here.label ≡ label_text line label → n ≡ 1 + length before → defined_once definitions n line label ≡ Ok tt → IsNew before (label_text line label)
+  pub once_yes : (before after : List Line) (here : Line) (n : ℕ) (label : Option Token) → program ≡ before ++ here ∷ after → here.label ≡ label_text line label
+      → n ≡ 1 + length before → defined_once definitions n line label ≡ Ok tt → IsNew before (label_text line label)
   once_yes before after here n None split at place e = tt
   once_yes before after here n (Some t) split at place e = by (definitions (text_of line t)) (known (text_of line t)) e
     where
@@ -416,7 +465,8 @@ module _ (program : List Line) (definitions : Definitions) (known : AreDefinitio
           let lines = same_length f.before before f.line here f.after after size (sym f.split ∙ split) in
           subst (λ b. ¬ Defines b (text_of line t)) lines f.is_new
 
-  pub once_no : (before after : List Line) (here : Line) (n : ℕ) (label : Option Token) → program ≡ before ++ here ∷ after → here.label ≡ label_text line label → n ≡ 1 + length before → IsNew before (label_text line label) → defined_once definitions n line label ≡ Ok tt
+  pub once_no : (before after : List Line) (here : Line) (n : ℕ) (label : Option Token) → program ≡ before ++ here ∷ after → here.label ≡ label_text line label
+      → n ≡ 1 + length before → IsNew before (label_text line label) → defined_once definitions n line label ≡ Ok tt
   once_no before after here n None split at place new = refl
   once_no before after here n (Some t) split at place new = by (definitions (text_of line t)) (known (text_of line t))
     where
@@ -429,17 +479,22 @@ module _ (program : List Line) (definitions : Definitions) (known : AreDefinitio
           let same : eqb d.line n ≡ true = grind (arith, nat_tests) in
           ap (λ b. cond b (Ok tt) (Err (record { rule = DefinedTwice; place = t.start }))) same
 
-  pub line_insn-read : (n : ℕ) (l : code_lines.Line) → line_at words line ≡ Ok l → line_insn definitions n words line ≡ (defined_once definitions n line l.label >>= λ _. statement_insn definitions words line l.statement)
+  pub line_insn-read : (n : ℕ) (l : code_lines.Line) → line_at words line ≡ Ok l
+      → line_insn definitions n words line ≡ (defined_once definitions n line l.label >>= λ _. statement_insn definitions words line l.statement)
   unfolding line_insn
   line_insn-read n l e = ap (λ r. r >>= λ l. defined_once definitions n line l.label >>= λ _. statement_insn definitions words line l.statement) e
 
-  pub line_yes : (before after : List Line) (n : ℕ) (l : code_lines.Line) (first : Option Insn) → program ≡ before ++ line_says line l ∷ after → n ≡ 1 + length before → line_at words line ≡ Ok l → line_insn definitions n words line ≡ Ok first → IsResolvedAs program words before (line_says line l) first
+  pub line_yes : (before after : List Line) (n : ℕ) (l : code_lines.Line) (first : Option Insn) → program ≡ before ++ line_says line l ∷ after
+      → n ≡ 1 + length before → line_at words line ≡ Ok l → line_insn definitions n words line ≡ Ok first
+      → IsResolvedAs program words before (line_says line l) first
   line_yes before after n l first split place read e =
       let b = bind_ok (defined_once definitions n line l.label) _ first (sym (line_insn-read n l read) ∙ e) in
       let is = line_read line (eqb words 262144) l read in
       record { is_new = once_yes before after (line_says line l) n l.label split refl place b.1; is_insn = statement_yes l.statement first is.labels b.2 }
 
-  pub line_no : (before after : List Line) (n : ℕ) (l : code_lines.Line) (first : Option Insn) → program ≡ before ++ line_says line l ∷ after → n ≡ 1 + length before → line_at words line ≡ Ok l → IsResolvedAs program words before (line_says line l) first → line_insn definitions n words line ≡ Ok first
+  pub line_no : (before after : List Line) (n : ℕ) (l : code_lines.Line) (first : Option Insn) → program ≡ before ++ line_says line l ∷ after
+      → n ≡ 1 + length before → line_at words line ≡ Ok l → IsResolvedAs program words before (line_says line l) first
+      → line_insn definitions n words line ≡ Ok first
   line_no before after n l first split place read is =
       let one = once_no before after (line_says line l) n l.label split refl place is.is_new in
       let two = statement_no l.statement first (line_read line (eqb words 262144) l read).labels is.is_insn in
@@ -456,18 +511,22 @@ AreInsns program number (s ∷ statements) (i ∷ insns) = IsInsnOf program numb
 
 -- each line behind these, up to the end of `lines`, is resolved
 abbrev pub AllResolved : List Line → List Line → List Line → Type 0
-AllResolved program done lines = (before : List Line) (line : Line) (after : List Line) → lines ≡ before ++ line ∷ after → IsResolved program (done ++ before) line
+AllResolved program done lines = (before : List Line) (line : Line) (after : List Line) → lines ≡ before ++ line ∷ after
+    → IsResolved program (done ++ before) line
 
-pub option_size : (program : List Line) (words : ℕ) (line : List ℕ) (s : Option code.Statement) (first : Option Insn) → IsInsnOfLine program words (statement_read line s) first → option_length first ≡ option_words s
+pub option_size : (program : List Line) (words : ℕ) (line : List ℕ) (s : Option code.Statement) (first : Option Insn)
+    → IsInsnOfLine program words (statement_read line s) first → option_length first ≡ option_words s
 option_size program words line None None is = refl
 option_size program words line None (Some i) is = absurd is
 option_size program words line (Some s) None is = absurd is
 option_size program words line (Some s) (Some i) is = refl
 
-pub resolved_from : (program before : List Line) (words : ℕ) (here : Line) (first : Option Insn) → words ≡ asm.words_in before → IsResolvedAs program words before here first → IsResolved program before here
+pub resolved_from : (program before : List Line) (words : ℕ) (here : Line) (first : Option Insn) → words ≡ asm.words_in before
+    → IsResolvedAs program words before here first → IsResolved program before here
 resolved_from program before words here first count is = record { is_new = is.is_new; has_insn = by here.statement first is.is_insn }
   where
-    by : (s : Option Statement) (first : Option Insn) → IsInsnOfLine program words s first → (statement : Statement) → s ≡ Some statement → (i : Insn) × IsInsnOf program (asm.words_in before) statement i
+    by : (s : Option Statement) (first : Option Insn) → IsInsnOfLine program words s first → (statement : Statement) → s ≡ Some statement
+        → (i : Insn) × IsInsnOf program (asm.words_in before) statement i
     by None first is = λ statement e. absurd (cc)
     by (Some s) None is = absurd is
     by (Some s) (Some i) is = λ statement e.
@@ -478,12 +537,14 @@ statements-append : (a b : List Line) → asm.words_in (a ++ b) ≡ asm.words_in
 statements-append [] b = omega arith
 statements-append (l ∷ a) b = by l.statement (statements-append a b)
   where
-    by : (s : Option Statement) → asm.words_in (a ++ b) ≡ asm.words_in a + asm.words_in b → length (with_statement_of s (statements_of (a ++ b))) ≡ length (with_statement_of s (statements_of a)) + length (statements_of b)
+    by : (s : Option Statement) → asm.words_in (a ++ b) ≡ asm.words_in a + asm.words_in b
+        → length (with_statement_of s (statements_of (a ++ b))) ≡ length (with_statement_of s (statements_of a)) + length (statements_of b)
     by None e = e
     by (Some s) e = omega arith
 
 -- a line more is resolved
-pub resolved_cons : (program done lines : List Line) (here : Line) → IsResolved program done here → AllResolved program (done ++ here ∷ []) lines → AllResolved program done (here ∷ lines)
+pub resolved_cons : (program done lines : List Line) (here : Line) → IsResolved program done here → AllResolved program (done ++ here ∷ []) lines
+    → AllResolved program done (here ∷ lines)
 resolved_cons program done lines here first others [] line after e =
     let same : here ≡ line = cc in
     let nothing : done ≡ done ++ [] = sym (append-nil done) in
@@ -494,8 +555,11 @@ resolved_cons program done lines here first others (x ∷ before) line after e =
     let place : (done ++ here ∷ []) ++ before ≡ done ++ x ∷ before = append_assoc done (here ∷ []) before ∙ ap (λ k. done ++ k ∷ before) same in
     subst (λ d. IsResolved program d line) place (others before line after tail)
 
-insns_cons : (program : List Line) (words : ℕ) (s : Option Statement) (first : Option Insn) (statements : List Statement) (others : List Insn) → IsInsnOfLine program words s first → AreInsns program (words + option_length first) statements others → AreInsns program words (with_statement_of s statements) (option_to_list first ++ others)
-insns_cons program words None None statements others is more = let same : words + 0 ≡ words = omega arith in subst (λ k. AreInsns program k statements others) same more
+insns_cons : (program : List Line) (words : ℕ) (s : Option Statement) (first : Option Insn) (statements : List Statement) (others : List Insn)
+    → IsInsnOfLine program words s first → AreInsns program (words + option_length first) statements others
+    → AreInsns program words (with_statement_of s statements) (option_to_list first ++ others)
+insns_cons program words None None statements others is more = let same : words + 0 ≡ words = omega arith in
+    subst (λ k. AreInsns program k statements others) same more
 insns_cons program words None (Some i) statements others is more = absurd is
 insns_cons program words (Some s) None statements others is more = absurd is
 insns_cons program words (Some s) (Some i) statements others is more = (is, more)
@@ -510,7 +574,8 @@ pub record IsAt (program done rest : List Line) (n words : ℕ) : Type 0 where
   pub line_is : n ≡ 1 + length done
   pub words_is : words ≡ asm.words_in done
 
-pub next_at : (program done : List Line) (line : List ℕ) (l : code_lines.Line) (rest : List Line) (n words : ℕ) → IsAt program done (line_says line l ∷ rest) n words → IsAt program (done ++ line_says line l ∷ []) rest (n + 1) (words + option_words l.statement)
+pub next_at : (program done : List Line) (line : List ℕ) (l : code_lines.Line) (rest : List Line) (n words : ℕ)
+    → IsAt program done (line_says line l ∷ rest) n words → IsAt program (done ++ line_says line l ∷ []) rest (n + 1) (words + option_words l.statement)
 next_at program done line l rest n words at =
     let size = length-append done (line_says line l ∷ []) in
     let line_is = at.line_is in
@@ -528,8 +593,10 @@ pub nothing_left : (program done : List Line) → AllResolved program done []
 nothing_left program done [] line after e = absurd (cc)
 nothing_left program done (x ∷ before) line after e = absurd (cc)
 
-insns_yes : (program : List Line) (definitions : Definitions) → AreDefinitions program definitions → (n words : ℕ) (lines : List (List ℕ)) (ls : List code_lines.Line) (done : List Line) (insns : List Insn)
-    → AreRead words lines ls → IsAt program done (program_of lines ls) n words → insns_of definitions n words lines ≡ Ok insns → AreResolvedAs program done (program_of lines ls) words insns
+insns_yes : (program : List Line) (definitions : Definitions) → AreDefinitions program definitions
+    → (n words : ℕ) (lines : List (List ℕ)) (ls : List code_lines.Line) (done : List Line) (insns : List Insn)
+    → AreRead words lines ls → IsAt program done (program_of lines ls) n words → insns_of definitions n words lines ≡ Ok insns
+    → AreResolvedAs program done (program_of lines ls) words insns
 unfolding insns_of
 insns_yes program definitions known n words [] [] done insns read at e =
     record { resolved = nothing_left program done; are_insns = subst (AreInsns program words []) (same_ok {E = Position} [] insns e) tt }
@@ -539,14 +606,19 @@ insns_yes program definitions known n words (line ∷ lines) (l ∷ ls) done ins
     let b = bind_ok (on_line n (line_insn definitions n words line)) _ insns e in
     let first = b.0 in
     let c = bind_ok (insns_of definitions (n + 1) (words + option_length first) lines) _ insns b.2 in
-    let one = line_yes program definitions known words line done (program_of lines ls) n l first at.split at.line_is read.0 (on_line_ok n (line_insn definitions n words line) first b.1) in
+    let one = line_yes program definitions known words line done (program_of lines ls) n l first at.split at.line_is read.0
+    (on_line_ok n (line_insn definitions n words line) first b.1) in
     let size = option_size program words line l.statement first one.is_insn in
-    let rest : insns_of definitions (n + 1) (words + option_words l.statement) lines ≡ Ok c.0 = ap (λ k. insns_of definitions (n + 1) (words + k) lines) (sym size) ∙ c.1 in
-    let more = insns_yes program definitions known (n + 1) (words + option_words l.statement) lines ls (done ++ line_says line l ∷ []) c.0 read.1 (next_at program done line l (program_of lines ls) n words at) rest in
+    let rest : insns_of definitions (n + 1) (words + option_words l.statement) lines ≡ Ok c.0 =
+    ap (λ k. insns_of definitions (n + 1) (words + k) lines) (sym size) ∙ c.1 in
+    let more = insns_yes program definitions known (n + 1) (words + option_words l.statement) lines ls (done ++ line_says line l ∷ []) c.0 read.1
+    (next_at program done line l (program_of lines ls) n words at) rest in
     record {
-      resolved = resolved_cons program done (program_of lines ls) (line_says line l) (resolved_from program done words (line_says line l) first at.words_is one) more.resolved;
+      resolved = resolved_cons program done (program_of lines ls) (line_says line l)
+          (resolved_from program done words (line_says line l) first at.words_is one) more.resolved;
       are_insns = subst (AreInsns program words (statements_of (program_of (line ∷ lines) (l ∷ ls)))) (same_ok {E = Position} _ insns c.2)
-          (insns_cons program words (statement_read line l.statement) first (statements_of (program_of lines ls)) c.0 one.is_insn (subst (λ k. AreInsns program (words + k) (statements_of (program_of lines ls)) c.0) (sym size) more.are_insns));
+          (insns_cons program words (statement_read line l.statement) first (statements_of (program_of lines ls)) c.0 one.is_insn
+          (subst (λ k. AreInsns program (words + k) (statements_of (program_of lines ls)) c.0) (sym size) more.are_insns));
     }
 
 -- ---- and back
@@ -558,7 +630,8 @@ record HasFirst (program : List Line) (words : ℕ) (s : Option Statement) (stat
   is_insn : IsInsnOfLine program words s first
   are_insns : AreInsns program (words + option_length first) statements others
 
-first_insn : (program : List Line) (words : ℕ) (s : Option Statement) (statements : List Statement) (insns : List Insn) → AreInsns program words (with_statement_of s statements) insns → HasFirst program words s statements insns
+first_insn : (program : List Line) (words : ℕ) (s : Option Statement) (statements : List Statement) (insns : List Insn)
+    → AreInsns program words (with_statement_of s statements) insns → HasFirst program words s statements insns
 first_insn program words None statements insns are =
     let same : words ≡ words + 0 = omega arith in
     record { first = None; others = insns; split = refl; is_insn = tt; are_insns = subst (λ k. AreInsns program k statements insns) same are }
@@ -572,8 +645,10 @@ pub resolved_rest : (program done lines : List Line) (here : Line) → AllResolv
 resolved_rest program done lines here all = λ before line after e.
     subst (λ d. IsResolved program d line) (sym (append_assoc done (here ∷ []) before)) (all (here ∷ before) line after (ap (λ k. here ∷ k) e))
 
-insns_no : (program : List Line) (definitions : Definitions) → AreDefinitions program definitions → (n words : ℕ) (lines : List (List ℕ)) (ls : List code_lines.Line) (done : List Line) (insns : List Insn)
-    → AreRead words lines ls → IsAt program done (program_of lines ls) n words → AllResolved program done (program_of lines ls) → AreInsns program words (statements_of (program_of lines ls)) insns → insns_of definitions n words lines ≡ Ok insns
+insns_no : (program : List Line) (definitions : Definitions) → AreDefinitions program definitions
+    → (n words : ℕ) (lines : List (List ℕ)) (ls : List code_lines.Line) (done : List Line) (insns : List Insn)
+    → AreRead words lines ls → IsAt program done (program_of lines ls) n words → AllResolved program done (program_of lines ls)
+    → AreInsns program words (statements_of (program_of lines ls)) insns → insns_of definitions n words lines ≡ Ok insns
 insns_no program definitions known n words [] [] done [] read at all are = insns_of-nil definitions n words
 insns_no program definitions known n words [] [] done (i ∷ insns) read at all are = absurd are
 insns_no program definitions known n words [] (l ∷ ls) done insns read at all are = absurd read
@@ -582,30 +657,36 @@ insns_no program definitions known n words (line ∷ lines) (l ∷ ls) done insn
     let f = first_insn program words (statement_read line l.statement) (statements_of (program_of lines ls)) insns are in
     let here = line_says line l in
     let new = (resolved_first program done (program_of lines ls) here all).is_new in
-    let one = line_no program definitions known words line done (program_of lines ls) n l f.first at.split at.line_is read.0 (record { is_new = new; is_insn = f.is_insn }) in
+    let one = line_no program definitions known words line done (program_of lines ls) n l f.first at.split at.line_is read.0
+    (record { is_new = new; is_insn = f.is_insn }) in
     let size = option_size program words line l.statement f.first f.is_insn in
-    let more = insns_no program definitions known (n + 1) (words + option_words l.statement) lines ls (done ++ here ∷ []) f.others read.1 (next_at program done line l (program_of lines ls) n words at) (resolved_rest program done (program_of lines ls) here all)
+    let more = insns_no program definitions known (n + 1) (words + option_words l.statement) lines ls (done ++ here ∷ []) f.others read.1
+    (next_at program done line l (program_of lines ls) n words at) (resolved_rest program done (program_of lines ls) here all)
     (subst (λ k. AreInsns program (words + k) (statements_of (program_of lines ls)) f.others) size f.are_insns) in
-    let rest : insns_of definitions (n + 1) (words + option_length f.first) lines ≡ Ok f.others = ap (λ k. insns_of definitions (n + 1) (words + k) lines) size ∙ more in
+    let rest : insns_of definitions (n + 1) (words + option_length f.first) lines ≡ Ok f.others = ap (λ k. insns_of definitions (n + 1) (words + k) lines) size
+    ∙ more in
     insns_of-ok definitions n words line lines f.first (sym one)
     ∙ (ap (λ r. r >>= λ others. Ok (option_to_list f.first ++ others)) rest ∙ ap Ok f.split)
 
 -- ---- words
 
-words_from : (program : List Line) (number : ℕ) (statements : List Statement) (insns : List Insn) (words : List ℕ) → AreInsns program number statements insns → AreWordsOf words insns → AreWords program number statements words
+words_from : (program : List Line) (number : ℕ) (statements : List Statement) (insns : List Insn) (words : List ℕ) → AreInsns program number statements insns
+    → AreWordsOf words insns → AreWords program number statements words
 words_from program number [] [] [] are of = tt
 words_from program number [] [] (w ∷ words) are of = absurd of
 words_from program number [] (i ∷ insns) words are of = absurd are
 words_from program number (s ∷ statements) [] words are of = absurd are
 words_from program number (s ∷ statements) (i ∷ insns) [] are of = absurd of
-words_from program number (s ∷ statements) (i ∷ insns) (w ∷ words) are of = ((i, are.0, of.0), words_from program (number + 1) statements insns words are.1 of.1)
+words_from program number (s ∷ statements) (i ∷ insns) (w ∷ words) are of =
+    ((i, are.0, of.0), words_from program (number + 1) statements insns words are.1 of.1)
 
 record HasInsns (program : List Line) (number : ℕ) (statements : List Statement) (words : List ℕ) : Type 0 where
   insns : List Insn
   are_insns : AreInsns program number statements insns
   are_words : AreWordsOf words insns
 
-insns_from : (program : List Line) (number : ℕ) (statements : List Statement) (words : List ℕ) → AreWords program number statements words → HasInsns program number statements words
+insns_from : (program : List Line) (number : ℕ) (statements : List Statement) (words : List ℕ) → AreWords program number statements words
+    → HasInsns program number statements words
 insns_from program number [] [] are = record { insns = []; are_insns = tt; are_words = tt }
 insns_from program number [] (w ∷ words) are = absurd are
 insns_from program number (s ∷ statements) [] are = absurd are
@@ -619,7 +700,8 @@ insns_from program number (s ∷ statements) (w ∷ words) are =
 abbrev pub text_definitions : List ℕ → Definitions
 text_definitions text = λ label. definition_of label 1 0 (lines_of text)
 
-pub definitions_known : (text : List ℕ) (ls : List code_lines.Line) → AreRead 0 (lines_of text) ls → AreDefinitions (program_of (lines_of text) ls) (text_definitions text)
+pub definitions_known : (text : List ℕ) (ls : List code_lines.Line) → AreRead 0 (lines_of text) ls
+    → AreDefinitions (program_of (lines_of text) ls) (text_definitions text)
 definitions_known text ls read label = definition_is label 1 0 (lines_of text) ls read
 
 pub start_at : (program : List Line) → IsAt program [] program 1 0
@@ -652,5 +734,6 @@ is_assembled text words is =
     let has = insns_from is.program 0 (statements_of is.program) words is.are_words in
     let resolved : AllResolved program [] program = subst (λ p. AllResolved p [] p) (sym same) is.are_resolved in
     let are : AreInsns program 0 (statements_of program) has.insns = subst (λ p. AreInsns p 0 (statements_of p) has.insns) (sym same) has.are_insns in
-    let all = insns_no program (text_definitions text) (definitions_known text w.ls w.are_read) 1 0 (lines_of text) w.ls [] has.insns w.are_read (start_at program) resolved are in
+    let all = insns_no program (text_definitions text) (definitions_known text w.ls w.are_read) 1 0 (lines_of text) w.ls [] has.insns w.are_read
+    (start_at program) resolved are in
     (has.insns, assembled-read text (text_definitions text) (read-all_read 1 0 (lines_of text) w.ls w.are_read) (λ label. refl) ∙ all, has.are_words)

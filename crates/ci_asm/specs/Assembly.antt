@@ -1,10 +1,12 @@
 -- The words of a text, and its first fault.
-use Rattle.std.specs.Prelude.{◌≡◌, ◌≢◌, ℕ, ◌+◌, ◌*◌, ◌≤◌, ◌<◌, ◌⊎◌, List, [], ◌∷◌, ◌++◌, length, codes, Option, Some, None, ℤ, pos, ◌-ℤ◌}
+use Rattle.std.specs.Prelude.{◌≡◌, ◌≢◌, ℕ, ◌+◌, ◌*◌, ◌≤◌, ◌<◌, ◌⊎◌, List, [], ◌∷◌, ◌++◌, length, codes, Option, Some}
+use Rattle.std.specs.Prelude.{None, ℤ, pos, ◌-ℤ◌}
 use Rattle.ci_isa.specs.declared.instruction.Insn.{Insn}
 use Rattle.ci_isa.specs.Table.{IsWordOf}
 use Rattle.ci_asm.specs.declared.faults.AsmFault.{AsmFault}
 use Rattle.ci_asm.specs.declared.faults.AsmFault.TheVariants.{Bad, NoMemory}
-use Rattle.ci_asm.specs.Lexicon.{Token, name, colon, Symbol, token, line_end, stray_byte, Stands}
+use Rattle.ci_reading.specs.Tokens.{token, stray_byte, text_end}
+use Rattle.ci_asm.specs.Lexicon.{Token, name, colon, Symbol, Stands}
 use Rattle.ci_asm.specs.Forms.{Field, IsIn, IsNumber, Statement, plain, to_label, IsStatement, IsMnemonic}
 use Rattle.ci_asm.specs.Lines.{lines_of}
 
@@ -21,8 +23,8 @@ pub record Line : Type 0 where
 
 -- a line's label is the name that is its first token, if a colon is the next
 abbrev pub HasLabel : List ℕ → Option (List ℕ) → Type 0
-HasLabel bytes (Some label) = (column : ℕ) × Stands 0 bytes (name label ∷ []) (token colon) column
-HasLabel bytes None = (label : List ℕ) (column : ℕ) → ¬ Stands 0 bytes (name label ∷ []) (token colon) column
+HasLabel bytes (Some label) = (column : ℕ) × Stands bytes (name label ∷ []) (token colon) column
+HasLabel bytes None = (label : List ℕ) (column : ℕ) → ¬ Stands bytes (name label ∷ []) (token colon) column
 
 abbrev pub label_tokens : Option (List ℕ) → List Token
 label_tokens (Some label) = name label ∷ colon ∷ []
@@ -32,7 +34,7 @@ label_tokens None = []
 pub record StandsInLine (bytes : List ℕ) (label : Option (List ℕ)) (tokens : List Token) (symbol : Symbol) (column : ℕ)
     : Type 0 where
   pub has_label : HasLabel bytes label
-  pub stands : Stands 0 bytes (label_tokens label ++ tokens) symbol column
+  pub stands : Stands bytes (label_tokens label ++ tokens) symbol column
 
 -- the tokens are a statement, or there are none
 abbrev pub HasStatement : List Token → Option Statement → Type 0
@@ -43,7 +45,7 @@ HasStatement tokens None = tokens ≡ []
 pub record IsLine (bytes : List ℕ) (line : Line) : Type 0 where
   pub tokens : List Token
   pub end : ℕ
-  pub ends : StandsInLine bytes line.label tokens line_end end
+  pub ends : StandsInLine bytes line.label tokens text_end end
   pub has_statement : HasStatement tokens line.statement
 
 abbrev pub AreLines : List (List ℕ) → List Line → Type 0
@@ -137,7 +139,7 @@ IsGoodFront words tokens =
 -- the symbol does, too, or it ends the line where it may end
 abbrev pub IsGoodNext : ℕ → List Token → Symbol → Type 0
 IsGoodNext words front (token t) = IsGoodFront words (front ++ t ∷ [])
-IsGoodNext words front line_end = (statement : Option Statement) × HasStatement front statement
+IsGoodNext words front text_end = (statement : Option Statement) × HasStatement front statement
 IsGoodNext words front stray_byte = ⊥
 
 abbrev pub IsWhole : List Token → Type 0
@@ -158,7 +160,7 @@ pub data IsKind : List Token → Symbol → ℕ → Type 0 where
   -- another token, or the line's end, where an operand, a comma or a bracket is due
   no_operand : {front : List Token} {t : Token}
       → front ≢ [] → ¬ IsWhole front → ¬ (IsNumber t × IsNumberDue front) → IsKind front (token t) 3
-  too_short : {front : List Token} → IsKind front line_end 3
+  too_short : {front : List Token} → IsKind front text_end 3
   -- a number out of its field
   out_of_field : {front : List Token} {t : Token} → IsNumber t → IsNumberDue front → IsKind front (token t) 4
   -- a token behind a whole statement, and a statement behind the last word
@@ -180,7 +182,7 @@ pub record IsFaultOfLine (words : ℕ) (bytes : List ℕ) (kind column : ℕ) : 
 pub data IsFaultOfLabel (program before : List Line) (bytes : List ℕ) (line : Line) : ℕ → ℕ → Type 0 where
   -- a label that is defined again
   twice : {label : List ℕ} {column : ℕ}
-      → line.label ≡ Some label → Defines before label → Stands 0 bytes [] (token (name label)) column
+      → line.label ≡ Some label → Defines before label → Stands bytes [] (token (name label)) column
       → IsFaultOfLabel program before bytes line 6 column
   -- a label that is not defined
   undefined : {label : List ℕ} {field : Field} {with_offset : ℤ → Insn} {front : List Token} {column : ℕ}

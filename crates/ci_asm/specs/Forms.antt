@@ -1,9 +1,11 @@
 -- The statements: the forms that their tokens have, and what each says.
-use Rattle.std.specs.Prelude.{◌≡◌, ℕ, ◌*◌, ◌%◌, ◌<◌, ◌≤◌, if◌then◌else◌, List, [], ◌∷◌, ◌++◌, length, codes, Option, Some, None, ℤ, pos, neg_ℤ, ◌≤ℤ◌, unsigned_abs}
+use Rattle.std.specs.Prelude.{◌≡◌, ℕ, ◌*◌, ◌%◌, ◌<◌, ◌≤◌, if◌then◌else◌, List, [], ◌∷◌, ◌++◌, length, codes, Option}
+use Rattle.std.specs.Prelude.{Some, None, ℤ, pos, neg_ℤ, ◌≤ℤ◌, unsigned_abs}
 use Rattle.std.specs.Fmt.{decimal}
 use Rattle.std.specs.Str.Parse.{digits_value}
 use Rattle.ci_word.specs.declared.arithmetic.Op.{Op}
-use Rattle.ci_word.specs.declared.arithmetic.Op.TheVariants.{Add, Sub, Sll, Slt, Sltu, Xor, Srl, Sra, Or, And, Mul, Mulh, Mulhsu, Mulhu, Div, Divu, Rem, Remu}
+use Rattle.ci_word.specs.declared.arithmetic.Op.TheVariants.{Add, Sub, Sll, Slt, Sltu, Xor, Srl, Sra, Or, And, Mul}
+use Rattle.ci_word.specs.declared.arithmetic.Op.TheVariants.{Mulh, Mulhsu, Mulhu, Div, Divu, Rem, Remu}
 use Rattle.ci_isa.specs.declared.instruction.Cond.{Cond}
 use Rattle.ci_isa.specs.declared.instruction.Cond.TheVariants.{Eq, Ne, Lt, Ge, Ltu, Geu}
 use Rattle.ci_isa.specs.declared.instruction.LoadKind.{LoadKind}
@@ -12,7 +14,7 @@ use Rattle.ci_isa.specs.declared.instruction.Width.{Width}
 use Rattle.ci_isa.specs.declared.instruction.Width.TheVariants.{Byte, Half, Word}
 use Rattle.ci_isa.specs.declared.instruction.Insn.{Insn}
 use Rattle.ci_isa.specs.declared.instruction.Insn.TheVariants as insn
-use Rattle.ci_asm.specs.Lexicon.{Token, name, decimal_number, hex_number, word, comma, open_bracket, close_bracket, colon}
+use Rattle.ci_asm.specs.Lexicon.{Token, name, decimal_number, hex_number, word, comma, open_bracket, close_bracket}
 
 -- ---- fields
 
@@ -77,15 +79,7 @@ register_immediate And = Some (codes "andi", immediate)
 register_immediate Sll = Some (codes "slli", shift_amount)
 register_immediate Srl = Some (codes "srli", shift_amount)
 register_immediate Sra = Some (codes "srai", shift_amount)
-register_immediate Sub = None
-register_immediate Mul = None
-register_immediate Mulh = None
-register_immediate Mulhsu = None
-register_immediate Mulhu = None
-register_immediate Div = None
-register_immediate Divu = None
-register_immediate Rem = None
-register_immediate Remu = None
+register_immediate op = None
 
 abbrev pub branch_name : Cond → List ℕ
 branch_name Eq = codes "beq"
@@ -117,12 +111,7 @@ IsRegister t r = (t ≡ name (codes "x" ++ decimal r)) × (r < 32)
 abbrev pub IsNumber : Token → Type 0
 IsNumber (decimal_number negative digits) = Unit {0}
 IsNumber (hex_number digits) = Unit {0}
-IsNumber (name bytes) = ⊥
-IsNumber word = ⊥
-IsNumber comma = ⊥
-IsNumber open_bracket = ⊥
-IsNumber close_bracket = ⊥
-IsNumber colon = ⊥
+IsNumber t = ⊥
 
 -- the token writes the number n, with at most ten digits
 abbrev pub Writes : Token → ℤ → Type 0
@@ -130,12 +119,7 @@ Writes (decimal_number negative digits) n =
     (length digits ≤ 10)
     × (n ≡ (if negative then neg_ℤ (pos (digits_value 10 digits)) else pos (digits_value 10 digits)))
 Writes (hex_number digits) n = (length digits ≤ 10) × (n ≡ pos (digits_value 16 digits))
-Writes (name bytes) n = ⊥
-Writes word n = ⊥
-Writes comma n = ⊥
-Writes open_bracket n = ⊥
-Writes close_bracket n = ⊥
-Writes colon n = ⊥
+Writes t n = ⊥
 
 -- the token writes the number n, which fits the field
 abbrev pub HasNumber : Field → Token → ℤ → Type 0

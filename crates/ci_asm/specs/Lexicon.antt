@@ -1,6 +1,8 @@
 -- The tokens of a line of assembler text.
-use Rattle.std.specs.Prelude.{◌≡◌, ◌≢◌, ℕ, ◌+◌, ◌≤◌, ◌⊎◌, Bool, if◌then◌else◌, List, [], ◌∷◌, ◌++◌, length, codes}
+use Rattle.std.specs.Prelude.{◌≡◌, ℕ, ◌≤◌, ◌⊎◌, Bool, if◌then◌else◌, List, [], ◌∷◌, ◌++◌, codes}
 use Rattle.std.specs.List.{AllByRecursion}
+use Rattle.ci_reading.specs.Tokens as reading
+use Rattle.ci_reading.specs.Tokens.{TokenFormat, StandsIn}
 
 -- ---- bytes
 
@@ -60,45 +62,23 @@ abbrev pub IsToken : Token → Type 0
 IsToken (name bytes) = StartsWith IsLetter (λ c. IsLetter c ⊎ IsDigit c) bytes
 IsToken (decimal_number negative digits) = StartsWith IsDigit IsDigit digits
 IsToken (hex_number digits) = StartsWith IsHexDigit IsHexDigit digits
-IsToken word = Unit {0}
-IsToken comma = Unit {0}
-IsToken open_bracket = Unit {0}
-IsToken close_bracket = Unit {0}
-IsToken colon = Unit {0}
+IsToken t = Unit {0}
 
--- the text begins with this token, and the rest stands behind it
-pub record BeginsWith (text : List ℕ) (token : Token) (rest : List ℕ) : Type 0 where
-  pub is_token : IsToken token
-  pub is_text : text ≡ spelling token ++ rest
-
--- and no longer token begins there
-pub record BeginsWithLongest (text : List ℕ) (token : Token) (rest : List ℕ) : Type 0 where
-  pub begins : BeginsWith text token rest
-  pub is_longest : (other : Token) (others : List ℕ) → BeginsWith text other others
-      → length (spelling other) ≤ length (spelling token)
+-- the bytes spell the token
+pub record Spells (bytes : List ℕ) (t : Token) : Type 0 where
+  pub is_token : IsToken t
+  pub is_spelling : bytes ≡ spelling t
 
 -- ---- lines
 
--- what may stand at a place of a line
-pub data Symbol : Type 0 where
-  token : Token → Symbol
-  line_end : Symbol
-  -- a byte that begins no token
-  stray_byte : Symbol
+-- Blanks may stand between the tokens of a line, and a comment runs from `#` to the line's end.
+abbrev pub line_format : TokenFormat Token
+line_format = record { Spells = Spells; IsBlank = IsBlank; BeginsComment = λ c. c ≡ 35 }
 
--- Stands n text tokens symbol column: in a line that goes on with this text behind n bytes, the symbol stands behind
--- these tokens, and `column` bytes of the line stand before it. A comment runs from `#` to the line's end, which stands
--- behind the line's last byte.
-pub data Stands : ℕ → List ℕ → List Token → Symbol → ℕ → Type 0 where
-  behind_blank : {n c column : ℕ} {text : List ℕ} {tokens : List Token} {symbol : Symbol}
-      → IsBlank c → Stands (n + 1) text tokens symbol column → Stands n (c ∷ text) tokens symbol column
-  behind_token : {n column : ℕ} {text rest : List ℕ} {first : Token} {tokens : List Token} {symbol : Symbol}
-      → BeginsWithLongest text first rest → Stands (n + length (spelling first)) rest tokens symbol column
-      → Stands n text (first ∷ tokens) symbol column
-  at_token : {n : ℕ} {text rest : List ℕ} {first : Token}
-      → BeginsWithLongest text first rest → Stands n text [] (token first) n
-  at_end : {n : ℕ} → Stands n [] [] line_end n
-  at_comment : {n : ℕ} {comment : List ℕ} → Stands n (35 ∷ comment) [] line_end (n + length (35 ∷ comment))
-  at_stray_byte : {n c : ℕ} {text : List ℕ}
-      → ¬ IsBlank c → c ≢ 35 → ((other : Token) (others : List ℕ) → ¬ BeginsWith (c ∷ text) other others)
-      → Stands n (c ∷ text) [] stray_byte n
+-- what may stand at a place of a line
+abbrev pub Symbol : Type 0
+Symbol = reading.Symbol Token
+
+-- in the line, the symbol stands behind these tokens, and `column` bytes of the line stand before it
+abbrev pub Stands : List ℕ → List Token → Symbol → ℕ → Type 0
+Stands line tokens symbol column = StandsIn line_format line tokens symbol column

@@ -8,4 +8,3 @@ pub mod Shapes
 pub mod Statements
 pub mod LabelMap
 pub mod Programs
-pub mod Spelling

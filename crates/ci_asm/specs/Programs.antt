@@ -1,7 +1,8 @@
 -- For private contracts: what the two passes over a text compute. The public definitions of programs and faults are in
 -- Assembly.
 -- The words of a text, or its first fault.
-use Rattle.std.specs.Prelude.{◌≡◌, ℕ, ◌+◌, ◌-◌, ◌*◌, ◌==◌, Bool, true, false, take_while, if◌then◌else◌, List, [], ◌∷◌, ◌++◌, Option, Some, None, Result, Ok, Err, nat_lt, ⊤}
+use Rattle.std.specs.Prelude.{◌≡◌, ℕ, ◌+◌, ◌-◌, ◌*◌, ◌==◌, Bool, true, false, take_while, if◌then◌else◌, List, [], ◌∷◌}
+use Rattle.std.specs.Prelude.{◌++◌, Option, Some, None, Result, Ok, Err, nat_lt, ⊤}
 use Rattle.std.specs.Option.{option_to_list}
 use Rattle.std.specs.Str.{bytes_eq}
 use Rattle.ci_asm.specs.declared.faults.AsmFault.{AsmFault}
@@ -11,7 +12,8 @@ use Rattle.ci_isa.specs.Table.{IsWordOf}
 use Rattle.ci_asm.specs.declared.scanner.Token.{Token}
 use Rattle.ci_asm.specs.declared.numbers.Number.{Number}
 use Rattle.ci_asm.specs.declared.faults.Rule.{Rule}
-use Rattle.ci_asm.specs.declared.faults.Rule.TheVariants.{NoToken, NoMnemonic, NoOperand, OutOfField, Undefined, DefinedTwice, Surplus}
+use Rattle.ci_asm.specs.declared.faults.Rule.TheVariants.{NoToken, NoMnemonic, NoOperand, OutOfField, Undefined}
+use Rattle.ci_asm.specs.declared.faults.Rule.TheVariants.{DefinedTwice, Surplus}
 use Rattle.ci_asm.specs.declared.faults.Fault.{Fault}
 use Rattle.ci_asm.specs.declared.labels.Definition.{Definition}
 use Rattle.ci_asm.specs.declared.statements.Operands.{Operands}
@@ -120,12 +122,14 @@ defined_once definitions n line (Some t) = once_at n t (definitions (text_of lin
 -- from a statement to a label, in bytes: a word has four
 abbrev pub offset_between : ℕ → ℕ → Number
 offset_between from to =
-    if nat_lt to from then record { negative = true; magnitude = 4 * (from - to) } else record { negative = false; magnitude = 4 * (to - from) }
+    if nat_lt to from then record { negative = true; magnitude = 4 * (from - to) } else record
+    { negative = false; magnitude = 4 * (to - from) }
 
 abbrev pub reaching : ℕ → Statement → Token → Option Definition → Result Operands Fault
 reaching words s t None = Err (record { rule = Undefined; place = t.start })
 reaching words s t (Some d) =
-    if fits (field_of s.mnemonic) (offset_between words d.words) then Ok (record s.operands { number = offset_between words d.words })
+    if fits (field_of s.mnemonic) (offset_between words d.words) then Ok
+    (record s.operands { number = offset_between words d.words })
     else Err (record { rule = OutOfField; place = t.start })
 
 -- the statement's operands with the label's offset as the number
@@ -157,7 +161,8 @@ insns_of definitions n words (line ∷ lines) =
     insns_of definitions (n + 1) (words + option_length first) lines >>= λ others.
     Ok (option_to_list first ++ others)
 
--- The instructions of a text, or its first fault. What labels are due for is looked at once all lines were read without a fault.
+-- The instructions of a text, or its first fault. What labels are due for is looked at once all lines were read without
+-- a fault.
 unfoldable pub assembled : List ℕ → Result (List Insn) Position
 assembled text =
     all_read 1 0 (lines_of text) >>= λ _.

@@ -1,9 +1,11 @@
 -- For private contracts: what the table of statements computes. The public definitions of statements are in Forms.
 -- The table of statements: the mnemonics, their names, and the shape of each statement, slot by slot.
-use Rattle.std.specs.Prelude.{ℕ, ◌%◌, ◌==◌, Bool, true, false, ◌&&◌, if◌then◌else◌, List, [], ◌∷◌, codes, Option, Some, None, is_some, nat_le, find}
+use Rattle.std.specs.Prelude.{ℕ, ◌%◌, ◌==◌, Bool, true, false, ◌&&◌, if◌then◌else◌, List, [], ◌∷◌, codes, Option, Some}
+use Rattle.std.specs.Prelude.{None, is_some, nat_le, find}
 use Rattle.std.specs.Str.{bytes_eq}
 use Rattle.ci_word.specs.declared.arithmetic.Op.{Op}
-use Rattle.ci_word.specs.declared.arithmetic.Op.TheVariants.{Add, Sub, Sll, Slt, Sltu, Xor, Srl, Sra, Or, And, Mul, Mulh, Mulhsu, Mulhu, Div, Divu, Rem, Remu}
+use Rattle.ci_word.specs.declared.arithmetic.Op.TheVariants.{Add, Sub, Sll, Slt, Sltu, Xor, Srl, Sra, Or, And, Mul}
+use Rattle.ci_word.specs.declared.arithmetic.Op.TheVariants.{Mulh, Mulhsu, Mulhu, Div, Divu, Rem, Remu}
 use Rattle.ci_isa.specs.declared.instruction.Cond.TheVariants.{Eq, Ne, Lt, Ge, Ltu, Geu}
 use Rattle.ci_isa.specs.declared.instruction.LoadKind.TheVariants.{B, H, W, Bu, Hu}
 use Rattle.ci_isa.specs.declared.instruction.Width.TheVariants.{Byte, Half, Word}
@@ -11,9 +13,12 @@ use Rattle.ci_asm.specs.Forms as forms
 use Rattle.ci_asm.specs.Forms.{operation_name, register_immediate, branch_name, load_name, store_name}
 use Rattle.ci_asm.specs.declared.numbers.Number.{Number}
 use Rattle.ci_asm.specs.declared.mnemonics.Mnemonic.{Mnemonic}
-use Rattle.ci_asm.specs.declared.mnemonics.Mnemonic.TheVariants.{RegisterRegister, RegisterImmediate, Lui, Auipc, Jal, Jalr, Branch, Load, Store, Fence, Ecall, Ebreak, Custom, Cread, Data}
+use Rattle.ci_asm.specs.declared.mnemonics.Mnemonic.TheVariants.{RegisterRegister, RegisterImmediate, Lui, Auipc, Jal}
+use Rattle.ci_asm.specs.declared.mnemonics.Mnemonic.TheVariants.{Jalr, Branch, Load, Store, Fence, Ecall, Ebreak}
+use Rattle.ci_asm.specs.declared.mnemonics.Mnemonic.TheVariants.{Custom, Cread, Data}
 use Rattle.ci_asm.specs.declared.slots.Field.{Field}
-use Rattle.ci_asm.specs.declared.slots.Field.TheVariants.{Immediate, Amount, Upper, BranchOffset, JumpOffset, FenceBits, UnitNumber, Whole}
+use Rattle.ci_asm.specs.declared.slots.Field.TheVariants.{Immediate, Amount, Upper, BranchOffset, JumpOffset, FenceBits}
+use Rattle.ci_asm.specs.declared.slots.Field.TheVariants.{UnitNumber, Whole}
 use Rattle.ci_asm.specs.declared.slots.Slot.{Slot}
 use Rattle.ci_asm.specs.declared.slots.Slot.TheVariants.{Rd, Rs1, Rs2, Rs3, Value, Comma, Open, Close}
 
@@ -62,9 +67,14 @@ name_of Data = codes ".word"
 -- all mnemonics
 abbrev pub mnemonics : List Mnemonic
 mnemonics =
-    RegisterRegister Add ∷ RegisterRegister Sub ∷ RegisterRegister Sll ∷ RegisterRegister Slt ∷ RegisterRegister Sltu ∷ RegisterRegister Xor ∷ RegisterRegister Srl ∷ RegisterRegister Sra ∷ RegisterRegister Or ∷ RegisterRegister And
-    ∷ RegisterRegister Mul ∷ RegisterRegister Mulh ∷ RegisterRegister Mulhsu ∷ RegisterRegister Mulhu ∷ RegisterRegister Div ∷ RegisterRegister Divu ∷ RegisterRegister Rem ∷ RegisterRegister Remu
-    ∷ RegisterImmediate Add ∷ RegisterImmediate Slt ∷ RegisterImmediate Sltu ∷ RegisterImmediate Xor ∷ RegisterImmediate Or ∷ RegisterImmediate And ∷ RegisterImmediate Sll ∷ RegisterImmediate Srl ∷ RegisterImmediate Sra
+    RegisterRegister Add ∷ RegisterRegister Sub ∷ RegisterRegister Sll ∷ RegisterRegister Slt ∷ RegisterRegister Sltu
+    ∷ RegisterRegister Xor ∷ RegisterRegister Srl ∷ RegisterRegister Sra ∷ RegisterRegister Or
+    ∷ RegisterRegister And
+    ∷ RegisterRegister Mul ∷ RegisterRegister Mulh ∷ RegisterRegister Mulhsu ∷ RegisterRegister Mulhu
+    ∷ RegisterRegister Div ∷ RegisterRegister Divu ∷ RegisterRegister Rem ∷ RegisterRegister Remu
+    ∷ RegisterImmediate Add ∷ RegisterImmediate Slt ∷ RegisterImmediate Sltu ∷ RegisterImmediate Xor
+    ∷ RegisterImmediate Or ∷ RegisterImmediate And ∷ RegisterImmediate Sll ∷ RegisterImmediate Srl
+    ∷ RegisterImmediate Sra
     ∷ Lui ∷ Auipc ∷ Jal ∷ Jalr
     ∷ Branch Eq ∷ Branch Ne ∷ Branch Lt ∷ Branch Ge ∷ Branch Ltu ∷ Branch Geu
     ∷ Load B ∷ Load H ∷ Load W ∷ Load Bu ∷ Load Hu
@@ -94,11 +104,7 @@ abbrev pub lowest : Field → ℕ
 lowest Immediate = 2048
 lowest BranchOffset = 4096
 lowest JumpOffset = 1048576
-lowest Amount = 0
-lowest Upper = 0
-lowest FenceBits = 0
-lowest UnitNumber = 0
-lowest Whole = 0
+lowest field = 0
 
 abbrev pub highest : Field → ℕ
 highest Immediate = 2047
@@ -114,17 +120,13 @@ highest Whole = 0xffff_ffff
 abbrev pub is_offset : Field → Bool
 is_offset BranchOffset = true
 is_offset JumpOffset = true
-is_offset Immediate = false
-is_offset Amount = false
-is_offset Upper = false
-is_offset FenceBits = false
-is_offset UnitNumber = false
-is_offset Whole = false
+is_offset field = false
 
 -- the number lies in the field
 abbrev pub fits : Field → Number → Bool
 fits field n =
-    nat_le n.magnitude (if n.negative then lowest field else highest field) && (if is_offset field then n.magnitude % 2 == 0 else true)
+    nat_le n.magnitude (if n.negative then lowest field else highest field) &&
+    (if is_offset field then n.magnitude % 2 == 0 else true)
 
 -- ---- the shapes
 
@@ -151,7 +153,6 @@ slots_of Data = Value Whole ∷ []
 
 -- the field that holds the statement's number, and one that holds 0 where the statement has none
 abbrev pub field_of : Mnemonic → Field
-field_of (RegisterRegister op) = Amount
 field_of (RegisterImmediate op) = immediate_field op
 field_of Lui = Upper
 field_of Auipc = Upper
@@ -161,8 +162,6 @@ field_of (Branch cond) = BranchOffset
 field_of (Load kind) = Immediate
 field_of (Store width) = Immediate
 field_of Fence = FenceBits
-field_of Ecall = Amount
-field_of Ebreak = Amount
 field_of Custom = UnitNumber
-field_of Cread = Amount
 field_of Data = Whole
+field_of m = Amount

@@ -1,6 +1,7 @@
 -- For private contracts: what the reader of a line computes. The public definitions of lines are in Assembly.
 -- The statement of a line, or the first fault in it.
-use Rattle.std.specs.Prelude.{◌≡◌, ◌<◌, ◌≤◌, IfSome, ℕ, ◌*◌, ◌==◌, Bool, true, false, if◌then◌else◌, List, [], ◌∷◌, Option, Some, None, Result, Ok, Err, ℤ, pos, neg_ℤ}
+use Rattle.std.specs.Prelude.{◌≡◌, ◌<◌, ◌≤◌, IfSome, ℕ, ◌*◌, ◌==◌, Bool, true, false, if◌then◌else◌, List, [], ◌∷◌}
+use Rattle.std.specs.Prelude.{Option, Some, None, Result, Ok, Err, ℤ, pos, neg_ℤ}
 use Rattle.ci_isa.specs.declared.instruction.Insn.{Insn}
 use Rattle.ci_isa.specs.declared.instruction.Insn.TheVariants as insn
 use Rattle.ci_asm.specs.declared.scanner.Kind.{Kind}
@@ -8,7 +9,9 @@ use Rattle.ci_asm.specs.declared.scanner.Kind.TheVariants.{Name, Numeral, Direct
 use Rattle.ci_asm.specs.declared.scanner.Token.{Token}
 use Rattle.ci_asm.specs.declared.numbers.Number.{Number}
 use Rattle.ci_asm.specs.declared.mnemonics.Mnemonic.{Mnemonic}
-use Rattle.ci_asm.specs.declared.mnemonics.Mnemonic.TheVariants.{RegisterRegister, RegisterImmediate, Lui, Auipc, Jal, Jalr, Branch, Load, Store, Fence, Ecall, Ebreak, Custom, Cread, Data}
+use Rattle.ci_asm.specs.declared.mnemonics.Mnemonic.TheVariants.{RegisterRegister, RegisterImmediate, Lui, Auipc, Jal}
+use Rattle.ci_asm.specs.declared.mnemonics.Mnemonic.TheVariants.{Jalr, Branch, Load, Store, Fence, Ecall, Ebreak}
+use Rattle.ci_asm.specs.declared.mnemonics.Mnemonic.TheVariants.{Custom, Cread, Data}
 use Rattle.ci_asm.specs.declared.slots.Field.{Field}
 use Rattle.ci_asm.specs.declared.slots.Slot.{Slot}
 use Rattle.ci_asm.specs.declared.slots.Slot.TheVariants.{Rd, Rs1, Rs2, Rs3, Value, Comma, Open, Close}
@@ -50,29 +53,19 @@ no_operands = record { rd = 0; rs1 = 0; rs2 = 0; rs3 = 0; number = zero_number; 
 -- the rule that a token breaks where another is due
 abbrev pub not_due : Kind → Rule
 not_due Bad = NoToken
-not_due Name = NoOperand
-not_due Numeral = NoOperand
-not_due Directive = NoOperand
-not_due (Mark b) = NoOperand
-not_due End = NoOperand
+not_due kind = NoOperand
 
 -- a register
 abbrev pub register_in : List ℕ → Token → Kind → Result ℕ Rule
 register_in line t Name = found (register_of (text_of line t)) NoOperand
-register_in line t Numeral = Err NoOperand
-register_in line t Directive = Err NoOperand
-register_in line t (Mark b) = Err NoOperand
-register_in line t End = Err NoOperand
 register_in line t Bad = Err NoToken
+register_in line t kind = Err NoOperand
 
 -- a comma or a bracket
 abbrev pub mark_in : ℕ → Operands → Kind → Result Operands Rule
 mark_in due o (Mark b) = if b == due then Ok o else Err NoOperand
-mark_in due o Name = Err NoOperand
-mark_in due o Numeral = Err NoOperand
-mark_in due o Directive = Err NoOperand
-mark_in due o End = Err NoOperand
 mark_in due o Bad = Err NoToken
+mark_in due o kind = Err NoOperand
 
 -- a number that lies in the field
 abbrev pub number_in : Field → Option Number → Operands → Result Operands Rule
@@ -83,10 +76,8 @@ number_in field (Some n) o = if fits field n then Ok (record o { number = n }) e
 abbrev pub value_in : List ℕ → Token → Field → Operands → Kind → Result Operands Rule
 value_in line t field o Numeral = number_in field (number_of (text_of line t)) o
 value_in line t field o Name = if is_offset field then Ok (record o { label = Some t }) else Err NoOperand
-value_in line t field o Directive = Err NoOperand
-value_in line t field o (Mark b) = Err NoOperand
-value_in line t field o End = Err NoOperand
 value_in line t field o Bad = Err NoToken
+value_in line t field o kind = Err NoOperand
 
 -- the operands with what stands in the slot's place
 unfoldable pub filled : List ℕ → Slot → Token → Operands → Result Operands Rule
@@ -105,25 +96,21 @@ filled line Close t o = mark_in 41 o t.kind
 abbrev pub ended : ℕ → Operands → Kind → Result Operands Fault
 ended place o End = Ok o
 ended place o Bad = Err (fault NoToken place)
-ended place o Name = Err (fault Surplus place)
-ended place o Numeral = Err (fault Surplus place)
-ended place o Directive = Err (fault Surplus place)
-ended place o (Mark b) = Err (fault Surplus place)
+ended place o kind = Err (fault Surplus place)
 
 -- the slots one after the other, from a place on, and then the line's end
 unfoldable pub read_slots : List ℕ → List Slot → ℕ → Operands → Result Operands Fault
 read_slots line [] from o = ended (next_token line from).start o (next_token line from).kind
 read_slots line (slot ∷ slots) from o =
-    at_place (next_token line from).start (filled line slot (next_token line from) o) >>= λ o'. read_slots line slots (next_token line from).end o'
+    at_place (next_token line from).start (filled line slot (next_token line from) o) >>= λ o'. read_slots line slots
+    (next_token line from).end o'
 
 -- a mnemonic
 abbrev pub mnemonic_in : List ℕ → Token → Kind → Result Mnemonic Rule
 mnemonic_in line t Name = found (mnemonic_of (text_of line t)) NoMnemonic
 mnemonic_in line t Directive = found (mnemonic_of (text_of line t)) NoMnemonic
-mnemonic_in line t Numeral = Err NoMnemonic
-mnemonic_in line t (Mark b) = Err NoMnemonic
-mnemonic_in line t End = Err NoMnemonic
 mnemonic_in line t Bad = Err NoToken
+mnemonic_in line t kind = Err NoMnemonic
 
 -- the statement that begins with a token. Where the program is full, no more statements may come
 unfoldable pub read_statement : List ℕ → Token → Bool → Result Statement Fault
@@ -137,20 +124,12 @@ read_statement line t full =
 -- a name and a colon begin a label
 abbrev pub is_label : Kind → Kind → Bool
 is_label Name (Mark b) = b == 58
-is_label Name Name = false
-is_label Name Numeral = false
-is_label Name Directive = false
-is_label Name End = false
-is_label Name Bad = false
-is_label Numeral second = false
-is_label Directive second = false
-is_label (Mark b) second = false
-is_label End second = false
-is_label Bad second = false
+is_label first second = false
 
 abbrev pub with_statement : List ℕ → Option Token → Token → Bool → Kind → Result Line Fault
 with_statement line label t full End = Ok (record { label = label; statement = None })
-with_statement line label t full kind = read_statement line t full >>= λ s. Ok (record { label = label; statement = Some s })
+with_statement line label t full kind = read_statement line t full >>= λ s. Ok
+    (record { label = label; statement = Some s })
 
 -- a label, a statement and a comment, each of which may be missing
 unfoldable pub read_line : List ℕ → Bool → Result Line Fault
@@ -168,7 +147,8 @@ pub record HasRegisters (o : Operands) : Type 0 where
   pub rs2 : o.rs2 < 32
   pub rs3 : o.rs3 < 32
 
--- what holds of each statement that was read in a line of n bytes: its number lies in its field, and its label in the line
+-- what holds of each statement that was read in a line of n bytes: its number lies in its field, and its label in the
+-- line
 pub record IsRead (n : ℕ) (s : Statement) : Type 0 where
   pub named : is_statement s.mnemonic ≡ true
   pub in_field : fits (field_of s.mnemonic) s.operands.number ≡ true

@@ -1,6 +1,8 @@
 -- For private contracts: what the scanner computes. The public definitions of tokens are in Lexicon.
--- The tokens of a line. A place in a line is the number of bytes before it, and a token is the longest one that begins at its place.
-use Rattle.std.specs.Prelude.{ℕ, ◌+◌, ◌-◌, ◌*◌, ◌==◌, Bool, true, false, ◌&&◌, not, ◌||◌, List, length, drop, Option, Some, None, nat_le, nat_lt, if◌then◌else◌, slice_index, slice_range}
+-- The tokens of a line. A place in a line is the number of bytes before it, and a token is the longest one that begins
+-- at its place.
+use Rattle.std.specs.Prelude.{ℕ, ◌+◌, ◌-◌, ◌*◌, ◌==◌, Bool, true, false, ◌&&◌, not, ◌||◌, List, [], ◌∷◌, length, take}
+use Rattle.std.specs.Prelude.{drop, Option, Some, None, nat_le, nat_lt, if◌then◌else◌, slice_index, slice_range}
 use Rattle.std.specs.List.{prefix_len}
 use Rattle.std.specs.Str.Parse.{digits_value}
 use Rattle.ci_asm.specs.declared.scanner.ByteClass.{ByteClass}
@@ -9,6 +11,8 @@ use Rattle.ci_asm.specs.declared.scanner.Kind.{Kind}
 use Rattle.ci_asm.specs.declared.scanner.Kind.TheVariants.{Name, Numeral, Directive, Mark, End, Bad}
 use Rattle.ci_asm.specs.declared.scanner.Token.{Token}
 use Rattle.ci_asm.specs.declared.numbers.Number.{Number}
+use Rattle.ci_asm.specs.Lexicon as lex
+use Rattle.ci_asm.specs.Lexicon.{name, decimal_number, hex_number, word, comma, open_bracket, close_bracket, colon}
 
 -- ---- bytes
 
@@ -30,10 +34,6 @@ belongs Digit b = is_digit b
 belongs HexDigit b = is_digit b || is_between 97 102 b || is_between 65 70 b
 belongs InLine b = not (b == 10)
 
--- `,`, `(`, `)` and `:`
-abbrev pub is_mark : ℕ → Bool
-is_mark b = b == 44 || b == 40 || b == 41 || b == 58
-
 -- the byte at a place, 0 past the line's end
 abbrev pub byte_at : List ℕ → ℕ → ℕ
 byte_at line i = slice_index line i
@@ -42,43 +42,79 @@ byte_at line i = slice_index line i
 abbrev pub run_end : ByteClass → List ℕ → ℕ → ℕ
 run_end class line from = from + prefix_len (belongs class) (drop from line)
 
+-- how many bytes of a class the text begins with
+abbrev pub run : ByteClass → List ℕ → ℕ
+run class text = prefix_len (belongs class) text
+
 -- ---- tokens
 
--- the line ends or its comment begins
-abbrev pub is_line_end : List ℕ → ℕ → Bool
-is_line_end line i = nat_le (length line) i || byte_at line i == 35
+-- `0`, and behind it `x` and a hex digit
+abbrev pub is_hex_start : ℕ → List ℕ → Bool
+is_hex_start c text = c == 48 && byte_at text 0 == 120 && belongs HexDigit (byte_at text 1)
 
--- `0x` and a hex digit
-abbrev pub is_hex_start : List ℕ → ℕ → Bool
-is_hex_start line i = byte_at line i == 48 && byte_at line (i + 1) == 120 && belongs HexDigit (byte_at line (i + 2))
+-- `-`, and behind it a digit
+abbrev pub is_negative_start : ℕ → List ℕ → Bool
+is_negative_start c text = c == 45 && is_digit (byte_at text 0)
 
--- `-` and a digit
-abbrev pub is_negative_start : List ℕ → ℕ → Bool
-is_negative_start line i = byte_at line i == 45 && is_digit (byte_at line (i + 1))
+-- `.`, and behind it `word`
+abbrev pub is_directive : ℕ → List ℕ → Bool
+is_directive c text =
+    c == 46 && byte_at text 0 == 119 && byte_at text 1 == 111 && byte_at text 2 == 114 && byte_at text 3 == 100
 
--- `.word`
-abbrev pub is_directive : List ℕ → ℕ → Bool
-is_directive line i =
-    byte_at line i == 46 && byte_at line (i + 1) == 119 && byte_at line (i + 2) == 111 && byte_at line (i + 3) == 114 && byte_at line (i + 4) == 100
+-- a token that begins with c and then has all bytes of a class
+abbrev pub with_run : (List ℕ → lex.Token) → ByteClass → List ℕ → Option (lex.Token × ℕ)
+with_run t class text = Some (t (take (run class text) text), run class text)
+
+-- a hex number, whose digits stand behind its `x`
+abbrev pub hex_behind : List ℕ → Option (lex.Token × ℕ)
+hex_behind text = Some (hex_number (take (run HexDigit text) text), 1 + run HexDigit text)
+
+abbrev pub mark_of : ℕ → Option (lex.Token × ℕ)
+mark_of c =
+    if c == 44 then Some (comma, 0) else (if c == 40 then Some (open_bracket, 0)
+    else (if c == 41 then Some (close_bracket, 0) else (if c == 58 then Some (colon, 0) else None)))
+
+-- the longest token that begins with c and stands before a text, and how many bytes of the text it has
+unfoldable pub scan : ℕ → List ℕ → Option (lex.Token × ℕ)
+scan c text =
+    if is_letter c then with_run (λ bytes. name (c ∷ bytes)) NameByte text
+    else (if is_hex_start c text then hex_behind (drop 1 text)
+    else (if is_digit c then with_run (λ bytes. decimal_number false (c ∷ bytes)) Digit text
+    else (if is_negative_start c text then with_run (decimal_number true) Digit text
+    else (if is_directive c text then Some (word, 4) else mark_of c))))
+
+-- what the code has of a token
+abbrev pub kind_of : lex.Token → Kind
+kind_of (name bytes) = Name
+kind_of (decimal_number negative digits) = Numeral
+kind_of (hex_number digits) = Numeral
+kind_of word = Directive
+kind_of comma = Mark 44
+kind_of open_bracket = Mark 40
+kind_of close_bracket = Mark 41
+kind_of colon = Mark 58
+
+abbrev pub kind_and_size : Option (lex.Token × ℕ) → Option (Kind × ℕ)
+kind_and_size None = None
+kind_and_size (Some (t, size)) = Some (kind_of t, size)
 
 abbrev pub token : Kind → ℕ → ℕ → Token
 token kind start end = record { kind = kind; start = start; end = end }
 
--- the token that begins at a place. The end of the line stands behind its last byte, blanks and comment included
-unfoldable pub token_at : List ℕ → ℕ → Token
-token_at line i =
-    if is_line_end line i then token End (length line) (length line)
-    else (if is_letter (byte_at line i) then token Name i (run_end NameByte line i)
-    else (if is_hex_start line i then token Numeral i (run_end HexDigit line (i + 2))
-    else (if is_digit (byte_at line i) then token Numeral i (run_end Digit line i)
-    else (if is_negative_start line i then token Numeral i (run_end Digit line (i + 1))
-    else (if is_directive line i then token Directive i (i + 5)
-    else (if is_mark (byte_at line i) then token (Mark (byte_at line i)) i (i + 1)
-    else token Bad i (i + 1)))))))
+abbrev pub token_by : ℕ → Option (lex.Token × ℕ) → Token
+token_by i None = token Bad i (i + 1)
+token_by i (Some (t, size)) = token (kind_of t) i (i + 1 + size)
+
+-- The token that begins a text which stands at place i of a line with this end. The end of the line stands behind its
+-- last byte,
+-- blanks and comment included.
+unfoldable pub token_at : ℕ → ℕ → List ℕ → Token
+token_at end i [] = token End end end
+token_at end i (c ∷ text) = if c == 35 then token End end end else token_by i (scan c text)
 
 -- the next token behind the blanks from a place on
 abbrev pub next_token : List ℕ → ℕ → Token
-next_token line from = token_at line (run_end Blank line from)
+next_token line from = token_at (length line) (run_end Blank line from) (drop (run_end Blank line from) line)
 
 abbrev pub text_of : List ℕ → Token → List ℕ
 text_of line t = slice_range line t.start t.end
@@ -88,7 +124,8 @@ text_of line t = slice_range line t.start t.end
 -- at most ten digits write a number
 abbrev pub number : Bool → ℕ → List ℕ → Option Number
 number negative base digits =
-    if nat_lt 10 (length digits) then None else Some (record { negative = negative; magnitude = digits_value base digits })
+    if nat_lt 10 (length digits) then None else Some
+    (record { negative = negative; magnitude = digits_value base digits })
 
 -- the number that a numeral writes, if it has at most ten digits
 unfoldable pub number_of : List ℕ → Option Number
@@ -109,7 +146,8 @@ has_one_digit text = byte_at text 0 == 120 && length text == 2 && is_digit (byte
 
 -- `x` and two digits, of which the first isn't 0
 abbrev pub has_two_digits : List ℕ → Bool
-has_two_digits text = byte_at text 0 == 120 && length text == 3 && is_between 49 57 (byte_at text 1) && is_digit (byte_at text 2)
+has_two_digits text = byte_at text 0 == 120 && length text == 3 && is_between 49 57 (byte_at text 1) && is_digit
+    (byte_at text 2)
 
 -- the register that a name names: `x` and a number below 32 without a leading zero
 unfoldable pub register_of : List ℕ → Option ℕ

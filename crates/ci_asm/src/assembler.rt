@@ -1,11 +1,14 @@
 //! From a text to its words.
-ghost use Rattle.std.specs.Prelude.{◌≡◌, ℕ, ◌+◌, ◌++◌, ◌≤◌, ◌<◌, List, drop, length, IfOk, IfSome, IfErr, OnOk, Ok, true, vec_len};
+ghost use Rattle.std.specs.Prelude.{◌≡◌, ℕ, ◌+◌, ◌++◌, ◌≤◌, ◌<◌, List, drop, length, IfOk, IfSome, IfErr, OnOk, Ok};
+ghost use Rattle.std.specs.Prelude.{true, vec_len};
 ghost use Rattle.std.specs.Option.{ForSome, option_to_list};
 ghost use Rattle.ci_isa.specs.Table.{IsWellFormed};
 ghost use Rattle.ci_asm.specs.Shapes.{fits, field_of};
 ghost use Rattle.ci_asm.specs.LabelMap.{found_in, earlier};
 ghost use Rattle.ci_asm.specs.Assembly.{IsAssembly, IsOnlyAssembly, IsFaultOf};
-ghost use Rattle.ci_asm.specs.Programs.{kind_of, defined_once, offset_between, resolved, line_insn, insns_of, first_line, all_read, definition_of, definition_on, words_behind, IsFaultIn, AreWordsOf, AreWordsIn, option_length};
+ghost use Rattle.ci_asm.specs.Programs.{kind_of, defined_once, offset_between, resolved, line_insn, insns_of};
+ghost use Rattle.ci_asm.specs.Programs.{first_line, all_read, definition_of, definition_on, words_behind, IsFaultIn};
+ghost use Rattle.ci_asm.specs.Programs.{AreWordsOf, AreWordsIn, option_length};
 ghost use Rattle.ci_asm.specs.Lines.{lines_of};
 ghost use Rattle.ci_isa.specs.declared.instruction.Insn.{Insn};
 

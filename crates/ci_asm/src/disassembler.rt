@@ -1,15 +1,13 @@
 //! From an instruction to its line.
-ghost use Rattle.std.specs.Prelude.{◌≡◌, ◌++◌, ◌^◌, ◌<◌, OnOk, IfOk};
+ghost use Rattle.std.specs.Prelude.{◌≡◌, [], ◌∷◌, ◌++◌, codes, OnOk, IfOk};
+ghost use Rattle.std.specs.Fmt.{decimal, signed_decimal};
 ghost use Rattle.std.specs.String.{string_bytes};
+ghost use Rattle.ci_reading.specs.Hex.{eight_hex_digits};
 ghost use Rattle.ci_isa.specs.Table.{IsWellFormed};
-ghost use Rattle.ci_asm.specs.Shown.{register_name, shown};
+ghost use Rattle.ci_asm.specs.Shown.{register_name, address, upper_text, listed, statement_line, shown};
 ghost use Rattle.ci_asm.specs.Assembly.{IsLineOf};
-ghost use Rattle.ci_asm.specs.Spelling.{spelled_number, spelled};
 
-use crate::instructions::statement_of;
-use crate::numbers::Number;
-use crate::slots::{Field, Slot};
-use crate::statements::Operands;
+use crate::mnemonics::{branch_name, immediate_name, load_name, operation_name, store_name};
 use ci_isa::{Insn, Reg};
 use ci_reading::push_hex;
 use std::alloc::{AllocError, Global};
@@ -24,34 +22,95 @@ pub fn show(alloc: Global, insn: &Insn) -> Result<String, AllocError>
     ensures text { IfOk result (λ text. string_bytes text ≡ shown insn.now) }
     ensures assembles { IfOk result (λ text. IsLineOf (string_bytes text) insn.now) }
 {
-    let statement = statement_of(insn);
-    let slots = statement.mnemonic.slots();
-    let mut text = String::from_str(alloc, statement.mnemonic.name())?;
-    if !slots.is_empty() {
-        text.push(' ')?;
-    }
-    for slot in slots {
-        push_slot(&mut text, *slot, &statement.operands)?;
-    }
+    let mut text = String::new(alloc);
+    push_line(&mut text, insn)?;
     Ok(text)
 }
 
-/// Appends what stands in the slot's place.
-fn push_slot(text: &mut String, slot: Slot, operands: &Operands) -> Result<(), AllocError>
-    requires { operands.now.number.magnitude < 2 ^ 32 }
-    ensures { OnOk result
-        (string_bytes text.new ≡ string_bytes text.old ++ spelled operands.now slot) }
+/// Appends the instruction's line.
+fn push_line(text: &mut String, insn: &Insn) -> Result<(), AllocError>
+    requires { IsWellFormed insn.now }
+    ensures { OnOk result (string_bytes text.new ≡ string_bytes text.old ++ shown insn.now) }
 {
-    match slot {
-        Slot::Rd => push_register(text, operands.rd),
-        Slot::Rs1 => push_register(text, operands.rs1),
-        Slot::Rs2 => push_register(text, operands.rs2),
-        Slot::Rs3 => push_register(text, operands.rs3),
-        Slot::Value(field) => push_number(text, field, operands.number),
-        Slot::Comma => text.push_str(", "),
-        Slot::Open => text.push('('),
-        Slot::Close => text.push(')'),
+    match *insn {
+        Insn::Alu { op, rd, rs1, rs2 } => {
+            push_mnemonic(text, operation_name(op))?;
+            push_registers(text, rd, rs1, rs2)
+        }
+        Insn::AluImm { op, rd, rs1, imm } => {
+            push_mnemonic(text, immediate_name(op))?;
+            push_first(text, rd)?;
+            push_first(text, rs1)?;
+            push_signed(text, imm)
+        }
+        Insn::Lui { rd, upper } => push_upper(text, "lui", rd, upper),
+        Insn::Auipc { rd, upper } => push_upper(text, "auipc", rd, upper),
+        Insn::Jal { rd, offset } => {
+            push_mnemonic(text, "jal")?;
+            push_first(text, rd)?;
+            push_signed(text, offset)
+        }
+        Insn::Jalr { rd, rs1, offset } => push_access(text, "jalr", rd, offset, rs1),
+        Insn::Branch {
+            cond,
+            rs1,
+            rs2,
+            offset,
+        } => {
+            push_mnemonic(text, branch_name(cond))?;
+            push_first(text, rs1)?;
+            push_first(text, rs2)?;
+            push_signed(text, offset)
+        }
+        Insn::Load {
+            kind,
+            rd,
+            rs1,
+            offset,
+        } => push_access(text, load_name(kind), rd, offset, rs1),
+        Insn::Store {
+            width,
+            rs1,
+            rs2,
+            offset,
+        } => { push_access(text, store_name(width), rs2, offset, rs1) }
+        Insn::Fence { bits, rs1, rd } => {
+            push_mnemonic(text, "fence")?;
+            push_number(text, u32::from(bits))?;
+            push_first(text, rs1)?;
+            push_register(text, rd)
+        }
+        Insn::Ecall => text.push_str("ecall"),
+        Insn::Ebreak => text.push_str("ebreak"),
+        Insn::Unit {
+            number,
+            rd,
+            rs1,
+            rs2,
+            rs3,
+        } => {
+            push_mnemonic(text, "ci")?;
+            push_number(text, u32::from(number))?;
+            push_first(text, rd)?;
+            push_registers(text, rs1, rs2, rs3)
+        }
+        Insn::Cread { rd } => {
+            push_mnemonic(text, "cread")?;
+            push_register(text, rd)
+        }
+        Insn::Illegal { word } => {
+            push_mnemonic(text, ".word")?;
+            push_word(text, word)
+        }
     }
+}
+
+/// Appends the mnemonic and a space.
+fn push_mnemonic(text: &mut String, name: &str) -> Result<(), AllocError>
+    ensures { OnOk result (string_bytes text.new ≡ string_bytes text.old ++ (name.now ++ codes " ")) }
+{
+    text.push_str(name)?;
+    text.push(' ')
 }
 
 fn push_register(text: &mut String, register: Reg) -> Result<(), AllocError>
@@ -62,20 +121,82 @@ fn push_register(text: &mut String, register: Reg) -> Result<(), AllocError>
     write!(text, "x{number}")
 }
 
-/// Appends the number in the field's spelling.
-fn push_number(text: &mut String, field: Field, number: Number) -> Result<(), AllocError>
-    requires { number.magnitude < 2 ^ 32 }
+/// Appends an operand that isn't the last.
+fn push_first(text: &mut String, register: Reg) -> Result<(), AllocError>
     ensures { OnOk result
-        (string_bytes text.new ≡ string_bytes text.old ++ spelled_number field number) }
+        (string_bytes text.new ≡ string_bytes text.old ++ (register_name register ++ codes ", ")) }
 {
-    let magnitude = number.magnitude;
-    match field {
-        Field::Upper => write!(text, "0x{magnitude:x}"),
-        Field::Whole => {
-            text.push_str("0x")?;
-            push_hex(text, magnitude as u32)
-        }
-        _ if number.negative => write!(text, "-{magnitude}"),
-        _ => write!(text, "{magnitude}"),
-    }
+    push_register(text, register)?;
+    text.push_str(", ")
+}
+
+/// Appends three operands.
+fn push_registers(text: &mut String, a: Reg, b: Reg, c: Reg) -> Result<(), AllocError>
+    ensures { OnOk result (string_bytes text.new ≡ string_bytes text.old
+        ++ listed (register_name a ∷ register_name b ∷ register_name c ∷ [])) }
+{
+    push_first(text, a)?;
+    push_first(text, b)?;
+    push_register(text, c)
+}
+
+/// Appends a number that isn't the last operand.
+fn push_number(text: &mut String, number: u32) -> Result<(), AllocError>
+    ensures { OnOk result
+        (string_bytes text.new ≡ string_bytes text.old ++ (decimal number ++ codes ", ")) }
+{
+    write!(text, "{number}")?;
+    text.push_str(", ")
+}
+
+fn push_signed(text: &mut String, number: i32) -> Result<(), AllocError>
+    ensures { OnOk result (string_bytes text.new ≡ string_bytes text.old ++ signed_decimal number) }
+{
+    write!(text, "{number}")
+}
+
+/// Appends the line of a load, a store or JALR.
+fn push_access(
+    text: &mut String,
+    name: &str,
+    first: Reg,
+    offset: i32,
+    base: Reg,
+) -> Result<(), AllocError>
+    ensures { OnOk result (string_bytes text.new ≡ string_bytes text.old
+        ++ statement_line name.now (register_name first ∷ address offset base ∷ [])) }
+{
+    push_mnemonic(text, name)?;
+    push_first(text, first)?;
+    push_address(text, offset, base)
+}
+
+/// Appends an offset from a register.
+fn push_address(text: &mut String, offset: i32, base: Reg) -> Result<(), AllocError>
+    ensures { OnOk result (string_bytes text.new ≡ string_bytes text.old ++ address offset base) }
+{
+    push_signed(text, offset)?;
+    text.push('(')?;
+    push_register(text, base)?;
+    text.push(')')
+}
+
+/// Appends the line of LUI or AUIPC.
+fn push_upper(text: &mut String, name: &str, rd: Reg, upper: u32) -> Result<(), AllocError>
+    ensures { OnOk result (string_bytes text.new ≡ string_bytes text.old
+        ++ statement_line name.now (register_name rd ∷ upper_text upper ∷ [])) }
+{
+    let bits = upper / 4096;
+    push_mnemonic(text, name)?;
+    push_first(text, rd)?;
+    write!(text, "0x{bits:x}")
+}
+
+/// Appends the whole word, in eight hex digits.
+fn push_word(text: &mut String, word: u32) -> Result<(), AllocError>
+    ensures { OnOk result
+        (string_bytes text.new ≡ string_bytes text.old ++ (codes "0x" ++ eight_hex_digits word)) }
+{
+    text.push_str("0x")?;
+    push_hex(text, word)
 }

@@ -23,9 +23,9 @@
 //! is the longest one that begins at its place.
 //!
 //! The definitions in `specs` say so exactly, as a relation on whole texts: tokens and where they
-//! stand (`Lexicon`), the forms of statements (`Forms`), lines, programs and faults (`Assembly`),
-//! and what is shown (`Shown`). The other files of `specs` say what the private functions compute;
-//! `proofs` shows that both agree.
+//! stand (`Lexicon`, by the words of `ci_reading` for tokens), the forms of statements (`Forms`),
+//! lines, programs and faults (`Assembly`), and what is shown (`Shown`). The other files of `specs`
+//! say what the private functions compute; `proofs` shows that both agree.
 #![tactic(auto)]
 
 pub use assembler::assemble;

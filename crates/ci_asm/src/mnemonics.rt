@@ -137,7 +137,7 @@ fn is_named(text: &[u8], mnemonic: Mnemonic) -> bool
     text == mnemonic.name().as_bytes()
 }
 
-fn operation_name(op: Op) -> &'static str
+pub(crate) fn operation_name(op: Op) -> &'static str
     ensures { result.now ≡ operation_name op }
 {
     match op {
@@ -163,7 +163,7 @@ fn operation_name(op: Op) -> &'static str
 }
 
 /// The name of the register-immediate form of an operation. Nine operations have none.
-fn immediate_name(op: Op) -> &'static str
+pub(crate) fn immediate_name(op: Op) -> &'static str
     ensures { result.now ≡ immediate_name op }
 {
     match op {
@@ -180,7 +180,7 @@ fn immediate_name(op: Op) -> &'static str
     }
 }
 
-fn branch_name(cond: Cond) -> &'static str
+pub(crate) fn branch_name(cond: Cond) -> &'static str
     ensures { result.now ≡ branch_name cond }
 {
     match cond {
@@ -193,7 +193,7 @@ fn branch_name(cond: Cond) -> &'static str
     }
 }
 
-fn load_name(kind: LoadKind) -> &'static str
+pub(crate) fn load_name(kind: LoadKind) -> &'static str
     ensures { result.now ≡ load_name kind }
 {
     match kind {
@@ -205,7 +205,7 @@ fn load_name(kind: LoadKind) -> &'static str
     }
 }
 
-fn store_name(width: Width) -> &'static str
+pub(crate) fn store_name(width: Width) -> &'static str
     ensures { result.now ≡ store_name width }
 {
     match width {

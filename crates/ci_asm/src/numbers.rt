@@ -1,11 +1,10 @@
 //! Numbers in the text.
-ghost use Rattle.std.specs.Prelude.{◌≡◌, ◌^◌, ◌<◌, ◌≤◌, drop};
-ghost use Rattle.std.specs.Char.{digit_value};
+ghost use Rattle.std.specs.Prelude.{◌≡◌, ◌^◌, ◌<◌, ◌≤◌};
 ghost use Rattle.ci_asm.specs.Tokens.{number, number_of};
 ghost use Rattle.ci_asm.specs.Statements.{signed_value};
-ghost use Rattle.ci_asm.specs.Spelling.{number_from};
 
-use crate::scanner::byte_at;
+use crate::scanner::{behind, byte_at};
+use ci_reading::digit_value;
 
 /// A number: its sign and how far it is from 0. Zero may have either sign.
 #[derive(Clone, Copy, Debug, PartialEq, Eq)]
@@ -20,19 +19,12 @@ pub(crate) fn number_of(text: &[u8]) -> Option<Number>
     ensures { result ≡ number_of text.now }
 {
     if byte_at(text, 0) == b'-' {
-        capped(true, 10, from_place(text, 1))
+        capped(true, 10, behind(text, 1))
     } else if byte_at(text, 1) == b'x' {
-        capped(false, 16, from_place(text, 2))
+        capped(false, 16, behind(text, 2))
     } else {
         capped(false, 10, text)
     }
-}
-
-/// The text from a place on.
-fn from_place(text: &[u8], place: usize) -> &[u8]
-    ensures { result.now ≡ drop place text.now }
-{
-    &text[place.min(text.len())..]
 }
 
 /// The number with this sign that digits of this base write, if they are at most ten.
@@ -51,29 +43,6 @@ fn capped(negative: bool, base: u64, digits: &[u8]) -> Option<Number>
         negative,
         magnitude,
     })
-}
-
-/// What a byte stands for as a digit, and 36 if it is no digit.
-fn digit_value(byte: u8) -> u64
-    ensures value { result ≡ digit_value byte }
-    ensures bound { result ≤ 36 }
-{
-    match byte {
-        b'0'..=b'9' => u64::from(byte - b'0'),
-        b'A'..=b'Z' => u64::from(byte - b'A') + 10,
-        b'a'..=b'z' => u64::from(byte - b'a') + 10,
-        _ => 36,
-    }
-}
-
-/// The number of a signed value.
-pub(crate) fn number_from(value: i32) -> Number
-    ensures { result ≡ number_from value }
-{
-    Number {
-        negative: value < 0,
-        magnitude: u64::from(value.unsigned_abs()),
-    }
 }
 
 /// The signed value of a number.

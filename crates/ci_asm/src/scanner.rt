@@ -1,6 +1,8 @@
 //! The tokens of a line.
-ghost use Rattle.std.specs.Prelude.{◌≡◌, ◌≤◌, ◌<◌, length};
-ghost use Rattle.ci_asm.specs.Tokens.{is_between, is_letter, is_digit, belongs, is_mark, byte_at, run_end, is_line_end, is_hex_start, is_negative_start, is_directive, token, token_at, next_token, text_of};
+ghost use Rattle.std.specs.Prelude.{◌≡◌, ◌≤◌, length, drop, IfSome};
+ghost use Rattle.ci_asm.specs.Tokens.{is_between, is_letter, is_digit, belongs, byte_at, run_end, run, is_hex_start};
+ghost use Rattle.ci_asm.specs.Tokens.{is_negative_start, is_directive, kind_and_size, mark_of, scan, token_at};
+ghost use Rattle.ci_asm.specs.Tokens.{next_token, text_of};
 
 /// A class of bytes.
 #[derive(Clone, Copy, Debug, PartialEq, Eq)]
@@ -56,12 +58,6 @@ pub(crate) fn is_digit(byte: u8) -> bool
     is_between(b'0', b'9', byte)
 }
 
-fn is_mark(byte: u8) -> bool
-    ensures { result ≡ is_mark byte }
-{
-    byte == b',' || byte == b'(' || byte == b')' || byte == b':'
-}
-
 fn belongs(class: ByteClass, byte: u8) -> bool
     ensures { result ≡ belongs class byte }
 {
@@ -96,69 +92,97 @@ pub(crate) fn run_end(class: ByteClass, line: &[u8], from: usize) -> usize
     end
 }
 
-fn is_line_end(line: &[u8], i: usize) -> bool
-    ensures { result ≡ is_line_end line.now i }
+/// How many bytes of the class the text begins with.
+fn run(class: ByteClass, text: &[u8]) -> usize
+    ensures size { result ≡ run class text.now }
+    ensures bound { result ≤ length text.now }
 {
-    line.len() <= i || byte_at(line, i) == b'#'
+    run_end(class, text, 0)
 }
 
-fn is_hex_start(line: &[u8], i: usize) -> bool
-    requires { i < length line.now }
-    ensures { result ≡ is_hex_start line.now i }
+/// The text from a place on, which is empty past its end.
+pub(crate) fn behind(text: &[u8], place: usize) -> &[u8]
+    ensures { result.now ≡ drop place text.now }
 {
-    byte_at(line, i) == b'0'
-        && byte_at(line, i + 1) == b'x'
-        && belongs(ByteClass::HexDigit, byte_at(line, i + 2))
+    &text[place.min(text.len())..]
 }
 
-fn is_negative_start(line: &[u8], i: usize) -> bool
-    requires { i < length line.now }
-    ensures { result ≡ is_negative_start line.now i }
+fn is_hex_start(first: u8, text: &[u8]) -> bool
+    ensures { result ≡ is_hex_start first text.now }
 {
-    byte_at(line, i) == b'-' && is_digit(byte_at(line, i + 1))
+    first == b'0' && byte_at(text, 0) == b'x' && belongs(ByteClass::HexDigit, byte_at(text, 1))
 }
 
-fn is_directive(line: &[u8], i: usize) -> bool
-    requires { i < length line.now }
-    ensures { result ≡ is_directive line.now i }
+fn is_negative_start(first: u8, text: &[u8]) -> bool
+    ensures { result ≡ is_negative_start first text.now }
 {
-    byte_at(line, i) == b'.'
-        && byte_at(line, i + 1) == b'w'
-        && byte_at(line, i + 2) == b'o'
-        && byte_at(line, i + 3) == b'r'
-        && byte_at(line, i + 4) == b'd'
+    first == b'-' && is_digit(byte_at(text, 0))
 }
 
-fn make_token(kind: Kind, start: usize, end: usize) -> Token
-    ensures { result ≡ token kind start end }
+fn is_directive(first: u8, text: &[u8]) -> bool
+    ensures { result ≡ is_directive first text.now }
 {
-    Token { kind, start, end }
+    first == b'.'
+        && byte_at(text, 0) == b'w'
+        && byte_at(text, 1) == b'o'
+        && byte_at(text, 2) == b'r'
+        && byte_at(text, 3) == b'd'
+}
+
+fn mark_of(first: u8) -> Option<(Kind, usize)>
+    ensures { result ≡ kind_and_size (mark_of first) }
+{
+    match first {
+        b',' | b'(' | b')' | b':' => Some((Kind::Mark(first), 0)),
+        _ => None,
+    }
+}
+
+/// The longest token that begins with a byte and stands before a text: its kind, and how many
+/// bytes of the text it has.
+#[tactic(auto, unfolding(crate::specs::Tokens::scan))]
+fn scan(first: u8, text: &[u8]) -> Option<(Kind, usize)>
+    ensures token { result ≡ kind_and_size (scan first text.now) }
+    ensures bound { IfSome result (λ found. found.1 ≤ length text.now) }
+{
+    if is_letter(first) {
+        Some((Kind::Name, run(ByteClass::NameByte, text)))
+    } else if is_hex_start(first, text) {
+        Some((Kind::Numeral, 1 + run(ByteClass::HexDigit, behind(text, 1))))
+    } else if is_digit(first) || is_negative_start(first, text) {
+        Some((Kind::Numeral, run(ByteClass::Digit, text)))
+    } else if is_directive(first, text) {
+        Some((Kind::Directive, 4))
+    } else {
+        mark_of(first)
+    }
 }
 
 /// The token that begins at a place of the line, where no blank stands.
 #[tactic(auto, unfolding(crate::specs::Tokens::token_at))]
 fn token_at(line: &[u8], i: usize) -> Token
-    ensures token { result ≡ token_at line.now i }
+    ensures token { result ≡ token_at (length line.now) i (drop i line.now) }
     ensures bound { result.start ≤ length line.now }
 {
-    if is_line_end(line, i) {
-        return make_token(Kind::End, line.len(), line.len());
-    }
-    let first = byte_at(line, i);
-    if is_letter(first) {
-        make_token(Kind::Name, i, run_end(ByteClass::NameByte, line, i))
-    } else if is_hex_start(line, i) {
-        make_token(Kind::Numeral, i, run_end(ByteClass::HexDigit, line, i + 2))
-    } else if is_digit(first) {
-        make_token(Kind::Numeral, i, run_end(ByteClass::Digit, line, i))
-    } else if is_negative_start(line, i) {
-        make_token(Kind::Numeral, i, run_end(ByteClass::Digit, line, i + 1))
-    } else if is_directive(line, i) {
-        make_token(Kind::Directive, i, i + 5)
-    } else if is_mark(first) {
-        make_token(Kind::Mark(first), i, i + 1)
-    } else {
-        make_token(Kind::Bad, i, i + 1)
+    let end = Token {
+        kind: Kind::End,
+        start: line.len(),
+        end: line.len(),
+    };
+    match behind(line, i).split_first() {
+        None | Some((b'#', _)) => end,
+        Some((first, text)) => match scan(*first, text) {
+            None => Token {
+                kind: Kind::Bad,
+                start: i,
+                end: i + 1,
+            },
+            Some((kind, size)) => Token {
+                kind,
+                start: i,
+                end: i + 1 + size,
+            },
+        },
     }
 }
 

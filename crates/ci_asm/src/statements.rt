@@ -1,6 +1,7 @@
 //! The statement of a line.
 ghost use Rattle.std.specs.Prelude.{◌≡◌, ◌≤◌, length, IfErr};
-ghost use Rattle.ci_asm.specs.Statements.{no_operands, not_due, register_in, mark_in, number_in, value_in, filled, ended, read_slots, mnemonic_in, read_statement};
+ghost use Rattle.ci_asm.specs.Statements.{no_operands, not_due, register_in, mark_in, number_in, value_in, filled};
+ghost use Rattle.ci_asm.specs.Statements.{ended, read_slots, mnemonic_in, read_statement};
 
 use crate::faults::{Fault, Rule};
 use crate::mnemonics::{Mnemonic, mnemonic_of};

@@ -1,4 +1,4 @@
--- For private contracts only: the best cut so far, and one set more.
+-- The best cut so far, and one set more.
 use Rattle.std.specs.Prelude.{◌≡◌, ◌≤ℤ◌, ◌<ℤ◌, ◌⊎◌, Some}
 use Rattle.std.specs.Ordering.{nat_cmp}
 use Rattle.std.specs.FinSet as set

@@ -1,7 +1,10 @@
 -- What is due to the words over the files that a shelf tells: one status.
 use Rattle.std.proofs.Common.{◌≡◌, ℕ, ◌⊎◌, inl, inr, List, Some, sym, subst, ◌∙◌}
 use Rattle.ci_io.specs.Outcomes.{Files}
-use Rattle.ci_words.specs.Words.{Reading, ReadsAs, HasNoReading, best, asm, dis, run, blocks}
+use Rattle.ci_words.specs.Words.{Reading, ReadsAs, HasNoReading, name_set, number_set, word_set, words_set}
+use Rattle.ci_words.specs.declared.tables.CommandName.{CommandName}
+use Rattle.ci_words.specs.declared.tables.CommandName.TheVariants.{Best, Asm, Dis, Run, Blocks}
+use Rattle.ci_words.specs.declared.tables.OptionName.TheVariants as option
 use Rattle.ci_words.proofs.Readings.{one_reading}
 use Rattle.ci_calls.specs.declared.refusals.Refusal.{Refusal}
 use Rattle.ci_calls.specs.declared.success.Success.{Success}
@@ -12,32 +15,34 @@ use Rattle.ci_commands.specs.BestCommand.{HoldsNoBlock}
 use Rattle.ci_block.specs.CustomWords.{IsFirstCustomWord}
 use Rattle.ci_commands.proofs.Causes.{unsupported_once}
 use Rattle.ci_commands.proofs.OneBlock.{best_or_refused, blocks_or_refused}
-use Rattle.ci_find.specs.Commands.{inputs_of, IsMade, IsRefusedOf}
+use Rattle.ci_find.specs.Commands.{inputs_of, IsMade, IsRefusedOf, MakesBy, RefusesBy}
 use Rattle.ci_find.specs.Endings.{IsRefusal, usage, file, once_read, IsDue}
 
 -- ---- the commands
 
 -- of what something is made is not refused
-made_or_refused : (reading : Reading) (read : List (List ℕ)) (success : Success) (refusal : Refusal)
-    → IsMade reading read success → IsRefusedOf reading read refusal → ⊥
-made_or_refused (best name settings) read success refusal made is =
-    best_or_refused read success refusal settings.at settings.leaders made.0 settings.budget settings.table made.3 is
-made_or_refused (asm name out) read success refusal made is = is
-made_or_refused (dis name) read success refusal made is = is
-made_or_refused (run name settings) read success refusal made is = is
-made_or_refused (blocks name settings) read success refusal made is =
-    blocks_or_refused read success refusal settings.leaders made is
+made_or_refused : (command : CommandName) (reading : Reading) (read : List (List ℕ)) (success : Success) (refusal : Refusal)
+    → MakesBy command reading read success → RefusesBy command reading read refusal → ⊥
+made_or_refused Best reading read success refusal made is =
+    best_or_refused read success refusal (word_set reading option.At) (words_set reading option.Leader) made.0
+    (number_set reading option.Budget) (name_set reading option.Table) made.3 is
+made_or_refused Asm reading read success refusal made is = is
+made_or_refused Dis reading read success refusal made is = is
+made_or_refused Run reading read success refusal made is = is
+made_or_refused Blocks reading read success refusal made is =
+    blocks_or_refused read success refusal (words_set reading option.Leader) made is
 
 -- it is refused with one status
-refused_once : (reading : Reading) (read : List (List ℕ)) (first second : Refusal) → IsRefusedOf reading read first
-    → IsRefusedOf reading read second → status_of first ≡ status_of second
-refused_once (best name settings) read first second a b =
-    unsupported_once (HoldsNoBlock settings.at settings.leaders a.bytes) (HoldsNoBlock settings.at settings.leaders b.bytes)
-    first second a.unsupported b.unsupported
-refused_once (asm name out) read first second a b = absurd a
-refused_once (dis name) read first second a b = absurd a
-refused_once (run name settings) read first second a b = absurd a
-refused_once (blocks name settings) read first second a b =
+refused_once : (command : CommandName) (reading : Reading) (read : List (List ℕ)) (first second : Refusal)
+    → RefusesBy command reading read first → RefusesBy command reading read second → status_of first ≡ status_of second
+refused_once Best reading read first second a b =
+    let address = word_set reading option.At in
+    let named = words_set reading option.Leader in
+    unsupported_once (HoldsNoBlock address named a.bytes) (HoldsNoBlock address named b.bytes) first second a.unsupported b.unsupported
+refused_once Asm reading read first second a b = absurd a
+refused_once Dis reading read first second a b = absurd a
+refused_once Run reading read first second a b = absurd a
+refused_once Blocks reading read first second a b =
     unsupported_once (IsFirstCustomWord a.file) (IsFirstCustomWord b.file) first second a.custom b.custom
 
 -- ---- one status is due
@@ -69,12 +74,12 @@ module _ (held : Files) (reading : Reading) where
   reading_once first second (inl a) (inr (inr b)) = read_or_not a.0 b.0 a.1 b.1
   reading_once first second (inr (inl a)) (inl b) = read_or_not b.0 a.0 b.1 a.1
   reading_once first second (inr (inl a)) (inr (inl b)) =
-      a.2.2 ∙ refused_once reading b.0 a.2.0 b.2.0 (same_files a.0 b.0 a.2.0 a.1 b.1 a.2.1) b.2.1 ∙ sym b.2.2
+      a.2.2 ∙ refused_once reading.command reading b.0 a.2.0 b.2.0 (same_files a.0 b.0 a.2.0 a.1 b.1 a.2.1) b.2.1 ∙ sym b.2.2
   reading_once first second (inr (inl a)) (inr (inr b)) =
-      absurd (made_or_refused reading b.0 b.2.0 a.2.0 b.2.1 (same_files a.0 b.0 a.2.0 a.1 b.1 a.2.1))
+      absurd (made_or_refused reading.command reading b.0 b.2.0 a.2.0 b.2.1 (same_files a.0 b.0 a.2.0 a.1 b.1 a.2.1))
   reading_once first second (inr (inr a)) (inl b) = read_or_not b.0 a.0 b.1 a.1
   reading_once first second (inr (inr a)) (inr (inl b)) =
-      absurd (made_or_refused reading a.0 a.2.0 b.2.0 a.2.1 (same_files b.0 a.0 b.2.0 b.1 a.1 b.2.1))
+      absurd (made_or_refused reading.command reading a.0 a.2.0 b.2.0 a.2.1 (same_files b.0 a.0 b.2.0 b.1 a.1 b.2.1))
   reading_once first second (inr (inr a)) (inr (inr b)) = a.3 ∙ sym b.3
 
 -- the status that is due to words: that of their reading, or 1 where they have none

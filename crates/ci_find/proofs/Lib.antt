@@ -1,5 +1,4 @@
-mod BestLimits
-mod Bounds
+mod BestWords
 mod Dues
 mod Runs
 mod Kept

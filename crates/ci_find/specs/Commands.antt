@@ -2,7 +2,10 @@
 -- its reading.
 use Rattle.std.specs.Prelude.{◌≡◌, ℕ, List}
 use Rattle.ci_cut.specs.declared.graph.Limits.{Limits}
-use Rattle.ci_words.specs.Words.{Reading, best, asm, dis, run, blocks}
+use Rattle.ci_words.specs.Words.{Reading, name_at, name_set, number_set, word_set, words_set}
+use Rattle.ci_words.specs.declared.tables.CommandName.{CommandName}
+use Rattle.ci_words.specs.declared.tables.CommandName.TheVariants.{Best, Asm, Dis, Run, Blocks}
+use Rattle.ci_words.specs.declared.tables.OptionName.TheVariants as option
 use Rattle.ci_calls.specs.declared.refusals.Refusal.{Refusal}
 use Rattle.ci_calls.specs.declared.success.Success.{Success}
 use Rattle.ci_calls.specs.Evaluations.{RefusesNothing}
@@ -14,27 +17,39 @@ use Rattle.ci_commands.specs.RunCommand.{run_inputs, IsRunMade}
 use Rattle.ci_commands.specs.BlocksCommand.{blocks_inputs, IsBlocksMade, IsBlocksRefused}
 
 -- the files that the command reads, in order
+abbrev pub inputs_by : CommandName → Reading → List Input
+inputs_by Best reading = best_inputs (word_set reading option.At) (name_at reading 0) (name_set reading option.Table)
+inputs_by Asm reading = asm_inputs (name_at reading 0)
+inputs_by Dis reading = dis_inputs (name_at reading 0)
+inputs_by Run reading = run_inputs (name_at reading 0) (name_set reading option.Table) (name_set reading option.Input)
+inputs_by Blocks reading = blocks_inputs (name_at reading 0)
+
 abbrev pub inputs_of : Reading → List Input
-inputs_of (best file settings) = best_inputs settings.at file settings.table
-inputs_of (asm text out) = asm_inputs text
-inputs_of (dis file) = dis_inputs file
-inputs_of (run file settings) = run_inputs file settings.table settings.input
-inputs_of (blocks file settings) = blocks_inputs file
+inputs_of reading = inputs_by reading.command reading
 
 -- what the command makes of the bytes of its files
+abbrev pub MakesBy : CommandName → Reading → List (List ℕ) → Success → Type 0
+MakesBy Best reading read success =
+    (limits : Limits) × (limits.inputs ≡ number_set reading option.Inputs)
+    × (limits.outputs ≡ number_set reading option.Outputs)
+    × IsBestMade (word_set reading option.At) (words_set reading option.Leader) limits
+    (number_set reading option.Budget) (name_set reading option.Table) read success
+MakesBy Asm reading read success = IsAsmMade (name_at reading 1) read success
+MakesBy Dis reading read success = IsDisMade read success
+MakesBy Run reading read success =
+    IsRunMade (number_set reading option.Steps) (name_set reading option.Table) (name_set reading option.Input) read success
+MakesBy Blocks reading read success = IsBlocksMade (words_set reading option.Leader) read success
+
 abbrev pub IsMade : Reading → List (List ℕ) → Success → Type 0
-IsMade (best file settings) read success =
-    (limits : Limits) × (limits.inputs ≡ settings.inputs) × (limits.outputs ≡ settings.outputs)
-    × IsBestMade settings.at settings.leaders limits settings.budget settings.table read success
-IsMade (asm text out) read success = IsAsmMade out read success
-IsMade (dis file) read success = IsDisMade read success
-IsMade (run file settings) read success = IsRunMade settings.steps settings.table settings.input read success
-IsMade (blocks file settings) read success = IsBlocksMade settings.leaders read success
+IsMade reading = MakesBy reading.command reading
 
 -- what the command refuses of them, though each file alone is well formed
+abbrev pub RefusesBy : CommandName → Reading → List (List ℕ) → Refusal → Type 0
+RefusesBy Best reading = IsBestRefused (word_set reading option.At) (words_set reading option.Leader)
+RefusesBy Asm reading = RefusesNothing
+RefusesBy Dis reading = RefusesNothing
+RefusesBy Run reading = RefusesNothing
+RefusesBy Blocks reading = IsBlocksRefused
+
 abbrev pub IsRefusedOf : Reading → List (List ℕ) → Refusal → Type 0
-IsRefusedOf (best file settings) = IsBestRefused settings.at settings.leaders
-IsRefusedOf (asm name out) = RefusesNothing
-IsRefusedOf (dis file) = RefusesNothing
-IsRefusedOf (run file settings) = RefusesNothing
-IsRefusedOf (blocks file settings) = IsBlocksRefused
+IsRefusedOf reading = RefusesBy reading.command reading

@@ -60,8 +60,10 @@ pub record IsBook (book : Book) : Type 0 where
 
 abbrev pub entry_text : Entry → List ℕ
 entry_text (Best leader cut log) =
-    line (codes "block " ++ eight_hex_digits leader ++ codes " best" ++ members_text (set.contains cut)) ++ line (letters log)
-entry_text (Without leader log) = line (codes "block " ++ eight_hex_digits leader ++ codes " none") ++ line (letters log)
+    line (codes "block " ++ eight_hex_digits leader ++ codes " best" ++ members_text (set.contains cut))
+    ++ line (letters log)
+entry_text (Without leader log) =
+    line (codes "block " ++ eight_hex_digits leader ++ codes " none") ++ line (letters log)
 entry_text (Spent leader budget) = line (codes "block " ++ eight_hex_digits leader ++ codes " spent " ++ decimal budget)
 entry_text (Take leader unit) = line (codes "take " ++ eight_hex_digits leader ++ codes " unit " ++ decimal unit)
 

@@ -1,9 +1,13 @@
 -- For private contracts: what the reader computes. The public definitions are in Books and Faults.
 -- Each function reads what stands at the beginning of a list of bytes, and gives it with the bytes behind it.
-use Rattle.std.specs.Prelude.{◌≡◌, ℕ, zero, suc, ◌+◌, ◌-◌, ◌*◌, ◌^◌, ◌≤◌, ◌==◌, Bool, true, false, ◌&&◌, ◌||◌, nat_le, nat_lt, if◌then◌else◌, List, [], ◌∷◌, ◌++◌, length, codes, Option, Some, None, Result, Ok, Err}
+use Rattle.std.specs.Prelude.{◌≡◌, ℕ, zero, suc, ◌+◌, ◌-◌, ◌≤◌, ◌==◌, true, false, if◌then◌else◌}
+use Rattle.std.specs.Prelude.{List, [], ◌∷◌, ◌++◌, length, codes, Option, Some, None, Result, Ok, Err}
 use Rattle.std.specs.Ordering.{nat_cmp}
 use Rattle.std.specs.FinSet as set
-use Rattle.ci_word.specs.Numbers.{some_below}
+use Rattle.ci_reading.specs.declared.fields.Numbers.{Numbers}
+use Rattle.ci_reading.specs.LineReading as reading
+use Rattle.ci_reading.specs.LineReading.{◌>>=◌, view, stop, stop_of, begins_with, word, with_front, repetition}
+use Rattle.ci_reading.specs.Fields.{found_before, address, number, number_alone}
 use Rattle.ci_log.specs.declared.log.Item.{Item}
 use Rattle.ci_log.specs.declared.log.Item.TheVariants.{B, O, C, I, G, F}
 use Rattle.ci_log.specs.declared.book.Entry.{Entry}
@@ -15,105 +19,31 @@ use Rattle.ci_log.specs.declared.faults.LogFault.TheVariants as fault
 use Rattle.ci_log.specs.declared.faults.Stop.{Stop}
 use Rattle.ci_log.specs.declared.faults.Failure.{Failure}
 use Rattle.ci_log.specs.declared.faults.Failure.TheVariants as failure
-use Rattle.ci_log.specs.declared.tokens.Numbers.{Numbers}
 use Rattle.ci_log.specs.Books.{Book}
 
-abbrev pub Read : Type 0 → Type 0
-Read A = Result (A × List ℕ) Stop
+-- the one kind of stop: directly behind a whole tree, where a newline is due
+abbrev pub BehindTree : Type 0
+BehindTree = Unit {0}
 
-infixl 10 ◌>>=◌
-abbrev pub ◌>>=◌ : {A B : Type 0} → Result A Stop → (A → Result B Stop) → Result B Stop
-(Ok x) >>= f = f x
-(Err e) >>= f = Err e
+abbrev pub Read : Type 0 → Type 0
+Read A = reading.Read ℕ BehindTree A
+
+abbrev pub stop_seen : Stop → reading.Stop BehindTree
+stop_seen s = record { left = s.left; kind = (if s.behind_tree then Some tt else None) }
 
 -- what a function returned, seen by `view`, is what reading gives, unless memory ran out
-abbrev pub Fails : {Y : Type 0} → Failure → Result Y Stop → Type 0
+abbrev pub Fails : {Y : Type 0} → Failure → Result Y (reading.Stop BehindTree) → Type 0
 Fails failure.NoMemory read = Unit {0}
-Fails (failure.Stopped stop) read = read ≡ Err stop
+Fails (failure.Stopped s) read = read ≡ Err (stop_seen s)
 
-abbrev pub Gives : {X Y : Type 0} → (X → Y) → Result X Failure → Result Y Stop → Type 0
+abbrev pub Gives : {X Y : Type 0} → (X → Y) → Result X Failure → Result Y (reading.Stop BehindTree) → Type 0
 Gives view (Ok x) read = read ≡ Ok (view x)
 Gives view (Err e) read = Fails e read
-
-abbrev pub stop : ℕ → Stop
-stop left = record { left = left; behind_tree = false }
-
--- ---- words and addresses
-
-abbrev pub begins_with : ℕ → List ℕ → Bool
-begins_with byte [] = false
-begins_with byte (x ∷ xs) = x == byte
-
-abbrev pub word : List ℕ → List ℕ → Read (Unit {0})
-word [] xs = Ok (tt, xs)
-word (due ∷ others) [] = Err (stop 0)
-word (due ∷ others) (x ∷ xs) = if x == due then word others xs else Err (stop (length (x ∷ xs)))
-
-abbrev pub is_digit : ℕ → Bool
-is_digit x = nat_le 48 x && nat_le x 57
-
-abbrev pub hex_value : ℕ → Option ℕ
-hex_value x = if is_digit x then Some (x - 48) else (if nat_le 97 x && nat_le x 102 then Some (x - 97 + 10) else None)
-
--- the value, or a stop before these bytes
-abbrev pub found_before : {A : Type 0} → ℕ → List ℕ → Option A → Read A
-found_before left xs (Some value) = Ok (value, xs)
-found_before left xs None = Err (stop left)
-
-abbrev pub hex_digit : List ℕ → Read ℕ
-hex_digit [] = Err (stop 0)
-hex_digit (x ∷ xs) = found_before (length (x ∷ xs)) xs (hex_value x)
-
--- so many hex digits behind those of the value
-unfoldable pub address : ℕ → ℕ → List ℕ → Read ℕ
-address zero value xs = Ok (value, xs)
-address (suc count) value xs = hex_digit xs >>= λ digit. address count (16 * value + digit.0) digit.1
-
--- ---- numbers
-
--- one of so many numbers from the first on is one of these
-abbrev pub meets : Numbers → ℕ → ℕ → Bool
-meets numbers first count = nat_le first numbers.high && nat_lt numbers.low (first + count)
-
--- with no further digits, or with a few
-abbrev pub reaches_with : Numbers → ℕ → ℕ → Bool
-reaches_with numbers value k = meets numbers (value * 10 ^ k) (10 ^ k)
-
--- one of the numbers begins with the digits of this value
-unfoldable pub reaches : Numbers → ℕ → Bool
-reaches numbers value = if value == 0 then numbers.low == 0 else some_below 7 (reaches_with numbers value)
-
-abbrev pub begins : Numbers → List ℕ → Bool
-begins numbers [] = false
-begins numbers (x ∷ xs) = is_digit x && reaches numbers (x - 48)
-
-abbrev pub extends : Numbers → ℕ → List ℕ → Bool
-extends numbers value [] = false
-extends numbers value (x ∷ xs) = is_digit x && nat_lt 0 value && reaches numbers (10 * value + (x - 48))
-
-abbrev pub closes : Numbers → ℕ → List ℕ → Bool
-closes numbers value [] = false
-closes numbers value (x ∷ xs) =
-    nat_le numbers.low value && (x == 10 || (numbers.listed && x == 32 && nat_lt value numbers.high))
-
-abbrev pub closed : Numbers → ℕ → List ℕ → Read (ℕ × ℕ)
-closed numbers value [] = Err (stop 0)
-closed numbers value (x ∷ xs) = if closes numbers value (x ∷ xs) then Ok ((value, x), xs) else Err (stop (length (x ∷ xs)))
-
--- what stands behind the digits of the value
-abbrev pub digits_on : Numbers → ℕ → List ℕ → Read (ℕ × ℕ)
-digits_on numbers value [] = closed numbers value []
-digits_on numbers value (x ∷ xs) =
-    if extends numbers value (x ∷ xs) then digits_on numbers (10 * value + (x - 48)) xs else closed numbers value (x ∷ xs)
-
-abbrev pub number : Numbers → List ℕ → Read (ℕ × ℕ)
-number numbers [] = Err (stop 0)
-number numbers (x ∷ xs) = if begins numbers (x ∷ xs) then digits_on numbers (x - 48) xs else Err (stop (length (x ∷ xs)))
 
 -- ---- cuts
 
 abbrev pub nodes_from : ℕ → Numbers
-nodes_from low = record { low = low; high = 255; listed = true }
+nodes_from low = record { low = low; high = 255; end = 10; listed = true }
 
 -- at most so many numbers from this one on, each greater than the one before it
 unfoldable pub nodes : ℕ → ℕ → List ℕ → Read (List ℕ)
@@ -128,7 +58,7 @@ with_numbers cut [] = cut
 with_numbers cut (n ∷ numbers) = with_numbers (set.insert cut n) numbers
 
 abbrev pub set_of : Read (List ℕ) → Read (set.FinSet nat_cmp)
-set_of read = read >>= λ x. Ok (with_numbers set.empty x.0, x.1)
+set_of read = view (with_numbers set.empty) read
 
 -- ---- logs
 
@@ -166,8 +96,8 @@ trees (suc due) [] = Err (stop 0)
 trees (suc due) (x ∷ xs) = with_item (length (x ∷ xs)) (λ i. trees (due_after i due) xs) (item_of x)
 
 abbrev pub tree_end : List ℕ → Read (Unit {0})
-tree_end [] = Err (record { left = 0; behind_tree = true })
-tree_end (x ∷ xs) = if x == 10 then Ok (tt, xs) else Err (record { left = length (x ∷ xs); behind_tree = true })
+tree_end [] = Err (stop_of tt 0)
+tree_end (x ∷ xs) = if x == 10 then Ok (tt, xs) else Err (stop_of tt (length (x ∷ xs)))
 
 unfoldable pub tree_line : List ℕ → Read (List Item)
 tree_line xs = trees 1 xs >>= λ items. tree_end items.1 >>= λ end. Ok (items.0, end.1)
@@ -182,24 +112,25 @@ unfoldable pub without : ℕ → List ℕ → Read Entry
 without leader xs = word (codes "none\n") xs >>= λ a. tree_line a.1 >>= λ log. Ok (Without leader log.0, log.1)
 
 abbrev pub budgets : Numbers
-budgets = record { low = 0; high = 9999999; listed = false }
+budgets = record { low = 0; high = 9999999; end = 10; listed = false }
 
 unfoldable pub spent : ℕ → List ℕ → Read Entry
-spent leader xs = word (codes "spent ") xs >>= λ a. number budgets a.1 >>= λ n. Ok (Spent leader n.0.0, n.1)
+spent leader xs = word (codes "spent ") xs >>= λ a. view (Spent leader) (number_alone budgets a.1)
 
 abbrev pub search_of : ℕ → List ℕ → Read Entry
 search_of leader xs =
     if begins_with 98 xs then best leader xs else (if begins_with 110 xs then without leader xs else spent leader xs)
 
 unfoldable pub search : List ℕ → Read Entry
-search xs = word (codes "block ") xs >>= λ a. address 8 0 a.1 >>= λ leader. word (codes " ") leader.1 >>= λ b. search_of leader.0 b.1
+search xs = word (codes "block ") xs >>= λ a. address 8 0 a.1 >>= λ leader. word (codes " ") leader.1
+    >>= λ b. search_of leader.0 b.1
 
 abbrev pub units : Numbers
-units = record { low = 0; high = 31; listed = false }
+units = record { low = 0; high = 31; end = 10; listed = false }
 
 unfoldable pub take : List ℕ → Read Entry
-take xs = word (codes "take ") xs >>= λ a. address 8 0 a.1 >>= λ leader. word (codes " unit ") leader.1 >>= λ b. number units b.1 >>= λ n.
-    Ok (Take leader.0 n.0.0, n.1)
+take xs = word (codes "take ") xs >>= λ a. address 8 0 a.1 >>= λ leader. word (codes " unit ") leader.1 >>= λ b.
+    view (Take leader.0) (number_alone units b.1)
 
 unfoldable pub round : List ℕ → Read (List Entry)
 round xs = take xs >>= λ t. search t.1 >>= λ s. Ok (t.0 ∷ s.0 ∷ [], s.1)
@@ -209,29 +140,19 @@ finish xs = word (codes "end ") xs >>= λ a.
     if begins_with 110 a.1 then (word (codes "none\n") a.1 >>= λ b. Ok (Empty, b.1))
     else (word (codes "count\n") a.1 >>= λ b. Ok (Count, b.1))
 
-abbrev pub with_front : List Entry → Read (List Entry) → Read (List Entry)
-with_front front read = read >>= λ x. Ok (front ++ x.0, x.1)
-
--- at most so many times what begins with the byte
-unfoldable pub repeated : ℕ → ℕ → (List ℕ → Read (List Entry)) → List ℕ → Read (List Entry)
-repeated zero byte one xs = Ok ([], xs)
-repeated (suc count) byte one xs =
-    if begins_with byte xs then (one xs >>= λ x. with_front x.0 (repeated count byte one x.1)) else Ok ([], xs)
-
 abbrev pub one_search : List ℕ → Read (List Entry)
-one_search xs = search xs >>= λ s. Ok (s.0 ∷ [], s.1)
+one_search xs = view (λ s. s ∷ []) (search xs)
 
-abbrev pub searches : ℕ → List ℕ → Read (List Entry)
-searches count xs = repeated count 98 one_search xs
+abbrev pub searches : List ℕ → Read (List Entry)
+searches xs = repetition (λ x. x == 98) one_search xs
 
-abbrev pub rounds : ℕ → List ℕ → Read (List Entry)
-rounds count xs = repeated count 116 round xs
+abbrev pub rounds : List ℕ → Read (List Entry)
+rounds xs = repetition (λ x. x == 116) round xs
 
 -- ---- books
 
--- each of both lists has at most so many parts
-unfoldable pub body : ℕ → List ℕ → Read Book
-body count xs = searches count xs >>= λ s. rounds count s.1 >>= λ r. finish r.1 >>= λ f.
+unfoldable pub body : List ℕ → Read Book
+body xs = searches xs >>= λ s. rounds s.1 >>= λ r. finish r.1 >>= λ f.
     Ok (record { entries = s.0 ++ r.0; finish = f.0 }, f.1)
 
 -- the fault of a text of this length in which reading behind the first line stopped
@@ -249,6 +170,5 @@ abbrev pub failure_fault : ℕ → Failure → LogFault
 failure_fault total failure.NoMemory = fault.NoMemory
 failure_fault total (failure.Stopped s) = stop_fault total s
 
-abbrev pub header_fault : Failure → LogFault
-header_fault failure.NoMemory = fault.NoMemory
-header_fault (failure.Stopped s) = if s.left == 0 then fault.Unfinished else fault.BadHeader
+abbrev pub header_fault : ℕ → LogFault
+header_fault left = if left == 0 then fault.Unfinished else fault.BadHeader

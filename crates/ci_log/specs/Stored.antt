@@ -78,8 +78,11 @@ entry_again (Take leader unit) = refl
 abbrev coded_entry : Coded Entry
 coded_entry =
     code_by Parts
-    (coded⊎ (coded× coded_ℕ (coded× (set.code coded_ℕ) (coded_list coded_item))) (coded⊎ (coded× coded_ℕ (coded_list coded_item)) (coded⊎ (coded× coded_ℕ coded_ℕ) (coded× coded_ℕ coded_ℕ))))
+    (coded⊎ (coded× coded_ℕ (coded× (set.code coded_ℕ) (coded_list coded_item)))
+    (coded⊎ (coded× coded_ℕ (coded_list coded_item))
+    (coded⊎ (coded× coded_ℕ coded_ℕ) (coded× coded_ℕ coded_ℕ))))
     entry_parts entry_of entry_again
 
 abbrev pub coded_book : Coded Book
-coded_book = code_by (List Entry × Finish) (coded× (coded_list coded_entry) coded_finish) (λ b. (b.entries, b.finish)) (λ p. record { entries = p.0; finish = p.1 }) (λ _. refl)
+coded_book = code_by (List Entry × Finish) (coded× (coded_list coded_entry) coded_finish)
+    (λ b. (b.entries, b.finish)) (λ p. record { entries = p.0; finish = p.1 }) (λ _. refl)

@@ -1,17 +1,20 @@
 //! The entries of a book.
-ghost use Rattle.std.specs.Prelude.{◌≡◌, ℕ, ◌<◌, ◌≤◌, length, IfOk};
-ghost use Rattle.ci_log.specs.Reading.{Gives, best, without, spent, search, take, with_front, searches, rounds, finish};
+ghost use Rattle.std.specs.Prelude.{◌≡◌, ◌≤◌, length, IfOk};
+ghost use Rattle.ci_reading.specs.LineReading.{with_front};
+ghost use Rattle.ci_log.specs.Reading.{Gives, best, without, spent, search, take, searches, rounds, finish};
 
 use crate::book::{Entry, Finish};
+use crate::cuts::nodes;
 use crate::faults::Failure;
-use crate::tokens::{Numbers, address, begins_with, nodes, number, word};
 use crate::trees::tree_line;
+use ci_reading::{Numbers, address, begins_with, number, word};
 use std::alloc::Global;
 
 /// A budget: at most seven digits.
 const BUDGETS: Numbers = Numbers {
     low: 0,
     high: 9_999_999,
+    end: b'\n',
     listed: false,
 };
 
@@ -19,6 +22,7 @@ const BUDGETS: Numbers = Numbers {
 const UNITS: Numbers = Numbers {
     low: 0,
     high: 31,
+    end: b'\n',
     listed: false,
 };
 
@@ -98,8 +102,7 @@ fn take(bytes: &[u8]) -> Result<(Entry, &[u8]), Failure>
 /// All searches before the first take.
 pub(crate) fn searches(alloc: Global, bytes: &[u8]) -> Result<(Vec<Entry>, &[u8]), Failure>
     requires { length bytes.now ≤ 268435456 }
-    ensures entries { (count : ℕ) → length bytes.now < count
-        → Gives (λ x. (x.0.items, x.1.now)) result (searches count bytes.now) }
+    ensures entries { Gives (λ x. (x.0.items, x.1.now)) result (searches bytes.now) }
     ensures left { IfOk result (λ x. length x.1.now ≤ length bytes.now) }
 {
     let mut entries = Vec::new(alloc);
@@ -119,8 +122,7 @@ pub(crate) fn rounds<'a>(
     bytes: &'a [u8],
 ) -> Result<(Vec<Entry>, &'a [u8]), Failure>
     requires { length bytes.now ≤ 268435456 }
-    ensures entries { (count : ℕ) → length bytes.now < count
-        → Gives (λ x. (x.0.items, x.1.now)) result (with_front entries.items (rounds count bytes.now)) }
+    ensures entries { Gives (λ x. (x.0.items, x.1.now)) result (with_front entries.items (rounds bytes.now)) }
     ensures left { IfOk result (λ x. length x.1.now ≤ length bytes.now) }
 {
     let mut entries = entries;

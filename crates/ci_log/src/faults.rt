@@ -1,6 +1,5 @@
 //! Why a text spells no log book.
-ghost use Rattle.std.specs.Prelude.{◌≡◌, length};
-ghost use Rattle.ci_log.specs.Reading.{stop};
+ghost use Rattle.std.specs.Prelude.{◌≡◌, length, false};
 
 use std::alloc::{AllocError, AllocFailed};
 
@@ -54,12 +53,26 @@ pub(crate) enum Failure {
 
 /// A stop before these bytes.
 pub(crate) fn stopped(rest: &[u8]) -> Failure
-    ensures { result ≡ Failure.Stopped (stop (length rest.now)) }
+    ensures { result ≡ Failure.Stopped (record { left = length rest.now; behind_tree = false }) }
 {
     Failure::Stopped(Stop {
         left: rest.len(),
         behind_tree: false,
     })
+}
+
+impl From<ci_reading::Stop> for Failure {
+    ghost use Rattle.std.specs.Prelude.{◌≡◌, false};
+    ghost use Rattle.ci_log.specs.declared.faults.Failure.TheVariants.{Stopped};
+
+    ghost from_gives = { λ stop e. e ≡ Stopped (record { left = stop.left; behind_tree = false }) };
+
+    fn from(stop: ci_reading::Stop) -> Self {
+        Failure::Stopped(Stop {
+            left: stop.left,
+            behind_tree: false,
+        })
+    }
 }
 
 impl From<AllocError> for Failure {

@@ -34,6 +34,7 @@ pub use reading::read;
 pub use writing::write;
 
 mod book;
+mod cuts;
 mod entries;
 mod faults;
 mod flattening;
@@ -42,6 +43,5 @@ mod log;
 mod reading;
 #[cfg(test)]
 mod tests;
-mod tokens;
 mod trees;
 mod writing;

@@ -8,15 +8,14 @@ ghost use Rattle.ci_log.specs.declared.faults.LogFault.{LogFault};
 use crate::book::LogBook;
 use crate::entries::{finish, rounds, searches};
 use crate::faults::{Failure, LogFault};
-use crate::tokens::word;
+use ci_reading::word;
 use std::alloc::Global;
 
 /// What stands behind the first line.
 #[tactic(auto, unfolding(crate::specs::Reading::body))]
 fn body(alloc: Global, bytes: &[u8]) -> Result<(LogBook, &[u8]), Failure>
     requires { length bytes.now ≤ 268435456 }
-    ensures { (count : ℕ) → length bytes.now < count
-        → Gives (λ x. (x.0, x.1.now)) result (body count bytes.now) }
+    ensures { Gives (λ x. (x.0, x.1.now)) result (body bytes.now) }
 {
     let (entries, rest) = searches(alloc, bytes)?;
     let (entries, rest) = rounds(entries, alloc, rest)?;
@@ -40,14 +39,14 @@ fn fault_at(length: usize, failure: Failure) -> LogFault
     }
 }
 
-/// The fault of a text in whose first line reading stopped.
-fn header_fault(failure: Failure) -> LogFault
-    ensures { result ≡ header_fault failure }
+/// The fault of a text in whose first line reading stopped, with so many bytes left.
+fn header_fault(left: usize) -> LogFault
+    ensures { result ≡ header_fault left }
 {
-    match failure {
-        Failure::NoMemory => LogFault::NoMemory,
-        Failure::Stopped(stop) if stop.left == 0 => LogFault::Unfinished,
-        Failure::Stopped(_) => LogFault::BadHeader,
+    if left == 0 {
+        LogFault::Unfinished
+    } else {
+        LogFault::BadHeader
     }
 }
 
@@ -59,7 +58,7 @@ fn book_or_fault(alloc: Global, bytes: &[u8]) -> Result<LogBook, LogFault>
 {
     let rest = match word(bytes, b"ci-log 1\n") {
         Ok(rest) => rest,
-        Err(failure) => return Err(header_fault(failure)),
+        Err(stop) => return Err(header_fault(stop.left)),
     };
     let (book, rest) = match body(alloc, rest) {
         Ok(read) => read,

@@ -13,7 +13,9 @@ const TEXT: &[u8] =
 
 /// Three searches, two takes, each with its search, and the other finish.
 const ROUNDS: &[u8] =
-    b"ci-log 1\nblock 00010074 spent 9999999\nblock 0001009c best 0 255\nF\nblock 000100c4 none\nBCI\ntake 0001009c unit 0\nblock 0001009c best 10 11 200\nBFG\ntake 0001009c unit 31\nblock 0001009c none\nO\nend count\n";
+    b"ci-log 1\nblock 00010074 spent 9999999\nblock 0001009c best 0 255\nF\nblock 000100c4 none\nBCI\n\
+take 0001009c unit 0\nblock 0001009c best 10 11 200\nBFG\ntake 0001009c unit 31\nblock 0001009c none\nO\n\
+end count\n";
 
 #[test]
 fn a_text_both_ways(rt: HostRuntime) -> Result<(), Fail> {

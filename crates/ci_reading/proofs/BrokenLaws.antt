@@ -1,5 +1,7 @@
 -- The first broken element of lists that are put together.
-use Rattle.std.proofs.Common.{◌≡◌, ℕ, suc, zero, ◌+◌, ◌<◌, ◌≤◌, List, [], ◌∷◌, ◌++◌, refl, ap, sym, ◌∙◌, arith, append_assoc, add-one, length, get_or, length-append, inl, inr, subst, Bool, true, false, cond, Option, Some, None}
+use Rattle.std.proofs.Common.{◌≡◌, ℕ, suc, zero, ◌+◌, ◌<◌, ◌≤◌, List, [], ◌∷◌, ◌++◌, refl, ap, sym, ◌∙◌, arith}
+use Rattle.std.proofs.Common.{append_assoc, add-one, length, get_or, length-append, inl, inr, subst, Bool, true, false}
+use Rattle.std.proofs.Common.{cond, Option, Some, None}
 use Rattle.std.specs.Option.{option_to_list}
 use Rattle.std.proofs.lemmas.List.{append-nil, get_or_append_left}
 use Rattle.std.proofs.Math.Seq.{get_or-append_seam}

@@ -33,7 +33,8 @@ abbrev pub word_from : List ℕ → ℕ → ℕ
 word_from bytes i = from_le_bytes w32 (get_or bytes i 0 ∷ get_or bytes (i + 1) 0 ∷ get_or bytes (i + 2) 0 ∷ get_or bytes (i + 3) 0 ∷ [])
 
 -- the word at a place is made of the four bytes there
-pub words_of_bytes-at : (bytes : List ℕ) (place : ℕ) → 4 * place + 4 ≤ length bytes → slice_get (words_of_bytes bytes) place ≡ Some (word_from bytes (4 * place))
+pub words_of_bytes-at : (bytes : List ℕ) (place : ℕ) → 4 * place + 4 ≤ length bytes
+    → slice_get (words_of_bytes bytes) place ≡ Some (word_from bytes (4 * place))
 words_of_bytes-at [] place within = absurd (omega arith)
 words_of_bytes-at (a ∷ []) place within = absurd (omega arith)
 words_of_bytes-at (a ∷ b ∷ []) place within = absurd (omega arith)

@@ -1,4 +1,9 @@
 pub mod Broken
 pub mod Bytes
+pub mod Fields
+pub mod Fronts
 pub mod Hex
+pub mod Lexers
+pub mod LineReading
 pub mod Lines
+pub mod Tokens

@@ -1,5 +1,7 @@
 //! `add x5, x10, x11`, whose word is 00B502B3.
 use crate::bytes::{bytes_of_words, word_at};
+use crate::digits::number_of_digits;
+use crate::fields::{Numbers, Stop, address, begins_with, number, word};
 use crate::hex::{hex_text, push_hex};
 use std::test::Fail;
 
@@ -37,4 +39,58 @@ fn words_of_bytes(rt: HostRuntime) {
     let bytes = [0xFF, 0xFF, 0xFF, 0xFF, 0xB3, 0x02, 0xB5, 0x00, 0x13];
     assert_eq!(rt; word_at(&BYTES, 0), WORD);
     assert_eq!(rt; word_at(&bytes, 1), WORD);
+}
+
+#[test]
+fn numbers_of_digits(rt: HostRuntime) {
+    assert_eq!(rt;
+        number_of_digits(10, 10, b"9999999999"),
+        Some(9_999_999_999)
+    );
+    assert_eq!(rt; number_of_digits(10, 10, b"0000000042"), Some(42));
+    assert_eq!(rt; number_of_digits(16, 8, b"00B502b3"), Some(0x00B5_02B3));
+    assert_eq!(rt;
+        number_of_digits(16, 10, b"FFFFFFFFFF"),
+        Some(0xFF_FFFF_FFFF)
+    );
+}
+
+#[test]
+fn texts_that_are_no_numbers(rt: HostRuntime) {
+    assert_eq!(rt; number_of_digits(10, 10, b""), None);
+    assert_eq!(rt; number_of_digits(10, 10, b"00000000042"), None);
+    assert_eq!(rt; number_of_digits(10, 10, b"4a"), None);
+    assert_eq!(rt; number_of_digits(16, 8, b"4g"), None);
+    assert_eq!(rt; number_of_digits(16, 8, b"-4"), None);
+}
+
+const UNITS: Numbers = Numbers {
+    low: 0,
+    high: 31,
+    end: b'\n',
+    listed: false,
+};
+
+#[test]
+fn fields_of_a_line(rt: HostRuntime) -> Result<(), Stop> {
+    let line = b"take 00010074 unit 31\nend";
+    let rest = word(line, b"take ")?;
+    let (leader, rest) = address(rest)?;
+    assert_eq!(rt; leader, 0x0001_0074);
+    assert!(rt; begins_with(rest, b' '));
+    let rest = word(rest, b" unit ")?;
+    let (unit, end, rest) = number(rest, UNITS)?;
+    assert_eq!(rt; (unit, end), (31, b'\n'));
+    assert_eq!(rt; rest, b"end".as_slice());
+    Ok(())
+}
+
+#[test]
+fn fields_that_stop(rt: HostRuntime) {
+    assert_eq!(rt; word(b"tame ", b"take "), Err(Stop { left: 3 }));
+    assert_eq!(rt; word(b"tak", b"take "), Err(Stop { left: 0 }));
+    assert_eq!(rt; address(b"0001007A "), Err(Stop { left: 2 }));
+    assert_eq!(rt; number(b"32\n", UNITS), Err(Stop { left: 2 }));
+    assert_eq!(rt; number(b"07\n", UNITS), Err(Stop { left: 2 }));
+    assert_eq!(rt; number(b"7 ", UNITS), Err(Stop { left: 1 }));
 }

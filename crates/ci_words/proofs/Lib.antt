@@ -6,9 +6,9 @@ pub mod States
 pub mod Complete
 pub mod Sound
 pub mod Levels
-pub mod TableLaws
 pub mod Matches
+pub mod Elements
+pub mod SettingLaws
+pub mod TableLaws
 pub mod Readings
-pub mod NameLaws
-pub mod FileLaws
-pub mod DigitLaws
+pub mod RangeLaws

@@ -10,11 +10,12 @@ use Rattle.clap.specs.declared.builder.value_parser.Reading.{Reading}
 use Rattle.clap.specs.declared.builder.value_parser.Reading.TheVariants.{AsWritten}
 use Rattle.clap.specs.declared.parser.matches.ValueSource.TheVariants.{CommandLine}
 use Rattle.ci_words.specs.Words.{is_named, values_of}
-use Rattle.ci_words.specs.Parses.{is_repeatable}
+use Rattle.ci_words.specs.Parses.{Known}
 use Rattle.ci_words.proofs.Rules.{names_rule, option_rule, option_with, same_text}
 
 -- the values of the argument, with more at their end
-all_of-same : (id : Text) (how : Reading) (values : List Text) (rows : List Row) → all_of id (with_values id how CommandLine values rows) ≡ Some (unwrap_or (all_of id rows) [] ++ values)
+all_of-same : (id : Text) (how : Reading) (values : List Text) (rows : List Row) → all_of id (with_values id how CommandLine values rows)
+    ≡ Some (unwrap_or (all_of id rows) [] ++ values)
 all_of-same id how values [] = rw (same_text id) refl
 all_of-same id how values (r ∷ rs) = go (bytes_eq r.id id) refl (all_of-same id how values rs)
   where
@@ -24,7 +25,8 @@ all_of-same id how values (r ∷ rs) = go (bytes_eq r.id id) refl (all_of-same i
     go false e rest = rw (e, e) rest
 
 -- another argument keeps its values
-all_of-other : (id other : Text) (how : Reading) (values : List Text) (rows : List Row) → bytes_eq id other ≡ false → all_of other (with_values id how CommandLine values rows) ≡ all_of other rows
+all_of-other : (id other : Text) (how : Reading) (values : List Text) (rows : List Row) → bytes_eq id other ≡ false
+    → all_of other (with_values id how CommandLine values rows) ≡ all_of other rows
 all_of-other id other how values [] apart = rw apart refl
 all_of-other id other how values (r ∷ rs) apart = go (bytes_eq r.id id) (bytes_eq r.id other) refl refl (all_of-other id other how values rs apart)
   where
@@ -70,7 +72,8 @@ pub values_of-push_same : (name value : Text) (given : List (Text × Text)) → 
 values_of-push_same name value given = values_of-append name given ((name, value) ∷ []) ∙ rw (same_text name) refl
 
 -- another option keeps its values
-pub values_of-push_other : (name other value : Text) (given : List (Text × Text)) → bytes_eq name other ≡ false → values_of other (given ++ (name, value) ∷ []) ≡ values_of other given
+pub values_of-push_other : (name other value : Text) (given : List (Text × Text)) → bytes_eq name other ≡ false
+    → values_of other (given ++ (name, value) ∷ []) ≡ values_of other given
 values_of-push_other name other value given apart = values_of-append other given ((name, value) ∷ []) ∙ rw apart (append-nil (values_of other given))
 
 -- ---- matches of names and options
@@ -95,14 +98,16 @@ pub no_rows : AreOf [] [] []
 no_rows = record { of_names = refl; of_option = λ name apart. refl }
 
 -- one more name
-pub AreOf-name : (rows : List Row) (names : List Text) (given : List (Text × Text)) (name : Text) → AreOf rows names given → AreOf (used names_rule (name ∷ []) rows) (names ++ name ∷ []) given
+pub AreOf-name : (rows : List Row) (names : List Text) (given : List (Text × Text)) (name : Text) → AreOf rows names given
+    → AreOf (used names_rule (name ∷ []) rows) (names ++ name ∷ []) given
 AreOf-name rows names given name are = record {
   of_names = all_of-same (codes "names") _ (name ∷ []) rows ∙ (ap (λ o. Some (unwrap_or o [] ++ name ∷ [])) are.of_names ∙ listed-push names name);
   of_option = λ other apart. all_of-other (codes "names") other _ (name ∷ []) rows apart ∙ are.of_option other apart;
 }
 
 -- an option has a row where it is given
-pub has_row-given : (rows : List Row) (names : List Text) (given : List (Text × Text)) (name : Text) → AreOf rows names given → bytes_eq (codes "names") name ≡ false
+pub has_row-given : (rows : List Row) (names : List Text) (given : List (Text × Text)) (name : Text) → AreOf rows names given → bytes_eq (codes "names") name
+    ≡ false
     → has_row name rows ≡ is_some (listed (values_of name given))
 has_row-given rows names given name are apart = has_row-all name rows ∙ ap is_some (are.of_option name apart)
 
@@ -118,8 +123,8 @@ apart_flipped a b apart = go (bytes_eq b a) refl
     go false e = refl
 
 -- an option of this name may be given again, or it was not given before
-abbrev pub IsNew : Text → List (Text × Text) → Type 0
-IsNew name given = is_repeatable name ≡ false → values_of name given ≡ []
+abbrev pub IsNew : Known → Text → List (Text × Text) → Type 0
+IsNew known name given = known.repeats name ≡ false → values_of name given ≡ []
 
 -- the values of an option are put behind those that it has, where it may stand more than once or has none
 used_values : (repeatable : Bool) (name value : Text) (rows : List Row)
@@ -130,13 +135,14 @@ used_values false name value rows new = ap (with_values name AsWritten CommandLi
     (without_none name rows (new refl))
 
 -- one more option, which may be given
-pub AreOf-option : (rows : List Row) (names : List Text) (given : List (Text × Text)) (name value : Text) → AreOf rows names given → bytes_eq (codes "names") name ≡ false
-    → IsNew name given → AreOf (used (option_rule name) (value ∷ []) rows) names (given ++ (name, value) ∷ [])
-AreOf-option rows names given name value are apart new =
-    let none : is_repeatable name ≡ false → has_row name rows ≡ false =
+pub AreOf-option : (known : Known) (rows : List Row) (names : List Text) (given : List (Text × Text)) (name value : Text) → AreOf rows names given
+    → bytes_eq (codes "names") name ≡ false
+    → IsNew known name given → AreOf (used (option_rule known name) (value ∷ []) rows) names (given ++ (name, value) ∷ [])
+AreOf-option known rows names given name value are apart new =
+    let none : known.repeats name ≡ false → has_row name rows ≡ false =
     λ once. has_row-given rows names given name are apart ∙ ap (λ vs. is_some (listed vs)) (new once) in
     subst (λ rs. AreOf rs names (given ++ (name, value) ∷ []))
-    (sym (used_values (is_repeatable name) name value rows none)) (record {
+    (sym (used_values (known.repeats name) name value rows none)) (record {
       of_names = all_of-other name (codes "names") AsWritten (value ∷ []) rows
           (apart_flipped (codes "names") name apart) ∙ are.of_names;
       of_option = λ other far. go other far (bytes_eq name other) refl;

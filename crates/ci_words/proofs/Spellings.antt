@@ -21,7 +21,8 @@ cut (x ∷ xs) = go (eqb_tells x 61) (cut xs)
     more ys ne rest zero lt = ne
     more ys ne rest (suc i) lt = rest i (omega arith)
 
-    go : ((x == 61) ≡ true) × (x ≡ 61) ⊎ (((x == 61) ≡ false) × (x ≢ 61)) → Lacks 61 xs ⊎ ((name : Text) × (value : Text) × Lacks 61 name × (xs ≡ name ++ 61 ∷ value))
+    go : ((x == 61) ≡ true) × (x ≡ 61) ⊎ (((x == 61) ≡ false) × (x ≢ 61)) → Lacks 61 xs
+        ⊎ ((name : Text) × (value : Text) × Lacks 61 name × (xs ≡ name ++ 61 ∷ value))
         → Lacks 61 (x ∷ xs) ⊎ ((name : Text) × (value : Text) × Lacks 61 name × (x ∷ xs ≡ name ++ 61 ∷ value))
     go (inl is) rest = inr ([], xs, (λ i lt. absurd (omega arith)), ap (λ y. y ∷ xs) is.1)
     go (inr not) (inl none) = inl (more xs not.1 none)

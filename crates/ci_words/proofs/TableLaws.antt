@@ -1,65 +1,60 @@
--- Laws of the tables: which options a command has, and that no two rows have one name.
-use Rattle.std.proofs.Common.{◌≡◌, ◌≢◌, ◌∙◌, ◌<◌, ◌⊎◌, ◌==◌, ℕ, Bool, true, false, not, List, [], ◌∷◌, length, codes, refl, sym, ap, subst, arith, inl, inr, zero, suc}
-use Rattle.std.specs.Prelude.{Contains, Option, Some, find, slice_get}
-use Rattle.std.specs.List.{list_all, position_or_len, slice_index_or}
+-- Laws of the rows of a table: which names their options have, and that a word has one row.
+use Rattle.std.proofs.Common.{◌≡◌, ◌≢◌, ◌∙◌, ◌<◌, ◌⊎◌, ◌==◌, ◌&&◌, ℕ, Bool, true, false, not, List, [], ◌∷◌, length, map, codes, refl, sym, ap, ap₂, subst, arith, inl, inr, zero, suc, get_or, is_some}
+use Rattle.std.specs.Prelude.{All, Contains, cond, count_by}
+use Rattle.std.specs.List.{list_all, list_any, slice_index_or}
 use Rattle.std.specs.Str.{bytes_eq}
 use Rattle.std.proofs.lemmas.Bool.Decides.{eqb_tells}
-use Rattle.std.proofs.lemmas.List.Folds.{find_at, Any-from_list_any, list_any-from_Any}
-use Rattle.std.proofs.lemmas.Option.{get_or_from_slice_get, slice_get_within}
+use Rattle.std.proofs.lemmas.List.Elements.{All-cons, All-nil}
+use Rattle.std.proofs.lemmas.List.{get_or-map, length-map}
+use Rattle.std.proofs.lemmas.List.Sums.{sum_by-cons}
+use Rattle.std.proofs.lemmas.Slice.Eq.{bytes_eq-Decides}
 use Rattle.clap.proofs.CutLemmas.{Lacks}
-use Rattle.ci_words.specs.Tables.{CommandName, best, asm, dis, run, blocks, command_row, OptionName, inputs, outputs, budget, steps, table, input, leader, at, option_row, every_option}
-use Rattle.ci_words.specs.Words.{IsOptionOf, Text}
-use Rattle.ci_words.specs.Parses.{every_command, has_option, is_repeatable, known_to, names_known, option_name, place_of}
-use Rattle.ci_words.proofs.Matches.{some-same}
+use Rattle.clap.specs.Faults.{is_free_app}
+use Rattle.clap.specs.Simple.{App, built, is_buildable, is_ready, is_ready_leaf}
+use Rattle.clap.specs.Walk.{Rule, is_early_multiple}
+use Rattle.clap.specs.Words.{is_simple_and_free}
+use Rattle.ci_words.specs.Tables.{CommandRow, OptionRow}
+use Rattle.ci_words.specs.Words.{Text}
+use Rattle.ci_words.specs.Parses.{Known, known_in, app_by, app_for, are_distinct, are_rows, is_option_name, is_row, is_same, names_in, option_given, repeats_in}
+use Rattle.ci_words.proofs.Rules.{built_is, names_rule, option_rule, rules, shape}
+use Rattle.ci_words.proofs.SettingLaws.{no_option_row}
 use Rattle.ci_words.proofs.States.{IsOption}
 
--- what is found is there
-in_list : {X : Type 0} (test : X → Bool) (xs : List X) (x : X) → find test xs ≡ Some x → Contains xs x
-in_list test xs x found =
-    let there : slice_get xs (position_or_len test xs) ≡ Some x = sym (find_at test xs) ∙ found in (
-      position_or_len test xs,
-      slice_get_within xs (position_or_len test xs) x there,
-      get_or_from_slice_get xs
-          (position_or_len test xs) x x there,
-    )
+-- ---- tests
 
--- ---- a row for each command
+-- both of two tests are true
+pub both_true : (a b : Bool) → (a && b) ≡ true → (a ≡ true) × (b ≡ true)
+both_true true b e = (refl, e)
+both_true false b e = cc
 
--- the command of a word
-command_called : Text → Option CommandName
-command_called word = find (λ command. bytes_eq (command_row command).word word) every_command
+-- what is true of all is true of each
+each_true : {X : Type 0} (p : X → Bool) (xs : List X) → list_all p xs ≡ true → All (λ x. p x ≡ true) xs
+each_true p [] e = All-nil (λ x. p x ≡ true)
+each_true p (x ∷ xs) e =
+    let both = both_true (p x) (list_all p xs) e in
+    All-cons (λ y. p y ≡ true) x xs both.0 (each_true p xs both.1)
 
--- each command is found by its word
-command_called-word : (command : CommandName) → command_called (command_row command).word ≡ Some command
-unfolding command_called
-command_called-word best = refl
-command_called-word asm = refl
-command_called-word dis = refl
-command_called-word run = refl
-command_called-word blocks = refl
+-- and of one that is there
+pub true_there : {X : Type 0} (p : X → Bool) (xs : List X) → list_all p xs ≡ true → (x : X) → Contains xs x → p x ≡ true
+true_there p xs e x there = subst (λ y. p y ≡ true) there.2 (each_true p xs e there.0 x there.1)
 
--- and by its place
-command_at-place : (command : CommandName) → slice_get every_command (place_of command) ≡ Some command
-command_at-place best = refl
-command_at-place asm = refl
-command_at-place dis = refl
-command_at-place run = refl
-command_at-place blocks = refl
+-- a test that fails
+pub not_true : (b : Bool) → not b ≡ true → b ≡ false
+not_true true e = cc
+not_true false e = refl
 
--- so no two commands have one word
-pub same_command : (one other : CommandName) → (command_row one).word ≡ (command_row other).word → one ≡ other
-same_command one other same = some-same one other (sym (command_called-word one) ∙ (ap command_called same ∙ command_called-word other))
+pub not_false : (b : Bool) → not b ≡ false → b ≡ true
+not_false true e = refl
+not_false false e = cc
 
--- nor one place
-same_place : (one other : CommandName) → place_of one ≡ place_of other → one ≡ other
-same_place one other same = some-same one other (sym (command_at-place one) ∙ (ap (slice_get every_command) same ∙ command_at-place other))
+-- two truth values are the same
+same_values : (a b : Bool) → is_same a b ≡ true → a ≡ b
+same_values true true e = refl
+same_values true false e = cc
+same_values false true e = cc
+same_values false false e = refl
 
--- and the table has each command
-pub every_command-all : (command : CommandName) → Contains every_command command
-unfolding command_called
-every_command-all command = in_list (λ other. bytes_eq (command_row other).word (command_row command).word) every_command command (command_called-word command)
-
--- ---- a row for each option
+-- ---- the options of a row
 
 -- a text without `=`
 lacks_equals : (text : Text) → list_all (λ c. not (c == 61)) text ≡ true → Lacks 61 text
@@ -77,121 +72,131 @@ lacks_equals (c ∷ cs) e = go (eqb_tells c 61) (lacks_equals cs)
     go (inr is) rest = more (rest (rw is.0 at e)) is.1
 
 -- a name that an option can have
-fits_as : (first : ℕ) (others : Text) → bytes_eq (codes "names") (first ∷ others) ≡ false → list_all (λ c. not (c == 61)) (first ∷ others) ≡ true → IsOption (first ∷ others)
-fits_as first others apart lacks = record { apart = apart; first = first; others = others; filled = refl; no_equals = lacks_equals (first ∷ others) lacks }
+name_fits : (name : Text) → is_option_name name ≡ true → IsOption name
+name_fits [] e = cc
+name_fits (c ∷ cs) e =
+    let both = both_true (not (bytes_eq (codes "names") (c ∷ cs))) _ e in
+    record {
+      apart = not_true _ both.0;
+      first = c;
+      others = cs;
+      filled = refl;
+      no_equals = lacks_equals (c ∷ cs) both.1;
+    }
 
--- each option's name is one
-pub fits : (option : OptionName) → IsOption (option_name option)
-fits inputs = fits_as 105 (codes "n") refl refl
-fits outputs = fits_as 111 (codes "ut") refl refl
-fits budget = fits_as 98 (codes "udget") refl refl
-fits steps = fits_as 115 (codes "teps") refl refl
-fits table = fits_as 116 (codes "able") refl refl
-fits input = fits_as 105 (codes "nput") refl refl
-fits leader = fits_as 108 (codes "eader") refl refl
-fits at = fits_as 97 (codes "t") refl refl
+module _ (row : CommandRow) (good : is_row row ≡ true) where
+  -- what the test says of an option
+  tested : (k : ℕ) (d : OptionRow) → k < length row.options
+      → (is_option_name (slice_index_or row.options k d).name ≡ true)
+      × ((slice_index_or row.options k d).repeatable ≡ repeats_in row.options (slice_index_or row.options k d).name)
+  tested k d lt =
+      let option = slice_index_or row.options k d in
+      let test = each_true (λ o. is_option_name o.name && is_same o.repeatable (repeats_in row.options o.name)) row.options good k d lt in
+      let both = both_true (is_option_name option.name) _ test in
+      (both.0, same_values option.repeatable (repeats_in row.options option.name) both.1)
 
--- its name says whether it may stand more than once
-pub repeatable_named : (option : OptionName) → is_repeatable (option_name option) ≡ (option_row option).repeatable
-repeatable_named inputs = refl
-repeatable_named outputs = refl
-repeatable_named budget = refl
-repeatable_named steps = refl
-repeatable_named table = refl
-repeatable_named input = refl
-repeatable_named leader = refl
-repeatable_named at = refl
+  -- one name says whether it may stand more than once
+  pub repeats_alike : All (λ option. option.repeatable ≡ repeats_in row.options option.name) row.options
+  repeats_alike k d lt = (tested k d lt).1
 
--- the option of a name
-option_called : Text → Option OptionName
-option_called name = find (λ option. bytes_eq (option_name option) name) every_option
+  -- each name is one that an option can have
+  pub fits : (name : Text) → Contains (names_in row.options) name → IsOption name
+  fits name there =
+      let lt : there.0 < length row.options = omega (arith, there.1, length-map row.options (λ (option : OptionRow). option.name)) in
+      let is = get_or-map (λ (option : OptionRow). option.name) row.options there.0 no_option_row name lt in
+      subst IsOption (sym is ∙ there.2) (name_fits (get_or row.options there.0 no_option_row).name (tested there.0 no_option_row lt).0)
 
--- each option is found by its name
-option_called-name : (option : OptionName) → option_called (option_name option) ≡ Some option
-unfolding option_called
-option_called-name inputs = refl
-option_called-name outputs = refl
-option_called-name budget = refl
-option_called-name steps = refl
-option_called-name table = refl
-option_called-name input = refl
-option_called-name leader = refl
-option_called-name at = refl
+-- ---- what is asked of `clap`
 
--- so no two options have one name
-pub same_option : (one other : OptionName) → option_name one ≡ option_name other → one ≡ other
-same_option one other same = some-same one other (sym (option_called-name one) ∙ (ap option_called same ∙ option_called-name other))
+-- what is asked for options is simple
+module _ (known : Known) where
+  options_simple : (p : Rule → Bool) → ((name : Text) → p (option_rule known name) ≡ true) → (names : List Text)
+      → list_all p (map (option_rule known) names) ≡ true
+  options_simple p each [] = refl
+  options_simple p each (name ∷ names) = rw (each name) (options_simple p each names)
 
--- and the table has each option
-pub every_option-all : (option : OptionName) → Contains every_option option
-unfolding option_called
-every_option-all option = in_list (λ other. bytes_eq (option_name other) (option_name option)) every_option option (option_called-name option)
+  given_simple : (names : List Text) → list_all (λ (rule : Rule). rule.is_simple) (map (option_given known) names) ≡ true
+  given_simple [] = refl
+  given_simple (name ∷ names) = given_simple names
 
--- ---- the options of a command
+  -- of options that were built, no more is asked
+  no_index : (names : List Text) → count_by (λ (rule : Rule). is_some rule.index) (map (option_rule known) names) ≡ 0
+  no_index [] = refl
+  no_index (name ∷ names) =
+      let step = sum_by-cons (λ (rule : Rule). cond (is_some rule.index) 1 0) (option_rule known name) (map (option_rule known) names) in
+      omega (arith, step, no_index names)
 
-module _ (command : CommandName) where
-  -- the test finds the command
-  pub has_option-from : (option : OptionName) → Contains (option_row option).commands command → has_option command option ≡ true
-  has_option-from option had = list_any-from_Any _ (option_row option).commands (had.0, command, had.1, had.2, rw (same_number (place_of command)) refl)
-    where
-      same_number : (n : ℕ) → (n == n) ≡ true
-      same_number n = elim (eqb_tells n n) [ inl is ↦ is.0 | inr not ↦ absurd (not.1 refl) ]
+  none_early : (n : ℕ) (names : List Text) → list_any (is_early_multiple n) (map (option_rule known) names) ≡ false
+  none_early n [] = refl
+  none_early n (name ∷ names) = none_early n names
 
-  -- and what the test finds is the command
-  has_option-true : (option : OptionName) → has_option command option ≡ true → Contains (option_row option).commands command
-  has_option-true option e =
-      let found = Any-from_list_any _ (option_row option).commands e in
-      let place : place_of found.1 ≡ place_of command = same_number (place_of found.1) (place_of command) found.4 in
-      let is : found.1 ≡ command = same_place found.1 command place in
-      subst (Contains (option_row option).commands) is (found.0, found.2, found.3)
-    where
-      same_number : (n m : ℕ) → (n == m) ≡ true → n ≡ m
-      same_number n m e = elim (eqb_tells n m) [ inl is ↦ is.1 | inr not ↦ let bad : false ≡ true = sym not.0 ∙ e in cc ]
+  -- the words stand alone
+  in_order : not (list_any (is_early_multiple (count_by (λ (rule : Rule). is_some rule.index) (rules known))) (rules known)) ≡ true
+  in_order =
+      let step = sum_by-cons (λ (rule : Rule). cond (is_some rule.index) 1 0) names_rule (map (option_rule known) known.names) in
+      let one : count_by (λ (rule : Rule). is_some rule.index) (rules known) ≡ 1 = omega (arith, step, no_index known.names) in
+      subst (λ n. not (list_any (is_early_multiple n) (rules known)) ≡ true) (sym one)
+      (ap not (none_early 1 known.names))
 
-  -- a name among those of some options that are the command's
-  known_among : (options : List OptionName) (name : Text) → Contains (names_known command options) name → IsOptionOf command name
-  known_among [] name c =
-      let lt = c.1 in
-      absurd (omega arith)
-  known_among (o ∷ os) name c = go (has_option command o) refl (known_among os name)
-    where
-      first : (i : ℕ) → i < suc (length (names_known command os)) → slice_index_or (option_name o ∷ names_known command os) i name ≡ name → has_option command o ≡ true
-          → (Contains (names_known command os) name → IsOptionOf command name) → IsOptionOf command name
-      first zero lt is e rest = record { option = o; had = has_option-true o e; named = sym is }
-      first (suc i) lt is e rest = rest (i, omega arith, is)
+-- both tests are true
+and_true : (a b : Bool) → a ≡ true → b ≡ true → (a && b) ≡ true
+and_true a b p q = ap₂ (λ x y. x && y) p q
 
-      go : (b : Bool) → has_option command o ≡ b → (Contains (names_known command os) name → IsOptionOf command name) → IsOptionOf command name
-      go true e rest =
-          let here : Contains (option_name o ∷ names_known command os) name = rw e at c in
-          first here.0 here.1 here.2 e rest
-      go false e rest = rest (rw e at c)
+-- what is asked of a command with these options, once it is built
+simple_built : (word : Text) (known : Known) (app : App) → app ≡ record { top = shape word known; subs = [] }
+    → ((is_buildable (app_for word known) && (is_ready app.top && list_all is_ready_leaf app.subs)) && is_free_app app) ≡ true
+simple_built word known app is =
+    subst (λ a. ((is_buildable (app_for word known) && (is_ready a.top && list_all is_ready_leaf a.subs)) && is_free_app a) ≡ true)
+    (sym is)
+    (and_true _ _
+    (and_true _ _ (and_true _ true (given_simple known known.names) refl)
+    (and_true _ true (and_true _ _ (options_simple known (λ rule. rule.is_simple) (λ name. refl) known.names) (in_order known)) refl))
+    (and_true _ true (options_simple known (λ rule. rule.is_free) (λ name. refl) known.names) refl))
 
-  -- a name that the command knows is an option's
-  pub known_is : (name : Text) → Contains (known_to command) name → IsOptionOf command name
-  known_is = known_among every_option
+-- what is asked of any command is simple
+pub simple_row : (row : CommandRow) → is_simple_and_free (app_by row) ≡ true
+simple_row row = simple_built row.word (known_in row.options) (built (app_by row)) (built_is row.word (known_in row.options))
 
-  -- an option that is the command's is known among others
-  among_known : (options : List OptionName) (option : OptionName) (i : ℕ) → i < length options → slice_index_or options i option ≡ option → has_option command option ≡ true
-      → Contains (names_known command options) (option_name option)
-  among_known [] option i lt is has = absurd (omega arith)
-  among_known (o ∷ os) option zero lt is has = subst (λ p. Contains (names_known command (p ∷ os)) (option_name option)) (sym is) (rw has (0, omega arith, refl))
-  among_known (o ∷ os) option (suc i) lt is has = go (has_option command o) refl (among_known os option i (omega arith) is has)
-    where
-      go : (b : Bool) → has_option command o ≡ b → Contains (names_known command os) (option_name option) → Contains (names_known command (o ∷ os)) (option_name option)
-      go true e c =
-          let under = c.1 in
-          rw e (suc c.0, omega arith, c.2)
-      go false e c = rw e c
+-- ---- the rows of a table
 
-  -- the command knows its options
-  pub is_known : (name : Text) → IsOptionOf command name → Contains (known_to command) name
-  is_known name is =
-      let there = every_option-all is.option in
-      subst (Contains (known_to command)) (sym is.named)
-      (among_known every_option is.option there.0 there.1 there.2 (has_option-from is.option is.had))
+-- a word that is there
+word_there : (rows : List CommandRow) (text : Text) (i : ℕ) (row : CommandRow) → i < length rows → slice_index_or rows i row ≡ row
+    → text ≡ row.word → list_any (bytes_eq text) (map (λ r. r.word) rows) ≡ true
+word_there [] text i row lt at is = absurd (omega arith)
+word_there (r ∷ rs) text zero row lt at is =
+    let same : text ≡ r.word = is ∙ ap (λ (x : CommandRow). x.word) (sym at) in
+    rw ((bytes_eq-Decides text r.word).1 same) refl
+word_there (r ∷ rs) text (suc i) row lt at is = go (bytes_eq text r.word) refl (word_there rs text i row (omega arith) at is)
+  where
+    go : (b : Bool) → bytes_eq text r.word ≡ b → list_any (bytes_eq text) (map (λ x. x.word) rs) ≡ true
+        → list_any (bytes_eq text) (map (λ x. x.word) (r ∷ rs)) ≡ true
+    go true e rest = rw e refl
+    go false e rest = rw e rest
 
-  -- each has a name that an option can have
-  pub known_fits : (name : Text) → Contains (known_to command) name → IsOption name
-  known_fits name c =
-      let is = known_is name c in
-      subst IsOption (sym is.named) (fits is.option)
+-- no two rows have one word
+distinct_rows : (rows : List CommandRow) → are_distinct (map (λ r. r.word) rows) ≡ true → (i j : ℕ) (one other : CommandRow)
+    → i < length rows → j < length rows → slice_index_or rows i one ≡ one → slice_index_or rows j other ≡ other
+    → one.word ≡ other.word → one ≡ other
+distinct_rows [] e i j one other lt before at there same = absurd (omega arith)
+distinct_rows (r ∷ rs) e zero zero one other lt before at there same = sym at ∙ there
+distinct_rows (r ∷ rs) e zero (suc j) one other lt before at there same =
+    let both = both_true (not (list_any (bytes_eq r.word) (map (λ x. x.word) rs))) _ e in
+    let bad : false ≡ true = sym (not_true _ both.0) ∙ word_there rs r.word j other (omega arith) there (ap (λ (x : CommandRow). x.word) at ∙ same) in
+    cc
+distinct_rows (r ∷ rs) e (suc i) zero one other lt before at there same =
+    let both = both_true (not (list_any (bytes_eq r.word) (map (λ x. x.word) rs))) _ e in
+    let bad : false ≡ true = sym (not_true _ both.0) ∙ word_there rs r.word i one (omega arith) at (ap (λ (x : CommandRow). x.word) there ∙ sym same) in
+    cc
+distinct_rows (r ∷ rs) e (suc i) (suc j) one other lt before at there same =
+    let both = both_true (not (list_any (bytes_eq r.word) (map (λ x. x.word) rs))) _ e in
+    distinct_rows rs both.1 i j one other (omega arith) (omega arith) at there same
+
+module _ (rows : List CommandRow) (good : are_rows rows ≡ true) where
+  -- each row can be read by
+  pub good_row : (row : CommandRow) → Contains rows row → is_row row ≡ true
+  good_row row there = true_there is_row rows (both_true (list_all is_row rows) _ good).0 row there
+
+  -- a word has one row
+  pub one_row : (one other : CommandRow) → Contains rows one → Contains rows other → one.word ≡ other.word → one ≡ other
+  one_row one other a b same =
+      distinct_rows rows (both_true (list_all is_row rows) _ good).1 a.0 b.0 one other a.1 b.1 a.2 b.2 same

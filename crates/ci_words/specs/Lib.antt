@@ -1,4 +1,5 @@
 pub mod Tables
 pub mod Words
-pub mod Commands
+pub mod Read
+pub mod Ranges
 pub mod Parses

@@ -1,12 +1,14 @@
 //! The words of the command line, read as a command of the program.
 #![tactic(auto)]
 
-pub use command::{Command, WordsErr, read_words, words_have_one_reading};
+pub use reader::{Words, WordsErr, read_words, words_have_one_reading};
+pub use tables::{Access, CommandName, OptionName};
+pub use values::Value;
 
-mod command;
-mod names;
 mod parse;
+mod reader;
+mod said;
 mod tables;
 #[cfg(test)]
 mod tests;
-mod value;
+mod values;

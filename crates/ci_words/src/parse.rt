@@ -1,61 +1,60 @@
-//! The commands as `clap` parses them, and what its matches say.
-ghost use Rattle.std.specs.Prelude.{◌≡◌, ◌≢◌, ◌↔◌, ℕ, List, [], ◌∷◌, ◌++◌, map, codes, slice_get, true, All, IsTrue, Option, IfOk, IfErr, IfSome, IfNone};
+//! The commands as `clap` parses them.
+ghost use Rattle.std.specs.Prelude.{◌≡◌, ◌≢◌, ◌++◌, ◌∷◌, [], List, Bool, map, length, true, All, IfOk, IfErr, IfSome, IfNone, Contains, slice_get, Some};
 ghost use Rattle.std.specs.String.{string_bytes};
 ghost use Rattle.clap.specs.Words.{app_of, is_simple_and_free, fault_of, found_of, rows_of};
-ghost use Rattle.ci_words.specs.Tables as table;
-ghost use Rattle.ci_words.specs.Words.{Text, IsName, to_number, to_file, to_address, to_addresses};
-ghost use Rattle.ci_words.specs.Commands.{name_in};
-ghost use Rattle.ci_words.specs.Parses.{app_for, app_named, command_named, option_named, option_values, is_repeatable, names_known, values_in, AreNames, IsGiven, IsParsed};
+ghost use Rattle.ci_words.specs.Tables.{CommandRow as Row};
+ghost use Rattle.ci_words.specs.Words.{Text};
+ghost use Rattle.ci_words.specs.Parses.{Known, app_by, app_for, command_row, is_row, names_in, option_row, values_in, IsParsed};
 ghost use Rattle.ci_words.specs.Parses as parses;
 
-use crate::command::WordsErr;
-use crate::names::{are_good, are_names};
-use crate::tables::{
-    CommandName, OptionName, all_commands, all_options, command_row, is_of, option_row,
-};
-use crate::value::{read_address, read_addresses, read_number};
+use crate::reader::WordsErr;
+use crate::tables::{CommandOption, CommandRow};
 use clap::error::ErrorKind;
 use clap::{Arg, ArgAction, ArgMatches, Command};
 use std::alloc::{AllocError, Global};
 
 /// The argument that takes each positional word.
-const NAMES: &str = "names";
+pub const NAMES: &str = "names";
 
-/// The command that the first of the words names.
-pub fn command_in_front(words: &[String]) -> Option<CommandName>
-    ensures some { IfSome result (λ command. slice_get (map string_bytes words.now) 0
-        ≡ Some (table.command_row (command_named command)).word) }
-    ensures none { IfNone result ((command : table.CommandName) → slice_get (map string_bytes words.now) 0
-        ≢ Some (table.command_row command).word) }
+/// The first row of the command that the first of the words names.
+pub fn row_in_front<'a>(rows: &'a [CommandRow<'a>], words: &[String]) -> Option<&'a CommandRow<'a>>
+    ensures some { IfSome result (λ row.
+        Contains (map command_row rows.entry.now) (command_row row.now)
+        × (slice_get (map string_bytes words.now) 0 ≡ Some (command_row row.now).word)) }
+    ensures none { IfNone result ((row : Row) → Contains (map command_row rows.entry.now) row
+        → slice_get (map string_bytes words.now) 0 ≢ Some row.word) }
 {
-    command_called(words.first()?.as_str())
+    row_called(rows, words.first()?.as_str())
 }
 
-/// The command that the word names.
-fn command_called(word: &str) -> Option<CommandName>
-    ensures some { IfSome result (λ command. word.now ≡ (table.command_row (command_named command)).word) }
-    ensures none { IfNone result ((command : table.CommandName) → word.now ≢ (table.command_row command).word) }
+/// The first row of the command that the word names.
+fn row_called<'a>(rows: &'a [CommandRow<'a>], word: &str) -> Option<&'a CommandRow<'a>>
+    ensures some { IfSome result (λ row. Contains (map command_row rows.entry.now) (command_row row.now)
+        × (word.now ≡ (command_row row.now).word)) }
+    ensures none { IfNone result ((row : Row) → Contains (map command_row rows.entry.now) row
+        → word.now ≢ row.word) }
 {
-    for command in all_commands() {
-        if word == command_row(*command).word {
-            return Some(*command);
+    for row in rows {
+        if word == row.0 {
+            return Some(row);
         }
     }
     None
 }
 
-/// The `clap` command of this name.
-fn clap_command<'a>(alloc: Global, command: CommandName) -> Result<Command<'a>, AllocError>
-    ensures { IfOk result (λ parser. app_of parser ≡ app_named (command_named command)) }
+/// The `clap` command of the row.
+fn clap_command<'a>(alloc: Global, row: &CommandRow<'a>) -> Result<Command<'a>, AllocError>
+    requires { is_row (command_row row.now) ≡ true }
+    ensures { IfOk result (λ parser. app_of parser ≡ app_by (command_row row.entry.now)) }
 {
-    let word: &'a str = command_row(command).word;
-    let parser = with_names(alloc, word)?;
-    with_options(alloc, parser, command, all_options())
+    let parser = with_names(alloc, row.0)?;
+    with_options(alloc, parser, row.3)
 }
 
 /// A parser with positional words and no option.
 fn with_names<'a>(alloc: Global, word: &'a str) -> Result<Command<'a>, AllocError>
-    ensures { IfOk result (λ parser. app_of parser ≡ app_for word.entry.now []) }
+    ensures { IfOk result (λ parser. (repeats : Text → Bool)
+        → app_of parser ≡ app_for word.entry.now (record { names = []; repeats = repeats })) }
 {
     let names = Arg::new(alloc, NAMES).action(ArgAction::Append);
     Command::new(alloc, word)
@@ -64,23 +63,21 @@ fn with_names<'a>(alloc: Global, word: &'a str) -> Result<Command<'a>, AllocErro
         .arg(names)
 }
 
-/// The parser with those of the options that are the command's.
+/// The parser with these options too.
 fn with_options<'a>(
     alloc: Global,
     parser: Command<'a>,
-    command: CommandName,
-    options: &[OptionName],
+    options: &[CommandOption<'a>],
 ) -> Result<Command<'a>, AllocError>
-    ensures { (word : Text) → app_of parser.entry ≡ app_for word []
+    ensures { (word : Text) (repeats : Text → Bool)
+        → app_of parser.entry ≡ app_for word (record { names = []; repeats = repeats })
+        → All (λ option. option.repeatable ≡ repeats option.name) (map option_row options.entry.now)
         → IfOk result (λ more. app_of more
-        ≡ app_for word (names_known (command_named command) (map option_named options.now))) }
+        ≡ app_for word (record { names = names_in (map option_row options.entry.now); repeats = repeats })) }
 {
     let mut parser = parser;
     for option in options {
-        if is_of(command, *option) {
-            let row = option_row(*option);
-            parser = with_option(alloc, parser, row.name, row.repeatable)?;
-        }
+        parser = with_option(alloc, parser, option.0.0, option.0.1.repeatable)?;
     }
     Ok(parser)
 }
@@ -92,9 +89,10 @@ fn with_option<'a>(
     name: &'a str,
     repeatable: bool,
 ) -> Result<Command<'a>, AllocError>
-    ensures { (word : Text) (known : List Text) → app_of parser.entry ≡ app_for word known
-        → repeatable ≡ is_repeatable name.entry.now
-        → IfOk result (λ more. app_of more ≡ app_for word (known ++ name.entry.now ∷ [])) }
+    ensures { (word : Text) (known : Known) → app_of parser.entry ≡ app_for word known
+        → repeatable ≡ known.repeats name.entry.now
+        → IfOk result (λ more. app_of more
+        ≡ app_for word (record known { names = known.names ++ name.entry.now ∷ [] })) }
 {
     parser.arg(
         Arg::new(alloc, name)
@@ -114,18 +112,19 @@ fn action_for(repeatable: bool) -> ArgAction
     }
 }
 
-/// The command's matches in the words, of which the first is its name.
+/// The matches of the row's command in the words, of which the first is its name.
 pub fn parse<'a>(
     alloc: Global,
-    command: CommandName,
+    row: &CommandRow<'a>,
     words: &'a [String],
 ) -> Result<ArgMatches<'a>, WordsErr>
-    ensures ok { IfOk result (λ matches. IsParsed (app_named (command_named command))
-        (map string_bytes words.now) (rows_of (found_of matches))) }
+    requires { is_row (command_row row.now) ≡ true }
+    ensures ok { IfOk result (λ matches. IsParsed (app_by (command_row row.entry.now))
+        (map string_bytes words.entry.now) (rows_of (found_of matches))) }
     ensures none { IfErr result (λ error. error ≡ WordsErr.NoReading
-        → fault_of (app_named (command_named command)) (map string_bytes words.now) ≢ []) }
+        → fault_of (app_by (command_row row.entry.now)) (map string_bytes words.entry.now) ≢ []) }
 {
-    match clap_command(alloc, command) {
+    match clap_command(alloc, row) {
         Ok(parser) => matches_in(parser, words),
         Err(_) => Err(WordsErr::NoMemory),
     }
@@ -151,87 +150,21 @@ fn matches_in<'a>(parser: Command<'a>, words: &'a [String]) -> Result<ArgMatches
     }
 }
 
-/// The positional words, where the command takes them.
-pub fn names_given<'b, 'a>(
-    command: CommandName,
-    matches: &'b ArgMatches<'a>,
-) -> Option<&'b [&'a str]>
-    ensures some { IfSome result (λ names. AreNames (command_named command) (map (λ name. name.now) names.now)
-        × (values_in (codes "names") (rows_of (found_of matches.now)) ≡ map (λ name. name.now) names.now)) }
-    ensures none { IfNone result (AreNames (command_named command)
-        (values_in (codes "names") (rows_of (found_of matches.now))) → ⊥) }
+/// The values that the matches have for an argument.
+pub fn words_given<'a>(
+    alloc: Global,
+    matches: &ArgMatches<'a>,
+    id: &str,
+) -> Result<Vec<&'a str>, AllocError>
+    ensures { IfOk result (λ words. map (λ t. t.now) words.items
+        ≡ values_in (rows_of (found_of matches.now)) id.now) }
 {
-    let names = matches.get_raw(NAMES)?;
-    if !are_names(command, names) {
-        return None;
+    let mut words = Vec::new(alloc);
+    let Some(given) = matches.get_raw(id) else {
+        return Ok(words);
+    };
+    for word in given {
+        words.push(*word)?;
     }
-    Some(names)
-}
-
-/// Whether each value that an option of the command was given is a name.
-pub fn values_are_names(command: CommandName, matches: &ArgMatches) -> bool
-    ensures { IsTrue result ↔ ((option : table.OptionName)
-        → All IsName (option_values (command_named command) option (rows_of (found_of matches.now)))) }
-{
-    for option in all_options() {
-        if !has_good_values(command, *option, matches) {
-            return false;
-        }
-    }
-    true
-}
-
-/// Whether each value that the option was given is a name, if it is the command's.
-fn has_good_values(command: CommandName, option: OptionName, matches: &ArgMatches) -> bool
-    ensures { IsTrue result ↔ All IsName
-        (option_values (command_named command) (option_named option) (rows_of (found_of matches.now))) }
-{
-    if !is_of(command, option) {
-        return true;
-    }
-    match matches.get_raw(option_row(option).name) {
-        Some(values) => are_good(values),
-        None => true,
-    }
-}
-
-/// The number that the option is set to.
-pub fn number_given(option: OptionName, matches: &ArgMatches) -> Option<u64>
-    ensures some { IfSome result (λ n.
-        IsGiven (option_named option) (rows_of (found_of matches.now)) (to_number n)) }
-    ensures none { IfNone result ((n : ℕ)
-        → IsGiven (option_named option) (rows_of (found_of matches.now)) (to_number n) → ⊥) }
-{
-    let row = option_row(option);
-    read_number(row.kind, matches.get_str(row.name))
-}
-
-/// The file that an option with the name of a file is set to, if one is given.
-pub fn file_given<'a>(option: OptionName, matches: &ArgMatches<'a>) -> Option<&'a str>
-    ensures { (access : table.Access) → (table.option_row (option_named option)).kind ≡ table.file access
-        → IsGiven (option_named option) (rows_of (found_of matches.now)) (to_file (name_in result)) }
-{
-    matches.get_str(option_row(option).name)
-}
-
-/// The address that `--at` is set to, if one is given, where it is an address.
-pub fn at_given(matches: &ArgMatches) -> Option<Option<u32>>
-    ensures some { IfSome result (λ a. IsGiven table.at (rows_of (found_of matches.now)) (to_address a)) }
-    ensures none { IfNone result ((a : Option ℕ)
-        → IsGiven table.at (rows_of (found_of matches.now)) (to_address a) → ⊥) }
-{
-    read_address(matches.get_str(option_row(OptionName::At).name))
-}
-
-/// The addresses that `--leader` is set to, in the order of the words.
-pub fn leaders_given(alloc: Global, matches: &ArgMatches) -> Result<Vec<u32>, WordsErr>
-    ensures ok { IfOk result (λ leaders.
-        IsGiven table.leader (rows_of (found_of matches.now)) (to_addresses leaders.items)) }
-    ensures none { IfErr result (λ error. error ≡ WordsErr.NoReading → (ns : List ℕ)
-        → IsGiven table.leader (rows_of (found_of matches.now)) (to_addresses ns) → ⊥) }
-{
-    match matches.get_raw(option_row(OptionName::Leader).name) {
-        Some(values) => read_addresses(alloc, values),
-        None => Ok(Vec::new(alloc)),
-    }
+    Ok(words)
 }

@@ -1,5 +1,9 @@
 //! Words that read as a command, and words that do not.
-use crate::{Command, WordsErr, read_words};
+use crate::reader::read_by;
+use crate::tables::{
+    Access, CommandName, CommandRow, DefaultValue, Kind, NamedOption, OptionName, OptionShape,
+};
+use crate::{Value, Words, WordsErr, read_words};
 use std::alloc::{AllocError, Global};
 use std::process::Abort;
 use std::test::Fail;
@@ -17,75 +21,78 @@ fn words(alloc: Global, line: &str) -> Result<Vec<String>, AllocError> {
     Ok(words)
 }
 
-/// Appends what an option with an address is set to.
-fn push_address(
-    alloc: Global,
-    text: &mut String,
-    name: &str,
-    address: u32,
-) -> Result<(), AllocError> {
-    let shown = format!(in alloc; " {name} {address:x}")?;
+/// Appends what an option with a word of 32 bits is set to.
+fn push_word(alloc: Global, text: &mut String, name: &str, word: u32) -> Result<(), AllocError> {
+    let shown = format!(in alloc; " {name} {word:x}")?;
     text.push_str(shown.as_str())
 }
 
 /// Appends the leaders, in their order.
-fn push_leaders(alloc: Global, text: &mut String, leaders: &[u32]) -> Result<(), AllocError> {
-    for leader in leaders {
-        push_address(alloc, text, "leader", *leader)?;
+fn push_leaders(alloc: Global, text: &mut String, said: &Words) -> Result<(), AllocError> {
+    for leader in said.words(alloc, OptionName::Leader)?.as_slice() {
+        push_word(alloc, text, "leader", *leader)?;
     }
     Ok(())
 }
 
 /// The budget where none is given.
-const USUAL_BUDGET: u32 = 65_536;
+const DEFAULT_BUDGET: u64 = 65_536;
 
-/// The command of the words in short: its name, the names in it and what its options are set to.
+/// What `best` is asked, in short.
+fn best_shown(alloc: Global, said: &Words) -> Result<String, AllocError> {
+    let (file, table) = (said.name_at(0), said.name(OptionName::Table).unwrap_or("-"));
+    let (inputs, outputs) = (
+        said.number(OptionName::Inputs),
+        said.number(OptionName::Outputs),
+    );
+    let mut text = format!(in alloc; "best {file} {inputs} {outputs} {table}")?;
+    if let Some(address) = said.word(OptionName::At) {
+        push_word(alloc, &mut text, "at", address)?;
+    }
+    push_leaders(alloc, &mut text, said)?;
+    let budget = said.number(OptionName::Budget);
+    if budget != DEFAULT_BUDGET {
+        let shown = format!(in alloc; " budget {budget}")?;
+        text.push_str(shown.as_str())?;
+    }
+    Ok(text)
+}
+
+/// What `run` is asked, in short.
+fn run_shown(alloc: Global, said: &Words) -> Result<String, AllocError> {
+    let (file, steps) = (said.name_at(0), said.number(OptionName::Steps));
+    let input = said.name(OptionName::Input).unwrap_or("-");
+    let table = said.name(OptionName::Table).unwrap_or("-");
+    format!(in alloc; "run {file} {steps} {input} {table}")
+}
+
+/// What the program is asked, in short: the command, the names in it and what its options are set to.
+fn said_shown(alloc: Global, said: &Words) -> Result<String, AllocError> {
+    match said.command() {
+        CommandName::Best => best_shown(alloc, said),
+        CommandName::Asm => {
+            let (text, out) = (said.name_at(0), said.name_at(1));
+            format!(in alloc; "asm {text} {out}")
+        }
+        CommandName::Dis => {
+            let file = said.name_at(0);
+            format!(in alloc; "dis {file}")
+        }
+        CommandName::Run => run_shown(alloc, said),
+        CommandName::Blocks => {
+            let file = said.name_at(0);
+            let mut text = format!(in alloc; "blocks {file}")?;
+            push_leaders(alloc, &mut text, said)?;
+            Ok(text)
+        }
+    }
+}
+
+/// What the words of a line read as, in short.
 fn shown(alloc: Global, line: &str) -> Result<String, AllocError> {
     let words = words(alloc, line)?;
     match read_words(alloc, &words) {
-        Ok(
-            Command::Best {
-                file,
-                at,
-                leaders,
-                limits,
-                budget,
-                table,
-            },
-        ) => {
-            let table = table.unwrap_or("-");
-            let mut text = format!(in alloc;
-                "best {file} {} {} {table}",
-                limits.inputs, limits.outputs
-            )?;
-            if let Some(address) = at {
-                push_address(alloc, &mut text, "at", address)?;
-            }
-            push_leaders(alloc, &mut text, &leaders)?;
-            if budget != USUAL_BUDGET {
-                let shown = format!(in alloc; " budget {budget}")?;
-                text.push_str(shown.as_str())?;
-            }
-            Ok(text)
-        }
-        Ok(Command::Blocks { file, leaders }) => {
-            let mut text = format!(in alloc; "blocks {file}")?;
-            push_leaders(alloc, &mut text, &leaders)?;
-            Ok(text)
-        }
-        Ok(Command::Asm { text, out }) => format!(in alloc; "asm {text} {out}"),
-        Ok(Command::Dis { file }) => format!(in alloc; "dis {file}"),
-        Ok(
-            Command::Run {
-                file,
-                steps,
-                input,
-                table,
-            },
-        ) => {
-            let (input, table) = (input.unwrap_or("-"), table.unwrap_or("-"));
-            format!(in alloc; "run {file} {steps} {input} {table}")
-        }
+        Ok(said) => said_shown(alloc, &said),
         Err(WordsErr::NoReading) => String::from_str(alloc, "none"),
         Err(WordsErr::NoMemory) => Err(AllocError),
     }
@@ -251,5 +258,174 @@ fn leaders_stand_more_than_once(rt: HostRuntime) -> Result<(), Fail> {
     expect(&rt, "blocks F --leader 0x4 --leader", "none")?;
     expect(&rt, "blocks F --in 2", "none")?;
     expect(&rt, "run F --leader 0x4", "none")?;
+    Ok(())
+}
+
+const READ: Kind = Kind::File(Access::Reads);
+
+const WRITTEN: Kind = Kind::File(Access::Writes);
+
+/// The version of the log books that are written.
+const LOG: NamedOption<'static> = (
+    "log",
+    OptionShape {
+        option: OptionName::Steps,
+        kind: Kind::Number {
+            minimum: 1,
+            maximum: 2,
+        },
+        repeatable: false,
+    },
+);
+
+/// An option that must be given.
+const LIMIT: NamedOption<'static> = (
+    "limit",
+    OptionShape {
+        option: OptionName::Budget,
+        kind: Kind::Number {
+            minimum: 0,
+            maximum: 4_294_967_295,
+        },
+        repeatable: false,
+    },
+);
+
+const TABLE: NamedOption<'static> = (
+    "table",
+    OptionShape {
+        option: OptionName::Table,
+        kind: READ,
+        repeatable: false,
+    },
+);
+
+/// Commands with all kinds of words and options, which the program has not.
+const ROWS: &[CommandRow<'static>] = &[
+    (
+        "find",
+        CommandName::Best,
+        &[READ, WRITTEN, WRITTEN, WRITTEN, WRITTEN],
+        &[
+            (TABLE, DefaultValue::Nothing),
+            (LOG, DefaultValue::Number(1)),
+        ],
+    ),
+    (
+        "relog",
+        CommandName::Asm,
+        &[READ, WRITTEN],
+        &[(LOG, DefaultValue::Number(2))],
+    ),
+    (
+        "eval",
+        CommandName::Run,
+        &[
+            READ,
+            Kind::Number {
+                minimum: 0,
+                maximum: 31,
+            },
+            Kind::Word,
+            Kind::Word,
+            Kind::Word,
+        ],
+        &[],
+    ),
+    (
+        "load",
+        CommandName::Dis,
+        &[Kind::Number {
+            minimum: 0,
+            maximum: 4_294_967_295,
+        }],
+        &[],
+    ),
+    (
+        "area",
+        CommandName::Blocks,
+        &[READ],
+        &[(LIMIT, DefaultValue::MustStand)],
+    ),
+];
+
+/// Appends what a positional word says.
+fn push_value(alloc: Global, text: &mut String, value: Value) -> Result<(), AllocError> {
+    let shown = match value {
+        Value::File(_, name) => format!(in alloc; " {name}")?,
+        Value::Number(n) => format!(in alloc; " {n}")?,
+        Value::Word(n) => format!(in alloc; " {n:x}")?,
+    };
+    text.push_str(shown.as_str())
+}
+
+/// What the words of a line read as by these rows: what the positional words say, and then the version and the limit.
+fn shown_by(alloc: Global, line: &str) -> Result<String, AllocError> {
+    let words = words(alloc, line)?;
+    match read_by(alloc, ROWS, &words) {
+        Ok(said) => {
+            let (log, limit) = (
+                said.number(OptionName::Steps),
+                said.number(OptionName::Budget),
+            );
+            let mut text = format!(in alloc; "{log} {limit}")?;
+            for value in &said.values {
+                push_value(alloc, &mut text, *value)?;
+            }
+            Ok(text)
+        }
+        Err(WordsErr::NoReading) => String::from_str(alloc, "none"),
+        Err(WordsErr::NoMemory) => Err(AllocError),
+    }
+}
+
+/// Asserts what the line reads as by these rows, in short.
+fn expect_by(rt: &(impl Abort + AllocGlobal), line: &str, wanted: &str) -> Result<(), AllocError> {
+    let text = shown_by(rt.alloc(), line)?;
+    assert_eq!(rt; text.as_str(), wanted, "the reading of {line}");
+    Ok(())
+}
+
+#[test]
+fn numbers_and_words_stand_by_themselves(rt: HostRuntime) -> Result<(), Fail> {
+    expect_by(
+        &rt,
+        "eval U 3 0x0 0xFFFFffff 0x00000010",
+        "0 0 U 3 0 ffffffff 10",
+    )?;
+    expect_by(&rt, "eval U 031 0x0 0x0 0x0", "0 0 U 31 0 0 0")?;
+    expect_by(&rt, "eval U 32 0x0 0x0 0x0", "none")?;
+    expect_by(&rt, "eval U 0x1 0x0 0x0 0x0", "none")?;
+    expect_by(&rt, "eval U 1 0x0 0x0 0", "none")?;
+    expect_by(&rt, "eval U 1 0x0 0x0", "none")?;
+    expect_by(&rt, "load 4294967295", "0 0 4294967295")?;
+    expect_by(&rt, "load 4294967296", "none")?;
+    expect_by(&rt, "load 00000000001", "none")?;
+    expect_by(&rt, "load F", "none")?;
+    Ok(())
+}
+
+#[test]
+fn written_files_are_apart_from_all(rt: HostRuntime) -> Result<(), Fail> {
+    expect_by(&rt, "find A B C D E", "1 0 A B C D E")?;
+    expect_by(&rt, "find A B C D E --table A", "1 0 A B C D E")?;
+    expect_by(&rt, "find A B C D E --table B", "none")?;
+    expect_by(&rt, "find A B C D E --table=E", "none")?;
+    expect_by(&rt, "find A B C D B", "none")?;
+    expect_by(&rt, "find A B C D A", "none")?;
+    expect_by(&rt, "relog A A", "none")?;
+    Ok(())
+}
+
+#[test]
+fn defaults_are_the_commands(rt: HostRuntime) -> Result<(), Fail> {
+    expect_by(&rt, "relog A B", "2 0 A B")?;
+    expect_by(&rt, "relog A B --log 1", "1 0 A B")?;
+    expect_by(&rt, "find A B C D E --log 2", "2 0 A B C D E")?;
+    expect_by(&rt, "relog A B --log 3", "none")?;
+    expect_by(&rt, "area A --limit 0", "0 0 A")?;
+    expect_by(&rt, "area A --limit=671", "0 671 A")?;
+    expect_by(&rt, "area A", "none")?;
+    expect_by(&rt, "area A --limit", "none")?;
     Ok(())
 }

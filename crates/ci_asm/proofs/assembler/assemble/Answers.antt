@@ -5,7 +5,7 @@ use Rattle.ci_asm.specs.LabelMap.{found_in}
 use Rattle.ci_asm.specs.Programs.{all_read, assembled, AreWordsIn, IsFaultIn}
 use Rattle.ci_asm.specs.Lines.{lines_of}
 use Rattle.ci_asm.specs.Assembly.{IsAssembly, IsFaultOf}
-use Rattle.ci_asm.proofs.Assembly.{assembled-read, assembled-unread, fault_carried}
+use Rattle.ci_asm.proofs.AssemblySteps.{assembled-read, assembled-unread, fault_carried}
 use Rattle.ci_asm.proofs.Promises.{words_told, only_told, fault_told, faults_told}
 use Rattle.ci_asm.proofs.assembler.assemble.Goals as goal
 
@@ -13,15 +13,18 @@ pub returns-in_err-definitions-clause-fault : goal.returns-in_err-definitions-cl
 returns-in_err-definitions-clause-fault c =
     let p = err_from_is_err_and c.from_residual.result c.from_residual.ensures.1 in
     let text = c.args.text.now in
-    let fault = subst (λ t. IsFaultIn (all_read 1 0 (lines_of t)) c.in_err-definitions.field-0.0) c.as_bytes-text.ensures.value c.in_err-definitions.ensures.fault in
-    rw (p.1, p.2) (fault_told text c.in_err-definitions.field-0.0 (fault_carried (all_read 1 0 (lines_of text)) (assembled text) c.in_err-definitions.field-0.0 (assembled-unread text) fault))
+    let fault = subst (λ t. IsFaultIn (all_read 1 0 (lines_of t)) c.in_err-definitions.field-0.0) c.as_bytes-text.ensures.value
+    c.in_err-definitions.ensures.fault in
+    rw (p.1, p.2) (fault_told text c.in_err-definitions.field-0.0
+    (fault_carried (all_read 1 0 (lines_of text)) (assembled text) c.in_err-definitions.field-0.0 (assembled-unread text) fault))
 
 are_told : goal.returns-clause-words
 are_told c =
     let bytes = c.as_bytes-text.result.now in
     let e = assembled-read bytes (found_in c.in_ok-definitions.definitions) c.in_ok-definitions.ensures.read c.in_ok-definitions.ensures.definitions in
     subst (λ t. IfOk c.words_of.result (λ words. IsAssembly t words.items)) c.as_bytes-text.ensures.value
-    (words_told bytes c.words_of.result (λ v. v.items) (subst (λ r. IfOk c.words_of.result (λ words. AreWordsIn words.items r)) (sym e) c.words_of.ensures.words))
+    (words_told bytes c.words_of.result (λ v. v.items)
+    (subst (λ r. IfOk c.words_of.result (λ words. AreWordsIn words.items r)) (sym e) c.words_of.ensures.words))
 
 pub returns-clause-words : goal.returns-clause-words
 returns-clause-words c = are_told c

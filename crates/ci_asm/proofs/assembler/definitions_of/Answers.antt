@@ -3,8 +3,9 @@ use Rattle.std.proofs.lemmas.Result.{err_from_is_err_and}
 use Rattle.ci_asm.specs.LabelMap.{found_in, earlier}
 use Rattle.ci_asm.specs.Programs.{line_at, words_behind, all_read, definition_on, definition_of}
 use Rattle.ci_asm.specs.Lines.{lines_of}
-use Rattle.ci_asm.proofs.Texts.{lines_of-drop, lines_of-end, line_within}
-use Rattle.ci_asm.proofs.Assembly.{all_read-nil, all_read-ok, all_read-err, words_behind-ok, words_in-small, definition_of-nil, definition_of-cons, earlier-assoc, earlier-none, fault_carried}
+use Rattle.ci_asm.proofs.LinesOfTexts.{lines_of-drop, lines_of-end, line_within}
+use Rattle.ci_asm.proofs.AssemblySteps.{all_read-nil, all_read-ok, all_read-err, words_behind-ok, words_in-small, definition_of-nil, definition_of-cons}
+use Rattle.ci_asm.proofs.AssemblySteps.{earlier-assoc, earlier-none, fault_carried}
 use Rattle.ci_asm.proofs.assembler.definitions_of.Goals as goal
 
 pub returns-in_err-words-clause-fault : goal.returns-in_err-words-clause-fault
@@ -33,7 +34,8 @@ loop-start-preserved c =
     let few = words_in-small (line_at l.words line) in
     let on = λ (name : List ℕ). definition_on name n l.words line in
     let later : (name : List ℕ) → earlier (on name) (definition_of name (n + 1) after rest) ≡ definition_of name n l.words (lines_of (drop l.start text)) =
-    λ name. ap (λ k. earlier (on name) (definition_of name (n + 1) k rest)) counted ∙ sym (ap (definition_of name n l.words) split ∙ definition_of-cons name n l.words line rest) in
+    λ name. ap (λ k. earlier (on name) (definition_of name (n + 1) k rest)) counted
+    ∙ sym (ap (definition_of name n l.words) split ∙ definition_of-cons name n l.words line rest) in
     record {
       read = sym (all_read-ok n l.words after line rest read) ∙ (ap (all_read n l.words) (sym split) ∙ l.invariant.read);
       definitions = λ name. ap (λ f. earlier f (definition_of name (n + 1) after rest)) (c.in_ok-words.ensures.definitions name)
@@ -53,5 +55,6 @@ pub returns-clause-definitions : goal.returns-clause-definitions
 returns-clause-definitions c = λ name.
     let l = c.loop-start in
     let found = found_in l.definitions name in
-    let none = ap (definition_of name (l.number + 1) l.words) (lines_of-end c.args.text.now l.start (omega arith)) ∙ definition_of-nil name (l.number + 1) l.words in
+    let none = ap (definition_of name (l.number + 1) l.words) (lines_of-end c.args.text.now l.start (omega arith))
+    ∙ definition_of-nil name (l.number + 1) l.words in
     sym (earlier-none found) ∙ (ap (earlier found) (sym none) ∙ l.invariant.definitions name)

@@ -8,7 +8,8 @@ use Rattle.ci_asm.proofs.assembler.definitions_of.Given as goal
 abbrev pub invariant-loop-start : goal.invariant-loop-start
 invariant-loop-start l = record {
   read : all_read (l.number + 1) l.words (lines_of (drop l.start l.text)) ≡ all_read 1 0 (lines_of l.text);
-  definitions : (name : List ℕ) → earlier (found_in l.definitions name) (definition_of name (l.number + 1) l.words (lines_of (drop l.start l.text))) ≡ definition_of name 1 0 (lines_of l.text);
+  definitions : (name : List ℕ) → earlier (found_in l.definitions name) (definition_of name (l.number + 1) l.words (lines_of (drop l.start l.text)))
+      ≡ definition_of name 1 0 (lines_of l.text);
   number : l.number ≤ l.start;
   words : l.words ≤ l.number;
   start : l.start ≤ length l.text + 1;

@@ -3,8 +3,8 @@ use Rattle.std.specs.Prelude.{IfSome}
 use Rattle.std.proofs.lemmas.Result.{err_from_is_err_and}
 use Rattle.ci_asm.specs.LabelMap.{found_in}
 use Rattle.ci_asm.specs.Statements.{IsRead}
-use Rattle.ci_asm.proofs.Assembly.{resolved-place, resolved-registers}
-use Rattle.ci_asm.proofs.Encodings.{well_formed}
+use Rattle.ci_asm.proofs.AssemblySteps.{resolved-place, resolved-registers}
+use Rattle.ci_asm.proofs.StatementsHaveWords.{well_formed}
 use Rattle.ci_asm.proofs.assembler.line_insn.Goals as goal
 
 pub returns-in_err-operands-in-Some-clause-bound : goal.returns-in_err-operands-in-Some-clause-bound
@@ -14,7 +14,8 @@ returns-in_err-operands-in-Some-clause-bound c =
     let s = c.in-Some.statement in
     let is : c.in_ok-label.field-0.statement ≡ Some s = cc in
     let read : IsRead (length line) s = subst (λ o. IfSome o (IsRead (length line))) is c.in_ok-label.ensures.line.statement in
-    rw (p.1, p.2) (resolved-place (found_in c.args.definitions.now) c.args.words (length line) line s s.operands.label _ read.in_line c.in_err-operands-in-Some.ensures.value)
+    rw (p.1, p.2) (resolved-place (found_in c.args.definitions.now) c.args.words
+    (length line) line s s.operands.label _ read.in_line c.in_err-operands-in-Some.ensures.value)
 
 pub returns-in_ok-operands-in-Some-clause-well_formed : goal.returns-in_ok-operands-in-Some-clause-well_formed
 returns-in_ok-operands-in-Some-clause-well_formed c =
@@ -23,5 +24,6 @@ returns-in_ok-operands-in-Some-clause-well_formed c =
     let is : c.in_ok-label.field-0.statement ≡ Some s = cc in
     let read : IsRead (length line) s = subst (λ o. IfSome o (IsRead (length line))) is c.in_ok-label.ensures.line.statement in
     let o = c.in_ok-operands-in-Some.operands in
-    let same = resolved-registers (found_in c.args.definitions.now) c.args.words line s s.operands.label o read.registers (sym c.in_ok-operands-in-Some.ensures.value) in
+    let same = resolved-registers (found_in c.args.definitions.now) c.args.words line s s.operands.label o read.registers
+    (sym c.in_ok-operands-in-Some.ensures.value) in
     rw c.insn_of.ensures (well_formed s.mnemonic o read.named same c.in_ok-operands-in-Some.ensures.in_field)

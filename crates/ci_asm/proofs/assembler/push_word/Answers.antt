@@ -1,6 +1,6 @@
 use Rattle.std.proofs.Common.{◌≡◌, ◌++◌, [], ◌∷◌, arith}
 use Rattle.std.proofs.lemmas.Grind.{common_steps}
-use Rattle.ci_asm.proofs.Assembly.{AreWordsOf-push}
+use Rattle.ci_asm.proofs.AssemblySteps.{AreWordsOf-push}
 use Rattle.ci_asm.proofs.assembler.push_word.Goals as goal
 
 pub returns-in_ok-push-clause-words : goal.returns-in_ok-push-clause-words

@@ -9,7 +9,8 @@ use Rattle.ci_asm.specs.LabelMap.{found_in, earlier}
 use Rattle.ci_asm.proofs.labels.define.Goals as goal
 
 -- a label that has no definition takes the new one, and the others keep theirs
-takes : (b : Bool) (name q : List ℕ) (d : Definition) (old : List ℕ → Option Definition) → bytes_eq name q ≡ b → old name ≡ None → cond b (Some d) (old q) ≡ earlier (old q) (cond b (Some d) None)
+takes : (b : Bool) (name q : List ℕ) (d : Definition) (old : List ℕ → Option Definition) → bytes_eq name q ≡ b → old name ≡ None
+    → cond b (Some d) (old q) ≡ earlier (old q) (cond b (Some d) None)
 takes true name q d old e none =
     let same : name ≡ q = (bytes_eq-Decides name q).0 e in
     let at_q : old q ≡ None = ap old (sym same) ∙ none in

@@ -1,6 +1,6 @@
 use Rattle.std.proofs.Common.{◌+◌, arith}
 use Rattle.std.proofs.lemmas.Int.Digits.{digits_value_more}
-use Rattle.ci_asm.proofs.Numerals.{more_fits, ten_fit}
+use Rattle.ci_asm.proofs.TenDigitsFit.{more_fits, ten_fit}
 use Rattle.ci_asm.proofs.numbers.capped.Goals as goal
 
 pub overflow_mul-magnitude : goal.overflow_mul-magnitude
@@ -11,7 +11,8 @@ overflow_mul-magnitude c =
 
 pub overflow_add-magnitude : goal.overflow_add-magnitude
 overflow_add-magnitude c =
-    let more = more_fits c.loop-byte.magnitude c.args.base c.digit_value.result c.loop-byte.byte-index (omega arith) c.digit_value.ensures.bound c.loop-byte.invariant.bound in
+    let more = more_fits c.loop-byte.magnitude c.args.base c.digit_value.result c.loop-byte.byte-index
+    (omega arith) c.digit_value.ensures.bound c.loop-byte.invariant.bound in
     let all = ten_fit _ (c.loop-byte.byte-index + 1) (omega arith) more in
     omega arith
 

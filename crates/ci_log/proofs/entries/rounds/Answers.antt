@@ -1,8 +1,9 @@
-use Rattle.std.proofs.Common.{arith, sym, ◌∙◌, ◌≤◌, ◌++◌, ◌∷◌, [], length, ap, subst, append_assoc}
+use Rattle.std.proofs.Common.{arith, refl, sym, ◌∙◌, ◌≤◌, ◌++◌, ◌∷◌, [], length, ap, subst, append_assoc}
 use Rattle.std.proofs.lemmas.Result.{err_from_is_err_and}
-use Rattle.ci_log.specs.Reading.{round}
-use Rattle.ci_log.proofs.BookTexts.{search_shorter, take_shorter, round_take_fails, round_search_fails, round_read}
-use Rattle.ci_log.proofs.Repetition.{AreRead, read_first, read_next, read_fails, read_done}
+use Rattle.ci_reading.specs.LineReading.{with_front}
+use Rattle.ci_log.specs.Reading.{Fails, rounds}
+use Rattle.ci_log.proofs.BookReading.{search_shorter, take_shorter}
+use Rattle.ci_log.proofs.Loops.{next_round, take_fails, round_fails, no_round}
 use Rattle.ci_log.proofs.entries.rounds.Goals as goal
 
 pub returns-in_err-take : goal.returns-in_err-take
@@ -10,7 +11,8 @@ returns-in_err-take c =
     let p = err_from_is_err_and c.from_residual.result c.from_residual.ensures.1 in
     let e = c.in_err-take.field-0.0 in
     rw (p.1, p.2) (record {
-      entries = read_fails 116 round c.args.entries.items c.args.bytes.now e c.loop-alloc.entries.items c.loop-alloc.rest.now c.loop-alloc.invariant.0 (sym c.loop-alloc-test.ensures) (round_take_fails e c.loop-alloc.rest.now c.in_err-take.ensures);
+      entries = subst (Fails e) c.loop-alloc.invariant.0
+          (take_fails c.loop-alloc.entries.items c.loop-alloc.rest.now e (sym c.loop-alloc-test.ensures) c.in_err-take.ensures);
       left = tt;
     })
 
@@ -24,37 +26,46 @@ returns-in_err-search c =
     let p = err_from_is_err_and c.from_residual-in_err-search.result c.from_residual-in_err-search.ensures.1 in
     let e = c.in_err-search.field-0.0 in
     rw (p.1, p.2) (record {
-      entries = read_fails 116 round c.args.entries.items c.args.bytes.now e c.loop-alloc.entries.items c.loop-alloc.rest.now c.loop-alloc.invariant.0 (sym c.loop-alloc-test.ensures)
-          (round_search_fails e c.loop-alloc.rest.now c.in_ok-take.after.now c.in_ok-take.take c.in_ok-take.ensures c.in_err-search.ensures);
+      entries = subst (Fails e) c.loop-alloc.invariant.0
+          (round_fails c.loop-alloc.entries.items c.loop-alloc.rest.now e c.in_ok-take.take c.in_ok-take.after.now (sym c.loop-alloc-test.ensures)
+          c.in_ok-take.ensures c.in_err-search.ensures);
       left = tt;
     })
 
 pub loop-alloc-init : goal.loop-alloc-init
-loop-alloc-init c = (read_first 116 round c.args.entries.items c.args.bytes.now, omega arith)
+loop-alloc-init c = (refl, omega arith)
 
 pub loop-alloc-smaller : goal.loop-alloc-smaller
 loop-alloc-smaller c =
     let few : length c.loop-alloc.rest.now ≤ 268435456 = omega (arith, c.loop-alloc.invariant.1, c.requires) in
     let first = take_shorter c.loop-alloc.rest.now c.in_ok-take.after.now c.in_ok-take.take few c.in_ok-take.ensures in
-    omega (arith, first, search_shorter c.in_ok-take.after.now c.in_ok-search.after.now c.in_ok-search.search (omega (arith, few, first)) c.in_ok-search.ensures)
+    omega (
+      arith,
+      first,
+      search_shorter c.in_ok-take.after.now c.in_ok-search.after.now c.in_ok-search.search
+          (omega (arith, few, first)) c.in_ok-search.ensures,
+    )
 
 pub loop-alloc-preserved : goal.loop-alloc-preserved
 loop-alloc-preserved c =
-    let few : length c.loop-alloc.rest.now ≤ 268435456 = omega (arith, c.loop-alloc.invariant.1, c.requires) in
-    let first = take_shorter c.loop-alloc.rest.now c.in_ok-take.after.now c.in_ok-take.take few c.in_ok-take.ensures in
-    let second = search_shorter c.in_ok-take.after.now c.in_ok-search.after.now c.in_ok-search.search (omega (arith, few, first)) c.in_ok-search.ensures in
-    let before = c.loop-alloc.entries.items in
+    let rest = c.loop-alloc.rest.now in
+    let mid = c.in_ok-take.after.now in
+    let after = c.in_ok-search.after.now in
     let t = c.in_ok-take.take in
     let s = c.in_ok-search.search in
+    let before = c.loop-alloc.entries.items in
+    let few : length rest ≤ 268435456 = omega (arith, c.loop-alloc.invariant.1, c.requires) in
+    let first = take_shorter rest mid t few c.in_ok-take.ensures in
+    let second = search_shorter mid after s (omega (arith, few, first)) c.in_ok-search.ensures in
     let items = c.in_ok-push-2.ensures.items ∙ (ap (λ v. v ++ s ∷ []) c.in_ok-push.ensures.items ∙ append_assoc before (t ∷ []) (s ∷ [])) in (
-      subst (λ entries. AreRead 116 round c.args.entries.items c.args.bytes.now entries c.in_ok-search.after.now) (sym items)
-          (read_next 116 round c.args.entries.items c.args.bytes.now before (t ∷ s ∷ []) c.loop-alloc.rest.now c.in_ok-search.after.now c.loop-alloc.invariant.0 (sym c.loop-alloc-test.ensures)
-          (round_read c.loop-alloc.rest.now c.in_ok-take.after.now c.in_ok-search.after.now t s c.in_ok-take.ensures c.in_ok-search.ensures) (omega (arith, first, second))),
+      ap (λ entries. with_front entries (rounds after)) items
+          ∙ (next_round before rest t s mid after (sym c.loop-alloc-test.ensures) c.in_ok-take.ensures c.in_ok-search.ensures (omega (arith, first, second))
+          ∙ c.loop-alloc.invariant.0),
       omega (arith, first, second, c.loop-alloc.invariant.1),
     )
 
 pub returns : goal.returns
 returns c = record {
-  entries = read_done 116 round c.args.entries.items c.args.bytes.now c.loop-alloc.entries.items c.loop-alloc.rest.now c.loop-alloc.invariant.0 (sym c.loop-alloc-test.ensures);
+  entries = sym c.loop-alloc.invariant.0 ∙ no_round c.loop-alloc.entries.items c.loop-alloc.rest.now (sym c.loop-alloc-test.ensures);
   left = c.loop-alloc.invariant.1;
 }

@@ -1,5 +1,5 @@
 use Rattle.std.proofs.Common.{arith, codes}
-use Rattle.ci_log.proofs.EntryTexts.{word_left, address_left}
+use Rattle.ci_log.proofs.EntryReading.{word_left, address_left}
 use Rattle.ci_log.proofs.entries.search.Goals as goal
 
 pub best-requires : goal.best-requires

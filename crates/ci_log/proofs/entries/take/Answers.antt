@@ -1,5 +1,5 @@
 use Rattle.std.proofs.Common.{arith}
-use Rattle.ci_log.proofs.EntryTexts.{unit_small}
+use Rattle.ci_log.proofs.EntryReading.{unit_small}
 use Rattle.ci_log.proofs.entries.take.Goals as goal
 
 pub overflow_cast-unit : goal.overflow_cast-unit

@@ -1,5 +1,5 @@
 use Rattle.std.proofs.Common.{arith, codes}
-use Rattle.ci_log.proofs.EntryTexts.{word_left}
+use Rattle.ci_log.proofs.EntryReading.{word_left}
 use Rattle.ci_log.proofs.entries.without.Goals as goal
 
 pub tree_line-requires : goal.tree_line-requires

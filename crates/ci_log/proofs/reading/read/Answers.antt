@@ -1,4 +1,4 @@
-use Rattle.ci_log.proofs.FirstFaults.{due_book, due_fault}
+use Rattle.ci_log.proofs.OneFault.{due_book, due_fault}
 use Rattle.ci_log.proofs.reading.read.Goals as goal
 
 pub returns-clause-due_book : goal.returns-clause-due_book

@@ -18,5 +18,7 @@ flatten-requires-clause-tree g c =
       _,
       _,
       at_inner second.live (at_leaf tt)
-          (subst (λ (m : Slots). IsTreeIn m (Inner c.in_ok-below.below) (B ∷ (C ∷ (F ∷ []))) (map.remove c.take.new.self.values c.in_ok-below.below)) (sym bare) (at_inner first.live (at_leaf tt) (at_leaf tt))),
+          (subst (λ (m : Slots). IsTreeIn m (Inner c.in_ok-below.below) (B ∷ (C ∷ (F ∷ [])))
+          (map.remove c.take.new.self.values c.in_ok-below.below)) (sym bare)
+          (at_inner first.live (at_leaf tt) (at_leaf tt))),
     )

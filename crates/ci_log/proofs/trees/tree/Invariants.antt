@@ -1,6 +1,6 @@
 use Rattle.std.proofs.Common.{◌≡◌, ◌+◌, ◌≤◌, length}
 use Rattle.ci_log.specs.Reading.{trees}
-use Rattle.ci_log.proofs.Forests.{behind_items}
+use Rattle.ci_log.proofs.TreeReading.{behind_items}
 use Rattle.ci_log.proofs.trees.tree.Given as goal
 
 abbrev pub invariant-loop-due : goal.invariant-loop-due

@@ -1,4 +1,4 @@
-use Rattle.ci_log.proofs.Forests.{tree_log}
+use Rattle.ci_log.proofs.TreeReading.{tree_log}
 use Rattle.ci_log.proofs.trees.tree_line.Goals as goal
 
 pub new-requires : goal.new-requires

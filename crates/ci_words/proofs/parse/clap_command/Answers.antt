@@ -1,13 +1,9 @@
--- The parser has the word and the options of the command's row.
-use Rattle.std.proofs.Common.{◌≡◌, ◌∙◌, [], ap, subst}
-use Rattle.std.specs.Prelude.{IfOk}
-use Rattle.clap.specs.Words.{app_of}
-use Rattle.ci_words.specs.Tables.{command_row}
-use Rattle.ci_words.specs.Parses.{app_for, command_named, names_known}
+-- The parser has the word and the options of the row.
+use Rattle.ci_words.specs.Parses.{command_row, repeats_in}
+use Rattle.ci_words.proofs.TableLaws.{repeats_alike}
 use Rattle.ci_words.proofs.parse.clap_command.Goals as goal
 
 pub returns : goal.returns
 returns c =
-    let command = command_named c.args.command in
-    subst (λ options. IfOk c.with_options.result (λ more. app_of more ≡ app_for (command_row command).word (names_known command options))) c.all_options.ensures
-    (c.with_options.ensures (command_row command).word (c.in_ok-parser.ensures ∙ ap (λ word. app_for word []) c.command_row.ensures.word))
+    let row = command_row c.args.row.now in
+    c.with_options.ensures row.word (repeats_in row.options) (c.in_ok-parser.ensures (repeats_in row.options)) (repeats_alike row c.requires)

@@ -10,10 +10,11 @@ pub returns : goal.returns
 returns c = λ word known is same.
     let name = c.args.name.now in
     let made : rule_of c.action.result ≡ option_by c.args.repeatable name = search rules in
-    let rule : rule_of c.action.result ≡ option_given name = made ∙ ap (λ b. option_by b name) same in
-    let rules_are = map-append option_given known (name ∷ []) in
-    IfOk-weaker c.arg.result (AddsArg c.args.parser c.action.result) (λ more. app_of more ≡ app_for word (known ++ name ∷ []))
+    let rule : rule_of c.action.result ≡ option_given known name = made ∙ ap (λ b. option_by b name) same in
+    let rules_are = map-append (option_given known) known.names (name ∷ []) in
+    IfOk-weaker c.arg.result (AddsArg c.args.parser c.action.result)
+    (λ more. app_of more ≡ app_for word (record known { names = known.names ++ name ∷ [] }))
     (λ more adds. adds.shape (search rules) ∙ (ap₂ with_rule is rule
-    ∙ ap (λ gs. record (app_for word []) { top = record (app_for word []).top { rules = names_given ∷ gs } })
+    ∙ ap (λ gs. record (app_for word known) { top = record (app_for word known).top { rules = names_given ∷ gs } })
     (sym rules_are)))
     c.arg.ensures

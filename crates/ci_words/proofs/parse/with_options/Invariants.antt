@@ -1,10 +1,14 @@
--- The parser has those of the options so far that are the command's.
-use Rattle.std.proofs.Common.{◌≡◌, [], map, take}
+-- The parser has the options so far.
+use Rattle.std.proofs.Common.{◌≡◌, Bool, [], map, take}
+use Rattle.std.specs.Prelude.{All}
 use Rattle.clap.specs.Words.{app_of}
 use Rattle.ci_words.specs.Words.{Text}
-use Rattle.ci_words.specs.Parses.{app_for, command_named, names_known, option_named}
+use Rattle.ci_words.specs.Parses.{app_for, names_in, option_row}
 use Rattle.ci_words.proofs.parse.with_options.Given as goal
 
 abbrev pub invariant-loop-option : goal.invariant-loop-option
-invariant-loop-option l = (word : Text) → app_of l.fn.parser ≡ app_for word []
-    → app_of l.parser ≡ app_for word (names_known (command_named l.command) (map option_named (take l.option-index l.options)))
+invariant-loop-option l = (word : Text) (repeats : Text → Bool)
+    → app_of l.fn.parser ≡ app_for word (record { names = []; repeats = repeats })
+    → All (λ option. option.repeatable ≡ repeats option.name) (map option_row l.options)
+    → app_of l.parser
+    ≡ app_for word (record { names = names_in (map option_row (take l.option-index l.options)); repeats = repeats })

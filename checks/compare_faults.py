@@ -1,0 +1,91 @@
+#!/usr/bin/env python3
+"""Compares the fault lines of some calls, and what the script `rumtsafi` says of them in words, with what is due.
+
+    compare_faults.py PROGRAM
+"""
+import os
+import struct
+import subprocess
+import sys
+import tempfile
+
+TOP = os.path.join(os.path.dirname(os.path.abspath(__file__)), "..")
+EXPLAIN = 'root=$1; line=$2; shift 2; . "$root/script/explain.sh"; explain_fault "$line" "$(call_of "$@")"'
+
+
+def header(*fields):
+    """The header of an executable without anything else, and with other fields, each by offset, size and value."""
+    found = bytearray(b"\x7fELF\1\1\1".ljust(52, b"\0"))
+    for offset, size, value in ((16, "H", 2), (18, "H", 243), (20, "I", 1), *fields):
+        struct.pack_into(f"<{size}", found, offset, value)
+    return bytes(found)
+
+
+FILES = {
+    "long": bytes(1028), "odd": b"\x13\0\0\0\x13", "custom": struct.pack("<2I", 0x13, 0x50B), "jump": bytes(8),
+    "text": b"no executable\n" * 4, "wide": header((4, "B", 2)), "object": header((16, "H", 1)),
+    "shared": header((16, "H", 3)), "host": header((18, "H", 62)), "compressed": header((36, "I", 5)),
+    "bare": header(), "cut": header((28, "I", 52), (42, "H", 32), (44, "H", 1)), "short": b"\x7fELF",
+    "no.toml": b"=", "key.toml": b"colour = 1", "read.toml": b"read = 0", "add.toml": b"software = { add = 0 }",
+    "pad.toml": b"pad = 2", "good.s": b"ecall\n", "latin.s": b"\xe4", "1.s": b"ecall\n ?", "2.s": b"x5",
+    "3.s": b"add x5 x6", "4.s": b"addi x5, x5, 2048", "5.s": b"jal x0, a", "6.s": b"a:\na:", "7.s": b"ecall x5",
+}
+# Calls, the fault lines that they end with, and these in words.
+ENDS = (
+    ("dis missing", "2 read missing", "missing isn't there, or can't be read"),
+    ("asm good.s no/folder", "3 write no/folder", "no/folder can't be written"),
+    ("best long", "4 too large long", "long has over 1,024 bytes (a table 65,536): give --at if it is an executable"),
+    ("run short", "5 elf 1 0 0", "the file ends before the part that begins at offset 0 does"),
+    ("run cut", "5 elf 1 52 0", "the file ends before the part that begins at offset 52 does"),
+    ("run text", "5 elf 2 0 0", "no ELF file: it doesn't begin with 7F 45 4C 46"),
+    ("blocks wide", "5 elf 3 4 2", "a 64-bit file: field at offset 4 is 2; use -march=rv32im -mabi=ilp32"),
+    ("blocks object", "5 elf 3 16 1", "an object that isn't linked: field at offset 16 is 1, not 2"),
+    ("best shared --at 0x0", "5 elf 3 16 3",
+     "position-independent or shared: field at offset 16 is 3; use -static -no-pie"),
+    ("run host", "5 elf 3 18 62", "for another processor than RISC-V: field at offset 18 is 62, not 243"),
+    ("run compressed", "5 elf 3 36 5", "compressed code: field at offset 36 is 5, which is odd; use -march=rv32im"),
+    ("run bare", "5 elf 8 0 0", "the entry is no word of the text: is there a _start?"),
+    ("best jump --table no.toml", "6 table 1", "the table is no TOML text"),
+    ("best jump --table key.toml", "6 table 2", "the table has a key that is unknown"),
+    ("best jump --table read.toml", "6 table 3 read", "the table's read isn't a whole number from 1 to 1000"),
+    ("best jump --table add.toml", "6 table 3 software.add",
+     "software.add is no whole number in its range: software 1 to 1000, hardware 0 to 100000"),
+    ("best jump --table pad.toml", "6 table 4 software.add", "the table's pad is greater than its software.add"),
+    ("best odd", "7 unsupported 00000005 00000000",
+     "00000005 (hex) bytes are no whole words, or a block ends there"),
+    ("best custom", "7 unsupported 00000004 0000050b",
+     "0000050b, at offset 00000004, has a custom opcode or ends a block"),
+    ("best crc32.elf --at=0x4", "7 unsupported 00000004 00000000",
+     "no block begins at 00000004: blocks lists where they do"),
+    ("asm 1.s out", "13 asm 1 2 2", "line 2, column 2: a byte that begins no token"),
+    ("asm latin.s out", "13 asm 1 1 1", "line 1, column 1: a byte that begins no token, or the text isn't UTF-8"),
+    ("asm 2.s out", "13 asm 2 1 1", "line 1, column 1: a mnemonic is due here"),
+    ("asm 3.s out", "13 asm 3 1 8", "line 1, column 8: an operand, a comma or a bracket is due here"),
+    ("asm 4.s out", "13 asm 4 1 14", "line 1, column 14: a number or offset out of its field, or an odd offset"),
+    ("asm 5.s out", "13 asm 5 1 9", "line 1, column 9: a label that isn't defined"),
+    ("asm 6.s out", "13 asm 6 2 1", "line 2, column 1: this label is defined already"),
+    ("asm 7.s out", "13 asm 7 1 7", "line 1, column 7: behind a whole statement, or past 262,144 of them"),
+)
+
+
+def main():
+    program, faults = os.path.abspath(sys.argv[1]), 0
+    with tempfile.TemporaryDirectory() as folder:
+        os.symlink(os.path.join(os.path.abspath(TOP), "samples", "crc32.elf"), os.path.join(folder, "crc32.elf"))
+        for name, content in FILES.items():
+            with open(os.path.join(folder, name), "wb") as file:
+                file.write(content)
+        for call, line, due in ENDS:
+            words = call.split()
+            done = subprocess.run([program, *words], cwd=folder, stdout=subprocess.PIPE, text=True, check=False)
+            printed = done.stdout.rstrip("\n")
+            said = subprocess.run(["bash", "-c", EXPLAIN, "bash", TOP, printed, *words], stdout=subprocess.PIPE,
+                                  stderr=subprocess.STDOUT, text=True, check=False).stdout.rstrip("\n")
+            if (printed, said) != (f"fault {line}", due):
+                faults += 1
+                print(f"{call} prints '{printed}' and not 'fault {line}', or the script says '{said}' and not '{due}'")
+    print(f"{len(ENDS)} calls compared: {faults} faults")
+    return 1 if faults else 0
+
+
+sys.exit(main())

@@ -1,0 +1,229 @@
+-- Registers and numbers, as tokens and as the code reads them.
+use Rattle.std.proofs.Common.{◌≡◌, ℕ, zero, suc, ◌+◌, ◌/◌, ◌%◌, ◌<◌, ◌≤◌, ◌⊎◌, inl, inr, Bool, true, false, cond, ◌&&◌, nat_le, nat_lt, eqb, List, [], ◌∷◌}
+use Rattle.std.proofs.Common.{◌++◌, length, refl, sym, ap, ◌∙◌, arith, Option, Some, None, ℤ, pos, neg_ℤ, ◌≤ℤ◌}
+use Rattle.std.specs.Prelude.{unsigned_abs}
+use Rattle.std.specs.Str.Parse.{digits_value}
+use Rattle.std.proofs.lemmas.Fmt.{decimal_digit, decimal_step}
+use Rattle.std.proofs.lemmas.Int.{ints}
+use Rattle.std.proofs.lemmas.Bool.{eqb-true}
+use Rattle.std.proofs.lemmas.Bool.Decides.{nat_tests}
+use Rattle.ci_asm.specs.declared.numbers.Number.{Number}
+use Rattle.ci_asm.specs.declared.slots.Field.{Field}
+use Rattle.ci_asm.specs.declared.slots.Field.TheVariants.{Immediate, Amount, Upper, BranchOffset, JumpOffset, FenceBits, UnitNumber, Whole}
+use Rattle.ci_asm.specs.Tokens.{byte_at, is_digit, is_between, number, number_of, two_digits, register_at, has_one_digit, has_two_digits, register_of}
+use Rattle.ci_asm.specs.Shapes.{lowest, highest, is_offset, fits, field_from}
+use Rattle.ci_asm.specs.Statements.{signed_value}
+use Rattle.ci_asm.specs.Shown.{register_name}
+use Rattle.ci_asm.specs.Lexicon as lex
+use Rattle.ci_asm.specs.Lexicon.{IsDigit, name, decimal_number, hex_number, word, comma, open_bracket, close_bracket, colon, spelling, IsToken}
+use Rattle.ci_asm.specs.Forms as forms
+use Rattle.ci_asm.specs.Forms.{IsBetween, IsEven, IsIn, IsRegister, IsNumber, Writes, HasNumber}
+use Rattle.ci_asm.proofs.TestLaws.{and_both, pick_false}
+use Rattle.ci_asm.proofs.LongestTokens.{no_x_behind}
+
+-- ---- registers
+
+chosen : {A : Type 0} (a b : Bool) (x y : Option A) (r : A) → cond a x (cond b y None) ≡ Some r → ((a ≡ true) × (x ≡ Some r)) ⊎ ((b ≡ true) × (y ≡ Some r))
+chosen true b x y r e = inl (refl, e)
+chosen false true x y r e = inr (refl, e)
+chosen false false x y r e = absurd (cc)
+
+register_at-same : (n r : ℕ) → register_at n ≡ Some r → (n ≡ r) × (r < 32)
+register_at-same n r e = by (nat_lt n 32) refl e
+  where
+    by : (b : Bool) → nat_lt n 32 ≡ b → cond b (Some n) None ≡ Some r → (n ≡ r) × (r < 32)
+    by true at e = let same : n ≡ r = cc in (same, grind (arith, nat_tests))
+    by false at e = absurd (cc)
+
+one_digit_name : (text : List ℕ) (r : ℕ) → has_one_digit text ≡ true → register_at (two_digits 48 (byte_at text 1)) ≡ Some r
+    → (text ≡ register_name r) × (r < 32)
+one_digit_name [] r e found = absurd (cc)
+one_digit_name (a ∷ []) r e found =
+    let outer = and_both (eqb a 120 && eqb 1 2) (is_digit 0) e in
+    let no : is_digit 0 ≡ true = outer.1 in
+    absurd (cc)
+one_digit_name (a ∷ b ∷ []) r e found =
+    let outer = and_both (eqb a 120 && eqb 2 2) (is_digit b) e in
+    let x : a ≡ 120 = eqb-true a 120 (and_both (eqb a 120) (eqb 2 2) outer.0).0 in
+    let known = register_at-same (two_digits 48 b) r found in
+    let digit : (48 ≤ b) × (b ≤ 57) = let test = outer.1 in (grind (arith, nat_tests), grind (arith, nat_tests)) in
+    let value : b ≡ 48 + r = let two = known.0 in omega arith in
+    let small : r < 10 = omega arith in
+    ((λ i. x i ∷ value i ∷ []) ∙ ap (λ ds. 120 ∷ ds) (sym (decimal_digit r small)), known.1)
+one_digit_name (a ∷ b ∷ c ∷ text) r e found =
+    let outer = and_both (eqb a 120 && eqb (length (a ∷ b ∷ c ∷ text)) 2) (is_digit b) e in
+    let size : length (a ∷ b ∷ c ∷ text) ≡ 2 = eqb-true _ 2 (and_both (eqb a 120) (eqb (length (a ∷ b ∷ c ∷ text)) 2) outer.0).1 in
+    absurd (omega arith)
+
+two_digit_name : (text : List ℕ) (r : ℕ) → has_two_digits text ≡ true → register_at (two_digits (byte_at text 1) (byte_at text 2)) ≡ Some r
+    → (text ≡ register_name r) × (r < 32)
+two_digit_name [] r e found = absurd (cc)
+two_digit_name (a ∷ []) r e found =
+    let no : is_digit 0 ≡ true = (and_both (eqb a 120 && eqb 1 3 && is_between 49 57 0) (is_digit 0) e).1 in
+    absurd (cc)
+two_digit_name (a ∷ b ∷ []) r e found =
+    let no : is_digit 0 ≡ true = (and_both (eqb a 120 && eqb 2 3 && is_between 49 57 b) (is_digit 0) e).1 in
+    absurd (cc)
+two_digit_name (a ∷ b ∷ c ∷ []) r e found =
+    let outer = and_both (eqb a 120 && eqb 3 3 && is_between 49 57 b) (is_digit c) e in
+    let middle = and_both (eqb a 120 && eqb 3 3) (is_between 49 57 b) outer.0 in
+    let x : a ≡ 120 = eqb-true a 120 (and_both (eqb a 120) (eqb 3 3) middle.0).0 in
+    let known = register_at-same (two_digits b c) r found in
+    let tens : (49 ≤ b) × (b ≤ 57) = let test = middle.1 in (grind (arith, nat_tests), grind (arith, nat_tests)) in
+    let ones : (48 ≤ c) × (c ≤ 57) = let test = outer.1 in (grind (arith, nat_tests), grind (arith, nat_tests)) in
+    let value = known.0 in
+    let below = known.1 in
+    let many : 10 ≤ r = omega arith in
+    let first : b ≡ 48 + r / 10 = omega arith in
+    let second : c ≡ 48 + r % 10 = omega arith in (
+      (λ i. x i ∷ first i ∷ second i ∷ [])
+          ∙ ap (λ ds. 120 ∷ ds) (sym (decimal_step r many (omega arith) ∙ ap (λ ds. ds ++ (48 + r % 10) ∷ []) (decimal_digit (r / 10) (omega arith)))),
+      below,
+    )
+two_digit_name (a ∷ b ∷ c ∷ d ∷ text) r e found =
+    let all = a ∷ b ∷ c ∷ d ∷ text in
+    let outer = and_both (eqb a 120 && eqb (length all) 3 && is_between 49 57 b) (is_digit c) e in
+    let middle = and_both (eqb a 120 && eqb (length all) 3) (is_between 49 57 b) outer.0 in
+    let size : length all ≡ 3 = eqb-true (length all) 3 (and_both (eqb a 120) (eqb (length all) 3) middle.0).1 in
+    absurd (omega arith)
+
+-- a name that is read as a register is the register's
+pub register_named : (text : List ℕ) (r : ℕ) → register_of text ≡ Some r → (text ≡ register_name r) × (r < 32)
+unfolding register_of
+register_named text r e = elim (chosen (has_one_digit text) (has_two_digits text) _ _ r e) [
+  | inl one ↦ one_digit_name text r one.0 one.1
+  | inr two ↦ two_digit_name text r two.0 two.1
+]
+
+-- ---- numbers
+
+-- the number of a token
+abbrev pub number_result : lex.Token → Option Number
+number_result (decimal_number negative digits) = number negative 10 digits
+number_result (hex_number digits) = number false 16 digits
+number_result other = None
+
+pub number_of-token : (t : lex.Token) → IsNumber t → IsToken t → number_of (spelling t) ≡ number_result t
+unfolding number_of
+number_of-token (decimal_number true digits) is proper = refl
+number_of-token (decimal_number false []) is proper = absurd proper
+number_of-token (decimal_number false (d ∷ ds)) is proper =
+    let digit = proper.0 in
+    let minus : eqb d 45 ≡ false = grind (arith, nat_tests) in
+    rw (minus, no_x_behind ds proper.1) refl
+number_of-token (hex_number digits) is proper = refl
+number_of-token other is proper = absurd is
+
+number_small : (negative : Bool) (base : ℕ) (digits : List ℕ) (n : Number) → number negative base digits ≡ Some n
+    → (length digits ≤ 10) × (record { negative = negative; magnitude = digits_value base digits } ≡ n)
+number_small negative base digits n e = by (nat_lt 10 (length digits)) refl e
+  where
+    by : (b : Bool) → nat_lt 10 (length digits) ≡ b → cond b None (Some (record { negative = negative; magnitude = digits_value base digits })) ≡ Some n
+        → (length digits ≤ 10) × (record { negative = negative; magnitude = digits_value base digits } ≡ n)
+    by true at e = absurd (cc)
+    by false at e = (grind (arith, nat_tests), cc)
+
+number_capped : (negative : Bool) (base : ℕ) (digits : List ℕ) → length digits ≤ 10
+    → number negative base digits ≡ Some (record { negative = negative; magnitude = digits_value base digits })
+number_capped negative base digits few =
+    let room : nat_lt 10 (length digits) ≡ false = grind (arith, nat_tests) in
+    pick_false (nat_lt 10 (length digits)) _ _ room
+
+-- what the code reads is what the token writes
+pub number_writes : (t : lex.Token) (n : Number) → number_result t ≡ Some n → Writes t (signed_value n)
+number_writes (decimal_number negative digits) n e = let s = number_small negative 10 digits n e in (s.0, sym (ap signed_value s.1))
+number_writes (hex_number digits) n e = let s = number_small false 16 digits n e in (s.0, sym (ap signed_value s.1))
+number_writes other n e = absurd (cc)
+
+pub writes_number : (t : lex.Token) (z : ℤ) → Writes t z → (n : Number) × (number_result t ≡ Some n) × (signed_value n ≡ z)
+writes_number (decimal_number negative digits) z w = (_, number_capped negative 10 digits w.0, sym w.1)
+writes_number (hex_number digits) z w = (_, number_capped false 16 digits w.0, sym w.1)
+writes_number other z w = absurd w
+
+pub writes_is_number : (t : lex.Token) (z : ℤ) → Writes t z → IsNumber t
+writes_is_number (decimal_number negative digits) z w = tt
+writes_is_number (hex_number digits) z w = tt
+writes_is_number other z w = absurd w
+
+-- ---- fields
+
+-- a field of the code, as the definitions have it
+abbrev pub field_form : Field → forms.Field
+field_form Immediate = forms.immediate
+field_form Amount = forms.shift_amount
+field_form Upper = forms.upper_bits
+field_form BranchOffset = forms.branch_offset
+field_form JumpOffset = forms.jump_offset
+field_form FenceBits = forms.fence_bits
+field_form UnitNumber = forms.unit_number
+field_form Whole = forms.whole_word
+
+pub field_again : (field : forms.Field) → field_form (field_from field) ≡ field
+field_again forms.immediate = refl
+field_again other = refl
+
+pub abs_signed : (n : Number) → unsigned_abs (signed_value n) ≡ n.magnitude
+abs_signed n = by n.negative n.magnitude
+  where
+    by : (negative : Bool) (m : ℕ) → unsigned_abs (cond negative (neg_ℤ (pos m)) (pos m)) ≡ m
+    by true zero = refl
+    by true (suc m) = refl
+    by false m = refl
+
+-- how far from 0
+between_near : (low high : ℕ) (n : Number) → IsBetween (neg_ℤ (pos low)) (pos high) (signed_value n) → n.magnitude ≤ cond n.negative low high
+between_near low high n h = by n.negative n.magnitude h.0 h.1
+  where
+    by : (negative : Bool) (m : ℕ) → neg_ℤ (pos low) ≤ℤ cond negative (neg_ℤ (pos m)) (pos m) → cond negative (neg_ℤ (pos m)) (pos m) ≤ℤ pos high
+        → m ≤ cond negative low high
+    by true m a b = omega (arith, ints)
+    by false m a b = omega (arith, ints)
+
+near_between : (low high : ℕ) (n : Number) → n.magnitude ≤ cond n.negative low high → IsBetween (neg_ℤ (pos low)) (pos high) (signed_value n)
+near_between low high n h = by n.negative n.magnitude h
+  where
+    by : (negative : Bool) (m : ℕ) → m ≤ cond negative low high → IsBetween (neg_ℤ (pos low)) (pos high) (cond negative (neg_ℤ (pos m)) (pos m))
+    by true m h = (omega (arith, ints), omega (arith, ints))
+    by false m h = (omega (arith, ints), omega (arith, ints))
+
+pub fits_parts : (field : Field) (n : Number) → fits field n ≡ true → (n.magnitude ≤ cond n.negative (lowest field) (highest field)) ×
+    (cond (is_offset field) (eqb (n.magnitude % 2) 0) true ≡ true)
+fits_parts field n e =
+    let both = and_both (nat_le n.magnitude (cond n.negative (lowest field) (highest field))) (cond (is_offset field) (eqb (n.magnitude % 2) 0) true) e in
+    let near = both.0 in
+    (grind (arith, nat_tests), both.1)
+
+parts_fit : (field : Field) (n : Number) → n.magnitude ≤ cond n.negative (lowest field) (highest field)
+    → cond (is_offset field) (eqb (n.magnitude % 2) 0) true ≡ true → fits field n ≡ true
+parts_fit field n near even =
+    let test : nat_le n.magnitude (cond n.negative (lowest field) (highest field)) ≡ true = grind (arith, nat_tests) in
+    rw test even
+
+even_yes : (n : Number) → eqb (n.magnitude % 2) 0 ≡ true → IsEven (signed_value n)
+even_yes n e = ap (λ m. m % 2) (abs_signed n) ∙ eqb-true _ 0 e
+
+even_no : (n : Number) → IsEven (signed_value n) → eqb (n.magnitude % 2) 0 ≡ true
+even_no n e =
+    let even : n.magnitude % 2 ≡ 0 = sym (ap (λ m. m % 2) (abs_signed n)) ∙ e in
+    grind (arith, nat_tests)
+
+-- the code's test of a field is the definitions' range
+pub fits_in : (field : Field) (n : Number) → fits field n ≡ true → IsIn (field_form field) (signed_value n)
+fits_in Immediate n e = near_between 2048 2047 n (fits_parts Immediate n e).0
+fits_in Amount n e = near_between 0 31 n (fits_parts Amount n e).0
+fits_in Upper n e = near_between 0 0xfffff n (fits_parts Upper n e).0
+fits_in BranchOffset n e = let p = fits_parts BranchOffset n e in let b = near_between 4096 4094 n p.0 in (b, even_yes n p.1)
+fits_in JumpOffset n e = let p = fits_parts JumpOffset n e in let b = near_between 1048576 1048574 n p.0 in (b, even_yes n p.1)
+fits_in FenceBits n e = near_between 0 4095 n (fits_parts FenceBits n e).0
+fits_in UnitNumber n e = near_between 0 31 n (fits_parts UnitNumber n e).0
+fits_in Whole n e = near_between 0 0xffff_ffff n (fits_parts Whole n e).0
+
+pub in_fits : (field : Field) (n : Number) → IsIn (field_form field) (signed_value n) → fits field n ≡ true
+in_fits Immediate n h = parts_fit Immediate n (between_near 2048 2047 n h) refl
+in_fits Amount n h = parts_fit Amount n (between_near 0 31 n h) refl
+in_fits Upper n h = parts_fit Upper n (between_near 0 0xfffff n h) refl
+in_fits BranchOffset n h = parts_fit BranchOffset n (between_near 4096 4094 n h.0) (even_no n h.1)
+in_fits JumpOffset n h = parts_fit JumpOffset n (between_near 1048576 1048574 n h.0) (even_no n h.1)
+in_fits FenceBits n h = parts_fit FenceBits n (between_near 0 4095 n h) refl
+in_fits UnitNumber n h = parts_fit UnitNumber n (between_near 0 31 n h) refl
+in_fits Whole n h = parts_fit Whole n (between_near 0 0xffff_ffff n h) refl

@@ -1,0 +1,45 @@
+-- For every reader: that the numbers that the options of a command are set to lie in their ranges.
+use Rattle.std.specs.Prelude.{◌≡◌, ◌≤◌, ◌||◌, ◌&&◌, ℕ, Bool, true, false, not, nat_le}
+use Rattle.std.specs.List.{list_all, list_any}
+use denote.Enum.Bare.{sameb}
+use Rattle.ci_words.specs.contracts.tables.CommandName.{the_type as command_type}
+use Rattle.ci_words.specs.contracts.tables.OptionName.{the_type as option_type}
+use Rattle.ci_words.specs.declared.tables.CommandName.{CommandName}
+use Rattle.ci_words.specs.declared.tables.DefaultValue.{DefaultValue}
+use Rattle.ci_words.specs.declared.tables.DefaultValue.TheVariants as default
+use Rattle.ci_words.specs.declared.tables.Kind.{Kind}
+use Rattle.ci_words.specs.declared.tables.Kind.TheVariants as kind
+use Rattle.ci_words.specs.declared.tables.OptionName.{OptionName}
+use Rattle.ci_words.specs.Tables.{CommandRow, OptionRow, commands}
+use Rattle.ci_words.specs.Words.{Reading, number_set}
+
+module _ (option : OptionName) (minimum maximum : ℕ) where
+  abbrev pub is_kind_within : Kind → Bool
+  is_kind_within (kind.File access) = false
+  is_kind_within (kind.Number least most) = nat_le minimum least && nat_le most maximum
+  is_kind_within kind.Word = false
+
+  abbrev pub is_default_within : DefaultValue → Bool
+  is_default_within (default.Number n) = nat_le minimum n && nat_le n maximum
+  is_default_within default.Nothing = false
+  is_default_within default.MustStand = true
+
+  abbrev pub is_option : OptionRow → Bool
+  is_option row = sameb option_type row.option option
+
+  -- the row is another option's, or sets numbers of the range alone
+  abbrev pub is_within : OptionRow → Bool
+  is_within row = not (is_option row) || (is_kind_within row.kind && is_default_within row.default)
+
+  -- the row is another command's, or has the option, which sets numbers of the range alone
+  abbrev pub keeps_range : CommandName → CommandRow → Bool
+  keeps_range command row =
+      not (sameb command_type row.command command)
+      || (list_any is_option row.options && list_all is_within row.options)
+
+-- the number that an option of the command is set to lies in any range that the rows of the command keep
+abbrev pub KeepsRanges : CommandName → Reading → Type 0
+KeepsRanges command reading =
+    (option : OptionName) (minimum maximum : ℕ) →
+    list_all (keeps_range option minimum maximum command) commands ≡ true →
+    (minimum ≤ number_set reading option) × (number_set reading option ≤ maximum)
