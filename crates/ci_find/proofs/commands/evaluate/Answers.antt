@@ -6,5 +6,6 @@ use Rattle.ci_find.proofs.commands.evaluate.Goals as goal
 
 pub returns-in-Err-NoReading-clause-refused : goal.returns-in-Err-NoReading-clause-refused
 returns-in-Err-NoReading-clause-refused g c =
-    let none : HasNoReading (map string_bytes c.args.words.now.items) = rw c.as_slice.ensures.value at (c.in-Err-NoReading.ensures.no_reading c.in-Err-NoReading.field-0-is) in
+    let none : HasNoReading (map string_bytes c.args.words.now.items) =
+    rw c.as_slice.ensures.value at (c.in-Err-NoReading.ensures.no_reading c.in-Err-NoReading.field-0-is) in
     inl (none, refl)
