@@ -1,4 +1,3 @@
-mod BestWords
 mod Dues
 mod Runs
 mod Kept

@@ -37,7 +37,8 @@ MakesBy Best reading read success =
 MakesBy Asm reading read success = IsAsmMade (name_at reading 1) read success
 MakesBy Dis reading read success = IsDisMade read success
 MakesBy Run reading read success =
-    IsRunMade (number_set reading option.Steps) (name_set reading option.Table) (name_set reading option.Input) read success
+    IsRunMade (number_set reading option.Steps) (name_set reading option.Table) (name_set reading option.Input)
+    read success
 MakesBy Blocks reading read success = IsBlocksMade (words_set reading option.Leader) read success
 
 abbrev pub IsMade : Reading → List (List ℕ) → Success → Type 0

@@ -3,8 +3,6 @@ ghost use Rattle.std.specs.Prelude.{◌≡◌, IfOk, IfErr, map};
 ghost use Rattle.std.specs.String.{string_bytes};
 ghost use Rattle.ci_words.specs.Ranges.{KeepsRanges};
 ghost use Rattle.ci_words.specs.Read.{reading_of};
-ghost use Rattle.ci_words.specs.Words.{name_set, number_set, word_set};
-ghost use Rattle.ci_calls.specs.Refused.{name_in};
 ghost use Rattle.ci_calls.specs.Evaluations.{Evaluates};
 ghost use Rattle.ci_calls.specs.Refused.{IsRefusedBy};
 ghost use Rattle.ci_find.specs.Commands.{inputs_by, MakesBy, RefusesBy};
@@ -56,17 +54,10 @@ fn evaluate_command<'a, F: Shelf>(
 {
     let file = words.name_at(0);
     match command {
-        CommandName::Best => {
-            let leaders = words.words(alloc, OptionName::Leader)?;
-            let settings = best_settings(words, leaders.as_slice());
-            best::evaluate(alloc, file, &settings, shelf)
-        }
+        CommandName::Best => evaluate_best(alloc, words, shelf),
         CommandName::Asm => asm::evaluate(alloc, file, words.name_at(1), shelf),
         CommandName::Dis => dis::evaluate(alloc, file, shelf),
-        CommandName::Run => {
-            let settings = run_settings(words);
-            run::evaluate(alloc, file, &settings, shelf)
-        }
+        CommandName::Run => evaluate_run(alloc, words, shelf),
         CommandName::Blocks => {
             let leaders = words.words(alloc, OptionName::Leader)?;
             blocks::evaluate(alloc, file, leaders.as_slice(), shelf)
@@ -74,37 +65,52 @@ fn evaluate_command<'a, F: Shelf>(
     }
 }
 
-/// The settings of `best` that the words say, with these leaders.
-fn best_settings<'a, 'b>(words: &Words<'a>, leaders: &'b [u32]) -> BestSettings<'a, 'b>
+/// What `best` makes of its files, by the settings that the words say.
+fn evaluate_best<'a, F: Shelf>(
+    alloc: Global,
+    words: &Words<'a>,
+    shelf: &mut F,
+) -> Result<Success<'a>, Refusal<'a>>
     requires { KeepsRanges CommandName.Best (reading_of words.now) }
-    ensures at { result.at ≡ word_set (reading_of words.now) OptionName.At }
-    ensures leaders { result.leaders.now ≡ leaders.now }
-    ensures inputs { result.limits.inputs ≡ number_set (reading_of words.now) OptionName.Inputs }
-    ensures outputs { result.limits.outputs ≡ number_set (reading_of words.now) OptionName.Outputs }
-    ensures budget { result.budget ≡ number_set (reading_of words.now) OptionName.Budget }
-    ensures table { name_in result.table ≡ name_set (reading_of words.now) OptionName.Table }
+    ensures made { IfOk result (Evaluates (F.state shelf.old).files
+        (inputs_by CommandName.Best (reading_of words.now)) (MakesBy CommandName.Best (reading_of words.now))) }
+    ensures refused { IfErr result (IsRefusedBy F.read_may_fail (F.state shelf.old) (F.state shelf.new)
+        (inputs_by CommandName.Best (reading_of words.now)) (RefusesBy CommandName.Best (reading_of words.now))) }
+    ensures files_stay { (F.state shelf.new).files ≡ (F.state shelf.old).files }
+    ensures no_write { (F.state shelf.new).write_faults ≡ (F.state shelf.old).write_faults }
 {
-    BestSettings {
+    let leaders = words.words(alloc, OptionName::Leader)?;
+    let settings = BestSettings {
         at: words.word(OptionName::At),
-        leaders,
+        leaders: leaders.as_slice(),
         limits: Limits {
             inputs: words.number(OptionName::Inputs) as u8,
             outputs: words.number(OptionName::Outputs) as u8,
         },
         budget: words.number(OptionName::Budget) as u32,
         table: words.name(OptionName::Table),
-    }
+    };
+    best::evaluate(alloc, words.name_at(0), &settings, shelf)
 }
 
-/// The settings of `run` that the words say.
-fn run_settings<'a>(words: &Words<'a>) -> RunSettings<'a>
-    ensures steps { result.steps ≡ number_set (reading_of words.now) OptionName.Steps }
-    ensures input { name_in result.input ≡ name_set (reading_of words.now) OptionName.Input }
-    ensures table { name_in result.table ≡ name_set (reading_of words.now) OptionName.Table }
+/// What `run` makes of its files, by the settings that the words say.
+fn evaluate_run<'a, F: Shelf>(
+    alloc: Global,
+    words: &Words<'a>,
+    shelf: &mut F,
+) -> Result<Success<'a>, Refusal<'a>>
+    requires { KeepsRanges CommandName.Run (reading_of words.now) }
+    ensures made { IfOk result (Evaluates (F.state shelf.old).files
+        (inputs_by CommandName.Run (reading_of words.now)) (MakesBy CommandName.Run (reading_of words.now))) }
+    ensures refused { IfErr result (IsRefusedBy F.read_may_fail (F.state shelf.old) (F.state shelf.new)
+        (inputs_by CommandName.Run (reading_of words.now)) (RefusesBy CommandName.Run (reading_of words.now))) }
+    ensures files_stay { (F.state shelf.new).files ≡ (F.state shelf.old).files }
+    ensures no_write { (F.state shelf.new).write_faults ≡ (F.state shelf.old).write_faults }
 {
-    RunSettings {
+    let settings = RunSettings {
         steps: words.number(OptionName::Steps),
         input: words.name(OptionName::Input),
         table: words.name(OptionName::Table),
-    }
+    };
+    run::evaluate(alloc, words.name_at(0), &settings, shelf)
 }
