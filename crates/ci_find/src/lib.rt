@@ -42,8 +42,8 @@ mod tests;
 /// - 5, `fault 5 elf RULE A B`: the file is no executable, and RULE is the number of the fault and A and B its numbers.
 /// - 6, `fault 6 table RULE KEY`: the file is no latency table, and RULE is the number of the fault and KEY its key.
 /// - 7, `fault 7 unsupported POSITION WORD`: in an executable, the address of the first word of a custom opcode and
-///   that word, or the address of `--at`, where no block begins, and 0; in a file of words, its length, where that is no
-///   multiple of four, and 0, or the offset of the first word of a custom opcode or of a terminator that isn't last,
+///   that word, or the address of `--at`, where no block begins, and 0; in a file of words, its length, where that is
+///   no multiple of four, and 0, or the offset of the first word of a custom opcode or of a terminator that isn't last,
 ///   and that word.
 /// - 12, `fault 12 no memory`: memory ran out.
 /// - 13, `fault 13 asm KIND LINE COLUMN`: the file holds no assembler text. Where it isn't UTF-8 the numbers are 1 1 1.

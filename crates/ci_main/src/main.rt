@@ -45,7 +45,8 @@ fn exit_code<F: Shelf, O: Sink>(
     out: &mut O,
 ) -> ExitCode
     ensures { Ends (map string_bytes words.now.items)
-        (changed F.read_may_fail F.write_may_fail (F.state shelf.old) (F.state shelf.new) (O.state out.old) (O.state out.new))
+        (changed F.read_may_fail F.write_may_fail
+        (F.state shelf.old) (F.state shelf.new) (O.state out.old) (O.state out.new))
         (exit_status result) }
 {
     ExitCode::from(run(alloc, words, shelf, out))

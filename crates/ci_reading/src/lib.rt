@@ -1,5 +1,5 @@
-//! What the texts of several formats have in common: lines, tokens, digits, words in hexadecimal digits, words as bytes,
-//! and the first element of a list that breaks a property.
+//! What the texts of several formats have in common: lines, tokens, digits, words in hexadecimal digits, words as
+//! bytes, and the first element of a list that breaks a property.
 #![tactic(auto)]
 
 pub use bytes::{bytes_of_words, word_at};

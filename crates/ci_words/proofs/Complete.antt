@@ -1,5 +1,6 @@
 -- Words that are names and options pass `clap`'s walk, and it finds these names and options.
-use Rattle.std.proofs.Common.{◌≡◌, ◌≢◌, ◌∙◌, ◌⊎◌, ◌==◌, Bool, true, false, List, [], ◌∷◌, ◌++◌, codes, Some, None, refl, sym, ap, subst, inl, inr, fold, append_assoc}
+use Rattle.std.proofs.Common.{◌≡◌, ◌≢◌, ◌∙◌, ◌⊎◌, ◌==◌, Bool, true, false, List, [], ◌∷◌, ◌++◌, codes, Some, None, refl}
+use Rattle.std.proofs.Common.{sym, ap, subst, inl, inr, fold, append_assoc}
 use Rattle.std.proofs.lemmas.List.{append-nil}
 use Rattle.std.proofs.lemmas.Bool.Decides.{eqb_tells}
 use Rattle.std.specs.Prelude.{Contains, ⊤}
@@ -14,7 +15,9 @@ use Rattle.ci_words.specs.Parses.{Known}
 use Rattle.ci_words.proofs.Rows.{IsNew}
 use Rattle.ci_words.proofs.Rules.{long_known, option_rule, rules, shape}
 use Rattle.ci_words.proofs.States.{Holds, Holds-filled, Holds-named, Holds-reacted, IsOption, both_none, filled, long_of-joined, long_of-opened, opened}
-use Rattle.ci_words.proofs.Steps.{IsFree, at, dashes_fault, dashes_walked, joined_fault, joined_walked, last_fault, last_walked, named, opened_fault, opened_walked, other_plain, plain_fault, plain_walked, value_fault, value_walked}
+use Rattle.ci_words.proofs.Steps.{IsFree, at, dashes_fault, dashes_walked, joined_fault, joined_walked, last_fault}
+use Rattle.ci_words.proofs.Steps.{last_walked, named, opened_fault, opened_walked, other_plain, plain_fault}
+use Rattle.ci_words.proofs.Steps.{plain_walked, value_fault, value_walked}
 
 -- a name is no flag
 record IsNoFlag (word : Text) : Type 0 where

@@ -1,5 +1,6 @@
 -- The readings of words, against the matches of the command that the first word names.
-use Rattle.std.proofs.Common.{◌≡◌, ◌≢◌, ◌∙◌, ◌≤◌, ◌<◌, ◌⊎◌, ◌&&◌, ℕ, Bool, true, false, not, List, [], ◌∷◌, ◌++◌, length, map, codes, Some, refl, sym, ap, ap₂, subst, arith, inl, inr, drop, zero, suc}
+use Rattle.std.proofs.Common.{◌≡◌, ◌≢◌, ◌∙◌, ◌≤◌, ◌<◌, ◌⊎◌, ◌&&◌, ℕ, Bool, true, false, not, List, [], ◌∷◌, ◌++◌}
+use Rattle.std.proofs.Common.{length, map, codes, Some, refl, sym, ap, ap₂, subst, arith, inl, inr, drop, zero, suc}
 use Rattle.std.specs.Prelude.{All, AllPairs, Contains, slice_get, zip, unwrap_or}
 use Rattle.std.specs.Char.{digit_value}
 use Rattle.std.specs.List.{AllZip, slice_index_or}
@@ -18,7 +19,9 @@ use Rattle.ci_words.specs.declared.tables.Kind.{Kind}
 use Rattle.ci_words.specs.declared.tables.Kind.TheVariants as kind
 use Rattle.ci_words.specs.declared.tables.OptionName.{OptionName}
 use Rattle.ci_words.specs.Tables.{CommandRow, OptionRow, commands}
-use Rattle.ci_words.specs.Words.{AreApart, AreDigits, AreSaid, AreSet, Gives, IsDefault, IsName, IsWord, Reading, ReadsAs, ReadsBy, ReadsIn, Says, Sets, Text, Value, file, number, settings_in, values_of, word}
+use Rattle.ci_words.specs.Words.{AreApart, AreDigits, AreSaid, AreSet, Gives, IsDefault, IsName, IsWord, Reading}
+use Rattle.ci_words.specs.Words.{ReadsAs, ReadsBy, ReadsIn, Says, Sets, Text, Value, file, number, settings_in}
+use Rattle.ci_words.specs.Words.{values_of, word}
 use Rattle.ci_words.specs.Parses.{IsParsed, MatchesGive, app_by, are_rows, is_row, known_in, names_in, values_in}
 use Rattle.ci_words.proofs.Levels.{AreRead, passed_reads, read_meets}
 use Rattle.ci_words.proofs.Matches.{some-same}

@@ -1,5 +1,6 @@
 -- Words that pass `clap`'s walk are names and options, and these are what it finds.
-use Rattle.std.proofs.Common.{◌≡◌, ◌≢◌, ◌∙◌, ◌⊎◌, true, false, List, [], ◌∷◌, ◌++◌, codes, Option, Some, None, refl, sym, ap, ap₂, subst, arith, inl, inr, fold, append_assoc}
+use Rattle.std.proofs.Common.{◌≡◌, ◌≢◌, ◌∙◌, ◌⊎◌, true, false, List, [], ◌∷◌, ◌++◌, codes, Option, Some, None, refl}
+use Rattle.std.proofs.Common.{sym, ap, ap₂, subst, arith, inl, inr, fold, append_assoc}
 use Rattle.std.proofs.lemmas.List.{append-nil}
 use Rattle.std.specs.Prelude.{All, Contains}
 use Rattle.std.proofs.lemmas.List.Elements.{All-cons, All-nil}
@@ -17,7 +18,9 @@ use Rattle.ci_words.proofs.Spellings.{Look, Spells, look}
 use Rattle.ci_words.proofs.Spellings as seen
 use Rattle.ci_words.proofs.States.{AreOnce, AreOnce-push, Holds-filled, Holds-reacted, IsOption, filled, filled_new, first_none, opened, reacted_new}
 use Rattle.ci_words.proofs.States as states
-use Rattle.ci_words.proofs.Steps.{IsFree, IsPlain, at, dashes_walked, joined_fault, joined_walked, last_fault, last_walked, named, opened_fault, opened_walked, other_plain, plain_fault, plain_walked, refused_turn, short_cases, unknown_fault, value_walked}
+use Rattle.ci_words.proofs.Steps.{IsFree, IsPlain, at, dashes_walked, joined_fault, joined_walked, last_fault}
+use Rattle.ci_words.proofs.Steps.{last_walked, named, opened_fault, opened_walked, other_plain, plain_fault}
+use Rattle.ci_words.proofs.Steps.{plain_walked, refused_turn, short_cases, unknown_fault, value_walked}
 
 module _ (name : Text) (known : Known) where
   -- what is held after the words

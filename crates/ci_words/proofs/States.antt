@@ -1,5 +1,6 @@
 -- What is held between two words, and which names and options it stands for.
-use Rattle.std.proofs.Common.{◌≡◌, ◌≢◌, ◌∙◌, ◌≤◌, ◌+◌, ℕ, Bool, true, false, List, [], ◌∷◌, ◌++◌, codes, Some, None, refl, sym, ap, subst, arith, is_some, suc, length-append}
+use Rattle.std.proofs.Common.{◌≡◌, ◌≢◌, ◌∙◌, ◌≤◌, ◌+◌, ℕ, Bool, true, false, List, [], ◌∷◌, ◌++◌, codes, Some, None}
+use Rattle.std.proofs.Common.{refl, sym, ap, subst, arith, is_some, suc, length-append}
 use Rattle.std.specs.Prelude.{Contains, length}
 use Rattle.std.specs.Option.{option_map_or}
 use Rattle.std.specs.Str.{bytes_eq}

@@ -1,13 +1,17 @@
 -- What `clap`'s walk does at one word, between a first word and the last.
-use Rattle.std.proofs.Common.{◌≡◌, ◌≢◌, ◌∙◌, ◌<◌, ◌⊎◌, ◌&&◌, ℕ, Bool, true, false, List, [], ◌∷◌, length, codes, Option, Some, None, refl, sym, ap, ap₂, arith, inl, inr, zero, suc}
+use Rattle.std.proofs.Common.{◌≡◌, ◌≢◌, ◌∙◌, ◌<◌, ◌⊎◌, ◌&&◌, ℕ, Bool, true, false, List, [], ◌∷◌, length, codes, Option}
+use Rattle.std.proofs.Common.{Some, None, refl, sym, ap, ap₂, arith, inl, inr, zero, suc}
 use Rattle.std.specs.Prelude.{Contains, ⊤, slice_get, if◌then◌else◌, drop, encode_utf8, nat_lt}
 use Rattle.std.specs.Option.{option_map_or}
 use Rattle.std.specs.Str.{bytes_eq, chars}
 use Rattle.clap.specs.Lexer.{long_of, short_of}
 use Rattle.clap.specs.Kinds.{Kinds, or_else}
-use Rattle.clap.specs.Walk.{Held, Row, Rule, option_word, Step, Text, Waiting, Walk, Outcome, after_flag, after_step, arg_by_long, arg_by_short, bundle, bundle_met, long_met, long_or_other, plain_word, pushed, reacted, settled, short_word, short_or_plain, walked, word_met, is_pending, positional_held}
+use Rattle.clap.specs.Walk.{Held, Row, Rule, option_word, Step, Text, Waiting, Walk, Outcome, after_flag, after_step}
+use Rattle.clap.specs.Walk.{arg_by_long, arg_by_short, bundle, bundle_met, long_met, long_or_other, plain_word, pushed}
+use Rattle.clap.specs.Walk.{reacted, settled, short_word, short_or_plain, walked, word_met, is_pending, positional_held}
 use Rattle.clap.specs.Walk as w
-use Rattle.clap.specs.Faults.{bundle_fault, short_fault, bundle_step_fault, flag_word_fault, flags_fault, long_fault, positional_fault, settle_fault, step_fault, turn_fault, word_fault, react_fault}
+use Rattle.clap.specs.Faults.{bundle_fault, short_fault, bundle_step_fault, flag_word_fault, flags_fault, long_fault}
+use Rattle.clap.specs.Faults.{positional_fault, settle_fault, step_fault, turn_fault, word_fault, react_fault}
 use Rattle.clap.specs.declared.error.kind.ErrorKind.TheVariants as kind
 use Rattle.clap.proofs.FaultLemmas.{fault_ends}
 use Rattle.clap.proofs.WalkLemmas.{bundle_ends}

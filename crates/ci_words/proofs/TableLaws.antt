@@ -1,5 +1,6 @@
 -- Laws of the rows of a table: which names their options have, and that a word has one row.
-use Rattle.std.proofs.Common.{◌≡◌, ◌≢◌, ◌∙◌, ◌<◌, ◌⊎◌, ◌==◌, ◌&&◌, ℕ, Bool, true, false, not, List, [], ◌∷◌, length, map, codes, refl, sym, ap, ap₂, subst, arith, inl, inr, zero, suc, get_or, is_some}
+use Rattle.std.proofs.Common.{◌≡◌, ◌≢◌, ◌∙◌, ◌<◌, ◌⊎◌, ◌==◌, ◌&&◌, ℕ, Bool, true, false, not, List, [], ◌∷◌, length}
+use Rattle.std.proofs.Common.{map, codes, refl, sym, ap, ap₂, subst, arith, inl, inr, zero, suc, get_or, is_some}
 use Rattle.std.specs.Prelude.{All, Contains, cond, count_by}
 use Rattle.std.specs.List.{list_all, list_any, slice_index_or}
 use Rattle.std.specs.Str.{bytes_eq}

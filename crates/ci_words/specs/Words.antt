@@ -1,5 +1,6 @@
 -- For every reader: how the words of a command line are read, by a table of commands.
-use Rattle.std.specs.Prelude.{◌≡◌, ◌≢◌, ◌⊎◌, ℕ, Bool, false, ◌≤◌, List, [], ◌∷◌, ◌++◌, length, map, filter, zip, All, AllPairs, Contains, codes, Option, slice_get, unwrap_or, option_map, ⊤}
+use Rattle.std.specs.Prelude.{◌≡◌, ◌≢◌, ◌⊎◌, ℕ, Bool, false, ◌≤◌, List, [], ◌∷◌, ◌++◌, length, map, filter, zip, All}
+use Rattle.std.specs.Prelude.{AllPairs, Contains, codes, Option, slice_get, unwrap_or, option_map, ⊤}
 use Rattle.std.specs.List.{AllZip}
 use Rattle.std.specs.Str.{bytes_eq}
 use Rattle.std.specs.Str.Parse.{IsNumeral, digits_value}

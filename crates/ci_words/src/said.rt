@@ -1,5 +1,6 @@
 //! What the matches of a command say, by its row.
-ghost use Rattle.std.specs.Prelude.{◌≡◌, ◌≢◌, ◌⊎◌, ◌↔◌, ◌<◌, List, ◌++◌, map, length, AllPairs, IsTrue, IfOk, IfErr, OnOk};
+ghost use Rattle.std.specs.Prelude.{◌≡◌, ◌≢◌, ◌⊎◌, ◌↔◌, ◌<◌, List, ◌++◌, map, length, AllPairs, IsTrue, IfOk, IfErr};
+ghost use Rattle.std.specs.Prelude.{OnOk};
 ghost use Rattle.clap.specs.Words.{found_of, rows_of};
 ghost use Rattle.ci_words.specs.Words.{AreApart, AreSaid, AreSet, IsDefault, Reading, Sets, Value as SaidValue};
 ghost use Rattle.ci_words.specs.Read.{reading_of, setting_in, value_in};

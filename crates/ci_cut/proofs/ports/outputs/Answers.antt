@@ -7,13 +7,17 @@ use Rattle.ci_cut.specs.Ports.{is_output}
 use Rattle.ci_cut.proofs.NodeLaws.{node_there}
 use Rattle.ci_cut.proofs.PortLaws.{counted, not_counted, is_output-at}
 use Rattle.ci_cut.proofs.ports.outputs.Goals as goal
-use Rattle.ci_cut.proofs.ports.outputs.Goals.{then-node, else-node, then-wanted+then-has, else-wanted, else-wanted-via-then-wanted+else-has, else-wanted-via-else-wanted}
+use Rattle.ci_cut.proofs.ports.outputs.Goals.{then-node, else-node, then-wanted+then-has, else-wanted}
+use Rattle.ci_cut.proofs.ports.outputs.Goals.{else-wanted-via-then-wanted+else-has, else-wanted-via-else-wanted}
 
 pub loop-k-init : goal.loop-k-init
 loop-k-init c = sym (count_below-zero _)
 
 pub overflow_add-count : goal.overflow_add-count
-overflow_add-count c = let few = c.nodes-node-items.ensures.kept.few in let same = ap length c.nodes-node-items.ensures.value in omega (arith, c.loop-k.invariant, count_below-le c.loop-k.k (is_output c.args.graph.now (set.contains c.args.cut.now)))
+overflow_add-count c =
+    let few = c.nodes-node-items.ensures.kept.few in
+    let same = ap length c.nodes-node-items.ensures.value in
+    omega (arith, c.loop-k.invariant, count_below-le c.loop-k.k (is_output c.args.graph.now (set.contains c.args.cut.now)))
 
 pub loop-k-preserved : goal.loop-k-preserved
 loop-k-preserved c =

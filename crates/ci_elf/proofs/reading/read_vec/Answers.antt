@@ -99,7 +99,8 @@ new-requires c =
 pub returns : goal.returns
 returns c =
     subst (λ (file : List ℕ). IsReadAs file (Ok c.in_ok-image.image)) c.as_slice-file.ensures.value (
-      kept_stages c.as_slice-file.result.now c.in_ok-check_headers.ensures c.in_ok-segments.ensures.test c.in_ok-check_texts.ensures c.in_ok-ranges.ensures.test,
+      kept_stages c.as_slice-file.result.now c.in_ok-check_headers.ensures c.in_ok-segments.ensures.test
+          c.in_ok-check_texts.ensures c.in_ok-ranges.ensures.test,
       subst (IsImageOf c.as_slice-file.result.now) (sym c.in_ok-image.ensures)
           (rw (sym c.as_slice-file.ensures.value, c.entry-entry.ensures, c.in_ok-segments.ensures.value, c.in_ok-symbols.ensures)
           (image_from c.as_slice-file.result.now
