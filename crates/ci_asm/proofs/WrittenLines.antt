@@ -6,7 +6,7 @@ use Rattle.std.specs.List.{AllByRecursion, list_all}
 use Rattle.std.specs.Fmt.{decimal, signed_decimal, digits}
 use Rattle.std.proofs.lemmas.Int.{ints}
 use Rattle.ci_reading.specs.Hex.{eight_hex_digits}
-use Rattle.ci_reading.specs.Tokens.{IsApart, IsWritten, nothing, blank_before, token_before}
+use Rattle.ci_reading.specs.WrittenTokens.{IsApart, IsWritten, nothing, blank_before, token_before}
 use Rattle.ci_reading.proofs.TokenLaws.{AllTail, apart_from}
 use Rattle.ci_word.specs.declared.arithmetic.Op.{Op}
 use Rattle.ci_word.specs.declared.arithmetic.Op.TheVariants as ops

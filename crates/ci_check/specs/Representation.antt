@@ -1,4 +1,4 @@
--- What the code holds of a prefix, and of the best cut and a log.
+-- For the contracts of checker and search: what the code holds of a prefix, and of the best cut and a log.
 use Rattle.std.specs.Prelude.{◌≡◌, ℕ, suc, ◌+◌, ◌<◌, ◌≤◌, Bool, ◌⊎◌, List, ◌++◌, drop, length, IsTrue, Option, None}
 use Rattle.std.specs.Prelude.{Some, Result, Ok, Err}
 use Rattle.std.specs.List.{AllByRecursion}

@@ -1,4 +1,4 @@
--- What every data-flow graph keeps, and sets of its nodes.
+-- For the contracts of ci_cut: what every data-flow graph keeps, and sets of its nodes.
 use Rattle.std.specs.Prelude.{ℕ, ◌<◌, ◌≤◌, length, IsTrue}
 use Rattle.std.specs.Ordering.{nat_cmp}
 use Rattle.std.specs.FinSet as set

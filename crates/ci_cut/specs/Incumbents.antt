@@ -1,4 +1,4 @@
--- The best cut so far, and one set more.
+-- For the contracts of searches: the best cut so far, and one set more.
 use Rattle.std.specs.Prelude.{◌≡◌, ◌≤ℤ◌, ◌<ℤ◌, ◌⊎◌, Some}
 use Rattle.std.specs.Ordering.{nat_cmp}
 use Rattle.std.specs.FinSet as set

@@ -1,4 +1,4 @@
--- What instructions take by a latency table.
+-- For every reader: what instructions take by a latency table.
 use Rattle.ci_lat.specs.Latencies.{Latencies as Table, latency_of}
 use Rattle.ci_machine.specs.Runs.{Latencies}
 

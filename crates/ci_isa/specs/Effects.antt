@@ -15,7 +15,7 @@ use Rattle.ci_isa.specs.declared.instruction.Insn.TheVariants.{Fence, Ecall, Ebr
 -- ---- what an instruction reads and writes
 
 -- The registers that the instruction takes its operands from. An environment call takes its arguments in x10 to x12,
--- and its number in x17.
+-- and its number in x17. LUI, AUIPC, JAL, FENCE, EBREAK, `cread` and illegal words have none.
 abbrev pub operands : Insn → List ℕ
 operands (Alu op rd rs1 rs2) = rs1 ∷ rs2 ∷ []
 operands (AluImm op rd rs1 imm) = rs1 ∷ []
@@ -27,7 +27,8 @@ operands Ecall = 10 ∷ 11 ∷ 12 ∷ 17 ∷ []
 operands (Unit number rd rs1 rs2 rs3) = rs1 ∷ rs2 ∷ rs3 ∷ []
 operands insn = []
 
--- The register that takes the instruction's result. An environment call answers in x10.
+-- The register that takes the instruction's result. An environment call answers in x10. Branches, stores, FENCE, EBREAK
+-- and illegal words have none.
 abbrev pub results : Insn → List ℕ
 results (Alu op rd rs1 rs2) = rd ∷ []
 results (AluImm op rd rs1 imm) = rd ∷ []
@@ -77,7 +78,7 @@ width_bytes Word = 4
 
 -- ---- kinds
 
--- the instruction ends a block
+-- The instruction ends a block. Operations, LUI, loads, stores, unit words and `cread` don't.
 abbrev pub ends_block : Insn → Bool
 ends_block (Auipc rd upper) = true
 ends_block (Jal rd offset) = true
@@ -136,6 +137,7 @@ abbrev pub is_no_op : Op → ℕ → ℕ → ℤ → Bool
 is_no_op ops.Add rd rs1 imm = rd == 0 && rs1 == 0 && is_zero imm
 is_no_op op rd rs1 imm = false
 
+-- unit words, `cread` and illegal words are free
 abbrev pub class_of : Insn → Class
 class_of (Alu op rd rs1 rs2) = register_class op
 class_of (AluImm op rd rs1 imm) = if is_no_op op rd rs1 imm then class.Free else constant_class op

@@ -1,5 +1,5 @@
--- The registers that an instruction reads and writes, as sets. Laws say that they are what the tests of a register
--- find.
+-- For the contracts of ci_isa: the registers that an instruction reads and writes, as sets. Laws say that they are what
+-- the tests of a register find.
 use Rattle.std.specs.Prelude.{ℕ, List}
 use Rattle.std.specs.Ordering.{nat_cmp}
 use Rattle.std.specs.FinSet as set

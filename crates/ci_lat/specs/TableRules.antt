@@ -1,4 +1,4 @@
--- What every latency table keeps.
+-- For the contracts of ci_lat: what every latency table keeps.
 use Rattle.std.specs.Prelude.{◌≡◌, ◌<◌, ◌≤◌, length, All, take}
 use Rattle.ci_word.specs.declared.arithmetic.Class.{Class}
 use Rattle.ci_lat.specs.Latencies.{Latencies, place}

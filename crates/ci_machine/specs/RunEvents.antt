@@ -1,4 +1,5 @@
--- What happens over the steps of a run: where it met an end, where it enters and jumps, and whether it is tame.
+-- For readers of profiles and laws: what happens over the steps of a run, where it met an end, enters and jumps, and
+-- whether it is tame.
 use Rattle.std.specs.Prelude.{◌≡◌, ℕ, ◌<◌, ◌≤◌, Bool, ◌==◌, ◌&&◌, true, Option, Some, None}
 use Rattle.ci_word.specs.Numbers.{count_below}
 use Rattle.ci_isa.specs.declared.instruction.Insn.{Insn}

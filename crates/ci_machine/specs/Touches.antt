@@ -1,4 +1,5 @@
--- Which bytes of memory a step moves, which of them are text, and runs that leave the text alone.
+-- For readers of profiles and laws: which bytes of memory a step moves, which of them are text, and runs that leave the
+-- text alone.
 use Rattle.std.specs.Prelude.{◌≡◌, ℕ, ◌<◌, ◌==◌, ◌&&◌, true, if◌then◌else◌, List, [], Option, Some, None, find}
 use Rattle.ci_isa.specs.declared.instruction.Insn.{Insn}
 use Rattle.ci_isa.specs.declared.instruction.Insn.TheVariants.{Ecall}

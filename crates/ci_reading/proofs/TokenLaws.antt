@@ -5,7 +5,8 @@ use Rattle.std.specs.List.{AllByRecursion}
 use Rattle.std.proofs.Math.Seq.{take-append_seam, drop-append_seam}
 use Rattle.std.proofs.lemmas.List.{length-take-le, length-drop, length-append}
 use Rattle.ci_reading.specs.Tokens.{TokenFormat, token, stray_byte, text_end, Placed, at, BeginsWith, BeginsWithLongest, AreSymbols, behind_blank, behind_token}
-use Rattle.ci_reading.specs.Tokens.{at_end, at_comment, at_stray_byte, Stands, IsApart, IsWritten, nothing, blank_before, token_before}
+use Rattle.ci_reading.specs.Tokens.{at_end, at_comment, at_stray_byte, Stands}
+use Rattle.ci_reading.specs.WrittenTokens.{IsApart, IsWritten, nothing, blank_before, token_before}
 use Rattle.ci_reading.specs.Lexers.{Lexer, symbols_by, symbols_behind, symbols_of, IsLexer}
 use Rattle.ci_reading.proofs.BrokenLaws.{kept_append}
 

@@ -1,4 +1,4 @@
--- The first element of a list that breaks a property, and lists that are made number by number.
+-- For every reader: the first element of a list that breaks a property, and lists that are made number by number.
 use Rattle.std.specs.Prelude.{◌≡◌, ℕ, zero, suc, Bool, if◌then◌else◌, List, [], ◌∷◌, ◌++◌}
 use Rattle.std.specs.List.{AllByRecursion}
 

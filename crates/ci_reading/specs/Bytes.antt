@@ -1,4 +1,4 @@
--- Words of 32 bits as bytes, the lowest byte first.
+-- For every reader: words of 32 bits as bytes, the lowest byte first.
 use Rattle.std.specs.Prelude.{ℕ, List, [], ◌∷◌}
 use Rattle.std.specs.List.{flat_map}
 use Rattle.std.specs.Int.{to_le_bytes, from_le_bytes, w32}

@@ -1,4 +1,4 @@
--- Fronts of a language, and the first bad symbol of a list that isn't in it.
+-- For readers of line formats: fronts of a language, and the first bad symbol of a list that isn't in it.
 use Rattle.std.specs.Prelude.{◌≡◌, List, [], ◌∷◌, ◌++◌}
 
 -- some list of the language goes on from here

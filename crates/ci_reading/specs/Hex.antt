@@ -1,4 +1,4 @@
--- Numbers in hexadecimal digits, in lower case.
+-- For every reader: numbers in hexadecimal digits, in lower case.
 use Rattle.std.specs.Prelude.{ℕ, ◌/◌, ◌%◌, ◌^◌, false, List, [], ◌∷◌, map}
 use Rattle.std.specs.Fmt.{digit_glyph}
 

@@ -7,3 +7,4 @@ pub mod Lexers
 pub mod LineReading
 pub mod Lines
 pub mod Tokens
+pub mod WrittenTokens

@@ -1,5 +1,5 @@
--- For private contracts: what readers of line formats compute. A reader reads what stands at the beginning of a list of
--- symbols, and gives it with the symbols behind it, or tells where it stopped.
+-- For the contracts of readers of line formats: what they compute. A reader reads what stands at the beginning of a list
+-- of symbols, and gives it with the symbols behind it, or tells where it stopped.
 use Rattle.std.specs.Prelude.{ℕ, zero, suc, ◌==◌, nat_lt, Bool, false, if◌then◌else◌, List, [], ◌∷◌, ◌++◌, length}
 use Rattle.std.specs.Prelude.{Option, Some, None, Result, Ok, Err}
 

@@ -1,4 +1,4 @@
--- Lines of text.
+-- For every reader: lines of text.
 use Rattle.std.specs.Prelude.{ℕ, List, ◌++◌, codes}
 
 -- the text, ended by a newline
