@@ -16,41 +16,60 @@ use Rattle.ci_commands.specs.DisCommand.{dis_inputs, IsDisMade}
 use Rattle.ci_commands.specs.RunCommand.{run_inputs, IsRunMade}
 use Rattle.ci_commands.specs.BlocksCommand.{blocks_inputs, IsBlocksMade, IsBlocksRefused}
 
--- the files that the command reads, in order
+-- what a call of a command is: the files that it reads, in order; what it makes of their bytes; and what it refuses of
+-- them, though each file alone is well formed
+pub record CommandCall : Type 1 where
+  pub inputs : List Input
+  pub Makes : List (List ℕ) → Success → Type 0
+  pub Refuses : List (List ℕ) → Refusal → Type 0
+
+abbrev pub call_by : CommandName → Reading → CommandCall
+call_by Best reading = record {
+  inputs = best_inputs (word_set reading option.At) (name_at reading 0) (name_set reading option.Table);
+  Makes = λ read success.
+      (limits : Limits) × (limits.inputs ≡ number_set reading option.Inputs)
+      × (limits.outputs ≡ number_set reading option.Outputs)
+      × IsBestMade (word_set reading option.At) (words_set reading option.Leader) limits
+      (number_set reading option.Budget) (name_set reading option.Table) read success;
+  Refuses = IsBestRefused (word_set reading option.At) (words_set reading option.Leader);
+}
+call_by Asm reading = record {
+  inputs = asm_inputs (name_at reading 0);
+  Makes = IsAsmMade (name_at reading 1);
+  Refuses = RefusesNothing;
+}
+call_by Dis reading = record {
+  inputs = dis_inputs (name_at reading 0);
+  Makes = IsDisMade;
+  Refuses = RefusesNothing;
+}
+call_by Run reading = record {
+  inputs = run_inputs (name_at reading 0) (name_set reading option.Table) (name_set reading option.Input);
+  Makes = IsRunMade (number_set reading option.Steps) (name_set reading option.Table) (name_set reading option.Input);
+  Refuses = RefusesNothing;
+}
+call_by Blocks reading = record {
+  inputs = blocks_inputs (name_at reading 0);
+  Makes = IsBlocksMade (words_set reading option.Leader);
+  Refuses = IsBlocksRefused;
+}
+
 abbrev pub inputs_by : CommandName → Reading → List Input
-inputs_by Best reading = best_inputs (word_set reading option.At) (name_at reading 0) (name_set reading option.Table)
-inputs_by Asm reading = asm_inputs (name_at reading 0)
-inputs_by Dis reading = dis_inputs (name_at reading 0)
-inputs_by Run reading = run_inputs (name_at reading 0) (name_set reading option.Table) (name_set reading option.Input)
-inputs_by Blocks reading = blocks_inputs (name_at reading 0)
+inputs_by command reading = (call_by command reading).inputs
+
+abbrev pub MakesBy : CommandName → Reading → List (List ℕ) → Success → Type 0
+MakesBy command reading = (call_by command reading).Makes
+
+abbrev pub RefusesBy : CommandName → Reading → List (List ℕ) → Refusal → Type 0
+RefusesBy command reading = (call_by command reading).Refuses
+
+-- ---- by the reading's own command
 
 abbrev pub inputs_of : Reading → List Input
 inputs_of reading = inputs_by reading.command reading
 
--- what the command makes of the bytes of its files
-abbrev pub MakesBy : CommandName → Reading → List (List ℕ) → Success → Type 0
-MakesBy Best reading read success =
-    (limits : Limits) × (limits.inputs ≡ number_set reading option.Inputs)
-    × (limits.outputs ≡ number_set reading option.Outputs)
-    × IsBestMade (word_set reading option.At) (words_set reading option.Leader) limits
-    (number_set reading option.Budget) (name_set reading option.Table) read success
-MakesBy Asm reading read success = IsAsmMade (name_at reading 1) read success
-MakesBy Dis reading read success = IsDisMade read success
-MakesBy Run reading read success =
-    IsRunMade (number_set reading option.Steps) (name_set reading option.Table) (name_set reading option.Input)
-    read success
-MakesBy Blocks reading read success = IsBlocksMade (words_set reading option.Leader) read success
-
 abbrev pub IsMade : Reading → List (List ℕ) → Success → Type 0
 IsMade reading = MakesBy reading.command reading
-
--- what the command refuses of them, though each file alone is well formed
-abbrev pub RefusesBy : CommandName → Reading → List (List ℕ) → Refusal → Type 0
-RefusesBy Best reading = IsBestRefused (word_set reading option.At) (words_set reading option.Leader)
-RefusesBy Asm reading = RefusesNothing
-RefusesBy Dis reading = RefusesNothing
-RefusesBy Run reading = RefusesNothing
-RefusesBy Blocks reading = IsBlocksRefused
 
 abbrev pub IsRefusedOf : Reading → List (List ℕ) → Refusal → Type 0
 IsRefusedOf reading = RefusesBy reading.command reading

@@ -8,7 +8,7 @@ use Rattle.clap.specs.Words.{App, Row, Rule, new_rule, all_of, matches_of, fault
 use Rattle.clap.specs.Simple.{new_shape}
 use Rattle.clap.specs.declared.builder.action.ArgAction.{ArgAction}
 use Rattle.clap.specs.declared.builder.action.ArgAction.TheVariants.{Set, Append}
-use Rattle.ci_words.specs.Tables.{CommandRow, OptionRow, command_of, option_of}
+use Rattle.ci_words.specs.Tables.{CommandRow, OptionRow, command_of}
 use Rattle.ci_words.specs.Words.{Text, Value, Reading, AreApart, Gives}
 use Rattle.ci_words.specs.declared.tables.CommandName.{CommandName}
 use Rattle.ci_words.specs.declared.tables.DefaultValue.{DefaultValue}
@@ -18,7 +18,13 @@ use Rattle.ci_words.specs.declared.tables.OptionShape.{OptionShape}
 -- ---- rows of the code
 
 abbrev pub option_row : (Bor Text × OptionShape) × DefaultValue → OptionRow
-option_row row = option_of row.0.0.now row.0.1 row.1
+option_row row = record {
+  name = row.0.0.now;
+  option = row.0.1.option;
+  kind = row.0.1.kind;
+  repeatable = row.0.1.repeatable;
+  default = row.1;
+}
 
 abbrev pub command_row :
     Bor Text × CommandName × Bor (List Kind) × Bor (List ((Bor Text × OptionShape) × DefaultValue)) → CommandRow

@@ -1,11 +1,14 @@
--- For every reader: the table of the commands and of their options, which is that of the code, row by row.
-use Rattle.std.specs.Prelude.{ℕ, Bool, List, map}
+-- For every reader: the table of the commands and of their options.
+use Rattle.std.specs.Prelude.{ℕ, Bool, true, false, List, [], ◌∷◌, codes}
+use Rattle.ci_words.specs.declared.tables.Access.TheVariants.{Reads, Writes}
 use Rattle.ci_words.specs.declared.tables.CommandName.{CommandName}
+use Rattle.ci_words.specs.declared.tables.CommandName.TheVariants.{Best, Asm, Dis, Run, Blocks}
 use Rattle.ci_words.specs.declared.tables.DefaultValue.{DefaultValue}
+use Rattle.ci_words.specs.declared.tables.DefaultValue.TheVariants as default
 use Rattle.ci_words.specs.declared.tables.Kind.{Kind}
+use Rattle.ci_words.specs.declared.tables.Kind.TheVariants.{File, Number, Word}
 use Rattle.ci_words.specs.declared.tables.OptionName.{OptionName}
-use Rattle.ci_words.specs.declared.tables.OptionShape.{OptionShape}
-use Rattle.ci_words.specs.declared.tables.TheConstants.{COMMANDS}
+use Rattle.ci_words.specs.declared.tables.OptionName.TheVariants.{Inputs, Outputs, Budget, Steps, Table, Input, Leader, At}
 
 -- An option of a command: its name without hyphens, which one it is, the kind of its values, whether it may stand more
 -- than once, and what it is set to where it is not given.
@@ -23,23 +26,44 @@ pub record CommandRow : Type 0 where
   pub positional : List Kind
   pub options : List OptionRow
 
-abbrev pub option_of : List ℕ → OptionShape → DefaultValue → OptionRow
-option_of name shape default = record {
-  name = name;
-  option = shape.option;
-  kind = shape.kind;
-  repeatable = shape.repeatable;
-  default = default;
-}
+-- an option that may stand once
+abbrev pub single : List ℕ → OptionName → Kind → DefaultValue → OptionRow
+single name which values unset =
+    record { name = name; option = which; kind = values; repeatable = false; default = unset }
+
+-- one that may stand any number of times
+abbrev pub repeated : List ℕ → OptionName → Kind → DefaultValue → OptionRow
+repeated name which values unset = record (single name which values unset) { repeatable = true }
 
 abbrev pub command_of : List ℕ → CommandName → List Kind → List OptionRow → CommandRow
-command_of word command positional options =
-    record { word = word; command = command; positional = positional; options = options }
+command_of word which positional options =
+    record { word = word; command = which; positional = positional; options = options }
+
+-- a file with latencies
+abbrev pub table : OptionRow
+table = single (codes "table") Table (File Reads) default.Nothing
+
+-- addresses at which blocks begin too
+abbrev pub leader : OptionRow
+leader = repeated (codes "leader") Leader Word default.Nothing
 
 -- the table of the program
 unfoldable pub commands : List CommandRow
 commands =
-    map
-    (λ row. command_of row.0.now row.1 row.2.now
-    (map (λ option. option_of option.0.0.now option.0.1 option.1) row.3.now))
-    COMMANDS.now
+    command_of (codes "best") Best (File Reads ∷ [])
+    (single (codes "in") Inputs (Number 1 3) (default.Number 3)
+    ∷ single (codes "out") Outputs (Number 1 2) (default.Number 2)
+    ∷ single (codes "budget") Budget (Number 1 4194304) (default.Number 65536)
+    ∷ table
+    ∷ leader
+    ∷ single (codes "at") At Word default.Nothing
+    ∷ [])
+    ∷ command_of (codes "asm") Asm (File Reads ∷ File Writes ∷ []) []
+    ∷ command_of (codes "dis") Dis (File Reads ∷ []) []
+    ∷ command_of (codes "run") Run (File Reads ∷ [])
+    (single (codes "steps") Steps (Number 1 4294967296) (default.Number 16777216)
+    ∷ table
+    ∷ single (codes "input") Input (File Reads) default.Nothing
+    ∷ [])
+    ∷ command_of (codes "blocks") Blocks (File Reads ∷ []) (leader ∷ [])
+    ∷ []
