@@ -6,7 +6,7 @@ ghost use Rattle.ci_reading.specs.Hex.{eight_hex_digits};
 ghost use Rattle.ci_isa.specs.Effects.{is_access};
 ghost use Rattle.ci_isa.specs.Table.{IsWellFormed};
 ghost use Rattle.ci_asm.specs.Shown.{register_name, address, upper_text, listed, statement_line, shown};
-ghost use Rattle.ci_asm.specs.Assembly.{IsLineOf};
+ghost use Rattle.ci_asm.specs.Promised.{IsLineOf};
 
 use crate::mnemonics::{branch_name, immediate_name, load_name, operation_name, store_name};
 use ci_isa::{Cond, Insn, Reg};
