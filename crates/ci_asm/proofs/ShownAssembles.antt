@@ -15,7 +15,8 @@ use Rattle.ci_asm.specs.Tokens.{belongs, scan}
 use Rattle.ci_asm.specs.Lexicon.{IsBlank, Token, name, colon, Spells, line_format}
 use Rattle.ci_asm.specs.Forms.{Statement, plain}
 use Rattle.ci_asm.specs.Lines.{lines_of}
-use Rattle.ci_asm.specs.Assembly.{Line, IsLine, AreLines, IsResolved, IsInsnOf, IsAssembly, IsLineOf}
+use Rattle.ci_asm.specs.Assembly.{Line, IsLine, AreLines, IsResolved, IsInsnOf, IsAssembly}
+use Rattle.ci_asm.specs.Promised.{IsLineOf}
 use Rattle.ci_asm.specs.Shown.{shown}
 use Rattle.ci_asm.proofs.TestLaws.{by_test}
 use Rattle.ci_asm.proofs.LinesOfTexts.{lines_of-one}

@@ -1,10 +1,8 @@
 -- The words of a text, and its first fault.
-use Rattle.std.specs.Prelude.{◌≡◌, ◌≢◌, ℕ, ◌+◌, ◌*◌, ◌≤◌, ◌<◌, ◌⊎◌, List, [], ◌∷◌, ◌++◌, length, codes, Option, Some}
+use Rattle.std.specs.Prelude.{◌≡◌, ◌≢◌, ℕ, ◌+◌, ◌*◌, ◌≤◌, ◌<◌, ◌⊎◌, List, [], ◌∷◌, ◌++◌, length, Option, Some}
 use Rattle.std.specs.Prelude.{None, ℤ, pos, ◌-ℤ◌}
 use Rattle.ci_isa.specs.declared.instruction.Insn.{Insn}
 use Rattle.ci_isa.specs.Table.{IsWordOf}
-use Rattle.ci_asm.specs.declared.faults.AsmFault.{AsmFault}
-use Rattle.ci_asm.specs.declared.faults.AsmFault.TheVariants.{Bad, NoMemory}
 use Rattle.ci_reading.specs.Tokens.{token, stray_byte, text_end}
 use Rattle.ci_asm.specs.Lexicon.{Token, name, colon, Symbol, Stands}
 use Rattle.ci_asm.specs.Forms.{Field, IsIn, IsNumber, Statement, plain, to_label, IsStatement, IsMnemonic}
@@ -211,19 +209,3 @@ pub data HasFault (text : List ℕ) : ℕ → ℕ → ℕ → Type 0 where
       → IsProgram (lines_of text) (before ++ line ∷ after) → AreResolved (before ++ line ∷ after) before
       → IsFaultOfLabel (before ++ line ∷ after) before bytes line kind column
       → HasFault text kind (length lines + 1) (column + 1)
-
--- ---- what the calls promise
-
--- no other words are the assembly of the text, and it has no fault
-pub record IsOnlyAssembly (text words : List ℕ) : Type 0 where
-  pub no_others : (others : List ℕ) → IsAssembly text others → others ≡ words
-  pub no_fault : (kind line column : ℕ) → ¬ HasFault text kind line column
-
--- the fault is the text's, or memory ran out
-abbrev pub IsFaultOf : List ℕ → AsmFault → Type 0
-IsFaultOf text (Bad kind line column) = HasFault text kind line column
-IsFaultOf text NoMemory = Unit {0}
-
--- each word that stands for the instruction is the assembly of the line
-abbrev pub IsLineOf : List ℕ → Insn → Type 0
-IsLineOf line insn = (w : ℕ) → IsWordOf w insn → IsAssembly (line ++ codes "\n") (w ∷ [])

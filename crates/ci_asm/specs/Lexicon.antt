@@ -57,7 +57,8 @@ abbrev pub StartsWith : (ℕ → Type 0) → (ℕ → Type 0) → List ℕ → T
 StartsWith First Other [] = ⊥
 StartsWith First Other (c ∷ cs) = First c × AllByRecursion Other cs
 
--- a name is a letter and then letters and digits, and a number has a digit or more
+-- A name is a letter and then letters and digits, and a number has a digit or more. The last clause is of `.word`, the
+-- comma, the brackets and the colon, each of which is always written the same.
 abbrev pub IsToken : Token → Type 0
 IsToken (name bytes) = StartsWith IsLetter (λ c. IsLetter c ⊎ IsDigit c) bytes
 IsToken (decimal_number negative digits) = StartsWith IsDigit IsDigit digits

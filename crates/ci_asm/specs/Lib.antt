@@ -2,6 +2,7 @@ pub mod Lexicon
 pub mod Forms
 pub mod Lines
 pub mod Assembly
+pub mod Promised
 pub mod Shown
 pub mod Tokens
 pub mod Shapes

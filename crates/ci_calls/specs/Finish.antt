@@ -1,21 +1,14 @@
--- For private contracts only: the steps from a success or a refusal to the end of the call.
-use Rattle.std.specs.Prelude.{◌≡◌, ◌≢◌, ℕ, ◌≤◌, Bool, IsTrue, ◌⊎◌, List, [], ◌∷◌, ◌++◌, Option, take}
+-- For private contracts only: the steps from a success to the end of the call.
+use Rattle.std.specs.Prelude.{◌≡◌, ◌≢◌, ℕ, ◌≤◌, Bool, IsTrue, List, [], ◌∷◌, ◌++◌, Option, take}
 use Rattle.std.specs.Option.{option_map}
 use Rattle.std.specs.String.{string_bytes}
 use Rattle.ci_io.specs.Outcomes.{Rises, ShelfState, SinkState, with_file}
 use Rattle.ci_calls.specs.declared.finishing.WriteErr.{WriteErr}
 use Rattle.ci_calls.specs.declared.finishing.WriteErr.TheVariants as unwritten
-use Rattle.ci_calls.specs.declared.refusals.Refusal.{Refusal}
 use Rattle.ci_calls.specs.declared.refusals.Refusal.TheVariants.{Write, Put, NoMemory}
 use Rattle.ci_calls.specs.declared.success.Written.{Written}
 use Rattle.ci_calls.specs.Finishing.{Takes, NeverFalls, IsPut, AreWritten}
 use Rattle.ci_calls.specs.Refusals.{status_of, line_of}
-
--- The refusal's status, and its line was put; or memory ran out for the line, and then that is the refusal.
-abbrev pub IsRefused : Refusal → ℕ → SinkState → SinkState → Type 0
-IsRefused refusal status before after =
-    ((status ≡ status_of refusal) × IsPut before after (line_of refusal))
-    ⊎ ((status ≡ status_of NoMemory) × IsPut before after (line_of NoMemory))
 
 -- Why a file was not written: its write failed, and this is the refusal that names it, with its fault line; or memory
 -- ran out.

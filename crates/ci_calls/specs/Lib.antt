@@ -6,3 +6,4 @@ pub mod Evaluations
 pub mod Finishing
 pub mod Refused
 pub mod Finish
+pub mod RefusedCalls

@@ -31,7 +31,14 @@ impl<'a> From<AllocError> for WriteErr<'a> {
     }
 }
 
-/// Writes what a success writes, then puts its text, and answers the status.
+/// Writes what a success writes, then puts its text, and answers the status: 0 where all was done.
+///
+/// # Errors
+///
+/// With any other status the call ends early, and a fault line is put; what came before stays done. 3: a write failed,
+/// and then the name of its file holds any bytes or nothing; or the put of the text failed, and then only a front of it
+/// was taken. 12: memory ran out for a write, and then its file did not change; or for the put, and then nothing of the
+/// text was taken.
 pub fn finish<F: Shelf, O: Sink>(
     alloc: Global,
     success: &Success<'_>,

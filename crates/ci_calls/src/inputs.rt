@@ -24,6 +24,11 @@ const TABLE_LIMIT: u64 = 65_536;
 const INPUT_LIMIT: u64 = 16_777_216;
 
 /// The bytes of the file of a name, which may have up to `limit`.
+///
+/// # Errors
+///
+/// `Read` where no file has the name, or reading it failed. `TooLarge` where the file has more bytes. `NoMemory`:
+/// memory ran out.
 pub fn read_file<'a, F: Shelf>(
     alloc: Global,
     name: &'a str,
@@ -50,6 +55,11 @@ pub fn read_file<'a, F: Shelf>(
 }
 
 /// The image of the executable file of a name.
+///
+/// # Errors
+///
+/// `Read` where no file has the name, or reading it failed. `TooLarge` where the file has more than 16,777,216 bytes.
+/// `BadElf` where it is no executable, by the first rule that it breaks. `NoMemory`: memory ran out.
 pub fn read_image<'a, F: Shelf>(
     alloc: Global,
     name: &'a str,
@@ -69,6 +79,10 @@ pub fn read_image<'a, F: Shelf>(
 }
 
 /// The latency table in the file of a name.
+///
+/// # Errors
+///
+/// Those of [`read_table`].
 fn read_table_file<'a, F: Shelf>(
     alloc: Global,
     name: &'a str,
@@ -88,6 +102,11 @@ fn read_table_file<'a, F: Shelf>(
 }
 
 /// The latency table in the file of a name, or the usual table where none is given.
+///
+/// # Errors
+///
+/// `Read` where no file has the name, or reading it failed. `TooLarge` where the file has more than 65,536 bytes.
+/// `BadTable` where it is no latency table, by its first fault. `NoMemory`: memory ran out.
 pub fn read_table<'a, F: Shelf>(
     alloc: Global,
     name: Option<&'a str>,
@@ -109,6 +128,11 @@ pub fn read_table<'a, F: Shelf>(
 }
 
 /// The input of a program, from the file of a name, or none where no name is given.
+///
+/// # Errors
+///
+/// `Read` where no file has the name, or reading it failed. `TooLarge` where the file has more than 16,777,216 bytes.
+/// `NoMemory`: memory ran out.
 pub fn read_input<'a, F: Shelf>(
     alloc: Global,
     name: Option<&'a str>,

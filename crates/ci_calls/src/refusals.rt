@@ -2,7 +2,7 @@
 ghost use Rattle.std.specs.Prelude.{◌≡◌, ◌++◌, IfOk, OnOk};
 ghost use Rattle.std.specs.String.{string_bytes};
 ghost use Rattle.ci_calls.specs.Finishing.{IsPut};
-ghost use Rattle.ci_calls.specs.Finish.{IsRefused};
+ghost use Rattle.ci_calls.specs.RefusedCalls.{IsRefused};
 ghost use Rattle.ci_calls.specs.Refusals.{elf_fault_numbers, elf_text, line_of, numbers_text, status_of, table_text};
 ghost use Rattle.ci_calls.specs.Refusals.{text_of, unsupported_text};
 
@@ -224,7 +224,12 @@ fn unsupported_text(alloc: Global, position: u32, word: u32) -> Result<String, A
     Ok(text)
 }
 
-/// Puts the fault line of a refusal, and answers its status. Where memory for the line runs out, that is the refusal.
+/// Puts the fault line of a refusal, and answers its status.
+///
+/// # Errors
+///
+/// Where memory runs out for the line, that is the refusal, with its own line and status 12. Where the sink fails to
+/// take the line, or all of it, the status is the same.
 pub fn refuse<O: Sink>(alloc: Global, refusal: &Refusal<'_>, out: &mut O) -> u8
     ensures { IsRefused refusal.now result (O.state out.old) (O.state out.new) }
 {

@@ -17,6 +17,12 @@ use std::alloc::Global;
 const TEXT_LIMIT: u64 = 1_048_576;
 
 /// Makes the file of the words that the text in a file assembles to. It puts nothing.
+///
+/// # Errors
+///
+/// `Read` where no file has the name of the text, or reading it failed. `TooLarge` where the file has more than
+/// 1,048,576 bytes. `BadAsm` is the first fault of the text. Bytes that aren't UTF-8 are a fault of kind 1 at line 1,
+/// column 1. `NoMemory`: memory ran out.
 pub fn evaluate<'a, F: Shelf>(
     alloc: Global,
     text: &'a str,

@@ -47,13 +47,27 @@ pub struct BestSettings<'a, 'b> {
     pub leaders: &'b [u32],
     /// The greatest numbers of inputs and of outputs of a cut.
     pub limits: Limits,
-    /// The greatest number of branches of the log of the search.
+    /// The greatest number of branches of the log of the search, itself at most 4,194,304.
     pub budget: u32,
     /// The file with the latency table, which is the usual one where there is none.
     pub table: Option<&'a str>,
 }
 
-/// Makes the line of the best cut of the block in the file.
+/// Makes the line of the best cut of the block in the file. The budget of the settings is at most 4,194,304.
+///
+/// # Errors
+///
+/// The first fault of the file, and then of the table: `Read` where no file has the name, or reading it failed;
+/// `TooLarge` where an executable has more than 16,777,216 bytes, a file of words more than 1,024, or a table more than
+/// 65,536; `BadElf` where the settings give an address and the file is no executable; `BadTable` where the table is no
+/// latency table.
+///
+/// Then `Unsupported` where the file holds no such block. In an executable it names the first word of a custom opcode
+/// in the text, by its address, or else the address at which no block begins, with 0. In a file of words it names the
+/// file's length where that is no multiple of four, with 0, or else the first word that can't stand in its place, by
+/// its offset in bytes: a word of a custom opcode, or a terminator before the last word.
+///
+/// `NoMemory`: memory ran out. A budget that is too small for the search is no error.
 pub fn evaluate<'a, F: Shelf>(
     alloc: Global,
     file: &'a str,

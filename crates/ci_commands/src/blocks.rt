@@ -21,6 +21,12 @@ use ci_word::push_members;
 use std::alloc::{AllocError, Global};
 
 /// Makes the lines of the blocks of the executable in the file. `named` are addresses that the user names as leaders.
+///
+/// # Errors
+///
+/// `Read` where no file has the name, or reading it failed. `TooLarge` where the file has more than 16,777,216 bytes.
+/// `BadElf` where it is no executable, by the first rule that it breaks. `Unsupported` where its text has a word of a
+/// custom opcode: the first of these, at its address. `NoMemory`: memory ran out.
 pub fn evaluate<'a, F: Shelf>(
     alloc: Global,
     file: &'a str,

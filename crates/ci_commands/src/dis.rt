@@ -17,6 +17,11 @@ use std::alloc::{AllocError, Global};
 const WORDS_LIMIT: u64 = 1_048_576;
 
 /// Makes the listing of the words of the file.
+///
+/// # Errors
+///
+/// `Read` where no file has the name, or reading it failed. `TooLarge` where the file has more than 1,048,576 bytes.
+/// `NoMemory`: memory ran out.
 pub fn evaluate<'a, F: Shelf>(
     alloc: Global,
     file: &'a str,

@@ -21,7 +21,7 @@ use std::alloc::{AllocError, Global};
 /// How a file is run.
 #[derive(Clone, Copy)]
 pub struct RunSettings<'a> {
-    /// The greatest number of steps.
+    /// The greatest number of steps, itself at most 4,294,967,296.
     pub steps: u64,
     /// The file with the input of the program, which reads nothing where there is none.
     pub input: Option<&'a str>,
@@ -29,7 +29,15 @@ pub struct RunSettings<'a> {
     pub table: Option<&'a str>,
 }
 
-/// Makes the output and the end line of the run of the executable in the file.
+/// Makes the output and the end line of the run of the executable in the file. The steps of the settings are at most
+/// 4,294,967,296.
+///
+/// # Errors
+///
+/// The first fault of the executable, then of the table, and then of the input: `Read` where no file has the name, or
+/// reading it failed; `TooLarge` where the executable or the input has more than 16,777,216 bytes, or the table more
+/// than 65,536; `BadElf` where the first is no executable; `BadTable` where the table is no latency table. `NoMemory`:
+/// memory ran out. However the run ends, that is no error.
 pub fn evaluate<'a, F: Shelf>(
     alloc: Global,
     file: &'a str,

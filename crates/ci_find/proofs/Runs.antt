@@ -4,7 +4,7 @@ use Rattle.ci_io.specs.Outcomes.{Files}
 use Rattle.ci_calls.specs.declared.refusals.Refusal.{Refusal}
 use Rattle.ci_calls.specs.declared.refusals.Refusal.TheVariants.{Usage, Read, Write, Put, TooLarge, BadElf, BadTable, Unsupported, NoMemory, BadAsm}
 use Rattle.ci_calls.specs.declared.success.Success.{Success}
-use Rattle.ci_calls.specs.Finish.{IsRefused}
+use Rattle.ci_calls.specs.RefusedCalls.{IsRefused}
 use Rattle.ci_calls.specs.Finishing.{Change, IsPut, IsUnwritten, Finishes, done, write_fault, put_fault, no_memory_in_write, no_memory_in_put}
 use Rattle.ci_calls.specs.Refusals.{status_of, line_of}
 use Rattle.ci_calls.proofs.Counts.{Rises-earlier}

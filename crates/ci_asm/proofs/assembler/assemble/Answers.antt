@@ -4,7 +4,8 @@ use Rattle.std.proofs.lemmas.Result.{err_from_is_err_and}
 use Rattle.ci_asm.specs.LabelMap.{found_in}
 use Rattle.ci_asm.specs.Programs.{all_read, assembled, AreWordsIn, IsFaultIn}
 use Rattle.ci_asm.specs.Lines.{lines_of}
-use Rattle.ci_asm.specs.Assembly.{IsAssembly, IsFaultOf}
+use Rattle.ci_asm.specs.Assembly.{IsAssembly}
+use Rattle.ci_asm.specs.Promised.{IsFaultOf}
 use Rattle.ci_asm.proofs.AssemblySteps.{assembled-read, assembled-unread, fault_carried}
 use Rattle.ci_asm.proofs.Promises.{words_told, only_told, fault_told, faults_told}
 use Rattle.ci_asm.proofs.assembler.assemble.Goals as goal
