@@ -1,0 +1,6 @@
+use Rattle.std.proofs.Common.{arith}
+use Rattle.ci_verilog.proofs.VectorLaws.{shifted_past_left}
+use Rattle.ci_verilog.proofs.vectors.shifted_left.Goals as goal
+
+pub returns-else-right-from : goal.returns-else-right-from
+returns-else-right-from c = shifted_past_left c.args.left.value c.args.left.width c.args.right.value (omega arith)

@@ -1,0 +1,4 @@
+pub mod Modules
+pub mod Values
+pub mod Laws
+pub mod Held

@@ -1,0 +1,19 @@
+//! Modules of the Verilog profile, and what they compute.
+#![tactic(auto)]
+
+pub use evaluation::eval;
+pub use expressions::{Expr, Item, Items, Name, Operator, Simple, Term, Wire};
+pub use modules::Module;
+pub use wires::Wires;
+
+mod equality;
+mod evaluation;
+mod expressions;
+pub mod laws;
+mod lookup;
+mod modules;
+#[cfg(test)]
+mod tests;
+mod vectors;
+mod widths;
+mod wires;

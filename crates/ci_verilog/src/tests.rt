@@ -1,0 +1,264 @@
+//! Modules built by hand.
+use crate::eval;
+use crate::expressions::{Expr, Item, Items, Name, Operator, Simple, Term, Wire};
+use crate::modules::Module;
+use crate::wires::Wires;
+use std::alloc::{AllocError, Global};
+use std::process::Abort;
+use std::test::Fail;
+
+/// All bits of a name.
+fn whole(alloc: Global, wires: &Wires, name: &[u8]) -> Result<Simple, AllocError> {
+    Ok(Simple::Whole(wires.name(name.to_vec(alloc)?)))
+}
+
+/// Some bits of a name.
+fn bits(
+    alloc: Global,
+    wires: &Wires,
+    name: &[u8],
+    high: u8,
+    low: u8,
+) -> Result<Simple, AllocError> {
+    Ok(Simple::Bits(wires.name(name.to_vec(alloc)?), high, low))
+}
+
+fn number(width: u8, value: u64) -> Simple {
+    Simple::Number { width, value }
+}
+
+fn joined(alloc: Global, first: Item, second: Item) -> Result<Term, AllocError> {
+    let mut items = Items::new(alloc);
+    items.push(first)?;
+    items.push(second)?;
+    Ok(Term::Join(items))
+}
+
+fn two(operator: Operator, left: Simple, right: Simple) -> Expr {
+    Expr::Two(operator, Term::Plain(left), Term::Plain(right))
+}
+
+fn one(simple: Simple) -> Expr {
+    Expr::One(Term::Plain(simple))
+}
+
+/// Puts a wire of this width at the end.
+fn declare(
+    rt: &impl Abort,
+    alloc: Global,
+    wires: &mut Wires,
+    name: &[u8],
+    width: u8,
+    value: Expr,
+) -> Result<(), AllocError> {
+    let name = Name::new(name.to_vec(alloc)?);
+    let wire = Wire { name, width, value };
+    assert!(rt; !wires.is_full());
+    assert!(rt; wires.allows(&wire));
+    wires.push(wire)
+}
+
+/// The module of these wires with y and z.
+fn module(rt: &impl Abort, wires: Wires, y: Expr, z: Expr) -> Module {
+    assert_eq!(rt; wires.expr_width(&y), Some(32));
+    assert_eq!(rt; wires.expr_width(&z), Some(32));
+    Module::new(0, 1, wires, y, z)
+}
+
+/// y and z, of which nothing is known.
+fn value(module: &Module, a: u32, b: u32, c: u32) -> (u32, u32) {
+    eval(module, a, b, c)
+}
+
+/// Whether the two modules are equal.
+fn equal(left: &Module, right: &Module) -> bool {
+    left.is_equal(right)
+}
+
+/// The module without wires, y and with z of this value.
+fn constant(rt: &impl Abort, alloc: Global, z: u64) -> Module {
+    module(
+        rt,
+        Wires::new(alloc),
+        one(number(32, 7)),
+        one(number(32, z)),
+    )
+}
+
+/// The width of a name.
+fn width(alloc: Global, wires: &Wires, name: &[u8]) -> Result<Option<u8>, AllocError> {
+    Ok(wires.width_of(&Name::new(name.to_vec(alloc)?)))
+}
+
+/// The width of an expression.
+fn expr_width(wires: &Wires, expr: &Expr) -> Option<u8> {
+    wires.expr_width(expr)
+}
+
+/// A vector of 64 bits: the sign of a name of 32 bits above it.
+fn signed(alloc: Global, wires: &Wires, name: &[u8]) -> Result<Term, AllocError> {
+    let sign = Item::Repeat(32, bits(alloc, wires, name, 31, 31)?);
+    joined(alloc, sign, Item::Plain(whole(alloc, wires, name)?))
+}
+
+/// y of one operator on a and b.
+fn on(
+    rt: &impl Abort,
+    alloc: Global,
+    operator: Operator,
+    a: u32,
+    b: u32,
+) -> Result<u32, AllocError> {
+    let wires = Wires::new(alloc);
+    let left = whole(alloc, &wires, b"a")?;
+    let right = whole(alloc, &wires, b"b")?;
+    let module = module(rt, wires, two(operator, left, right), one(number(32, 0)));
+    Ok(value(&module, a, b, 0).0)
+}
+
+#[test]
+fn mulhsu(rt: HostRuntime) -> Result<(), Fail> {
+    let alloc = rt.alloc();
+    let mut wires = Wires::new(alloc);
+    let left = signed(alloc, &wires, b"a")?;
+    let zeros = Item::Plain(number(32, 0));
+    let right = joined(alloc, zeros, Item::Plain(whole(alloc, &wires, b"b")?))?;
+    let product = Expr::Two(Operator::Times, left, right);
+    declare(&rt, alloc, &mut wires, b"w0", 64, product)?;
+    let y = one(bits(alloc, &wires, b"w0", 63, 32)?);
+    let module = module(&rt, wires, y, one(number(32, 0)));
+    assert_eq!(rt;
+        value(&module, 0x8000_0000, 0xffff_ffff, 0),
+        (0x8000_0000, 0)
+    );
+    Ok(())
+}
+
+#[test]
+fn sra(rt: HostRuntime) -> Result<(), Fail> {
+    let alloc = rt.alloc();
+    let mut wires = Wires::new(alloc);
+    let left = signed(alloc, &wires, b"a")?;
+    let amount = Term::Plain(bits(alloc, &wires, b"b", 4, 0)?);
+    let shifted = Expr::Two(Operator::Right, left, amount);
+    declare(&rt, alloc, &mut wires, b"w0", 64, shifted)?;
+    let y = one(bits(alloc, &wires, b"w0", 31, 0)?);
+    let module = module(&rt, wires, y, one(number(32, 0)));
+    assert_eq!(rt; value(&module, 0x8000_0000, 31, 0), (0xffff_ffff, 0));
+    Ok(())
+}
+
+#[test]
+fn operators_at_corners(rt: HostRuntime) -> Result<(), Fail> {
+    for (operator, a, b, want) in [
+        (Operator::Plus, 0xffff_ffff, 2, 1),
+        (Operator::Minus, 1, 2, 0xffff_ffff),
+        (Operator::Times, 0xffff_ffff, 0xffff_ffff, 1),
+        (Operator::And, 0xf0f0_f0f0, 0xff00_ff00, 0xf000_f000),
+        (Operator::Or, 0xf0f0_f0f0, 0xff00_ff00, 0xfff0_fff0),
+        (Operator::Xor, 0xf0f0_f0f0, 0xff00_ff00, 0x0ff0_0ff0),
+        (Operator::Left, 0x8000_0001, 31, 0x8000_0000),
+        (Operator::Left, 1, 32, 0),
+        (Operator::Right, 0x8000_0000, 31, 1),
+        (Operator::Right, 0xffff_ffff, 32, 0),
+    ] {
+        assert_eq!(rt;
+            on(&rt, rt.alloc(), operator, a, b)?,
+            want,
+            "{operator:?} {a:x} {b:x}"
+        );
+    }
+    Ok(())
+}
+
+#[test]
+fn comparison_chooses(rt: HostRuntime) -> Result<(), Fail> {
+    let alloc = rt.alloc();
+    let mut wires = Wires::new(alloc);
+    let left = whole(alloc, &wires, b"a")?;
+    let right = whole(alloc, &wires, b"b")?;
+    declare(
+        &rt,
+        alloc,
+        &mut wires,
+        b"w0",
+        1,
+        two(Operator::Less, left, right),
+    )?;
+    let test = Term::Plain(whole(alloc, &wires, b"w0")?);
+    let second = Term::Plain(number(32, 5));
+    let third = Term::Plain(whole(alloc, &wires, b"c")?);
+    let z = one(whole(alloc, &wires, b"a")?);
+    let module = module(&rt, wires, Expr::Choose(test, second, third), z);
+    assert_eq!(rt; value(&module, 1, 2, 7), (5, 1));
+    assert_eq!(rt; value(&module, 2, 2, 7), (7, 2));
+    assert_eq!(rt; value(&module, 0xffff_ffff, 1, 7), (7, 0xffff_ffff));
+    Ok(())
+}
+
+#[test]
+fn widths_1_and_64(rt: HostRuntime) -> Result<(), Fail> {
+    let alloc = rt.alloc();
+    let mut wires = Wires::new(alloc);
+    declare(
+        &rt,
+        alloc,
+        &mut wires,
+        b"q",
+        1,
+        two(Operator::Plus, number(1, 1), number(1, 1)),
+    )?;
+    declare(
+        &rt,
+        alloc,
+        &mut wires,
+        b"r",
+        64,
+        Expr::One(Term::Repeat(64, number(1, 1))),
+    )?;
+    let y = one(bits(alloc, &wires, b"r", 63, 32)?);
+    let ones = Item::Repeat(31, number(1, 1));
+    let z = Expr::One(joined(alloc, ones, Item::Plain(whole(alloc, &wires, b"q")?))?);
+    let module = module(&rt, wires, y, z);
+    assert_eq!(rt; value(&module, 0, 0, 0), (0xffff_ffff, 0xffff_fffe));
+    Ok(())
+}
+
+#[test]
+fn names_are_told(rt: HostRuntime) -> Result<(), Fail> {
+    let alloc = rt.alloc();
+    let mut wires = Wires::new(alloc);
+    declare(
+        &rt,
+        alloc,
+        &mut wires,
+        b"w",
+        1,
+        two(Operator::Less, number(7, 1), number(7, 2)),
+    )?;
+    assert_eq!(rt; width(alloc, &wires, b"w")?, Some(1));
+    assert_eq!(rt; width(alloc, &wires, b"c")?, Some(32));
+    assert_eq!(rt; width(alloc, &wires, b"y")?, None);
+    let beyond = one(bits(alloc, &wires, b"a", 32, 0)?);
+    assert_eq!(rt; expr_width(&wires, &beyond), None);
+    let unlike = two(Operator::Plus, number(7, 1), number(8, 2));
+    assert_eq!(rt; expr_width(&wires, &unlike), None);
+    Ok(())
+}
+
+#[test]
+fn module_without_wires(rt: HostRuntime) {
+    let module = constant(&rt, rt.alloc(), 1);
+    assert_eq!(rt; value(&module, 0, 0, 0), (7, 1));
+}
+
+/// Whether two modules with these values of z are equal.
+fn equal_constants(rt: &impl Abort, alloc: Global, left: u64, right: u64) -> bool {
+    equal(&constant(rt, alloc, left), &constant(rt, alloc, right))
+}
+
+#[test]
+fn equal_modules(rt: HostRuntime) {
+    assert!(rt; equal_constants(&rt, rt.alloc(), 1, 1));
+    assert!(rt; !equal_constants(&rt, rt.alloc(), 0, 1));
+}
