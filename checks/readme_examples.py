@@ -26,7 +26,7 @@ from compiled import compiler_lacks
 
 TOP = os.path.join(os.path.dirname(os.path.abspath(__file__)), "..")
 DOCUMENTS = ("README.md", "docs/GUIDE.md")
-BUILT_IN = {"cd", "echo"}
+BUILT_IN = {"cd", "do", "done", "echo", "read", "while"}
 GCC, VERSION = "riscv64-unknown-elf-gcc", "12.2.0"
 LIMIT = 120
 
