@@ -4,8 +4,7 @@
     compare_words.py PROGRAM
 
 Of each of some lists of words that are made up, the script has to name a fault exactly where the program ends with
-status 1. Without a word it has none to name; and it names a file that stands twice also where that is no fault, since
-it is asked after status 1 alone.
+status 1. It names a file that stands twice also where that is no fault, since it is asked after status 1 alone.
 """
 import os
 import random
@@ -82,7 +81,7 @@ def main():
                                   stderr=subprocess.STDOUT, text=True, check=False)
             refused += done.returncode == 1
             reads_twice = done.returncode != 1 and said.stdout.endswith("names twice\n")
-            is_due = bool(given) if done.returncode == 1 else reads_twice
+            is_due = done.returncode == 1 or reads_twice
             if is_due != bool(said.stdout) or said.stdout.count("\n") > 1:
                 wrong += 1
                 print(f"{given}: status {done.returncode}, and the script says: {said.stdout.strip() or 'nothing'}")

@@ -5,6 +5,7 @@ It takes some seconds, needs no toolchain, and leaves nothing behind.
 """
 import errno
 import fcntl
+import functools
 import os
 import pty
 import select
@@ -35,6 +36,7 @@ rumtsafi area OLD --limit N [--in N]
   K             a number, 0 to 31
   A, B          words, as 0x and hex digits
 """
+COMMANDS = "there are: best blocks run asm dis"
 TOOLCHAIN = "kit of the tests"
 # What a call of the script asks of `rt`, with the folder that it does so in.
 BUILDS = ["a clone all check --jobs N", "ci_main run -- dis /dev/null"]
@@ -212,12 +214,16 @@ class Built(Repository):
 
     def test_usage_follows_status_1_alone_and_on_standard_error(self):
         self.use("one")
-        self.assertEqual(self.use(STATUS="1"), (1, "built from first with \n", USAGE))
+        self.assertEqual(self.use(STATUS="1"), (1, "built from first with \n",
+                                                f"{USAGE}rumtsafi: a command is missing; {COMMANDS}\n"))
         self.assertEqual(self.use("best", "a", STATUS="7"), (7, "built from first with best a\n", ""))
 
     def test_status_1_names_the_word_that_has_no_reading(self):
         self.use("one")
         for words, why in ((["bset"], "there is no command 'bset'; there are: best"),
+                           (["--help", "best"], "--help stands alone"),
+                           (["best", "a", "-o", "3"], "best has no option '-o'"),
+                           (["best", "a", "--in", "-1"], "--in can't be '-1': no name or value begins with -"),
                            (["best", "a", "--steps", "3"], "best has no option '--steps'"),
                            (["best", "a", "--in", "4"], "--in takes a number from 1 to 3, which '4' is not"),
                            (["best"], "best takes FILE, and FILE is missing"),
@@ -226,6 +232,10 @@ class Built(Repository):
             status, _, told = self.use(*words, STATUS="1")
             self.assertEqual(status, 1)
             self.assertTrue(told.startswith(f"{USAGE}rumtsafi: {why}"), told)
+
+    def test_status_16_says_why(self):
+        self.use("one")
+        self.assertEqual(self.use("best", STATUS="16")[2], "rumtsafi: a word isn't UTF-8\n")
 
     def test_numbers_words_and_needed_options_are_read_from_the_usage(self):
         self.write("docs/usage.txt", MORE_USAGE)
@@ -363,10 +373,11 @@ def has_terminals():
 
 @unittest.skipUnless(has_terminals(), "there are no terminals")
 class AtTerminal(Repository):
-    """Uses whose standard output is a terminal, and mostly their standard error too."""
+    """Uses whose standard output and standard error are a terminal, or one of the two."""
 
-    def at_terminal(self, *words, keys="", with_error=True, before=b""):
-        """Runs the script, and types the keys once `before` is shown: its status, the terminal, standard error."""
+    def at_terminal(self, *words, keys="", before=b"", output=None, error=None, shell=()):
+        """Runs the script, perhaps by a shell, with its output and its error to the terminal where no other place is
+        given, and types the keys once `before` is shown: its status, and what the terminal shows."""
         master, slave = pty.openpty()
         modes = termios.tcgetattr(slave)
         modes[1] &= ~termios.OPOST
@@ -376,30 +387,33 @@ class AtTerminal(Repository):
             os.setsid()
             fcntl.ioctl(slave, termios.TIOCSCTTY, 0)
 
-        with tempfile.TemporaryFile() as error:
-            process = subprocess.Popen([os.path.join(self.root, "rumtsafi"), *words], env=self.environment(),
-                                       stdin=slave, stdout=slave, stderr=slave if with_error else error,
-                                       preexec_fn=own_terminal)
-            os.close(slave)
-            shown, latest = b"", time.monotonic() + 30
-            while time.monotonic() < latest:
-                if keys and before in shown:
-                    os.write(master, keys.encode())
-                    keys = ""
-                if not select.select([master], [], [], 0.1)[0]:
-                    continue
-                try:
-                    part = os.read(master, 65536)
-                except OSError as fault:
-                    self.assertEqual(fault.errno, errno.EIO)
-                    break
-                shown += part
-                if not part:
-                    break
-            os.close(master)
-            status = process.wait(timeout=10)
-            error.seek(0)
-            return status, shown, error.read().decode()
+        process = subprocess.Popen([*shell, os.path.join(self.root, "rumtsafi"), *words], env=self.environment(),
+                                   stdin=slave, stdout=output or slave, stderr=error or slave, preexec_fn=own_terminal)
+        os.close(slave)
+        shown, latest = b"", time.monotonic() + 30
+        while time.monotonic() < latest:
+            if keys and before in shown:
+                os.write(master, keys.encode())
+                keys = ""
+            if not select.select([master], [], [], 0.1)[0]:
+                continue
+            try:
+                part = os.read(master, 65536)
+            except OSError as fault:
+                self.assertEqual(fault.errno, errno.EIO)
+                break
+            shown += part
+            if not part:
+                break
+        os.close(master)
+        return process.wait(timeout=10), shown
+
+    def with_file(self, stream, *words, **more):
+        """Runs the script with one of the two in a file: its status, what the terminal shows, and the file."""
+        with tempfile.TemporaryFile() as file:
+            status, shown = self.at_terminal(*words, **more, **{stream: file})
+            file.seek(0)
+            return status, shown, file.read().decode()
 
     def test_a_fault_line_is_said_in_words(self):
         for line, words, said in (
@@ -409,38 +423,65 @@ class AtTerminal(Repository):
                 ("fault 7 unsupported 00010074 00000000", ["best", "a", "--at=0x10074"],
                  "no block begins at 00010074: blocks lists where they do"),
                 ("fault 13 asm 5 2 14", ["asm", "a", "b"], "line 2, column 14: a label that isn't defined")):
-            self.ship(f"echo '{line}'; exit 8")
-            said = f"rumtsafi: {said}\n"
-            self.assertEqual(self.at_terminal(*words, with_error=False), (8, f"{line}\n".encode(), said))
-            self.assertEqual(self.at_terminal(*words), (8, f"{line}\n{said}".encode(), ""))
-        self.assertEqual(self.use("asm", "a", "b"), (8, "fault 13 asm 5 2 14\n", ""))
+            status, told, said = int(line.split()[1]), f"{line}\n", f"rumtsafi: {said}\n"
+            self.ship(f"echo '{line}'; exit {status}")
+            self.assertEqual(self.at_terminal(*words), (status, f"{told}{said}".encode()))
+            self.assertEqual(self.with_file("output", *words), (status, said.encode(), told))
+            self.assertEqual(self.with_file("error", *words), (status, told.encode(), ""))
+        self.assertEqual(self.use("asm", "a", "b"), (13, "fault 13 asm 5 2 14\n", ""))
+
+    def test_what_went_elsewhere_is_not_said(self):
+        self.ship("echo fault 2 read a; exit 2")
+        read, write = os.pipe()
+        self.assertEqual(self.at_terminal("run", "a", output=write), (2, b""))
+        os.close(write)
+        with os.fdopen(read) as pipe:
+            self.assertEqual(pipe.read(), "fault 2 read a\n")
+        self.ship("echo fault 2 read a; exit 3")
+        self.assertEqual(self.with_file("output", "run", "a"), (3, b"", "fault 2 read a\n"))
 
     def test_an_answer_is_passed_on_as_it_is(self):
         for answer in (b"", b"\0", b"\0a\xff", b"cut 1 2 gain 3\n", b"a\nb", b"\n\n",
                        b"fault 2 read a\nend exit 00000000\n"):
             text = "".join(f"\\{byte:03o}" for byte in answer)
             self.ship(f"printf '{text}'; exit 0")
-            self.assertEqual(self.at_terminal("run", "a"), (0, answer, ""))
+            self.assertEqual(self.at_terminal("run", "a"), (0, answer))
 
     def test_usage_follows_status_1(self):
         self.ship("echo fault 1 usage; exit 1")
-        self.assertEqual(self.at_terminal(with_error=False), (1, b"fault 1 usage\n", USAGE))
+        said = f"{USAGE}rumtsafi: a command is missing; {COMMANDS}\n"
+        self.assertEqual(self.with_file("error"), (1, b"fault 1 usage\n", said))
+        self.assertEqual(self.with_file("output"), (1, said.encode(), "fault 1 usage\n"))
 
     def test_a_long_command_shows_that_it_runs(self):
         self.ship("sleep 3.4; echo cut")
-        status, shown, _ = self.at_terminal("best", "a")
+        running = r"^(\rrumtsafi: running, [2-9] s)+\r {22}\r"
+        status, shown = self.at_terminal("best", "a")
         self.assertEqual(status, 0)
-        self.assertRegex(shown.decode(), r"^(\rrumtsafi: running, [2-9] s)+\r {22}\rcut\n$")
-        self.assertEqual(self.at_terminal("best", "a", with_error=False), (0, b"cut\n", ""))
+        self.assertRegex(shown.decode(), running + "cut\n$")
+        status, shown, output = self.with_file("output", "best", "a")
+        self.assertEqual((status, output), (0, "cut\n"))
+        self.assertRegex(shown.decode(), running + "$")
+        self.assertEqual(self.with_file("error", "best", "a"), (0, b"cut\n", ""))
+        in_background = ["bash", "-mc", '"$@" & exec 2> /dev/null; wait $!', "bash"]
+        self.assertEqual(self.with_file("output", "best", "a", shell=in_background), (0, b"", "cut\n"))
 
     def test_control_c_ends_the_program_and_the_script(self):
         mark = os.path.join(self.room, "mark")
         self.ship(f"trap 'echo ended > \"{mark}\"; kill $!; trap - INT; kill -INT $$' INT\n"
                   "sleep 30 > /dev/null 2>&1 & wait")
-        status, shown, _ = self.at_terminal("best", "a", keys="\x03", before=b"running, ")
-        self.assertEqual(status, 130)
-        self.assertTrue(os.path.exists(mark))
-        self.assertTrue(shown.endswith(b"\r"), shown)
+        for run in (self.at_terminal, functools.partial(self.with_file, "output")):
+            status, shown, *_ = run("best", "a", keys="\x03", before=b"running, ")
+            self.assertEqual(status, 130)
+            self.assertTrue(os.path.exists(mark))
+            self.assertTrue(shown.endswith(b"\r"), shown)
+            os.remove(mark)
+
+    def test_control_backslash_ends_it_without_a_word(self):
+        self.ship("exec sleep 30")
+        status, shown = self.at_terminal("best", "a", keys="\x1c", before=b"running, ")
+        self.assertEqual(status, 131)
+        self.assertRegex(shown.decode(), r"^(\rrumtsafi: running, [2-9] s)+(\^\\)?\r {22}\r$")
 
 
 class Made(unittest.TestCase):

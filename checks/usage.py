@@ -167,6 +167,11 @@ def for_man(text):
     return f"\\&{text}" if text.startswith((".", "'")) else text
 
 
+def sentence(text):
+    """A text for the formatter of man pages, with a mark at its end."""
+    return for_man(text) if text.endswith("?") else f"{for_man(text)}."
+
+
 def man_page(commands, calls, options, words):
     """The man page, of section 1."""
     lines = [
@@ -195,16 +200,17 @@ def man_page(commands, calls, options, words):
             lines += [".TP", f".B {word.name}", f"{for_man(word.about)}."]
     lines += [
         ".SH EXIT STATUS",
-        "0 comes with the answer, any other status of the program but 16 with a fault line on standard output,",
-        "which begins with the status.",
+        "0 comes with the answer, any other status of the program with a fault line on standard output, which begins",
+        "with the status; 16 never has one, 12 may lack it, and 3 where standard output takes none.",
         "16: the system didn't give the words; one of them is not UTF\\-8.",
         "70: the program had to be built from its sources, and could not be; standard error says why.",
-        "At a terminal standard error says a fault line in words too.",
+        "Where standard error is a terminal, a fault line that went to a terminal or into a file is said there in",
+        "words.",
         ".SH FAULT LINES",
     ]
     for line, of, words in faults():
         of = "" if of == "*" else f" ({for_man(of)})"
-        lines += [".TP", re.sub(r"[{}]", "", f".B {for_man(line)}{of}"), re.sub(r"[{}]", "", f"{for_man(words)}.")]
+        lines += [".TP", re.sub(r"[{}]", "", f".B {for_man(line)}{of}"), re.sub(r"[{}]", "", sentence(words))]
     return "\n".join([*lines, ""])
 
 

@@ -45,7 +45,10 @@ explain_words() {
     local command=${1-} word names=() files=() seen='' options=yes
     # shellcheck source=script/words.sh
     . "$root/script/words.sh"
-    [ "$#" -gt 0 ] || return 0
+    [ "$#" -gt 0 ] || { echo "a command is missing; there are: $commands"; return; }
+    case $command in
+        -h | --help | --version | --build) echo "$command stands alone"; return ;;
+    esac
     is_among "$command" "$commands" || { echo "there is no command '$command'; there are: $commands"; return; }
     shift
     while [ "$#" -gt 0 ]; do
@@ -57,6 +60,7 @@ explain_words() {
                 explain_option "$command" "$word" "$@" && return
                 [[ $word == *=* ]] || shift
                 ;;
+            yes-?*) echo "$command has no option '$word'"; return ;;
             *) names+=("$word") ;;
         esac
     done
@@ -97,7 +101,7 @@ explain_value() {
     local shown=$1 name=$2 value=$3 least=${least_of[$2]-} greatest=${greatest_of[$2]-}
     case $value in
         '') echo "$shown is empty"; return ;;
-        -*) echo "$shown can't begin with -, as '$value' does"; return ;;
+        -*) echo "$shown can't be '$value': no name or value begins with -"; return ;;
     esac
     case ${kind_of[$name]} in
         number)
