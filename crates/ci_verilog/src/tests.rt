@@ -135,20 +135,6 @@ fn mulhsu(rt: HostRuntime) -> Result<(), Fail> {
 }
 
 #[test]
-fn sra(rt: HostRuntime) -> Result<(), Fail> {
-    let alloc = rt.alloc();
-    let mut wires = Wires::new(alloc);
-    let left = signed(alloc, &wires, b"a")?;
-    let amount = Term::Plain(bits(alloc, &wires, b"b", 4, 0)?);
-    let shifted = Expr::Two(Operator::Right, left, amount);
-    declare(&rt, alloc, &mut wires, b"w0", 64, shifted)?;
-    let y = one(bits(alloc, &wires, b"w0", 31, 0)?);
-    let module = module(&rt, wires, y, one(number(32, 0)));
-    assert_eq!(rt; value(&module, 0x8000_0000, 31, 0), (0xffff_ffff, 0));
-    Ok(())
-}
-
-#[test]
 fn operators_at_corners(rt: HostRuntime) -> Result<(), Fail> {
     for (operator, a, b, want) in [
         (Operator::Plus, 0xffff_ffff, 2, 1),
@@ -172,59 +158,6 @@ fn operators_at_corners(rt: HostRuntime) -> Result<(), Fail> {
 }
 
 #[test]
-fn comparison_chooses(rt: HostRuntime) -> Result<(), Fail> {
-    let alloc = rt.alloc();
-    let mut wires = Wires::new(alloc);
-    let left = whole(alloc, &wires, b"a")?;
-    let right = whole(alloc, &wires, b"b")?;
-    declare(
-        &rt,
-        alloc,
-        &mut wires,
-        b"w0",
-        1,
-        two(Operator::Less, left, right),
-    )?;
-    let test = Term::Plain(whole(alloc, &wires, b"w0")?);
-    let second = Term::Plain(number(32, 5));
-    let third = Term::Plain(whole(alloc, &wires, b"c")?);
-    let z = one(whole(alloc, &wires, b"a")?);
-    let module = module(&rt, wires, Expr::Choose(test, second, third), z);
-    assert_eq!(rt; value(&module, 1, 2, 7), (5, 1));
-    assert_eq!(rt; value(&module, 2, 2, 7), (7, 2));
-    assert_eq!(rt; value(&module, 0xffff_ffff, 1, 7), (7, 0xffff_ffff));
-    Ok(())
-}
-
-#[test]
-fn widths_1_and_64(rt: HostRuntime) -> Result<(), Fail> {
-    let alloc = rt.alloc();
-    let mut wires = Wires::new(alloc);
-    declare(
-        &rt,
-        alloc,
-        &mut wires,
-        b"q",
-        1,
-        two(Operator::Plus, number(1, 1), number(1, 1)),
-    )?;
-    declare(
-        &rt,
-        alloc,
-        &mut wires,
-        b"r",
-        64,
-        Expr::One(Term::Repeat(64, number(1, 1))),
-    )?;
-    let y = one(bits(alloc, &wires, b"r", 63, 32)?);
-    let ones = Item::Repeat(31, number(1, 1));
-    let z = Expr::One(joined(alloc, ones, Item::Plain(whole(alloc, &wires, b"q")?))?);
-    let module = module(&rt, wires, y, z);
-    assert_eq!(rt; value(&module, 0, 0, 0), (0xffff_ffff, 0xffff_fffe));
-    Ok(())
-}
-
-#[test]
 fn names_are_told(rt: HostRuntime) -> Result<(), Fail> {
     let alloc = rt.alloc();
     let mut wires = Wires::new(alloc);
@@ -244,12 +177,6 @@ fn names_are_told(rt: HostRuntime) -> Result<(), Fail> {
     let unlike = two(Operator::Plus, number(7, 1), number(8, 2));
     assert_eq!(rt; expr_width(&wires, &unlike), None);
     Ok(())
-}
-
-#[test]
-fn module_without_wires(rt: HostRuntime) {
-    let module = constant(&rt, rt.alloc(), 1);
-    assert_eq!(rt; value(&module, 0, 0, 0), (7, 1));
 }
 
 /// Whether two modules with these values of z are equal.
