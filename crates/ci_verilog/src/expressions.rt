@@ -30,8 +30,8 @@ impl Name {
         Name { bytes, place: 0 }
     }
 
-    /// The same name, which the wire of this number has.
-    pub(crate) fn placed(self, place: usize) -> Name
+    /// The same name, which the wire of this number likely has.
+    pub fn placed(self, place: usize) -> Name
         requires { place < 65536 }
         ensures { result ≡ self }
     {

@@ -42,6 +42,15 @@ impl Wires {
         }
     }
 
+    /// These wires, of which each one comes next behind those before it.
+    pub fn from_vec(wires: Vec<Wire>) -> Wires
+        requires are_wires { AreWires inputs wires.items }
+        requires few { length wires.items ≤ 2048 }
+        ensures { result ≡ wires.items }
+    {
+        Wires { wires }
+    }
+
     /// The wires in their order.
     pub fn as_slice(&self) -> &[Wire]
         ensures value { result.now ≡ self.now }
