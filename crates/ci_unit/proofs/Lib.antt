@@ -1,0 +1,9 @@
+pub mod CountLaws
+pub mod InputLaws
+mod NodeLaws
+pub mod ReadingLaws
+mod Rows
+pub mod SourceLaws
+pub mod TableLaws
+pub mod UnitLaws
+pub mod ValueLaws

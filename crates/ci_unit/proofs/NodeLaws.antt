@@ -1,0 +1,20 @@
+-- What holds of the nodes of a list holds of those with one more.
+use Rattle.std.proofs.Common.{◌≡◌, ℕ, ◌+◌, ◌<◌, List, [], ◌∷◌, ◌++◌, length, sym, ap, ◌∙◌, subst, inl, inr, arith}
+use Rattle.std.proofs.lemmas.Bool.{cases_eq}
+use Rattle.std.proofs.Math.ListN.{get_or-append}
+use Rattle.std.proofs.Math.Seq.{get_or-append_seam}
+use Rattle.ci_cut.specs.declared.graph.Node.{Node}
+use Rattle.ci_cut.specs.FlowGraph.{no_node, node_in}
+
+pub each_more : (P : ℕ → Node → Type 0) (nodes more : List Node) (node : Node) (k : ℕ) → more ≡ nodes ++ node ∷ [] → length nodes ≡ k
+    → ((j : ℕ) → j < k → P j (node_in nodes j)) → P k node → (j : ℕ) → j < k + 1 → P j (node_in more j)
+each_more P nodes more node k pushed count before last j below =
+    subst (λ list. P j (node_in list j)) (sym pushed)
+    (elim (cases_eq j k) [
+      | inl same ↦
+          subst (λ i. P i (node_in (nodes ++ node ∷ []) i)) (sym same)
+          (subst (P k) (sym (ap (λ (i : ℕ). node_in (nodes ++ node ∷ []) i) (sym count) ∙ get_or-append_seam nodes node [] no_node)) last)
+      | inr other ↦
+          let earlier : j < length nodes = omega arith in
+          subst (P j) (sym (get_or-append nodes (node ∷ []) no_node j earlier)) (before j (omega arith))
+    ])

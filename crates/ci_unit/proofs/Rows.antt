@@ -1,0 +1,104 @@
+-- The units of a few cuts, computed.
+use Rattle.std.proofs.Common.{◌≡◌, ℕ, Bool, true, false, List, [], ◌∷◌, refl}
+use Rattle.std.specs.Prelude.{pos, nat_lt, if◌then◌else◌}
+use Rattle.std.specs.FinSet as set
+use Rattle.ci_word.specs.declared.arithmetic.Op.TheVariants.{Add, Sub, Xor, Sll}
+use Rattle.ci_word.specs.declared.arithmetic.Class.TheVariants as class
+use Rattle.ci_word.specs.Numbers.{numbers_below, count_below, some_below}
+use Rattle.ci_isa.specs.declared.instruction.Insn.{Insn}
+use Rattle.ci_isa.specs.declared.instruction.Insn.TheVariants.{Alu, AluImm, Lui}
+use Rattle.ci_cut.specs.declared.graph.Source.{Source}
+use Rattle.ci_cut.specs.declared.graph.Source.TheVariants.{Entry, Made}
+use Rattle.ci_cut.specs.declared.graph.Node.{Node}
+use Rattle.ci_cut.specs.FlowGraph.{FlowGraph}
+use Rattle.ci_cut.specs.Hardware.{descending_lists}
+use Rattle.ci_unit.specs.declared.operations.Arg.TheVariants.{Input, Earlier, Constant}
+use Rattle.ci_unit.specs.Units.{unit_of, IsValueOf}
+use Rattle.ci_unit.specs.Units as units
+use Rattle.ci_unit.specs.Equality.{same_unit}
+
+abbrev node : List Source → Bool → Node
+node sources live = record { eligible = true; latency = 1; delay = 600; sources = sources; before = set.empty; live = live }
+
+abbrev graph_of : List Node → FlowGraph
+graph_of nodes = record { nodes = nodes; read = 1; pad = 0 }
+
+-- the unit of all of a block's instructions
+abbrev whole : ℕ → List Insn → List Node → units.Unit
+whole count insns nodes = unit_of insns (graph_of nodes) (λ k. nat_lt k count)
+
+-- ---- a constant of two instructions: lui x5, 0x12345; addi x5, x5, 1656
+
+abbrev constant : units.Unit
+constant = whole 2 (Lui 5 305418240 ∷ AluImm Add 5 5 (pos 1656) ∷ []) (node [] false ∷ node (Made 0 ∷ []) true ∷ [])
+
+constant_is : constant ≡ record {
+  ops =
+      record { class = class.Lui; op = Add; left = Constant 305418240; right = Constant 0 }
+      ∷ record { class = class.Add; op = Add; left = Earlier 0; right = Constant 1656 }
+      ∷ [];
+  outputs = 1 ∷ [];
+  cycles = 2;
+}
+unfolding numbers_below count_below some_below descending_lists
+constant_is = refl
+
+-- it has no input, and gives 0x12345678
+constant_value : IsValueOf constant [] (305419896 ∷ [])
+unfolding numbers_below count_below some_below descending_lists
+constant_value = record { results = 305418240 ∷ 305419896 ∷ []; results_are = refl; outputs_are = refl }
+
+-- ---- the registers have no part in it
+
+-- add x5, x10, x11; add x5, x5, x12, and add x8, x20, x21; add x8, x8, x22
+same_sums :
+    whole 2 (Alu Add 5 10 11 ∷ Alu Add 5 5 12 ∷ []) (node (Entry 10 ∷ Entry 11 ∷ []) false ∷ node (Made 0 ∷ Entry 12 ∷ []) true ∷ [])
+    ≡ whole 2 (Alu Add 8 20 21 ∷ Alu Add 8 8 22 ∷ []) (node (Entry 20 ∷ Entry 21 ∷ []) false ∷ node (Made 0 ∷ Entry 22 ∷ []) true ∷ [])
+unfolding numbers_below count_below some_below descending_lists
+same_sums = refl
+
+-- ---- inputs by first use, x0 as a constant, and outputs in the order of the block
+
+-- sub x5, x11, x10; xor x6, x0, x10, both live
+abbrev two_outputs : units.Unit
+two_outputs =
+    whole 2 (Alu Sub 5 11 10 ∷ Alu Xor 6 0 10 ∷ []) (node (Entry 11 ∷ Entry 10 ∷ []) true ∷ node (Entry 10 ∷ []) true ∷ [])
+
+two_outputs_are : two_outputs ≡ record {
+  ops =
+      record { class = class.Add; op = Sub; left = Input 0; right = Input 1 }
+      ∷ record { class = class.Logic; op = Xor; left = Constant 0; right = Input 1 }
+      ∷ [];
+  outputs = 0 ∷ 1 ∷ [];
+  cycles = 1;
+}
+unfolding numbers_below count_below some_below descending_lists
+two_outputs_are = refl
+
+-- ---- a member behind a node that is none: earlier operations are numbered among the members
+
+-- add x5, x10, x11; add x6, x12, x13, which is no member; add x7, x5, x6
+behind_a_gap :
+    unit_of (Alu Add 5 10 11 ∷ Alu Add 6 12 13 ∷ Alu Add 7 5 6 ∷ [])
+    (graph_of (node (Entry 10 ∷ Entry 11 ∷ []) false ∷ node (Entry 12 ∷ Entry 13 ∷ []) false ∷ node (Made 0 ∷ Made 1 ∷ []) true ∷ []))
+    (λ k. if nat_lt k 1 then true else nat_lt 1 k)
+    ≡ record {
+      ops =
+          record { class = class.Add; op = Add; left = Input 0; right = Input 1 }
+          ∷ record { class = class.Add; op = Add; left = Earlier 0; right = Input 2 }
+          ∷ [];
+      outputs = 1 ∷ [];
+      cycles = 2;
+    }
+unfolding numbers_below count_below some_below descending_lists
+behind_a_gap = refl
+
+-- ---- classes tell units apart
+
+-- sll x5, x10, x0, and slli x5, x10, 0
+other_class :
+    same_unit (whole 1 (Alu Sll 5 10 0 ∷ []) (node (Entry 10 ∷ []) true ∷ []))
+    (whole 1 (AluImm Sll 5 10 (pos 0) ∷ []) (node (Entry 10 ∷ []) true ∷ []))
+    ≡ false
+unfolding numbers_below count_below some_below descending_lists
+other_class = refl

@@ -1,0 +1,7 @@
+pub mod Units
+pub mod Operands
+pub mod Tables
+pub mod Equality
+pub mod EqualityLaws
+pub mod Reading
+pub mod Laws

@@ -1,0 +1,39 @@
+-- For private contracts only: the inputs of a cut, read from the block step by step, and the ranges of what is read.
+use Rattle.std.specs.Prelude.{ℕ, zero, suc, Bool, ◌&&◌, not, if◌then◌else◌, List, [], ◌∷◌, ◌++◌, fold}
+use Rattle.std.specs.Prelude.{◌<◌, ◌^◌, ⊤}
+use Rattle.std.specs.List.{list_any}
+use Rattle.ci_cut.specs.declared.graph.Source.{Source}
+use Rattle.ci_cut.specs.declared.graph.Source.TheVariants.{Entry, Made}
+use Rattle.ci_cut.specs.FlowGraph.{FlowGraph, node_at, is_source}
+use Rattle.ci_cut.specs.Ports.{is_outside}
+use Rattle.ci_unit.specs.declared.operations.Arg.{Arg}
+use Rattle.ci_unit.specs.declared.operations.Arg.TheVariants.{Input, Earlier, Constant}
+use Rattle.ci_unit.specs.declared.operations.UnitOp.{UnitOp}
+
+-- the inputs so far, and the source, where it lies outside the cut and is not among them
+abbrev pub with_input : (ℕ → Bool) → List Source → Source → List Source
+with_input cut inputs source =
+    if is_outside cut source && not (list_any (is_source source) inputs) then inputs ++ source ∷ [] else inputs
+
+abbrev pub with_inputs : (ℕ → Bool) → List Source → List Source → List Source
+with_inputs cut inputs sources = fold (with_input cut) inputs sources
+
+-- the inputs of the members below n
+unfoldable pub inputs_below : FlowGraph → (ℕ → Bool) → ℕ → List Source
+inputs_below graph cut zero = []
+inputs_below graph cut (suc n) =
+    if cut n then with_inputs cut (inputs_below graph cut n) (node_at graph n).sources else inputs_below graph cut n
+
+-- a register's number is below 256
+abbrev pub IsSmall : Source → Type 0
+IsSmall (Entry r) = r < 256
+IsSmall (Made k) = ⊤
+
+-- a constant is a word
+abbrev pub IsWordArg : Arg → Type 0
+IsWordArg (Input i) = ⊤
+IsWordArg (Earlier n) = ⊤
+IsWordArg (Constant word) = word < 2 ^ 32
+
+abbrev pub HasWords : UnitOp → Type 0
+HasWords op = IsWordArg op.left × IsWordArg op.right

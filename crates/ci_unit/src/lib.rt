@@ -1,0 +1,18 @@
+//! Units of cuts: the operations of a cut's members, as the body of one instruction, and what they compute.
+#![tactic(auto)]
+
+pub use cuts::unit_of;
+pub use laws::units_have_values;
+pub use operations::{Arg, UnitOp};
+pub use table::UnitTable;
+pub use units::Unit;
+pub use values::apply;
+
+mod cuts;
+mod laws;
+mod operations;
+mod table;
+#[cfg(test)]
+mod tests;
+mod units;
+mod values;

@@ -1,0 +1,194 @@
+//! The units of small blocks, whose graphs are built by hand.
+ghost use Rattle.std.specs.Prelude.{◌≡◌, ℕ, ◌<◌, ◌≤◌, IsTrue, IfOk, length};
+ghost use Rattle.std.specs.FinSet as set;
+ghost use Rattle.std.specs.List.{list_any};
+ghost use Rattle.ci_isa.specs.Effects as effects;
+ghost use Rattle.ci_isa.specs.Effects.{without_x0};
+ghost use Rattle.ci_cut.specs.declared.graph.Source.TheVariants as sources;
+ghost use Rattle.ci_cut.specs.FlowGraph.{is_source};
+ghost use Rattle.ci_unit.specs.Operands.{AreOperands};
+
+use crate::cuts::unit_of;
+use crate::table::UnitTable;
+use crate::units::Unit;
+use crate::values::apply;
+use ci_cut::Source::{Entry, Made};
+use ci_cut::{Graph, Limits, Node, Source, Sources, fits};
+use ci_isa::{Insn, Reg, is_eligible, operands};
+use ci_word::{Op, Row};
+use std::alloc::Global;
+use std::process::Abort;
+use std::test::Fail;
+
+/// How many operands of the instruction are other registers than x0.
+fn kept_operands(insn: &Insn) -> usize
+    ensures { result ≡ length (without_x0 (effects.operands insn.now)) }
+{
+    let registers = operands(insn);
+    let mut count = 0;
+    for register in &registers {
+        if *register != 0 {
+            count += 1;
+        }
+    }
+    count
+}
+
+/// The set of the numbers below `count`, which is at most 256.
+fn all_below(count: usize) -> Row
+    requires { count ≤ 256 }
+    ensures { (j : ℕ) → IsTrue (set.contains result j) → j < count }
+{
+    let mut row = Row::empty();
+    for k in 0..count {
+        row.insert(k as u8);
+    }
+    row
+}
+
+/// These sources, of which each node's number is below `count`.
+fn sources_of(
+    rt: &impl Abort,
+    alloc: Global,
+    operands: &[Source],
+    count: usize,
+) -> Result<Sources, Fail>
+    ensures value { IfOk result (λ list. list ≡ operands.now) }
+    ensures made { IfOk result (λ list.
+        (j : ℕ) → IsTrue (list_any (is_source (sources.Made j)) list) → j < count) }
+{
+    let mut list = Sources::new(alloc);
+    for source in operands {
+        if let Made(node) = source {
+            assert!(rt; (*node as usize) < count);
+        }
+        list.push(*source)?;
+    }
+    Ok(list)
+}
+
+/// A node's sources, and whether its value is live after the block.
+type Part<'a> = (&'a [Source], bool);
+
+/// The graph of the instructions, with these parts for its nodes.
+fn graph_of(
+    rt: &impl Abort,
+    alloc: Global,
+    insns: &[Insn],
+    parts: &[Part<'_>],
+) -> Result<Graph, Fail>
+    ensures { IfOk result (λ graph. AreOperands insns.now graph) }
+{
+    assert!(rt; insns.len() <= 256);
+    assert!(rt; parts.len() == insns.len());
+    let mut nodes = Vec::new(alloc);
+    for (k, part) in parts.iter().enumerate() {
+        let (operands, live) = *part;
+        let insn = &insns[k];
+        assert!(rt; operands.len() == kept_operands(insn));
+        let sources = sources_of(rt, alloc, operands, k)?;
+        nodes.push(Node {
+            eligible: is_eligible(insn),
+            latency: 1,
+            delay: 600,
+            sources,
+            before: Row::empty(),
+            live,
+        })?;
+    }
+    Ok(Graph::new(nodes, 1, 0))
+}
+
+/// The unit of all of the instructions.
+fn unit_of_all(
+    rt: &impl Abort,
+    alloc: Global,
+    insns: &[Insn],
+    parts: &[Part<'_>],
+) -> Result<Unit, Fail> {
+    let graph = graph_of(rt, alloc, insns, parts)?;
+    let cut = all_below(graph.nodes().len());
+    let limits = Limits {
+        inputs: 3,
+        outputs: 2,
+    };
+    assert!(rt; fits(&graph, &limits, &cut));
+    Ok(unit_of(alloc, insns, &graph, &cut)?)
+}
+
+/// The unit's number, after the unit was put into the table where it was not there.
+fn number(rt: &impl Abort, table: &mut UnitTable, unit: Unit) -> Result<u8, Fail> {
+    if let Some(k) = table.number_of(&unit) {
+        return Ok(k);
+    }
+    assert!(rt; table.len() < 32);
+    Ok(table.add(unit)?)
+}
+
+fn register(rt: &impl Abort, n: u8) -> Reg {
+    Reg::new(n).expect(rt, "a register")
+}
+
+fn alu(rt: &impl Abort, op: Op, rd: u8, rs1: u8, rs2: u8) -> Insn {
+    Insn::Alu {
+        op,
+        rd: register(rt, rd),
+        rs1: register(rt, rs1),
+        rs2: register(rt, rs2),
+    }
+}
+
+// lui x5, 0x12345; addi x5, x5, 1656
+#[test]
+fn constant_of_two_instructions(rt: HostRuntime) -> Result<(), Fail> {
+    let insns = [
+        Insn::Lui {
+            rd: register(&rt, 5),
+            upper: 0x1234_5000,
+        },
+        Insn::AluImm {
+            op: Op::Add,
+            rd: register(&rt, 5),
+            rs1: register(&rt, 5),
+            imm: 1656,
+        },
+    ];
+    let parts = [(&[][..], false), (&[Made(0)][..], true)];
+    let unit = unit_of_all(&rt, rt.alloc(), &insns, &parts)?;
+    assert_eq!(rt; apply(&unit, 1, 2, 3), (0x1234_5678, 0));
+    assert_eq!(rt; unit.cycles(), 2);
+    Ok(())
+}
+
+// add x5, x10, x11; add x5, x5, x12, then add x8, x20, x21; add x8, x8, x22,
+// and sub x5, x11, x10; xor x6, x0, x10, of which both results are live
+#[test]
+fn equal_units_share_a_number(rt: HostRuntime) -> Result<(), Fail> {
+    let alloc = rt.alloc();
+    let mut table = UnitTable::new(alloc);
+    let insns = [alu(&rt, Op::Add, 5, 10, 11), alu(&rt, Op::Add, 5, 5, 12)];
+    let parts = [
+        (&[Entry(10), Entry(11)][..], false),
+        (&[Made(0), Entry(12)][..], true),
+    ];
+    let unit = unit_of_all(&rt, alloc, &insns, &parts)?;
+    assert_eq!(rt; apply(&unit, 1, 20, 300), (321, 0));
+    assert_eq!(rt; number(&rt, &mut table, unit)?, 0);
+    let insns = [alu(&rt, Op::Sub, 5, 11, 10), alu(&rt, Op::Xor, 6, 0, 10)];
+    let parts = [
+        (&[Entry(11), Entry(10)][..], true),
+        (&[Entry(10)][..], true),
+    ];
+    let unit = unit_of_all(&rt, alloc, &insns, &parts)?;
+    assert_eq!(rt; apply(&unit, 9, 4, 0), (5, 4));
+    assert_eq!(rt; number(&rt, &mut table, unit)?, 1);
+    let insns = [alu(&rt, Op::Add, 8, 20, 21), alu(&rt, Op::Add, 8, 8, 22)];
+    let parts = [
+        (&[Entry(20), Entry(21)][..], false),
+        (&[Made(0), Entry(22)][..], true),
+    ];
+    let unit = unit_of_all(&rt, alloc, &insns, &parts)?;
+    assert_eq!(rt; number(&rt, &mut table, unit)?, 0);
+    assert_eq!(rt; table.len(), 2);
+    Ok(())
+}
