@@ -1,0 +1,3 @@
+pub mod Templates
+pub mod Laws
+pub mod Texts
