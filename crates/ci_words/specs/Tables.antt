@@ -2,13 +2,14 @@
 use Rattle.std.specs.Prelude.{ℕ, Bool, true, false, List, [], ◌∷◌, codes}
 use Rattle.ci_words.specs.declared.tables.Access.TheVariants.{Reads, Writes}
 use Rattle.ci_words.specs.declared.tables.CommandName.{CommandName}
-use Rattle.ci_words.specs.declared.tables.CommandName.TheVariants.{Best, Asm, Dis, Run, Blocks}
+use Rattle.ci_words.specs.declared.tables.CommandName.TheVariants.{Best, Asm, Dis, Run, Blocks, Eval}
 use Rattle.ci_words.specs.declared.tables.DefaultValue.{DefaultValue}
 use Rattle.ci_words.specs.declared.tables.DefaultValue.TheVariants as default
 use Rattle.ci_words.specs.declared.tables.Kind.{Kind}
 use Rattle.ci_words.specs.declared.tables.Kind.TheVariants.{File, Number, Word}
 use Rattle.ci_words.specs.declared.tables.OptionName.{OptionName}
-use Rattle.ci_words.specs.declared.tables.OptionName.TheVariants.{Inputs, Outputs, Budget, Steps, Table, Input, Leader, At}
+use Rattle.ci_words.specs.declared.tables.OptionName.TheVariants.{Inputs, Outputs, Budget, Steps, Table, Input}
+use Rattle.ci_words.specs.declared.tables.OptionName.TheVariants.{Leader, At}
 
 -- An option of a command: its name without hyphens, which one it is, the kind of its values, whether it may stand more
 -- than once, and what it is set to where it is not given.
@@ -66,4 +67,5 @@ commands =
     ∷ single (codes "input") Input (File Reads) default.Nothing
     ∷ [])
     ∷ command_of (codes "blocks") Blocks (File Reads ∷ []) (leader ∷ [])
+    ∷ command_of (codes "eval") Eval (File Reads ∷ Number 0 31 ∷ Word ∷ Word ∷ Word ∷ []) []
     ∷ []

@@ -56,6 +56,13 @@ word_in (word n) = n
 abbrev pub name_at : Reading → ℕ → Text
 name_at reading place = unwrap_or (option_map name_in (slice_get reading.values place)) []
 
+-- the number, or the word of 32 bits, that is the positional word at a place
+abbrev pub number_at : Reading → ℕ → ℕ
+number_at reading place = unwrap_or (option_map number_in (slice_get reading.values place)) 0
+
+abbrev pub word_at : Reading → ℕ → ℕ
+word_at reading place = unwrap_or (option_map word_in (slice_get reading.values place)) 0
+
 -- what an option is set to, that is set once
 abbrev pub name_set : Reading → OptionName → Option Text
 name_set reading option = option_map name_in (slice_get (reading.settings option) 0)

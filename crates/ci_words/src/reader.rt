@@ -3,7 +3,7 @@ ghost use Rattle.std.specs.Prelude.{◌≡◌, List, map, true, IfOk, IfErr};
 ghost use Rattle.std.specs.String.{string_bytes};
 ghost use Rattle.ci_words.specs.Words.{Text, Reading, ReadsAs, ReadsIn, HasNoReading};
 ghost use Rattle.ci_words.specs.Parses.{are_rows, command_row};
-ghost use Rattle.ci_words.specs.Ranges.{KeepsRanges};
+ghost use Rattle.ci_words.specs.Ranges.{KeepsRanges, KeepsPlaces};
 ghost use Rattle.ci_words.specs.Read.{reading_of};
 
 use crate::parse::{parse, row_in_front};
@@ -53,7 +53,8 @@ impl From<AllocError> for WordsErr {
 
 impl<'a> Words<'a> {
     ghost use Rattle.std.specs.Prelude.{◌≡◌, map, option_map, slice_get, IfOk};
-    ghost use Rattle.ci_words.specs.Words.{name_at, name_set, number_set, word_set, words_set};
+    ghost use Rattle.ci_words.specs.Words.{name_at, number_at, word_at};
+    ghost use Rattle.ci_words.specs.Words.{name_set, number_set, word_set, words_set};
     ghost use Rattle.ci_words.specs.Read.{reading_of, value_in};
 
     /// Which command it is.
@@ -77,6 +78,26 @@ impl<'a> Words<'a> {
         match self.value_at(place) {
             Some(value) => value.name(),
             None => "",
+        }
+    }
+
+    /// The number that is the positional word at the place; 0 where no number stands there.
+    pub fn number_at(&self, place: usize) -> u64
+        ensures { result ≡ number_at (reading_of self.now) place }
+    {
+        match self.value_at(place) {
+            Some(value) => value.number(),
+            None => 0,
+        }
+    }
+
+    /// The word of 32 bits that is the positional word at the place; 0 where no such word stands there.
+    pub fn word_at(&self, place: usize) -> u32
+        ensures { result ≡ word_at (reading_of self.now) place }
+    {
+        match self.value_at(place) {
+            Some(value) => value.word(),
+            None => 0,
         }
     }
 
@@ -140,6 +161,7 @@ pub fn read_words(alloc: Global, words: &[String]) -> Result<Words<'_>, WordsErr
     ensures only { IfOk result (λ said. (other : Reading)
         → ReadsAs (map string_bytes words.entry.now) other → other ≡ reading_of said) }
     ensures ranges { IfOk result (λ said. KeepsRanges (reading_of said).command (reading_of said)) }
+    ensures places { IfOk result (λ said. KeepsPlaces (reading_of said).command (reading_of said)) }
     ensures no_reading { IfErr result (λ error. error ≡ WordsErr.NoReading
         → HasNoReading (map string_bytes words.entry.now)) }
 {

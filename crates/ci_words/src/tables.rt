@@ -13,6 +13,8 @@ pub enum CommandName {
     Run,
     /// `blocks`
     Blocks,
+    /// `eval`
+    Eval,
 }
 
 /// The options by name.
@@ -90,6 +92,12 @@ pub type CommandRow<'a> = (&'a str, CommandName, &'a [Kind], &'a [CommandOption<
 const READ: Kind = Kind::File(Access::Reads);
 
 const WRITTEN: Kind = Kind::File(Access::Writes);
+
+/// The number of a module.
+const MODULE: Kind = Kind::Number {
+    minimum: 0,
+    maximum: 31,
+};
 
 const IN: NamedOption<'static> = (
     "in",
@@ -207,5 +215,11 @@ pub const COMMANDS: &[CommandRow<'static>] = &[
         CommandName::Blocks,
         &[READ],
         &[(LEADER, DefaultValue::Nothing)],
+    ),
+    (
+        "eval",
+        CommandName::Eval,
+        &[READ, MODULE, Kind::Word, Kind::Word, Kind::Word],
+        &[],
     ),
 ];

@@ -66,6 +66,17 @@ fn run_shown(alloc: Global, said: &Words) -> Result<String, AllocError> {
     format!(in alloc; "run {file} {steps} {input} {table}")
 }
 
+/// What `eval` is asked, in short.
+fn eval_shown(alloc: Global, said: &Words) -> Result<String, AllocError> {
+    let (units, number) = (said.name_at(0), said.number_at(1));
+    let mut text = format!(in alloc; "eval {units} {number}")?;
+    for place in 2..5 {
+        let word = said.word_at(place);
+        write!(text, " {word}")?;
+    }
+    Ok(text)
+}
+
 /// What the program is asked, in short: the command, the names in it and what its options are set to.
 fn said_shown(alloc: Global, said: &Words) -> Result<String, AllocError> {
     match said.command() {
@@ -85,6 +96,7 @@ fn said_shown(alloc: Global, said: &Words) -> Result<String, AllocError> {
             push_leaders(alloc, &mut text, said)?;
             Ok(text)
         }
+        CommandName::Eval => eval_shown(alloc, said),
     }
 }
 
@@ -116,6 +128,7 @@ fn options_stand_anywhere(rt: HostRuntime) -> Result<(), Fail> {
     expect(&rt, "best -- F", "best F 3 2 -")?;
     expect(&rt, "best --in 1 -- F", "best F 1 2 -")?;
     expect(&rt, "best F --", "best F 3 2 -")?;
+    expect(&rt, "eval U 03 0x1 -- 0xFf 0x10", "eval U 3 1 255 16")?;
     Ok(())
 }
 

@@ -4,7 +4,7 @@ use Rattle.std.proofs.lemmas.Result.{IfOk-weaker}
 use Rattle.std.specs.String.{string_bytes}
 use Rattle.ci_words.specs.Tables.{commands}
 use Rattle.ci_words.specs.Read.{reading_of}
-use Rattle.ci_words.proofs.RangeLaws.{number_within}
+use Rattle.ci_words.proofs.RangeLaws.{number_within, places_within}
 use Rattle.ci_words.proofs.Readings.{one_reading}
 use Rattle.ci_words.proofs.reader.read_words.Goals as goal
 
@@ -22,6 +22,12 @@ pub returns-clause-ranges : goal.returns-clause-ranges
 unfolding commands
 returns-clause-ranges c =
     IfOk-weaker c.read_by.result _ _ (λ said. number_within (map string_bytes c.args.words.now) (reading_of said))
+    c.read_by.ensures.ok
+
+pub returns-clause-places : goal.returns-clause-places
+unfolding commands
+returns-clause-places c =
+    IfOk-weaker c.read_by.result _ _ (λ said. places_within (map string_bytes c.args.words.now) (reading_of said))
     c.read_by.ensures.ok
 
 pub returns-clause-no_reading : goal.returns-clause-no_reading
