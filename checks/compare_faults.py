@@ -21,6 +21,12 @@ def header(*fields):
     return bytes(found)
 
 
+def unit(body, head="module ci_0"):
+    """A module's text with these lines behind its head."""
+    ports = "(input [31:0] a, input [31:0] b, input [31:0] c, output [31:0] y, output [31:0] z);\n"
+    return f"// cycles 1\n{head}{ports}{body}".encode()
+
+
 FILES = {
     "long": bytes(1028), "odd": b"\x13\0\0\0\x13", "custom": struct.pack("<2I", 0x13, 0x50B), "jump": bytes(8),
     "text": b"no executable\n" * 4, "wide": header((4, "B", 2)), "object": header((16, "H", 1)),
@@ -29,6 +35,13 @@ FILES = {
     "no.toml": b"=", "key.toml": b"colour = 1", "read.toml": b"read = 0", "add.toml": b"software = { add = 0 }",
     "pad.toml": b"pad = 2", "good.s": b"ecall\n", "latin.s": b"\xe4", "1.s": b"ecall\n ?", "2.s": b"x5",
     "3.s": b"add x5 x6", "4.s": b"addi x5, x5, 2048", "5.s": b"jal x0, a", "6.s": b"a:\na:", "7.s": b"ecall x5",
+    "units": unit("assign y = a;\nassign z = b;\nendmodule\n"), "big": bytes(4194305), "1.v": b"@", "2.v": b"x",
+    "none.v": b"\n", "1r.v": unit("\r"),
+    "3.v": unit("assign y = d;"), "2w.v": unit("wire [31:0] a;"),
+    "4.v": unit("wire [0:0] w; assign w = 1'h1; wire [0:0] w;"),
+    "5.v": unit("assign y = 65'h0;"), "6.v": unit("wire [64:0] w;"), "7.v": unit("wire [0:0] w; assign v = 1'h0;"),
+    "8.v": unit("".join(f"wire [0:0] w{n}; assign w{n} = 1'h0;\n" for n in range(2048)) + "wire [0:0] w;"),
+    "9.v": unit("", "module ci_1"),
 }
 # Calls, the fault lines that they end with, and these in words.
 ENDS = (
@@ -60,6 +73,26 @@ ENDS = (
      "an ELF file, and no bare words: give --at if it is an executable"),
     ("best crc32.elf --at=0x4", "7 unsupported 00000004 00000000",
      "no block begins at 00000004: blocks lists where they do"),
+    ("eval big 0 0x0 0x0 0x0", "4 too large big", "big has more than 4,194,304 bytes"),
+    ("eval units 1 0x0 0x0 0x0", "7 unsupported 00000001 00000000",
+     "the file has no module 00000001 (hex): modules count from 0"),
+    ("eval none.v 0 0x0 0x0 0x0", "7 unsupported 00000000 00000000", "the file has no modules"),
+    ("eval 1.v 0 0x0 0x0 0x0", "9 units 1 0",
+     "byte 0: no token begins here: due is the line // cycles N, which ends with a bare newline"),
+    ("eval 1r.v 0 0x0 0x0 0x0", "9 units 1 107",
+     "byte 107: no token begins here; a carriage return or another comment is none"),
+    ("eval 2.v 0 0x0 0x0 0x0", "9 units 2 0", "byte 0: due is the line // cycles N, with which each module begins"),
+    ("eval 3.v 0 0x0 0x0 0x0", "9 units 3 118", "byte 118: no input and no assigned wire has this name"),
+    ("eval 2w.v 0 0x0 0x0 0x0", "9 units 2 119", "byte 119: another token is due here, or the text ends too early"),
+    ("eval 4.v 0 0x0 0x0 0x0", "9 units 4 149", "byte 149: the module has this name already"),
+    ("eval 5.v 0 0x0 0x0 0x0", "9 units 5 118",
+     "byte 118: a part that ends here has the wrong width, or a constant doesn't fit its own"),
+    ("eval 6.v 0 0x0 0x0 0x0", "9 units 6 113",
+     "byte 113: a width, index, count or range out of bounds, or over 64 bits joined"),
+    ("eval 7.v 0 0x0 0x0 0x0", "9 units 7 128", "byte 128: the wire just declared has another name"),
+    ("eval 8.v 0 0x0 0x0 0x0", "9 units 8 77770", "byte 77770: a wire past the 2,048th of the module"),
+    ("eval 9.v 0 0x0 0x0 0x0", "9 units 9 19",
+     "byte 19: another module name is due (ci_0, ci_1 and so on), or a 33rd module"),
     ("asm 1.s out", "13 asm 1 2 2", "line 2, column 2: a byte that begins no token"),
     ("asm latin.s out", "13 asm 1 1 1", "line 1, column 1: a byte that begins no token, or the text isn't UTF-8"),
     ("asm 2.s out", "13 asm 2 1 1", "line 1, column 1: a mnemonic is due here"),

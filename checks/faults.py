@@ -25,6 +25,8 @@ LINES = {
     **{f"6 table {rule}": ["best", "best --at", "run"] for rule in (1, 2)},
     **{f"6 table {rule} KEY": ["best", "best --at", "run"] for rule in (3, 4)},
     "7 unsupported POSITION WORD": ["best", "best --at", "blocks"],
+    "7 unsupported POSITION 00000000": ["eval"],
+    **{f"9 units {kind} OFFSET": ["eval"] for kind in range(1, 10)},
     "12 no memory": CALLS,
     **{f"13 asm {kind} LINE COLUMN": ["asm"] for kind in range(1, 8)},
 }
@@ -32,7 +34,7 @@ EXAMPLES = {
     "NAME": ["a file", "-x"], "A": ["0", "4", "5", "6", "16", "18", "20", "36", "42", "46", "84", "4294967295"],
     "B": ["0", "1", "2", "3", "62"], "KEY": ["read", "pad", "software", "hardware", "software.add", "hardware.mul"],
     "POSITION": ["00000000", "00010074"], "WORD": ["00000000", "0000050b", "464c457f"], "LINE": ["1", "2"],
-    "COLUMN": ["1"],
+    "COLUMN": ["1"], "OFFSET": ["0", "19"],
 }
 
 

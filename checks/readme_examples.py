@@ -8,10 +8,11 @@ repository, which builds the program if need be.
 
 An example is a fenced block marked `console`. Its lines that begin with `$ ` are commands, which go on behind a line
 that ends with a backslash, and the lines after each are what it prints on standard output. Every command has to end
-with status 0, unless the next command is `echo $?`. A block marked `c NAME` is a file that later examples use. The
-blocks of a document are run in turn, each by one shell, in a folder that holds a copy of samples/ and what earlier
-blocks left. A block that needs a tool which is not there is skipped, with a line that says so, and so is one that needs
-a file which a skipped block makes. Blocks in which GCC compiles take the version that the figures are of.
+with status 0, unless the next command is `echo $?`. A block marked `c NAME` or `verilog NAME` is a file that later
+examples use. The blocks of a document are run in turn, each by one shell, in a folder that holds a copy of samples/ and
+what earlier blocks left. A block that needs a tool which is not there is skipped, with a line that says so, and so is
+one that needs a file which a skipped block makes. Blocks in which GCC compiles take the version that the figures are
+of.
 """
 import os
 import re
@@ -131,7 +132,7 @@ def examples(document, folder):
     count, faults, lost = 0, [], set()
     for mark, lines, first in fences(document):
         kind, _, name = mark.partition(" ")
-        if kind == "c" and name:
+        if kind in ("c", "verilog") and name:
             with open(os.path.join(folder, name), "w", encoding="utf-8") as file:
                 file.writelines(lines)
         elif kind == "console":

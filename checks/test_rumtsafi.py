@@ -36,7 +36,7 @@ rumtsafi area OLD --limit N [--in N]
   K             a number, 0 to 31
   A, B          words, as 0x and hex digits
 """
-COMMANDS = "there are: best blocks run asm dis"
+COMMANDS = "there are: best blocks run eval asm dis"
 TOOLCHAIN = "kit of the tests"
 # What a call of the script asks of `rt`, with the folder that it does so in.
 BUILDS = ["a clone all check --jobs N", "ci_main run -- dis /dev/null"]
@@ -501,6 +501,8 @@ class Made(unittest.TestCase):
         self.assertEqual(self.complete("best", "crc32.e"), "crc32.elf")
         self.assertEqual(self.complete("best", "--table", "crc32.e"), "crc32.elf")
         self.assertEqual(self.complete("best", "--in", ""), "")
+        self.assertEqual(self.complete("eval", "crc32.e"), "crc32.elf")
+        self.assertEqual(self.complete("eval", "crc32.elf", "c"), "")
 
     @unittest.skipUnless(shutil.which("groff"), "there is no groff")
     def test_the_man_page_has_no_fault(self):

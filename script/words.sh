@@ -1,12 +1,13 @@
 # shellcheck shell=bash disable=SC2034
 # Made by checks/usage.py from docs/usage.txt: the words of each command, for script/explain.sh.
 
-commands='best blocks run asm dis'
+commands='best blocks run eval asm dis'
 # The words behind a command, in order; its options; and those that must stand.
 declare -A words_of=(
     [best]='FILE'
     [blocks]='FILE'
     [run]='FILE'
+    [eval]='UNITS K A B C'
     [asm]='TEXT OUT'
     [dis]='FILE'
 )
@@ -14,6 +15,7 @@ declare -A options_of=(
     [best]='at leader in out budget table'
     [blocks]='leader'
     [run]='steps input table'
+    [eval]=''
     [asm]=''
     [dis]=''
 )
@@ -21,6 +23,7 @@ declare -A needed_of=(
     [best]=''
     [blocks]=''
     [run]=''
+    [eval]=''
     [asm]=''
     [dis]=''
 )
@@ -34,7 +37,12 @@ declare -A kind_of=(
     [steps]='number'
     [input]='file'
     [table]='file'
+    [K]='number'
+    [A]='address'
+    [B]='address'
+    [C]='address'
     [FILE]='file'
+    [UNITS]='file'
     [TEXT]='file'
     [OUT]='file'
 )
@@ -43,12 +51,14 @@ declare -A least_of=(
     [out]='1'
     [budget]='1'
     [steps]='1'
+    [K]='0'
 )
 declare -A greatest_of=(
     [in]='3'
     [out]='2'
     [budget]='4194304'
     [steps]='4294967296'
+    [K]='31'
 )
 # The options that may stand more than once.
 repeated='leader'

@@ -10,11 +10,14 @@ use Rattle.ci_lat.specs.declared.faults.LatFault.{LatFault}
 use Rattle.ci_lat.specs.declared.faults.LatFault.TheVariants as lat
 use Rattle.ci_lat.specs.Latencies.{Latencies}
 use Rattle.ci_lat.specs.Faults.{AreTable, HaveFault}
+use Rattle.ci_vread.specs.declared.faults.VFault.{VFault}
+use Rattle.ci_vread.specs.declared.faults.VFault.TheVariants as verilog
+use Rattle.ci_vread.specs.Promised.{IsFaultOf}
 use Rattle.ci_calls.specs.declared.refusals.Refusal.{Refusal}
-use Rattle.ci_calls.specs.Files.{executable_input, table_input, program_input, optional_bytes, AreGiven, AreLatencies, input_bytes}
+use Rattle.ci_calls.specs.Files.{executable_input, table_input, units_input, program_input, optional_bytes, AreGiven, AreLatencies, input_bytes}
 use Rattle.ci_calls.specs.Forms.{IsWellFormed}
 use Rattle.ci_calls.specs.Inputs.{Input, MayHold, IsGood, AreRead, malformed, IsFileRefusal, IsDueName}
-use Rattle.ci_calls.specs.Refused.{AreUnread, elf_refusal, table_refusal}
+use Rattle.ci_calls.specs.Refused.{AreUnread, elf_refusal, table_refusal, units_refusal}
 use Rattle.ci_calls.proofs.Counts.{Rises-later}
 
 -- one file is all that is read
@@ -83,6 +86,12 @@ module _
       → AreUnread may_fail before after (table_input name ∷ others) (table_refusal fault)
   unread_table lat.NoMemory within has = inr (inr refl)
   unread_table fault within has = inl (inl (malformed bytes there within (has (λ e. cc))))
+
+  -- a file that holds no modules
+  pub unread_units : (fault : VFault) → length bytes ≤ 4194304 → IsFaultOf bytes fault
+      → AreUnread may_fail before after (units_input name ∷ others) (units_refusal fault)
+  unread_units verilog.NoMemory within has = inr (inr refl)
+  unread_units (verilog.Bad kind offset) within has = inl (inl (malformed bytes there within has))
 
 -- ---- files that an option names
 

@@ -3,7 +3,7 @@
 use Rattle.std.specs.Prelude.{◌≡◌, ℕ, List, [], ◌∷◌, Option, Some, None, is_some, unwrap_or}
 use Rattle.ci_lat.specs.Latencies.{Latencies, usual}
 use Rattle.ci_lat.specs.Faults.{AreTable}
-use Rattle.ci_calls.specs.Forms.{any_bytes, executable_file, latency_table}
+use Rattle.ci_calls.specs.Forms.{any_bytes, executable_file, latency_table, verilog_units}
 use Rattle.ci_calls.specs.Inputs.{Input}
 
 abbrev pub executable_input : List ℕ → Input
@@ -11,6 +11,10 @@ executable_input name = record { name = name; limit = 16777216; form = executabl
 
 abbrev pub table_input : List ℕ → Input
 table_input name = record { name = name; limit = 65536; form = latency_table }
+
+-- the modules of units
+abbrev pub units_input : List ℕ → Input
+units_input name = record { name = name; limit = 4194304; form = verilog_units }
 
 -- the input of a program that is run
 abbrev pub program_input : List ℕ → Input

@@ -11,7 +11,7 @@ use Rattle.ci_lat.specs.declared.faults.LatFault.TheVariants as lat
 use Rattle.ci_lat.specs.Keys.{key_name}
 use Rattle.ci_calls.specs.declared.refusals.Refusal.{Refusal}
 use Rattle.ci_calls.specs.declared.refusals.Refusal.TheVariants.{Usage, Read, Write, Put, TooLarge, BadElf, BadTable}
-use Rattle.ci_calls.specs.declared.refusals.Refusal.TheVariants.{Unsupported, NoMemory, BadAsm}
+use Rattle.ci_calls.specs.declared.refusals.Refusal.TheVariants.{Unsupported, BadUnits, NoMemory, BadAsm}
 
 -- the name of a file, as words and refusals hold it
 abbrev pub Name : Type 0
@@ -26,6 +26,7 @@ status_of (TooLarge name) = 4
 status_of (BadElf fault) = 5
 status_of (BadTable fault) = 6
 status_of (Unsupported position word) = 7
+status_of (BadUnits kind offset) = 9
 status_of NoMemory = 12
 status_of (BadAsm kind line column) = 13
 
@@ -61,6 +62,9 @@ table_text lat.NoMemory = codes "table 5"
 abbrev pub unsupported_text : ℕ → ℕ → List ℕ
 unsupported_text position word = codes "unsupported " ++ eight_hex_digits position ++ codes " " ++ eight_hex_digits word
 
+abbrev pub units_text : ℕ → ℕ → List ℕ
+units_text kind offset = codes "units " ++ decimal kind ++ codes " " ++ decimal offset
+
 -- what stands in the fault line behind the status
 abbrev pub text_of : Refusal → List ℕ
 text_of Usage = codes "usage"
@@ -71,6 +75,7 @@ text_of (TooLarge name) = codes "too large " ++ name.now
 text_of (BadElf fault) = elf_text fault
 text_of (BadTable fault) = table_text fault
 text_of (Unsupported position word) = unsupported_text position word
+text_of (BadUnits kind offset) = units_text kind offset
 text_of NoMemory = codes "no memory"
 text_of (BadAsm kind line column) = numbers_text (codes "asm") kind line column
 

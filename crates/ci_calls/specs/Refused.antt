@@ -8,8 +8,10 @@ use Rattle.ci_elf.specs.declared.faults.ElfFault.{ElfFault}
 use Rattle.ci_elf.specs.declared.faults.ElfFault.TheVariants as elf
 use Rattle.ci_lat.specs.declared.faults.LatFault.{LatFault}
 use Rattle.ci_lat.specs.declared.faults.LatFault.TheVariants as lat
+use Rattle.ci_vread.specs.declared.faults.VFault.{VFault}
+use Rattle.ci_vread.specs.declared.faults.VFault.TheVariants as verilog
 use Rattle.ci_calls.specs.declared.refusals.Refusal.{Refusal}
-use Rattle.ci_calls.specs.declared.refusals.Refusal.TheVariants.{Read, BadElf, BadTable, NoMemory, BadAsm}
+use Rattle.ci_calls.specs.declared.refusals.Refusal.TheVariants.{Read, BadElf, BadTable, BadUnits, NoMemory, BadAsm}
 use Rattle.ci_calls.specs.Inputs.{Input, AreRead, IsFileRefusal, IsDueName}
 use Rattle.ci_calls.specs.Refusals.{Name}
 
@@ -26,6 +28,11 @@ elf_refusal fault = BadElf fault
 abbrev pub table_refusal : LatFault → Refusal
 table_refusal lat.NoMemory = NoMemory
 table_refusal fault = BadTable fault
+
+-- the refusal of a file that holds no modules, or for which memory ran out
+abbrev pub units_refusal : VFault → Refusal
+units_refusal (verilog.Bad kind offset) = BadUnits kind offset
+units_refusal verilog.NoMemory = NoMemory
 
 -- the refusal of a file that holds no assembler text, or for which memory ran out
 abbrev pub asm_refusal : AsmFault → Refusal

@@ -2,8 +2,9 @@
 ghost use Rattle.std.specs.Prelude.{◌≡◌, ◌≤◌, ◌∷◌, ◌++◌, ℕ, List, Option, IfOk, IfErr, length};
 ghost use Rattle.ci_elf.specs.Executables.{IsImageOf};
 ghost use Rattle.ci_lat.specs.Faults.{AreTable};
-ghost use Rattle.ci_calls.specs.Files.{executable_input, table_input, program_input, optional_input, optional_bytes};
-ghost use Rattle.ci_calls.specs.Files.{AreGiven, AreLatencies, input_bytes};
+ghost use Rattle.ci_vread.specs.Spelling.{Spell};
+ghost use Rattle.ci_calls.specs.Files.{executable_input, table_input, units_input, program_input};
+ghost use Rattle.ci_calls.specs.Files.{optional_input, optional_bytes, AreGiven, AreLatencies, input_bytes};
 ghost use Rattle.ci_calls.specs.Refused.{name_in, AreUnread};
 ghost use Rattle.ci_calls.specs.Forms.{Form};
 ghost use Rattle.ci_calls.specs.Inputs.{Input, MayHold, IsGood, AreRead};
@@ -12,6 +13,7 @@ use crate::refusals::Refusal;
 use ci_elf::Image;
 use ci_io::{Shelf, ShelfErr};
 use ci_lat::Table;
+use ci_verilog::Module;
 use std::alloc::Global;
 
 /// The maximum length of an executable file, in bytes.
@@ -19,6 +21,9 @@ const EXECUTABLE_LIMIT: u64 = 16_777_216;
 
 /// The maximum length of a latency table, in bytes.
 const TABLE_LIMIT: u64 = 65_536;
+
+/// The maximum length of a text of modules, in bytes.
+const UNITS_LIMIT: u64 = 4_194_304;
 
 /// The maximum length of the input of a program, in bytes.
 const INPUT_LIMIT: u64 = 16_777_216;
@@ -125,6 +130,30 @@ pub fn read_table<'a, F: Shelf>(
         Some(name) => read_table_file(alloc, name, shelf),
         None => Ok(Table::usual()),
     }
+}
+
+/// The modules that the file of a name spells.
+///
+/// # Errors
+///
+/// `Read` where no file has the name, or reading it failed. `TooLarge` where the file has more than 4,194,304 bytes.
+/// `BadUnits` where it spells no modules, by its first fault. `NoMemory`: memory ran out.
+pub fn read_units<'a, F: Shelf>(
+    alloc: Global,
+    name: &'a str,
+    shelf: &mut F,
+) -> Result<Vec<Module>, Refusal<'a>>
+    ensures read { IfOk result (λ modules. (bytes : List ℕ)
+        × IsGood (F.state shelf.old).files (units_input name.now) bytes × Spell bytes modules.items) }
+    ensures refused { IfErr result (λ refusal. (others : List Input) → AreUnread F.read_may_fail
+        (F.state shelf.old) (F.state shelf.new) (units_input name.now ∷ others) refusal) }
+    ensures never_falls { (F.state shelf.old).read_faults ≤ (F.state shelf.new).read_faults }
+    ensures files_stay { (F.state shelf.new).files ≡ (F.state shelf.old).files }
+    ensures no_write { (F.state shelf.new).write_faults ≡ (F.state shelf.old).write_faults }
+{
+    let bytes = read_file(alloc, name, UNITS_LIMIT, shelf)?;
+    let modules = ci_vread::read(alloc, bytes.as_slice())?;
+    Ok(modules)
 }
 
 /// The input of a program, from the file of a name, or none where no name is given.

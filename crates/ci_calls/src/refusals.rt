@@ -4,13 +4,14 @@ ghost use Rattle.std.specs.String.{string_bytes};
 ghost use Rattle.ci_calls.specs.Finishing.{IsPut};
 ghost use Rattle.ci_calls.specs.RefusedCalls.{IsRefused};
 ghost use Rattle.ci_calls.specs.Refusals.{elf_fault_numbers, elf_text, line_of, numbers_text, status_of, table_text};
-ghost use Rattle.ci_calls.specs.Refusals.{text_of, unsupported_text};
+ghost use Rattle.ci_calls.specs.Refusals.{text_of, units_text, unsupported_text};
 
 use ci_asm::AsmFault;
 use ci_elf::ElfFault;
 use ci_io::Sink;
 use ci_lat::LatFault;
 use ci_reading::push_hex;
+use ci_vread::VFault;
 use std::alloc::{AllocError, AllocFailed, Global};
 
 /// Why a call ends with another status than that of success. Each has one status and one fault line.
@@ -32,6 +33,8 @@ pub enum Refusal<'a> {
     BadTable(LatFault),
     /// The file isn't one that the command takes, for this word at this position.
     Unsupported { position: u32, word: u32 },
+    /// The file holds no modules, by a fault of this kind at this offset in bytes.
+    BadUnits { kind: u8, offset: u32 },
     /// Memory ran out.
     NoMemory,
     /// The file holds no assembler text, by a fault of this kind at this line and column.
@@ -90,6 +93,21 @@ impl<'a> From<LatFault> for Refusal<'a> {
     }
 }
 
+/// A file holds no modules, or memory ran out for it.
+impl<'a> From<VFault> for Refusal<'a> {
+    ghost use Rattle.std.specs.Prelude.{◌≡◌};
+    ghost use Rattle.ci_calls.specs.Refused.{units_refusal};
+
+    ghost from_gives = { λ fault refusal. refusal ≡ units_refusal fault };
+
+    fn from(fault: VFault) -> Refusal<'a> {
+        match fault {
+            VFault::Bad { kind, offset } => Refusal::BadUnits { kind, offset },
+            VFault::NoMemory => Refusal::NoMemory,
+        }
+    }
+}
+
 /// A file holds no assembler text, or memory ran out for it.
 impl<'a> From<AsmFault> for Refusal<'a> {
     ghost use Rattle.std.specs.Prelude.{◌≡◌};
@@ -119,6 +137,7 @@ impl<'a> Refusal<'a> {
             Refusal::BadElf(_) => 5,
             Refusal::BadTable(_) => 6,
             Refusal::Unsupported { .. } => 7,
+            Refusal::BadUnits { .. } => 9,
             Refusal::NoMemory => 12,
             Refusal::BadAsm { .. } => 13,
         }
@@ -149,6 +168,7 @@ impl<'a> Refusal<'a> {
             Refusal::BadElf(fault) => elf_text(alloc, fault),
             Refusal::BadTable(fault) => table_text(alloc, fault),
             Refusal::Unsupported { position, word } => unsupported_text(alloc, *position, *word),
+            Refusal::BadUnits { kind, offset } => units_text(alloc, *kind, *offset),
             Refusal::NoMemory => String::from_str(alloc, "no memory"),
             Refusal::BadAsm { kind, line, column } => {
                 numbers_text(alloc, "asm", *kind, *line, *column)
@@ -221,6 +241,16 @@ fn unsupported_text(alloc: Global, position: u32, word: u32) -> Result<String, A
     push_hex(&mut text, position)?;
     text.push(' ')?;
     push_hex(&mut text, word)?;
+    Ok(text)
+}
+
+/// That a file holds no modules.
+fn units_text(alloc: Global, kind: u8, offset: u32) -> Result<String, AllocError>
+    ensures { IfOk result (λ text. string_bytes text ≡ units_text kind offset) }
+{
+    let mut text = String::from_str(alloc, "units ")?;
+    write!(text, "{kind} ")?;
+    write!(text, "{offset}")?;
     Ok(text)
 }
 

@@ -4,6 +4,7 @@ pub mod BestCommand
 pub mod BlocksCommand
 pub mod AsmCommand
 pub mod DisCommand
+pub mod EvalCommand
 pub mod RunCommand
 pub mod Causes
 pub mod BlockFiles

@@ -7,4 +7,5 @@ pub mod asm;
 pub mod best;
 pub mod blocks;
 pub mod dis;
+pub mod eval;
 pub mod run;

@@ -1,9 +1,9 @@
 -- What is due to the words over the files that a shelf tells: one status.
-use Rattle.std.proofs.Common.{◌≡◌, ℕ, ◌⊎◌, inl, inr, List, Some, sym, subst, ◌∙◌}
+use Rattle.std.proofs.Common.{◌≡◌, ℕ, ◌⊎◌, inl, inr, List, [], ◌∷◌, Some, sym, subst, ◌∙◌}
 use Rattle.ci_io.specs.Outcomes.{Files}
-use Rattle.ci_words.specs.Words.{Reading, ReadsAs, HasNoReading, name_set, number_set, word_set, words_set}
+use Rattle.ci_words.specs.Words.{Reading, ReadsAs, HasNoReading, number_at, word_at, name_set, number_set, word_set, words_set}
 use Rattle.ci_words.specs.declared.tables.CommandName.{CommandName}
-use Rattle.ci_words.specs.declared.tables.CommandName.TheVariants.{Best, Asm, Dis, Run, Blocks}
+use Rattle.ci_words.specs.declared.tables.CommandName.TheVariants.{Best, Asm, Dis, Run, Blocks, Eval}
 use Rattle.ci_words.specs.declared.tables.OptionName.TheVariants as option
 use Rattle.ci_words.proofs.Readings.{one_reading}
 use Rattle.ci_calls.specs.declared.refusals.Refusal.{Refusal}
@@ -14,7 +14,9 @@ use Rattle.ci_calls.proofs.OneRefusal.{read_once, read_or_refused, refusal_once}
 use Rattle.ci_commands.specs.BestCommand.{HoldsNoBlock}
 use Rattle.ci_block.specs.CustomWords.{IsFirstCustomWord}
 use Rattle.ci_commands.proofs.Causes.{unsupported_once}
+use Rattle.ci_commands.specs.EvalCommand.{IsNoModule}
 use Rattle.ci_commands.proofs.OneBlock.{best_or_refused, blocks_or_refused}
+use Rattle.ci_commands.proofs.OneModule.{eval_or_refused}
 use Rattle.ci_find.specs.Commands.{inputs_of, IsMade, IsRefusedOf, MakesBy, RefusesBy}
 use Rattle.ci_find.specs.Endings.{IsRefusal, usage, file, once_read, IsDue}
 
@@ -31,6 +33,9 @@ made_or_refused Dis reading read success refusal made is = is
 made_or_refused Run reading read success refusal made is = is
 made_or_refused Blocks reading read success refusal made is =
     blocks_or_refused read success refusal (words_set reading option.Leader) made is
+made_or_refused Eval reading read success refusal made is =
+    eval_or_refused read success refusal (number_at reading 1)
+    (word_at reading 2 ∷ word_at reading 3 ∷ word_at reading 4 ∷ []) made is
 
 -- it is refused with one status
 refused_once : (command : CommandName) (reading : Reading) (read : List (List ℕ)) (first second : Refusal)
@@ -44,6 +49,9 @@ refused_once Dis reading read first second a b = absurd a
 refused_once Run reading read first second a b = absurd a
 refused_once Blocks reading read first second a b =
     unsupported_once (IsFirstCustomWord a.file) (IsFirstCustomWord b.file) first second a.custom b.custom
+refused_once Eval reading read first second a b =
+    unsupported_once (IsNoModule a.modules (number_at reading 1)) (IsNoModule b.modules (number_at reading 1)) first second
+    a.unsupported b.unsupported
 
 -- ---- one status is due
 

@@ -1,10 +1,10 @@
 -- For every reader: what each command reads, what it makes of that, and what it refuses once all its files are read, by
 -- its reading.
-use Rattle.std.specs.Prelude.{◌≡◌, ℕ, List}
+use Rattle.std.specs.Prelude.{◌≡◌, ℕ, List, [], ◌∷◌}
 use Rattle.ci_cut.specs.declared.graph.Limits.{Limits}
-use Rattle.ci_words.specs.Words.{Reading, name_at, name_set, number_set, word_set, words_set}
+use Rattle.ci_words.specs.Words.{Reading, name_at, number_at, word_at, name_set, number_set, word_set, words_set}
 use Rattle.ci_words.specs.declared.tables.CommandName.{CommandName}
-use Rattle.ci_words.specs.declared.tables.CommandName.TheVariants.{Best, Asm, Dis, Run, Blocks}
+use Rattle.ci_words.specs.declared.tables.CommandName.TheVariants.{Best, Asm, Dis, Run, Blocks, Eval}
 use Rattle.ci_words.specs.declared.tables.OptionName.TheVariants as option
 use Rattle.ci_calls.specs.declared.refusals.Refusal.{Refusal}
 use Rattle.ci_calls.specs.declared.success.Success.{Success}
@@ -15,6 +15,7 @@ use Rattle.ci_commands.specs.AsmCommand.{asm_inputs, IsAsmMade}
 use Rattle.ci_commands.specs.DisCommand.{dis_inputs, IsDisMade}
 use Rattle.ci_commands.specs.RunCommand.{run_inputs, IsRunMade}
 use Rattle.ci_commands.specs.BlocksCommand.{blocks_inputs, IsBlocksMade, IsBlocksRefused}
+use Rattle.ci_commands.specs.EvalCommand.{eval_inputs, IsEvalMade, IsEvalRefused}
 
 -- what a call of a command is: the files that it reads, in order; what it makes of their bytes; and what it refuses of
 -- them, though each file alone is well formed
@@ -52,6 +53,11 @@ call_by Blocks reading = record {
   inputs = blocks_inputs (name_at reading 0);
   Makes = IsBlocksMade (words_set reading option.Leader);
   Refuses = IsBlocksRefused;
+}
+call_by Eval reading = record {
+  inputs = eval_inputs (name_at reading 0);
+  Makes = IsEvalMade (number_at reading 1) (word_at reading 2 ∷ word_at reading 3 ∷ word_at reading 4 ∷ []);
+  Refuses = IsEvalRefused (number_at reading 1);
 }
 
 abbrev pub inputs_by : CommandName → Reading → List Input

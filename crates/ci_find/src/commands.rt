@@ -1,7 +1,7 @@
 //! Which command the words mean, and what it makes of its files, or why it makes nothing.
 ghost use Rattle.std.specs.Prelude.{◌≡◌, IfOk, IfErr, map};
 ghost use Rattle.std.specs.String.{string_bytes};
-ghost use Rattle.ci_words.specs.Ranges.{KeepsRanges};
+ghost use Rattle.ci_words.specs.Ranges.{KeepsRanges, KeepsPlaces};
 ghost use Rattle.ci_words.specs.Read.{reading_of};
 ghost use Rattle.ci_calls.specs.Evaluations.{Evaluates};
 ghost use Rattle.ci_calls.specs.Refused.{IsRefusedBy};
@@ -12,7 +12,7 @@ ghost use Rattle.ci_find.specs.Explained.{Explains};
 use ci_calls::{Refusal, Success};
 use ci_commands::best::BestSettings;
 use ci_commands::run::RunSettings;
-use ci_commands::{asm, best, blocks, dis, run};
+use ci_commands::{asm, best, blocks, dis, eval, run};
 use ci_cut::Limits;
 use ci_io::Shelf;
 use ci_words::{CommandName, OptionName, Words, WordsErr, read_words};
@@ -44,7 +44,8 @@ fn evaluate_command<'a, F: Shelf>(
     words: &Words<'a>,
     shelf: &mut F,
 ) -> Result<Success<'a>, Refusal<'a>>
-    requires { KeepsRanges command (reading_of words.now) }
+    requires ranges { KeepsRanges command (reading_of words.now) }
+    requires places { KeepsPlaces command (reading_of words.now) }
     ensures made { IfOk result (Evaluates (F.state shelf.old).files
         (inputs_by command (reading_of words.now)) (MakesBy command (reading_of words.now))) }
     ensures refused { IfErr result (IsRefusedBy F.read_may_fail (F.state shelf.old) (F.state shelf.new)
@@ -62,6 +63,7 @@ fn evaluate_command<'a, F: Shelf>(
             let leaders = words.words(alloc, OptionName::Leader)?;
             blocks::evaluate(alloc, file, leaders.as_slice(), shelf)
         }
+        CommandName::Eval => evaluate_eval(alloc, words, shelf),
     }
 }
 
@@ -113,4 +115,23 @@ fn evaluate_run<'a, F: Shelf>(
         table: words.name(OptionName::Table),
     };
     run::evaluate(alloc, words.name_at(0), &settings, shelf)
+}
+
+/// What `eval` makes of its file, by the module and the inputs that the words say.
+fn evaluate_eval<'a, F: Shelf>(
+    alloc: Global,
+    words: &Words<'a>,
+    shelf: &mut F,
+) -> Result<Success<'a>, Refusal<'a>>
+    requires { KeepsPlaces CommandName.Eval (reading_of words.now) }
+    ensures made { IfOk result (Evaluates (F.state shelf.old).files
+        (inputs_by CommandName.Eval (reading_of words.now)) (MakesBy CommandName.Eval (reading_of words.now))) }
+    ensures refused { IfErr result (IsRefusedBy F.read_may_fail (F.state shelf.old) (F.state shelf.new)
+        (inputs_by CommandName.Eval (reading_of words.now)) (RefusesBy CommandName.Eval (reading_of words.now))) }
+    ensures files_stay { (F.state shelf.new).files ≡ (F.state shelf.old).files }
+    ensures no_write { (F.state shelf.new).write_faults ≡ (F.state shelf.old).write_faults }
+{
+    let number = words.number_at(1) as u32;
+    let arguments = (words.word_at(2), words.word_at(3), words.word_at(4));
+    eval::evaluate(alloc, words.name_at(0), number, arguments, shelf)
 }

@@ -38,13 +38,15 @@ mod tests;
 /// - 2, `fault 2 read NAME`: the file isn't there, or reading it failed.
 /// - 3, `fault 3 write NAME`: writing the file failed, or the sink, whose name is `-`, failed to take the text.
 /// - 4, `fault 4 too large NAME`: the file has more bytes than one of its kind may have: 1024 for the words of a block,
-///   1,048,576 for FILE of `dis` and for a text, 65,536 for a table, and 16,777,216 for an executable and for an input.
+///   1,048,576 for FILE of `dis` and for a text, 65,536 for a table, 4,194,304 for modules, and
+///   16,777,216 for an executable and for an input.
 /// - 5, `fault 5 elf RULE A B`: the file is no executable, and RULE is the number of the fault and A and B its numbers.
 /// - 6, `fault 6 table RULE KEY`: the file is no latency table, and RULE is the number of the fault and KEY its key.
 /// - 7, `fault 7 unsupported POSITION WORD`: in an executable, the address of the first word of a custom opcode and
 ///   that word, or the address of `--at`, where no block begins, and 0; in a file of words, its length, where that is
 ///   no multiple of four, and 0, or the offset of the first word of a custom opcode or of a terminator that isn't last,
-///   and that word.
+///   and that word; of `eval` the number of the module, where the file has none of it, and 0.
+/// - 9, `fault 9 units KIND OFFSET`: the file spells no modules, by its first fault.
 /// - 12, `fault 12 no memory`: memory ran out.
 /// - 13, `fault 13 asm KIND LINE COLUMN`: the file holds no assembler text. Where it isn't UTF-8 the numbers are 1 1 1.
 pub fn run<F: Shelf, O: Sink>(alloc: Global, words: &Vec<String>, shelf: &mut F, out: &mut O) -> u8
@@ -61,7 +63,7 @@ pub fn run<F: Shelf, O: Sink>(alloc: Global, words: &Vec<String>, shelf: &mut F,
         (F.state shelf.old) (F.state shelf.new) (O.state out.old) (O.state out.new))
         status result) }
     // No other status comes.
-    ensures statuses { Contains (0 ∷ 1 ∷ 2 ∷ 3 ∷ 4 ∷ 5 ∷ 6 ∷ 7 ∷ 12 ∷ 13 ∷ []) result }
+    ensures statuses { Contains (0 ∷ 1 ∷ 2 ∷ 3 ∷ 4 ∷ 5 ∷ 6 ∷ 7 ∷ 9 ∷ 12 ∷ 13 ∷ []) result }
     // A refusal changes no file.
     ensures files_stay { result ≢ 0 → result ≢ 3 → result ≢ 12 → (F.state shelf.new).files ≡ (F.state shelf.old).files }
     // No file changes but those that the command writes, and these by a success or a write that failed.

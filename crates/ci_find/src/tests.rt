@@ -360,3 +360,4 @@ fn a_write_that_fails(rt: HostRuntime) -> Result<(), Fail> {
 
 mod analyses;
 mod runs;
+mod units;

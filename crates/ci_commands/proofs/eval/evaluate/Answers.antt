@@ -1,0 +1,49 @@
+-- The results of the module that the file holds, or why there are none.
+use Rattle.std.proofs.Common.{[], ◌∷◌, inl, inr, length, refl, arith}
+use Rattle.std.proofs.lemmas.Bool.Decides.{nat_tests}
+use Rattle.std.proofs.lemmas.Option.{slice_get_read}
+use Rattle.std.proofs.lemmas.Result.{err_from_is_err_and}
+use Rattle.ci_commands.proofs.eval.evaluate.Goals as goal
+
+pub returns-in_err-modules-clause-refused : goal.returns-in_err-modules-clause-refused
+returns-in_err-modules-clause-refused g c =
+    let p = err_from_is_err_and c.from_residual.result c.from_residual.ensures.1 in
+    rw (p.1, p.2) (inl (c.in_err-modules.ensures.refused []))
+
+pub returns-in_default-clause-refused : goal.returns-in_default-clause-refused
+returns-in_default-clause-refused g c =
+    let file = c.in_ok-modules.ensures.read in
+    inr (record {
+      read = file.0 ∷ [];
+      files = (file.1, tt);
+      refused = record {
+        bytes = file.0;
+        read_is = refl;
+        modules = c.in_ok-modules.modules.items;
+        spelled = file.2;
+        unsupported = record { absent = let out = rw c.deref.ensures.value at c.in_default.ensures.lookup in grind (arith, nat_tests); position_is = refl; word_is = refl };
+      };
+    })
+
+pub returns-clause-made : goal.returns-clause-made
+returns-clause-made g c =
+    let file = c.in_ok-modules.ensures.read in
+    let modules = c.in_ok-modules.modules.items in
+    let found = rw c.deref.ensures.value at c.in-Some.ensures.lookup in
+    record {
+      read = file.0 ∷ [];
+      files = (file.1, tt);
+      made = record {
+        bytes = file.0;
+        read_is = refl;
+        modules = c.in_ok-modules.modules.items;
+        spelled = file.2;
+        chosen = c.in-Some.chosen.now;
+        there = slice_get_read modules (length modules) c.args.number c.in-Some.chosen.now refl found.3.0 found.1;
+        y = c.eval-y.result.0;
+        z = c.eval-y.result.1;
+        results = c.eval-y.ensures;
+        text_is = rw c.into_bytes.ensures.value c.in_ok-text.ensures;
+        writes_none = c.new.ensures.items;
+      };
+    }

@@ -1,0 +1,48 @@
+-- For every reader: the command `eval`, what a module of a text computes.
+use Rattle.std.specs.Prelude.{◌≡◌, ℕ, ◌≤◌, List, [], ◌∷◌, ◌++◌, length, codes, slice_get, Some}
+use Rattle.ci_reading.specs.Hex.{eight_hex_digits}
+use Rattle.ci_reading.specs.Lines.{line}
+use Rattle.ci_verilog.specs.Modules.{Module}
+use Rattle.ci_verilog.specs.Values.{IsValueOf}
+use Rattle.ci_vread.specs.Spelling.{Spell}
+use Rattle.ci_calls.specs.declared.refusals.Refusal.{Refusal}
+use Rattle.ci_calls.specs.declared.success.Success.{Success}
+use Rattle.ci_calls.specs.Evaluations.{IsUnsupported}
+use Rattle.ci_calls.specs.Files.{units_input}
+use Rattle.ci_calls.specs.Inputs.{Input}
+
+-- the modules
+abbrev pub eval_inputs : List ℕ → List Input
+eval_inputs file = units_input file ∷ []
+
+-- the line of the two results of a module
+abbrev pub results_line : ℕ → ℕ → List ℕ
+results_line y z = line (eight_hex_digits y ++ codes " " ++ eight_hex_digits z)
+
+-- it puts the results y and z that the module of this number, counted from 0, has at these values of its inputs
+pub record IsEvalMade (number : ℕ) (arguments : List ℕ) (read : List (List ℕ)) (success : Success) : Type 0 where
+  pub bytes : List ℕ
+  pub read_is : read ≡ bytes ∷ []
+  pub modules : List Module
+  pub spelled : Spell bytes modules
+  pub chosen : Module
+  pub there : slice_get modules number ≡ Some chosen
+  pub y : ℕ
+  pub z : ℕ
+  pub results : IsValueOf chosen arguments (y ∷ z ∷ [])
+  pub text_is : success.text.items ≡ results_line y z
+  pub writes_none : success.writes.items ≡ []
+
+-- the text has no module of the number, which is named, with 0 for a word
+pub record IsNoModule (modules : List Module) (number position word : ℕ) : Type 0 where
+  pub absent : length modules ≤ number
+  pub position_is : position ≡ number
+  pub word_is : word ≡ 0
+
+-- it refuses a text that has no module of the number
+pub record IsEvalRefused (number : ℕ) (read : List (List ℕ)) (refusal : Refusal) : Type 0 where
+  pub bytes : List ℕ
+  pub read_is : read ≡ bytes ∷ []
+  pub modules : List Module
+  pub spelled : Spell bytes modules
+  pub unsupported : IsUnsupported (IsNoModule modules number) refusal
