@@ -128,12 +128,16 @@ def words_of_script(commands, options, words):
     ])
 
 
-def completions(commands, calls, options):
+def completions(commands, calls, options, words):
     """The completions for bash: of the command, of its options, and of files where a name is due."""
+    def end_of_files(command):
+        files = sum(words[name].kind == FILE for name in command.words)
+        return "" if files == len(command.words) else f'; [ "$COMP_CWORD" -le {files + 1} ] || return'
+
     names = " ".join([command.name for command in commands] + [call for call, _ in calls])
     texts = " | ".join(f"--{option.name}" for option in options if option.kind != FILE)
-    cases = [f"        {command.name}) options='{' '.join('--' + name for name in command.options)}' ;;"
-             for command in commands]
+    cases = [f"        {command.name}) options='{' '.join('--' + name for name in command.options)}'"
+             f"{end_of_files(command)} ;;" for command in commands]
     return "\n".join([
         "# shellcheck shell=bash",
         f"# {MADE}: completions for bash. To use them: source this file.",
@@ -195,9 +199,9 @@ def man_page(commands, calls, options, words):
               "\\fB0x\\fR and one to eight hex digits."]
     for option in options:
         lines += [".TP", f".B \\-\\-{option.name} {option.word}", f"{for_man(option.about)}."]
-    for word in words.values():
-        if word.about:
-            lines += [".TP", f".B {word.name}", f"{for_man(word.about)}."]
+    for about in dict.fromkeys(word.about for word in words.values() if word.about):
+        names = ", ".join(word.name for word in words.values() if word.about == about)
+        lines += [".TP", f".B {names}", f"{for_man(about)}."]
     lines += [
         ".SH EXIT STATUS",
         "0 comes with the answer, any other status of the program with a fault line on standard output, which begins",
@@ -228,7 +232,7 @@ def main():
     commands, calls, options, words = usage()
     made = {
         "share/man/man1/rumtsafi.1": man_page(commands, calls, options, words),
-        "share/bash-completion/completions/rumtsafi": completions(commands, calls, options),
+        "share/bash-completion/completions/rumtsafi": completions(commands, calls, options, words),
         "script/words.sh": words_of_script(commands, options, words),
         **{name: document(read(name)) for name in DOCUMENTS if read(name) is not None},
     }

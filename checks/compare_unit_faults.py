@@ -1,0 +1,210 @@
+#!/usr/bin/env python3
+"""Compares how `rumtsafi eval` takes texts of units with a plain reading of them.
+
+    compare_unit_faults.py [PROGRAM]
+
+There are texts of which each shows one rule, and texts that are valid, made up always in the same way, in which then
+one or two places are changed: bytes and tokens are dropped, doubled or changed, numbers, widths and constants go to
+their bounds or just past them, and texts end too early. With none of these texts may `eval` print another fault than
+the first one by the plain reading, or other values than the module has. Without PROGRAM, only the rows are compared
+with the plain reading. It ends with status 0 where all agree, and with 1 too where faults of a kind were hardly due.
+"""
+import collections
+import os
+import random
+import subprocess
+import sys
+import tempfile
+
+import units
+from made_units import Maker, some_unit, spell, unit_text
+from unit_rows import NAME, rows
+
+LIMIT = 60
+COUNT = 2000
+# How many texts are left as they are, in what is made up, and how many of a kind of fault are due at least.
+WHOLE, LEAST = 100, 20
+# The tokens of a module up to its first wire.
+HEADER_TOKENS = 45
+# Shapes of modules by the number of their wires; 0 are templates.
+SHAPES = (0, 1, 2, 3, 6, 12)
+BYTES = b" \n\t\r01238abcyzwtpqnAFhxX_'\"/@#.$>~!%\x00\x7f\xc3\xff(){}[]:;,=+-*&|^<?"
+TOKENS = ("0", "1", "5", "00", "01", "31", "32", "63", "64", "65", "9999999", "10000000", "2047", "a", "b", "c", "y",
+          "z", "d", "t0", "p0", "ci_0", "ci_1", "cycles", "module", "input", "output", "wire", "assign", "endmodule",
+          NAME + "x", NAME + "xx", "(", ")", "[", "]", "{", "}", ":", ";", ",", "=", "+", "-", "*", "&", "|", "^", "<<",
+          ">>", "<", "?", "// cycles 1\n", "// cycles 01\n", "// cycles 10000000\n", "// cycles 1", "1'h0", "1'h1",
+          "1'h2", "0'h0", "0'h1", "4'hf", "4'h10", "32'h0", "32'hFFFFFFFF", "32'h100000000", "64'hffffffffffffffff",
+          "64'h0ffffffffffffffff", "65'h0", "9999999'h0", "10000000'h0", "032'h0", "8'", "8'h", "8'd1", "{2{a}}",
+          "{3{a}}", "{64{1'h1}}", "{65{1'h1}}", "{0{a}}", "{a, b, c}", "a[31]", "a[32]", "a[4:5]", "a[4:4]", "+ a",
+          "? a : b", "[0]")
+def some_tokens(source):
+    """The tokens of a valid text of one of the shapes."""
+    shape, maker, tokens = source.choice(SHAPES), Maker(source), []
+    for number in range(source.choice((1, 1, 1, 2, 3))):
+        tokens += split(unit_text(number, some_unit(source, source.randrange(1, 4)))) if shape == 0 else maker.module(
+            number, shape)
+    return tokens
+
+
+def split(text):
+    """The tokens of a valid text."""
+    return [token.text for token in units.tokens(text)][:-1]
+
+
+def kind_of(token):
+    """Which tokens one may mostly stand for: a name, a number, a constant, or another word or a sign."""
+    kind = next(units.tokens(token)).kind
+    return "name" if token in units.INPUTS else kind
+
+
+def near(source, token, tokens):
+    """A token like another one: another name, or a number or constant that is a little different."""
+    kind, (width, quote, digits) = kind_of(token), token.partition("'h")
+    if kind not in ("name", "number", "constant") or source.randrange(2):
+        return source.choice([other for other in tokens if kind_of(other) == kind])
+    if kind == "name":
+        return token + source.choice("01_x")
+    if kind == "number" or source.randrange(2):
+        return str(max(0, int(width) + source.choice((-1, 1)))) + quote + digits
+    number = int(digits, 16)
+    return f"{width}'h{source.choice((number + 1, number * 2, number * 16, 2 ** min(int(width), 64))):x}"
+
+
+def change_tokens(source, tokens):
+    place, other = source.randrange(len(tokens)), source.randrange(len(tokens))
+    way = source.randrange(5)
+    if way == 0:
+        del tokens[place]
+    elif way == 1:
+        tokens.insert(place, source.choice((tokens[place], *TOKENS)))
+    elif way == 2:
+        tokens[place], tokens[other] = tokens[other], tokens[place]
+    elif way == 3:
+        tokens[place] = source.choice(TOKENS)
+    else:
+        tokens[place] = near(source, tokens[place], tokens)
+
+
+def change_meaning(source, tokens):
+    """A change by which mostly another thing is named or counted, behind the header."""
+    places = [place for place in range(HEADER_TOKENS, len(tokens))
+              if kind_of(tokens[place]) in ("name", "number", "constant")]
+    if not places:
+        change_tokens(source, tokens)
+        return
+    declared = [place for place in places if tokens[place + 1:place + 3] == [";", "assign"]]
+    place = source.choice(declared if declared and source.randrange(6) == 0 else places)
+    name = tokens[place]
+    tokens[place] = near(source, name, tokens)
+    if source.randrange(2) and tokens[place + 1:place + 4] == [";", "assign", name]:
+        tokens[place + 3] = tokens[place]
+
+
+def change_bytes(source, data):
+    place, way = source.randrange(len(data)), source.randrange(5)
+    if way == 0:
+        del data[place]
+    elif way == 1:
+        data.insert(place, data[place])
+    elif way == 2:
+        data[place] = source.choice(BYTES)
+    elif way == 3:
+        data.insert(place, source.choice(BYTES))
+    else:
+        data[place] = source.randrange(256)
+
+
+def changed(source):
+    """A text that was valid before one or two places were changed."""
+    tokens, ways = some_tokens(source), source.choices((change_meaning, change_tokens, change_bytes), (4, 2, 1),
+                                                       k=source.choice((1, 1, 2)))
+    for way in ways:
+        if way is not change_bytes:
+            way(source, tokens)
+    blanks = source.choice((("", "", " "), ("", " ", "\n"), ("", " ", "\t\n ")))
+    data = bytearray(spell(source, tokens, blanks).encode())
+    for way in ways:
+        if way is change_bytes:
+            way(source, data)
+    if source.randrange(8) == 0:
+        del data[source.randrange(len(data)):]
+    return bytes(data)
+
+
+def first_fault(data):
+    """The first fault of a text, or None and its modules."""
+    try:
+        return None, units.read(data)
+    except units.Fault as fault:
+        return (fault.kind, fault.offset), []
+
+
+def answer(fault, modules, number, operands):
+    """What `eval` has to print, and its status."""
+    if fault is not None:
+        return "fault 9 units {} {}\n".format(*fault), 9
+    if number >= len(modules):
+        return f"fault 7 unsupported {number:08x} 00000000\n", 7
+    return "{:08x} {:08x}\n".format(*units.evaluate(modules[number], *operands)), 0
+
+
+class Comparison:
+    """What was compared: counts by kind of fault, and lines on what differs."""
+
+    def __init__(self, folder, source):
+        self.program = os.path.abspath(sys.argv[1]) if len(sys.argv) > 1 else None
+        self.source, self.path = source, os.path.join(folder, "units")
+        self.kinds, self.faults = collections.Counter(), []
+
+    def text(self, data):
+        """Compares what the program makes of a text, and gives its first fault."""
+        fault, modules = first_fault(data)
+        self.kinds[fault and fault[0]] += 1
+        if self.program is not None:
+            self.call(data, fault, modules)
+        return fault
+
+    def call(self, data, fault, modules):
+        operands = [self.source.choice((0, 1, 2 ** 31, 2 ** 32 - 1, self.source.getrandbits(32))) for _ in "abc"]
+        number = self.source.choice((0, max(0, len(modules) - 1), len(modules) % 32))
+        with open(self.path, "wb") as file:
+            file.write(data)
+        words = [str(number), *(f"0x{operand:x}" for operand in operands)]
+        done = subprocess.run([self.program, "eval", self.path, *words], stdout=subprocess.PIPE, timeout=LIMIT,
+                              check=False)
+        ours, wanted = (done.stdout.decode(errors="replace"), done.returncode), answer(fault, modules, number, operands)
+        if ours != wanted:
+            self.faults.append(f"{' '.join(words)} of {data[-300:]!r}: {ours} against {wanted}")
+
+
+def main():
+    source = random.Random(1)
+    with tempfile.TemporaryDirectory() as folder:
+        comparison, count = Comparison(folder, source), 0
+        for data, due in rows():
+            count += 1
+            fault = comparison.text(data)
+            if fault != due:
+                comparison.faults.append(f"the plain reading of {data[-200:]!r} is {fault} and not {due}")
+        for number in range(COUNT):
+            if number >= WHOLE:
+                comparison.text(changed(source))
+                continue
+            data = spell(source, some_tokens(source)).encode()
+            fault = comparison.text(data)
+            if fault is not None:
+                comparison.faults.append(f"the plain reading of {data!r} is {fault}")
+    for fault in comparison.faults[:20]:
+        print(fault)
+    kinds = comparison.kinds
+    done = "compared" if comparison.program else "read"
+    print(f"{count} rows and {COUNT} made up texts {done}: {kinds[None]} valid, "
+          + ", ".join(f"{kinds[kind]} of kind {kind}" for kind in range(1, 10))
+          + f": {len(comparison.faults)} differences")
+    rare = [str(kind) for kind in range(1, 8) if kinds[kind] < LEAST]
+    if rare:
+        print(f"hardly any text with a fault of kind {', '.join(rare)}")
+    return 1 if comparison.faults or rare else 0
+
+
+sys.exit(main())
