@@ -1,14 +1,15 @@
 -- The last instruction before a place that writes a register.
-use Rattle.std.proofs.Common.{◌≡◌, ℕ, zero, suc, ◌≤◌, ◌<◌, Bool, true, false, List, Some, refl, sym, ap, ◌∙◌, subst, arith, inl, inr, true≢false}
+use Rattle.std.proofs.Common.{◌≡◌, ℕ, zero, suc, ◌≤◌, ◌<◌, Bool, true, false, List, Some, None, refl, sym, ap, ◌∙◌, subst, arith, inl, inr, true≢false}
 use Rattle.std.specs.Prelude.{if◌then◌else◌}
-use Rattle.std.proofs.lemmas.Bool.{cases_eq}
+use Rattle.std.proofs.lemmas.Bool.{cases_eq, false_from_ne_true}
 use Rattle.ci_isa.specs.declared.instruction.Insn.{Insn}
 use Rattle.ci_isa.specs.Effects.{writes_register}
 use Rattle.ci_isa.specs.Sequences.{nth_insn, latest_writer, IsLastWriter}
 use Rattle.ci_isa.specs.Laws.{LatestWriterIsLast}
+use Rattle.ci_isa.proofs.LastPassing.{IsLast}
 
 module _ (insns : List Insn) (r : ℕ) where
-  abbrev written : ℕ → Bool
+  abbrev pub written : ℕ → Bool
   written i = writes_register (nth_insn insns i) r
 
   -- ---- one place more
@@ -68,5 +69,23 @@ module _ (insns : List Insn) (r : ℕ) where
             | inr other ↦ let found = earlier (omega arith) writes in (found.0, last_before k found.0 is found.1, found.2)
           ]
 
+  -- where none writes it, there is no last writer
+  pub no_writer : (k : ℕ) → ((j : ℕ) → j < k → written j ≡ false) → latest_writer insns r k ≡ None
+  unfolding latest_writer
+  no_writer zero none = refl
+  no_writer (suc k) none =
+      ap (λ b. if b then Some k else latest_writer insns r k) (none k (omega arith)) ∙ no_writer k (λ j below. none j (omega arith))
+
 pub latest_writer_is_last : LatestWriterIsLast
 latest_writer_is_last insns r k j = (is_last insns r k j, is_latest insns r k j)
+
+-- the last number before a place whose instruction writes the register
+pub last_writer : {insns : List Insn} {r k w : ℕ} → IsLast (written insns r) k w → IsLastWriter insns r k w
+last_writer last = record { before = last.below; writes = last.passes; none_between = last.none_behind }
+
+-- where there is no last writer, none writes it
+pub unwritten_before : (insns : List Insn) (r k : ℕ) → latest_writer insns r k ≡ None → (j : ℕ) → j < k → written insns r j ≡ false
+unwritten_before insns r k none j below = false_from_ne_true (written insns r j) (λ writes.
+    let found = last_writer_from insns r k j below writes in
+    let never : Some found.0 ≡ None = sym ((latest_writer_is_last insns r k found.0).1 found.1) ∙ none in
+    cc)

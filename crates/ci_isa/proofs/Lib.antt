@@ -7,4 +7,6 @@ pub mod Rows
 pub mod SequenceLaws
 pub mod TableLaws
 pub mod WellFormed
+pub mod LastPassing
 pub mod LastWriter
+pub mod OperandLaws

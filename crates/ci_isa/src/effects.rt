@@ -5,6 +5,7 @@ ghost use Rattle.ci_isa.specs.Effects.{padded};
 ghost use Rattle.ci_isa.specs.RegisterSets.{registers_read, registers_written, set_without_x0};
 
 use crate::instruction::Insn;
+use crate::register::Reg;
 use ci_word::Row;
 
 /// The numbers of the registers that the instruction takes its operands from, in their order, and then 0 for none. An
@@ -27,25 +28,32 @@ pub fn operands(insn: &Insn) -> [u8; 4]
     }
 }
 
-/// The number of the register that takes the instruction's result, and 0 for none or for x0, which is never written.
+/// The register that takes the instruction's result, and x0, which is never written, where it has none.
 ///
 /// An environment call answers in x10.
-pub fn destination(insn: &Insn) -> u8
+pub fn result_register(insn: &Insn) -> Reg
     ensures { result ∷ [] ≡ padded 1 (terms.results insn.now) }
 {
     match *insn {
-        Insn::Alu { rd, .. } => rd.number(),
-        Insn::AluImm { rd, .. } => rd.number(),
-        Insn::Lui { rd, .. } => rd.number(),
-        Insn::Auipc { rd, .. } => rd.number(),
-        Insn::Jal { rd, .. } => rd.number(),
-        Insn::Jalr { rd, .. } => rd.number(),
-        Insn::Load { rd, .. } => rd.number(),
-        Insn::Unit { rd, .. } => rd.number(),
-        Insn::Cread { rd } => rd.number(),
-        Insn::Ecall => 10,
-        _ => 0,
+        Insn::Alu { rd, .. } => rd,
+        Insn::AluImm { rd, .. } => rd,
+        Insn::Lui { rd, .. } => rd,
+        Insn::Auipc { rd, .. } => rd,
+        Insn::Jal { rd, .. } => rd,
+        Insn::Jalr { rd, .. } => rd,
+        Insn::Load { rd, .. } => rd,
+        Insn::Unit { rd, .. } => rd,
+        Insn::Cread { rd } => rd,
+        Insn::Ecall => Reg::new(10).unwrap(),
+        _ => Reg::zero(),
     }
+}
+
+/// The number of the register that takes the instruction's result, and 0 for none or for x0, which is never written.
+pub fn destination(insn: &Insn) -> u8
+    ensures { result ∷ [] ≡ padded 1 (terms.results insn.now) }
+{
+    result_register(insn).number()
 }
 
 /// Whether an operand of the instruction is this register, other than x0.

@@ -7,7 +7,9 @@
 #![tactic(auto)]
 
 pub use decoding::{decode, decode_x, insn_at};
-pub use effects::{destination, operands, reads, reads_register, writes, writes_register};
+pub use effects::{
+    destination, operands, reads, reads_register, result_register, writes, writes_register,
+};
 pub use encoding::encode;
 pub use instruction::{Cond, Insn, LoadKind, Width};
 pub use kinds::{class, is_access, is_cread, is_eligible, is_terminator, is_unit};

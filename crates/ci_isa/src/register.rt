@@ -36,6 +36,13 @@ impl Reg {
         }
     }
 
+    /// The register x0, which is always 0.
+    pub fn zero() -> Reg
+        ensures { result ≡ 0 }
+    {
+        Reg { number: 0 }
+    }
+
     /// The register's number, 0 to 31.
     pub fn number(&self) -> u8
         ensures value { result ≡ self.now }
