@@ -8,7 +8,7 @@ use Rattle.ci_word.specs.Numbers.{count_below, sum_below}
 use Rattle.ci_word.proofs.NumberLaws.{some_below_iff, count_below-mono, count_below-zero, count_below-suc, sum_below-zero, sum_below-suc}
 use Rattle.ci_cut.specs.declared.graph.Source.{Source}
 use Rattle.ci_cut.specs.declared.graph.Source.TheVariants.{Entry, Made}
-use Rattle.ci_cut.specs.FlowGraph.{FlowGraph, node_at, reads}
+use Rattle.ci_cut.specs.FlowGraph.{FlowGraph, HasArc, node_at, reads}
 use Rattle.ci_cut.specs.GraphRules.{IsFlowGraph}
 use Rattle.ci_cut.specs.Walks.{Walk, arc, onward, IsConvex}
 use Rattle.ci_cut.specs.Ports.{is_outside, inputs_from, is_output, outputs, size}
@@ -19,17 +19,17 @@ use Rattle.ci_cut.proofs.SavedCycles.{saved_cycles-antitone, saved_cycles-member
 use Rattle.ci_cut.proofs.CriticalPath.{delay_along-le, critical_path_delay-reached}
 use Rattle.ci_cut.proofs.PrefixLaws.{Extends}
 
--- a walk leads to later nodes
-pub walk_rises : (graph : FlowGraph) → IsFlowGraph graph → {a b : ℕ} → Walk graph a b → a < b
-walk_rises graph flows (arc {a = a} {b = b} last) = flows.arcs_rise a b last
-walk_rises graph flows (onward {b = b} {c = c} walk last) = omega (arith, walk_rises graph flows walk, flows.arcs_rise b c last)
+-- where arcs lead to later nodes, walks do
+pub walk_rises : {graph : FlowGraph} → ((a b : ℕ) → HasArc graph a b → a < b) → {a b : ℕ} → Walk graph a b → a < b
+walk_rises rises (arc {a = a} {b = b} last) = rises a b last
+walk_rises rises (onward {b = b} {c = c} walk last) = omega (arith, walk_rises rises walk, rises b c last)
 
 module _ (graph : FlowGraph) (flows : IsFlowGraph graph) (small big : ℕ → Bool) (extends : Extends small big) where
   -- a violation of convexity stays one
   pub convex_within : IsConvex graph big → IsConvex graph small
   convex_within convex a b c member there outside back =
       λ last. convex a b c (extends.within a member) there
-      (λ here. outside (extends.above a b member (omega (arith, walk_rises graph flows there)) here)) back
+      (λ here. outside (extends.above a b member (omega (arith, walk_rises flows.arcs_rise there)) here)) back
       (extends.within c last)
 
   -- an output stays one, since all that reads it is later

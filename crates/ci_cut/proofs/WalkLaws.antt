@@ -18,6 +18,14 @@ last_arc : {graph : FlowGraph} {a c : ℕ} → Walk graph a c → HasArc graph a
 last_arc (arc last) = inl last
 last_arc (onward {b = b} rest last) = inr (b, rest, last)
 
+-- its first arc, and the walk behind it
+pub first_arc : {graph : FlowGraph} {a c : ℕ} → Walk graph a c → HasArc graph a c ⊎ ((b : ℕ) × HasArc graph a b × Walk graph b c)
+first_arc (arc only) = inl only
+first_arc (onward rest last) = elim (first_arc rest) [
+  | inl only ↦ inr (_, only, arc last)
+  | inr (b, first, others) ↦ inr (b, first, onward others last)
+]
+
 -- a walk leads from a member to the node
 abbrev pub IsReached : FlowGraph → (ℕ → Bool) → ℕ → Type 0
 IsReached graph cut b = (a : ℕ) × IsTrue (cut a) × Walk graph a b

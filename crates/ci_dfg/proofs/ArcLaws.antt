@@ -11,7 +11,6 @@ use Rattle.ci_isa.specs.Effects.{operands, results, is_kept, without_x0, is_acce
 use Rattle.ci_isa.specs.Sequences.{nth_insn, latest_writer, IsLastWriter}
 use Rattle.ci_isa.proofs.LastWriter.{latest_writer_is_last, last_writer_from}
 use Rattle.ci_lat.specs.Latencies.{Latencies}
-use Rattle.ci_cut.specs.declared.graph.Source.{Source}
 use Rattle.ci_cut.specs.declared.graph.Source.TheVariants.{Made}
 use Rattle.ci_cut.specs.FlowGraph.{HasArc, is_source}
 use Rattle.ci_dfg.specs.BlockGraph.{source_from, source_of, has_true_arc, has_anti_arc, has_output_arc, has_memory_arc}
@@ -42,7 +41,7 @@ passes_at p r (n ∷ rest) passes among =
     ]
 
 -- a test of the sources is one of the registers
-of_sources : (p : Source → Bool) (f : ℕ → Source) (registers : List ℕ)
+of_sources : {X : Type 0} (p : X → Bool) (f : ℕ → X) (registers : List ℕ)
     → list_any p (map f (without_x0 registers)) ≡ list_any (λ r. is_kept r && p (f r)) registers
 of_sources p f [] = refl
 of_sources p f (n ∷ rest) = by_test (is_kept n) (of_sources p f rest)
@@ -51,6 +50,20 @@ of_sources p f (n ∷ rest) = by_test (is_kept n) (of_sources p f rest)
         → list_any p (map f (if b then n ∷ without_x0 rest else without_x0 rest)) ≡ ((b && p (f n)) || list_any (λ r. is_kept r && p (f r)) rest)
     by_test true same = ap (λ b. p (f n) || b) same
     by_test false same = same
+
+-- so what a register of the list gives is found,
+pub found_among : {X : Type 0} (p : X → Bool) (f : ℕ → X) (r : ℕ) (registers : List ℕ) → p (f r) ≡ true → is_kept r ≡ true
+    → list_any (λ n. n == r) registers ≡ true → list_any p (map f (without_x0 registers)) ≡ true
+found_among p f r registers passes kept among =
+    of_sources p f registers ∙ passes_at (λ q. is_kept q && p (f q)) r registers (and_from (is_kept r) (p (f r)) kept passes) among
+
+-- and what is found is what one of its registers gives
+pub found_from : {X : Type 0} (p : X → Bool) (f : ℕ → X) (registers : List ℕ) → list_any p (map f (without_x0 registers)) ≡ true
+    → (r : ℕ) × (is_kept r ≡ true) × (list_any (λ n. n == r) registers ≡ true) × (p (f r) ≡ true)
+found_from p f registers found =
+    let w = witness (λ r. is_kept r && p (f r)) registers (sym (of_sources p f registers) ∙ found) in
+    let parts = and_parts (is_kept w.0) (p (f w.0)) w.1 in
+    (w.0, parts.0, w.2, parts.1)
 
 -- ---- own arcs
 
@@ -135,7 +148,7 @@ module _ (insns : List Insn) (j k : ℕ) where
       own_arc (any_kind (has_true_arc insns k j) (has_anti_arc insns k j) (has_output_arc insns k j) (has_memory_arc insns k j)
       (has_control_arc insns k j) is)
 
-  source_there : (r : ℕ) → IsLastWriter insns r k j → reads_register second r ≡ true → has_true_arc insns k j ≡ true
+  pub source_there : (r : ℕ) → IsLastWriter insns r k j → reads_register second r ≡ true → has_true_arc insns k j ≡ true
   source_there r last reads =
       let parts = and_parts (is_kept r) (list_any (λ n. n == r) (operands second)) reads in
       let found = ap (λ writer. is_source (Made j) (source_from insns r writer)) ((latest_writer_is_last insns r k j).1 last) ∙ eq-eqb j j refl in

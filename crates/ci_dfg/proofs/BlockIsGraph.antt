@@ -14,7 +14,7 @@ use Rattle.ci_lat.specs.Latencies.{Latencies}
 use Rattle.ci_lat.specs.TableRules.{IsLatencyTable}
 use Rattle.ci_cut.specs.declared.graph.Source.TheVariants.{Made}
 use Rattle.ci_cut.specs.declared.graph.Node.{Node}
-use Rattle.ci_cut.specs.FlowGraph.{node_at, no_node, is_source}
+use Rattle.ci_cut.specs.FlowGraph.{HasArc, node_at, no_node, is_source, reads}
 use Rattle.ci_cut.specs.GraphRules.{IsFlowGraph}
 use Rattle.ci_isa.specs.Sequences.{nth_insn}
 use Rattle.ci_dfg.specs.BlockGraph.{has_arc_into, node_of, graph_of}
@@ -59,20 +59,27 @@ module _ (insns : List Insn) (live_out : set.FinSet nat_cmp) (table : Latencies)
         | inr beyond ↦ subst (P k) (sym (node_at_past k beyond)) (past k)
       ]
 
+  -- arcs and sources come from earlier nodes
+  pub arcs_rise : (j k : ℕ) → HasArc (graph_of insns live_out table) j k → j < k
+  arcs_rise j k = each_node
+      (λ at node. IsTrue (set.contains node.before j) → j < at)
+      (λ at arc. ltb-true j at (and_parts (nat_lt j at) (has_arc_into insns at j) (sym (contains-set_below at (has_arc_into insns at) j) ∙ arc)).0)
+      (λ at arc. absurd (true≢false (sym arc ∙ set.contains-empty nat_cmp j)))
+      k
+
+  pub made_rise : (j k : ℕ) → IsTrue (reads (graph_of insns live_out table) k (Made j)) → j < k
+  made_rise j k = each_node
+      (λ at node. IsTrue (list_any (is_source (Made j)) node.sources) → j < at)
+      (λ at found. sources_rise insns at j found)
+      (λ at found. absurd (true≢false (sym found)))
+      k
+
   -- the graph of a block keeps what a graph keeps
   pub is_flow_graph : length insns ≤ 256 → IsLatencyTable table → IsFlowGraph (graph_of insns live_out table)
   is_flow_graph few kept = record {
     few = rw length-nodes few;
-    arcs_rise = λ j k. each_node
-        (λ at node. IsTrue (set.contains node.before j) → j < at)
-        (λ at arc. ltb-true j at (and_parts (nat_lt j at) (has_arc_into insns at j) (sym (contains-set_below at (has_arc_into insns at) j) ∙ arc)).0)
-        (λ at arc. absurd (true≢false (sym arc ∙ set.contains-empty nat_cmp j)))
-        k;
-    sources_rise = λ j k. each_node
-        (λ at node. IsTrue (list_any (is_source (Made j)) node.sources) → j < at)
-        (λ at found. sources_rise insns at j found)
-        (λ at found. absurd (true≢false (sym found)))
-        k;
+    arcs_rise = arcs_rise;
+    sources_rise = made_rise;
     latency_least = each_node (λ at node. IsTrue node.eligible → 1 ≤ node.latency)
         (λ at joins. kinds.latency_least table kept (class_of (nth_insn insns at)) (kinds.may_join_delayed (nth_insn insns at) joins))
         (λ at eligible. absurd (true≢false (sym eligible)));

@@ -8,7 +8,7 @@ use Rattle.std.proofs.lemmas.List.Elements.{filter-append}
 use Rattle.ci_isa.specs.declared.instruction.Insn.{Insn}
 use Rattle.ci_isa.specs.Effects.{operands, padded, is_kept, without_x0}
 use Rattle.ci_cut.specs.declared.graph.Source.{Source}
-use Rattle.ci_cut.specs.declared.graph.Source.TheVariants.{Made}
+use Rattle.ci_cut.specs.declared.graph.Source.TheVariants.{Entry, Made}
 use Rattle.ci_cut.specs.FlowGraph.{is_source}
 use Rattle.ci_isa.specs.Sequences.{nth_insn, latest_writer}
 use Rattle.ci_isa.proofs.Registers.{without_padding}
@@ -54,3 +54,18 @@ module _ (insns : List Insn) (k : ℕ) where
 
   pub sources_rise : (j : ℕ) → IsTrue (list_any (is_source (Made j)) (sources insns k)) → j < k
   sources_rise j = made_rises j (without_x0 (operands (nth_insn insns k)))
+
+  -- what a source says of the last writer of its register
+  pub entry_is : (q r : ℕ) → source_of insns k q ≡ Entry r → (latest_writer insns q k ≡ None) × (q ≡ r)
+  entry_is q r is = by_writer (latest_writer insns q k) is
+    where
+      by_writer : (o : Option ℕ) → source_from insns q o ≡ Entry r → (o ≡ None) × (q ≡ r)
+      by_writer None same = (refl, cc)
+      by_writer (Some w) same = cc
+
+  pub made_is : (q w : ℕ) → source_of insns k q ≡ Made w → latest_writer insns q k ≡ Some w
+  made_is q w is = by_writer (latest_writer insns q k) is
+    where
+      by_writer : (o : Option ℕ) → source_from insns q o ≡ Made w → o ≡ Some w
+      by_writer None same = cc
+      by_writer (Some v) same = cc
