@@ -1,5 +1,5 @@
 -- Steps through instructions that stand in the text.
-use Rattle.std.proofs.Common.{◌≡◌, ℕ, zero, suc, refl, ap, sym, ◌∙◌, arith, List, [], ◌∷◌, length, Option, Some, None}
+use Rattle.std.proofs.Common.{◌≡◌, ℕ, zero, suc, refl, ap, sym, subst, ◌∙◌, arith, List, [], ◌∷◌, length, Option, Some, None}
 use Rattle.std.specs.Prelude.{Bool, true, false, ◌%◌, ◌==◌, ◌&&◌, if◌then◌else◌}
 use Rattle.std.specs.List.{list_any, list_all}
 use Rattle.std.specs.Option.{option_map}
@@ -10,7 +10,7 @@ use Rattle.ci_isa.specs.Effects.{ends_block}
 use Rattle.ci_machine.specs.declared.ends.End.{End}
 use Rattle.ci_machine.specs.Cores.{Core, register}
 use Rattle.ci_machine.specs.Accesses.{addresses, number_of_bytes, bytes_at, with_bytes}
-use Rattle.ci_machine.specs.Outcomes.{Outcome, Next, Ended, reached, continued, at_start}
+use Rattle.ci_machine.specs.Outcomes.{Outcome, Next, Ended, Reached, reached, continued, at_start}
 use Rattle.ci_machine.specs.Actions.{Units, act, accessed, address_from, stored}
 use Rattle.ci_machine.specs.Agreement.{acted}
 use Rattle.ci_machine.specs.Agreement.{act_all, AreActions, LeavesText, AllLeaveText}
@@ -18,8 +18,9 @@ use Rattle.ci_machine.specs.Programs.{Program, State, in_text}
 use Rattle.ci_machine.specs.Steps.{Meaning, insn_in, fetched, following, control, then_onward, stepped, step}
 use Rattle.ci_machine.specs.Runs.{after}
 use Rattle.ci_machine.specs.Blocks.{StandAt, HaveSameText, IsRunOf}
-use Rattle.ci_machine.proofs.TestLaws.{neither_first, neither_second, both_first, both_second}
+use Rattle.ci_machine.proofs.TestLaws.{by_end, neither_first, neither_second, both_first, both_second}
 use Rattle.ci_machine.proofs.InstructionFrame.{keeps, AgreeAt, same_bytes}
+use Rattle.ci_machine.proofs.RelatedLists.{goes_on, has_ended}
 
 -- ---- the first step of a run
 
@@ -63,6 +64,16 @@ text_stays text units (Store width rs1 rs2 offset) core a clear is = after_store
     after_store (Some bytes) = not_stored text (accessed (Store width rs1 rs2 offset) core) _ core.memory a clear is
 text_stays text units insn core a clear is = ap (λ memory. memory a) ((keeps units insn core).memory refl)
 
+-- so does a list
+pub list_keeps_text : (text : ℕ → Bool) (units : Units) (insns : List Insn) (run : Reached Core) (a : ℕ) → AllLeaveText units text insns run
+    → text a ≡ true → (act_all units insns run).state.memory a ≡ run.state.memory a
+list_keeps_text text units [] run a clear is = refl
+list_keeps_text text units (insn ∷ insns) run a clear is =
+    list_keeps_text text units insns (continued (act units insn) run) a clear.1 is
+    ∙ by_end run.end
+    (λ on. ap (λ r. r.state.memory a) (goes_on units insn run on) ∙ text_stays text units insn run.state a (clear.0 on) is)
+    (λ e ended. ap (λ r. r.state.memory a) (has_ended units insn run e ended))
+
 text_agrees : (program : Program) (left right : ℕ → Option ℕ) (places : List ℕ) → HaveSameText program left right
     → list_all (in_text program) places ≡ true → AgreeAt places left right
 text_agrees program left right [] same all = tt
@@ -81,6 +92,11 @@ pub over : (units : Units) (insns : List Insn) (core : Core) (e : End)
     → act_all units insns (record { state = core; end = Some e }) ≡ record { state = core; end = Some e }
 over units [] core e = refl
 over units (insn ∷ insns) core e = over units insns core e
+
+pub over_stays : (units : Units) (insns : List Insn) (run : Reached Core) (e : End) → run.end ≡ Some e → act_all units insns run ≡ run
+over_stays units insns run e ended =
+    subst (λ o. act_all units insns (record { state = run.state; end = o }) ≡ record { state = run.state; end = o }) (sym ended)
+    (over units insns run.state e)
 
 pub control_step : (meaning : Meaning) (program : Program) (state : State) (insn : Insn) → fetched meaning program state ≡ Some insn → ends_block insn ≡ true
     → step meaning program state ≡ control program insn state.pc state.core

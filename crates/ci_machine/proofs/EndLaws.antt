@@ -5,7 +5,7 @@ use Rattle.ci_machine.specs.declared.ends.End.{End}
 use Rattle.ci_machine.specs.Cores.{Core}
 use Rattle.ci_machine.specs.Outcomes.{Reached, continued, from_end}
 use Rattle.ci_machine.specs.Actions.{Units, act}
-use Rattle.ci_machine.specs.Agreement.{act_all}
+use Rattle.ci_machine.specs.Agreement.{acted, act_all}
 use Rattle.ci_machine.specs.Programs.{Program, State}
 use Rattle.ci_machine.specs.Steps.{Meaning, step}
 use Rattle.ci_machine.specs.Runs.{after}
@@ -70,3 +70,8 @@ lists_keep_streams units (insn ∷ insns) run =
     let first = acted_streams units insn run in
     let rest = lists_keep_streams units insns (continued (act units insn) run) in
     record { heap_end = first.heap_end ∙ rest.heap_end; input = first.input ∙ rest.input; output = first.output ∙ rest.output }
+
+pub acted_keeps_streams : (units : Units) (insn : Insn) (core start : Core) → HaveSameStreams core start → HaveSameStreams (acted units insn core).state start
+acted_keeps_streams units insn core start before =
+    let now = keeps units insn core in
+    record { heap_end = now.heap_end ∙ before.heap_end; input = now.input ∙ before.input; output = now.output ∙ before.output }

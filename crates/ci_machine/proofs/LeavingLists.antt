@@ -1,22 +1,23 @@
 -- Which text a list of instructions touches: it depends on the registers that the list needs.
-use Rattle.std.proofs.Common.{◌≡◌, ℕ, refl, subst, ◌∙◌, List, [], ◌∷◌}
+use Rattle.std.proofs.Common.{◌≡◌, ℕ, refl, subst, ◌∙◌, List, [], ◌∷◌, ◌++◌}
 use Rattle.std.specs.Prelude.{Bool, true, false, ◌||◌}
 use Rattle.std.specs.List.{list_any}
 use Rattle.ci_word.specs.declared.arithmetic.Op.TheVariants.{Add}
 use Rattle.ci_word.specs.Arithmetic.{operation, word_of}
 use Rattle.ci_isa.specs.declared.instruction.Insn.{Insn}
 use Rattle.ci_isa.specs.declared.instruction.Insn.TheVariants.{Load, Store}
-use Rattle.ci_isa.specs.Effects.{ends_block, width_bytes}
+use Rattle.ci_isa.specs.Effects.{ends_block, is_access, width_bytes}
 use Rattle.ci_machine.specs.Cores.{Core}
 use Rattle.ci_machine.specs.Accesses.{addresses, load_width}
 use Rattle.ci_machine.specs.Outcomes.{Reached, continued}
 use Rattle.ci_machine.specs.Actions.{Units, act, accessed}
-use Rattle.ci_machine.specs.Agreement.{reads, AgreeOn, AreRelated, LeavesText, AreActions, AllLeaveText, needed}
+use Rattle.ci_machine.specs.Agreement.{act_all, reads, AgreeOn, AreRelated, LeavesText, AreActions, AllLeaveText, needed}
 use Rattle.ci_machine.proofs.TestLaws.{neither_first, neither_second}
 use Rattle.ci_machine.proofs.RegisterLaws.{operands_agree, first_there}
 use Rattle.ci_machine.proofs.RelatedLists.{list_frame}
 
-same_accessed : (units : Units) (insn : Insn) (left right : Core) → AgreeOn (reads units insn) left right → accessed insn left ≡ accessed insn right
+-- the addresses that an instruction moves depend on what it reads
+pub same_accessed : (units : Units) (insn : Insn) (left right : Core) → AgreeOn (reads units insn) left right → accessed insn left ≡ accessed insn right
 same_accessed units (Load kind rd rs1 offset) left right read =
     let a = operands_agree (rs1 ∷ []) left right rs1 read (first_there rs1 []) in
     λ i. addresses (width_bytes (load_width kind)) (operation Add (a i) (word_of offset))
@@ -24,6 +25,12 @@ same_accessed units (Store width rs1 rs2 offset) left right read =
     let a = operands_agree (rs1 ∷ rs2 ∷ []) left right rs1 read (first_there rs1 (rs2 ∷ [])) in
     λ i. addresses (width_bytes width) (operation Add (a i) (word_of offset))
 same_accessed units insn left right read = refl
+
+-- what goes to no memory moves none
+pub nothing_moved : (text : ℕ → Bool) (insn : Insn) (core : Core) → is_access insn ≡ false → LeavesText text insn core
+nothing_moved text (Load kind rd rs1 offset) core none = cc
+nothing_moved text (Store width rs1 rs2 offset) core none = cc
+nothing_moved text insn core none = refl
 
 either : (p q : Bool) → p ≡ true → (p || q) ≡ true
 either true q is = refl
@@ -48,3 +55,25 @@ module _ (text : ℕ → Bool) (units : Units) where
       alone : (e : Bool) → e ≡ false → (e || false) ≡ false
       alone true is = cc
       alone false is = refl
+
+  -- ---- lists one behind the other
+
+  pub leaves-append : (before behind : List Insn) (run : Reached Core) → AllLeaveText units text before run
+      → AllLeaveText units text behind (act_all units before run) → AllLeaveText units text (before ++ behind) run
+  leaves-append [] behind run first second = second
+  leaves-append (insn ∷ before) behind run first second =
+      (first.0, leaves-append before behind (continued (act units insn) run) first.1 second)
+
+  pub leaves-parts : (before behind : List Insn) (run : Reached Core) → AllLeaveText units text (before ++ behind) run
+      → AllLeaveText units text before run × AllLeaveText units text behind (act_all units before run)
+  leaves-parts [] behind run all = (tt, all)
+  leaves-parts (insn ∷ before) behind run all =
+      let (first, last) = leaves-parts before behind (continued (act units insn) run) all.1 in ((all.0, first), last)
+
+  -- a list that goes to no memory leaves the text alone
+  pub quiet_list : (insns : List Insn) (run : Reached Core) → list_any is_access insns ≡ false → AllLeaveText units text insns run
+  quiet_list [] run none = tt
+  quiet_list (insn ∷ insns) run none = (
+    λ on. nothing_moved text insn run.state (neither_first (is_access insn) _ none),
+    quiet_list insns (continued (act units insn) run) (neither_second (is_access insn) _ none),
+  )

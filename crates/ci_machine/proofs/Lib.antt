@@ -6,6 +6,7 @@ pub mod InstructionFrame
 pub mod RelatedLists
 pub mod PlainMeaning
 pub mod NeededLaws
+pub mod NamedReads
 pub mod RunLaws
 pub mod WordLaws
 pub mod TextLaws
@@ -14,6 +15,7 @@ pub mod ControlFrame
 pub mod MovedBytes
 pub mod Rows
 mod LawRows
+mod ExtendedRows
 pub mod PartLaws
 pub mod AccessLaws
 pub mod PartReads
@@ -25,7 +27,11 @@ pub mod StartLaws
 pub mod TextRanges
 pub mod OpeningLaws
 pub mod SameRuns
+pub mod ExtendedMeaning
 pub mod JoinLaws
 pub mod StepLists
+pub mod StandingLists
+pub mod Refusals
+pub mod RelatedSteps
 pub mod TextChanges
 pub mod EndLaws

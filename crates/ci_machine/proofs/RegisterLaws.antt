@@ -1,6 +1,6 @@
 -- What registers hold after a write, and what a set of registers says of one of them.
 use Rattle.std.proofs.Common.{◌≡◌, ℕ, refl, sym, ◌∙◌, arith, List, [], ◌∷◌}
-use Rattle.std.specs.Prelude.{Bool, true, false, ◌==◌, ◌&&◌, ◌||◌, drop}
+use Rattle.std.specs.Prelude.{Bool, true, false, ◌==◌, ◌&&◌, ◌||◌, if◌then◌else◌, drop}
 use Rattle.std.specs.List.{list_any}
 use Rattle.std.proofs.lemmas.Bool.Decides.{nat_tests}
 use Rattle.ci_machine.specs.Cores.{Core, register, with_register, values_in, with_registers}
@@ -13,6 +13,14 @@ register_kept core r value q other = grind (arith, nat_tests)
 
 pub register_written : (core : Core) (r value q : ℕ) → is_among (r ∷ []) q ≡ true → register (with_register core r value) q ≡ value
 register_written core r value q same = grind (arith, nat_tests)
+
+-- a write to x0 changes nothing
+pub x0_stays : (core : Core) (value : ℕ) → with_register core 0 value ≡ core
+x0_stays core value i = record core { registers = λ n. dropped (n == 0) value (core.registers n) i }
+  where
+    dropped : (b : Bool) (v x : ℕ) → (if b && false then v else x) ≡ x
+    dropped true v x = refl
+    dropped false v x = refl
 
 pub first_there : (r : ℕ) (more : List ℕ) → list_any (λ n. n == r) (r ∷ more) ≡ true
 first_there r more = grind (arith, nat_tests)

@@ -1,12 +1,12 @@
 -- Lists of instructions, from runs that are related.
-use Rattle.std.proofs.Common.{◌≡◌, ℕ, refl, ap, sym, ◌∙◌, arith, List, [], ◌∷◌, ◌++◌, Some, None}
+use Rattle.std.proofs.Common.{◌≡◌, ℕ, zero, suc, replicate, refl, ap, sym, ◌∙◌, arith, List, [], ◌∷◌, ◌++◌, Some, None}
 use Rattle.std.specs.Prelude.{Bool, true, false, not, ◌&&◌, ◌||◌}
 use Rattle.std.specs.List.{list_any}
 use Rattle.ci_isa.specs.declared.instruction.Insn.{Insn}
 use Rattle.ci_isa.specs.Effects.{ends_block}
 use Rattle.ci_machine.specs.declared.ends.End.{End}
 use Rattle.ci_machine.specs.Cores.{Core}
-use Rattle.ci_machine.specs.Outcomes.{Reached, from_end, continued}
+use Rattle.ci_machine.specs.Outcomes.{Next, Reached, reached, from_end, continued}
 use Rattle.ci_machine.specs.Actions.{Units, act}
 use Rattle.ci_machine.specs.Agreement.{acted}
 use Rattle.ci_machine.specs.Agreement.{reads, writes, act_all, AreRelated, LeavesText, AreActions, AllLeaveText, needed}
@@ -44,6 +44,19 @@ AreRelated-trans text set left middle right first second = record {
   registers = λ on r is. first.registers on r is ∙ second.registers (sym first.end ∙ on) r is;
 }
 
+-- cores that agree everywhere agree outside any text
+pub AreRelated-everywhere : (text set : ℕ → Bool) (left right : Reached Core) → AreRelated (λ _. false) set left right → AreRelated text set left right
+AreRelated-everywhere text set left right same = record {
+  end = same.end;
+  outside = record {
+    memory = λ address clear. same.outside.memory address refl;
+    heap_end = same.outside.heap_end;
+    input = same.outside.input;
+    output = same.outside.output;
+  };
+  registers = same.registers;
+}
+
 -- ---- one instruction more
 
 pub goes_on : (units : Units) (insn : Insn) (run : Reached Core) → run.end ≡ None → continued (act units insn) run ≡ acted units insn run.state
@@ -51,6 +64,17 @@ goes_on units insn run on = ap (from_end (act units insn) run) on
 
 pub has_ended : (units : Units) (insn : Insn) (run : Reached Core) (e : End) → run.end ≡ Some e → continued (act units insn) run ≡ run
 has_ended units insn run e ended = ap (from_end (act units insn) run) ended
+
+-- what changes nothing does so however often it acts
+pub idle_stays : (units : Units) (insn : Insn) → ((core : Core) → act units insn core ≡ Next core) → (count : ℕ) (run : Reached Core)
+    → act_all units (replicate count insn) run ≡ run
+idle_stays units insn idle zero run = refl
+idle_stays units insn idle (suc count) run =
+    ap (act_all units (replicate count insn))
+    (by_end run.end
+    (λ on. goes_on units insn run on ∙ (λ i. reached run.state (idle run.state i)) ∙ λ i. record { state = run.state; end = sym on i })
+    (λ e ended. has_ended units insn run e ended))
+    ∙ idle_stays units insn idle count run
 
 module _ (text : ℕ → Bool) (units : Units) where
   related_more : (set more : ℕ → Bool) (insn : Insn) (left right : Reached Core) → ends_block insn ≡ false

@@ -198,7 +198,7 @@ loaded_bytes : ((opening file []).core.memory 0x1002 ≡ Some 0x70) × ((opening
 unfolding file
 loaded_bytes = (refl, refl, refl)
 
-latencies : Latencies
+unfoldable pub latencies : Latencies
 latencies = record { of_class = λ _. 10; pad = 3; read = 1; of_unit = λ _. 1 }
 
 ends_by_exit : (after plain program 9 (opening file [])).end ≡ Some (ends.Exit 7)

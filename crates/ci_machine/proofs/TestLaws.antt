@@ -34,3 +34,7 @@ either_second p q is = grind arith
 
 pub some_is : {A : Type 0} {a b : A} → Some a ≡ Some b → a ≡ b
 some_is e = cc
+
+-- a run has ended, or it has not
+pub no_end : (end : Option End) (e : End) → end ≡ None → end ≡ Some e → ⊥
+no_end end e none some = cc

@@ -13,11 +13,13 @@ pub mod Blocks
 pub mod Words
 pub mod Texts
 pub mod Meanings
+pub mod Extended
 pub mod Laws
 pub mod RunLaws
 pub mod StateLaws
 pub mod FileLaws
 pub mod MeaningLaws
+pub mod ExtendedLaws
 pub mod Parts
 pub mod States
 pub mod Loading

@@ -1,4 +1,6 @@
 //! What holds of all instructions, lists of instructions and runs, and of the runs of all files.
+ghost use Rattle.ci_machine.specs.ExtendedLaws.{ExtendedExists, ExtendedIsOne, ExtendedGivesWords};
+ghost use Rattle.ci_machine.specs.ExtendedLaws.{ExtendedTakesHidden, ExtendedRunsPlainFiles};
 ghost use Rattle.ci_machine.specs.FileLaws.{OpensWithFileWords, FileInsnsStay, FileInsnsStand, OpensAlike};
 ghost use Rattle.ci_machine.specs.Laws.{Frame, ControlFrame, ListFrame, ListLeaves, ListsKeepStreams};
 ghost use Rattle.ci_machine.specs.Laws.{RegistersRead, RegistersWritten, NeededIsReadFirst, NeededIsReadFirstByPlain};
@@ -95,6 +97,16 @@ pub fn plain_meaning()
     ensures exists { PlainExists }
     ensures one { PlainIsOne }
     ensures extended { PlainAndExtendedAgree }
+{}
+
+/// There is an extended machine for all modules, and all its meanings make one run from words. It makes words of words,
+/// and runs a file without custom words as the plain machine does.
+pub fn extended_meaning()
+    ensures exists { ExtendedExists }
+    ensures one { ExtendedIsOne }
+    ensures words { ExtendedGivesWords }
+    ensures hidden { ExtendedTakesHidden }
+    ensures plain { ExtendedRunsPlainFiles }
 {}
 
 /// Units matter to unit words alone.
