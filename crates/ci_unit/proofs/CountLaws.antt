@@ -1,13 +1,15 @@
 -- The list of the numbers below a bound that pass a test: which number stands at a place, and lists made of it one by one.
 use Rattle.std.proofs.Common.{◌≡◌, ℕ, zero, suc, ◌+◌, ◌<◌, Bool, false, IsTrue, if◌then◌else◌, List, [], ◌∷◌, ◌++◌, map}
-use Rattle.std.proofs.Common.{get_or, sym, ap, ◌∙◌, inl, inr, arith, add-one}
-use Rattle.std.proofs.lemmas.Bool.{cases_lt, cases_Bool, or_from}
+use Rattle.std.specs.Prelude.{true, ◌==◌, nat_lt, length, slice_index}
+use Rattle.std.specs.List.{list_any}
+use Rattle.std.proofs.Common.{get_or, subst, sym, ap, ◌∙◌, inl, inr, arith, add-one}
+use Rattle.std.proofs.lemmas.Bool.{cases_lt, cases_Bool, or_from, and_from, lt-ltb}
 use Rattle.std.proofs.lemmas.List.{map-append, append-nil}
 use Rattle.std.proofs.Math.ListN.{get_or-append}
 use Rattle.std.proofs.Math.Seq.{get_or-append_seam}
 use Rattle.ci_word.specs.Numbers.{numbers_below, count_below, some_below}
-use Rattle.ci_word.proofs.NumberLaws.{some_below-suc, numbers_below-suc, count_below-zero, length-numbers_below}
-use Rattle.ci_cut.proofs.RisingCounts.{count_below-one, count_below-skip}
+use Rattle.ci_word.proofs.NumberLaws.{some_below-suc, numbers_below-suc, count_below-zero, length-numbers_below, list_any-numbers_below}
+use Rattle.ci_cut.proofs.RisingCounts.{count_below-one, count_below-skip, count_below-more, count_below-rises}
 
 module _ (p : ℕ → Bool) where
   listed_here : (k : ℕ) → IsTrue (p k) → numbers_below (suc k) p ≡ numbers_below k p ++ k ∷ []
@@ -62,6 +64,48 @@ module _ (p : ℕ → Bool) where
       | inr fails ↦ absurd (omega (arith, within, count_below-skip p n fails))
     ]
   ]
+
+  -- numbers that pass with as many below them are one
+  pub same_count : (j k : ℕ) → IsTrue (p j) → IsTrue (p k) → count_below j p ≡ count_below k p → j ≡ k
+  same_count j k one other same = elim (cases_lt j k) [
+    | inl before ↦ absurd (omega (arith, count_below-more p j k one before, same))
+    | inr from ↦ elim (cases_lt k j) [
+      | inl behind ↦ absurd (omega (arith, count_below-more p k j other behind, same))
+      | inr back ↦ omega arith
+    ]
+  ]
+
+  -- so a number that passes stands at the place of as many as are below it
+  pub number_there : (n k d : ℕ) → k < n → IsTrue (p k) → get_or (numbers_below n p) (count_below k p) d ≡ k
+  number_there n k d below passes =
+      let found = number_at n (count_below k p) (omega (arith, count_below-more p k n passes below)) in
+      found.1.there d ∙ same_count found.0 k found.1.passes passes found.1.counted
+
+  -- ---- the list, where it is known
+
+  module _ (n : ℕ) (numbers : List ℕ) (same : numbers_below n p ≡ numbers) where
+    pub passes_there : (i : ℕ) → i < length numbers → IsTrue (p (slice_index numbers i))
+    passes_there i within =
+        let count : count_below n p ≡ length numbers = sym (length-numbers_below n p) ∙ ap length same in
+        let found = number_at n i (omega (arith, count)) in
+        subst (λ k. IsTrue (p k)) (sym (found.1.there 0) ∙ ap (λ (l : List ℕ). get_or l i 0) same) found.1.passes
+
+    pub is_among_them : (k : ℕ) → k < n → IsTrue (p k) → list_any (λ j. j == k) numbers ≡ true
+    is_among_them k below passes =
+        ap (list_any (λ j. j == k)) (sym same) ∙ list_any-numbers_below n p k ∙ and_from (nat_lt k n) (p k) (lt-ltb k n below) passes
+
+  -- of two the first is less
+  pub two_rise : (n a b : ℕ) → numbers_below n p ≡ a ∷ b ∷ [] → a < b
+  two_rise n a b same =
+      let count : count_below n p ≡ 2 = sym (length-numbers_below n p) ∙ ap length same in
+      let one = number_at n 0 (omega (arith, count)) in
+      let two = number_at n 1 (omega (arith, count)) in
+      let a_is : a ≡ one.0 = ap (λ (l : List ℕ). get_or l 0 0) (sym same) ∙ one.1.there 0 in
+      let b_is : b ≡ two.0 = ap (λ (l : List ℕ). get_or l 1 0) (sym same) ∙ two.1.there 0 in
+      elim (cases_lt one.0 two.0) [
+        | inl rises ↦ omega (arith, a_is, b_is)
+        | inr falls ↦ absurd (omega (arith, count_below-rises p two.0 one.0 falls, one.1.counted, two.1.counted))
+      ]
 
   -- ---- a list made of those below k, and one step more
 

@@ -1,8 +1,7 @@
 -- The inputs of a cut, as a list, are no more than are counted, and have each source outside that a member reads.
 use Rattle.std.proofs.Common.{◌≡◌, ℕ, zero, suc, ◌+◌, ◌<◌, ◌≤◌, Bool, true, false, not, ◌&&◌, IsTrue, List, [], ◌∷◌, length, filter, All}
-use Rattle.std.proofs.Common.{sym, ap, ◌∙◌, inl, inr, arith, Contains}
+use Rattle.std.proofs.Common.{sym, ap, ◌∙◌, inl, inr, arith}
 use Rattle.std.specs.List.{list_any, flat_map, AllByRecursion, IsDistinct}
-use Rattle.std.specs.Prelude.{⊤}
 use Rattle.std.proofs.lemmas.Bool.{and_parts, and_from, and_right, cases_eq, cases_Bool, not_from_true, not_from_false}
 use Rattle.std.proofs.lemmas.List.Elements.{recursion_from_All}
 use Rattle.ci_word.specs.Numbers.{numbers_below, count_below}
@@ -11,12 +10,11 @@ use Rattle.ci_isa.specs.declared.instruction.Insn.{Insn}
 use Rattle.ci_cut.specs.declared.graph.Source.{Source}
 use Rattle.ci_cut.specs.declared.graph.Source.TheVariants.{Entry, Made}
 use Rattle.ci_cut.specs.FlowGraph.{FlowGraph, node_at, is_source, reads}
-use Rattle.ci_cut.specs.GraphRules.{IsFlowGraph}
 use Rattle.ci_cut.specs.Ports.{count_sources, is_outside, is_read_by, inputs}
 use Rattle.ci_cut.proofs.RisingCounts.{count_below-one, count_below-skip, count_below-rises}
 use Rattle.ci_unit.specs.Units.{inputs_of}
 use Rattle.ci_unit.specs.Reading.{IsSmall}
-use Rattle.ci_unit.proofs.SourceLaws.{is_source-itself, each_weaker, each_both, each_filter, filter_each, each_flat, flat_finds}
+use Rattle.ci_unit.proofs.SourceLaws.{is_source-itself, each_weaker, each_both, each_among, each_filter, filter_each, each_flat, flat_finds}
 use Rattle.ci_unit.proofs.SourceLaws.{once_distinct, once_each, filter_finds, once_finds, own_sources}
 
 -- ---- counts
@@ -80,51 +78,28 @@ module _ (graph : FlowGraph) where
 
 -- ---- the inputs of a cut
 
-module _ (insns : List Insn) (graph : FlowGraph) (cut : ℕ → Bool) (kept : IsFlowGraph graph) (same_length : length graph.nodes ≡ length insns) where
-  abbrev IsMadeInside : Source → Type 0
-  IsMadeInside (Entry r) = ⊤
-  IsMadeInside (Made k) = k < length graph.nodes
-
-  made_inside : (k : ℕ) (s : Source) → k < length graph.nodes → reads graph k s ≡ true → IsMadeInside s
-  made_inside k (Entry r) below reading = tt
-  made_inside k (Made j) below reading = omega (arith, kept.sources_rise j k reading)
-
-  counted : (s : Source) → IsSmall s → IsMadeInside s → IsCounted graph s
-  counted (Entry r) small made = small
-  counted (Made k) small made = made
-
-  abbrev IsReadInside : Source → Type 0
-  IsReadInside s = (is_read_by graph cut s ≡ true) × IsMadeInside s
-
-  read_inside : (k : ℕ) → Contains (numbers_below (length insns) cut) k → AllByRecursion IsReadInside (node_at graph k).sources
-  read_inside k there =
-      let member = (Contains-numbers_below_iff (length insns) cut k).0 there in
-      let below : k < length graph.nodes = omega (arith, member.0, same_length) in
-      each_weaker (λ s. reads graph k s ≡ true) IsReadInside
-      (λ s reading. (
-        (some_below_iff (length graph.nodes) (λ j. cut j && reads graph j s)).1 (k, below, and_from (cut k) (reads graph k s) member.1 reading),
-        made_inside k s below reading,
-      ))
-      (node_at graph k).sources (own_sources (node_at graph k).sources)
+module _ (insns : List Insn) (graph : FlowGraph) (cut : ℕ → Bool) where
+  -- a member reads the source
+  abbrev pub IsReadByMember : Source → Type 0
+  IsReadByMember s = (k : ℕ) × (k < length insns) × IsTrue (cut k) × (reads graph k s ≡ true)
 
   abbrev sources_read : List Source
   sources_read = flat_map (λ k. (node_at graph k).sources) (numbers_below (length insns) cut)
 
-  pub few_inputs : All IsSmall (inputs_of insns graph cut) → length (inputs_of insns graph cut) ≤ inputs graph cut
-  few_inputs small =
-      let list : List Source = inputs_of insns graph cut in
-      let outside = once_each (λ s. is_outside cut s ≡ true) (filter (is_outside cut) sources_read) (filter_each (is_outside cut) sources_read) in
-      let read =
-      once_each IsReadInside (filter (is_outside cut) sources_read)
-      (each_filter IsReadInside (is_outside cut) sources_read
-      (each_flat IsReadInside (λ k. (node_at graph k).sources) (numbers_below (length insns) cut) read_inside)) in
-      let all = each_both IsSmall (λ s. (is_outside cut s ≡ true) × IsReadInside s) list (recursion_from_All IsSmall list small)
-      (each_both (λ s. is_outside cut s ≡ true) IsReadInside list outside read) in
-      distinct_few graph (λ s. is_outside cut s && is_read_by graph cut s) list (once_distinct (filter (is_outside cut) sources_read))
-      (each_weaker (λ s. IsSmall s × ((is_outside cut s ≡ true) × IsReadInside s))
-      (λ s. IsCounted graph s × ((is_outside cut s && is_read_by graph cut s) ≡ true))
-      (λ s (is_small, (is_out, (is_read, made))). (counted s is_small made, and_from (is_outside cut s) (is_read_by graph cut s) is_out is_read))
-      list all)
+  -- each input is a source outside that a member reads
+  inputs_read : AllByRecursion (λ s. (is_outside cut s ≡ true) × IsReadByMember s) (inputs_of insns graph cut)
+  inputs_read =
+      each_both (λ s. is_outside cut s ≡ true) IsReadByMember (inputs_of insns graph cut)
+      (once_each (λ s. is_outside cut s ≡ true) (filter (is_outside cut) sources_read) (filter_each (is_outside cut) sources_read))
+      (once_each IsReadByMember (filter (is_outside cut) sources_read)
+      (each_filter IsReadByMember (is_outside cut) sources_read
+      (each_flat IsReadByMember (λ k. (node_at graph k).sources) (numbers_below (length insns) cut) (λ k there.
+      let member = (Contains-numbers_below_iff (length insns) cut k).0 there in
+      each_weaker (λ s. reads graph k s ≡ true) IsReadByMember (λ s reading. (k, member.0, member.1, reading))
+      (node_at graph k).sources (own_sources (node_at graph k).sources)))))
+
+  pub input_read : (s : Source) → list_any (is_source s) (inputs_of insns graph cut) ≡ true → (is_outside cut s ≡ true) × IsReadByMember s
+  input_read s = each_among (λ t. (is_outside cut t ≡ true) × IsReadByMember t) s (inputs_of insns graph cut) inputs_read
 
   -- a source outside that a member reads is among them
   pub has_input : (k : ℕ) (s : Source) → k < length insns → IsTrue (cut k) → reads graph k s ≡ true → is_outside cut s ≡ true
@@ -134,3 +109,23 @@ module _ (insns : List Insn) (graph : FlowGraph) (cut : ℕ → Bool) (kept : Is
       (filter_finds s (is_outside cut) outside sources_read
       (flat_finds (is_source s) (λ j. (node_at graph j).sources) (numbers_below (length insns) cut) k
       ((Contains-numbers_below_iff (length insns) cut k).1 (below, member)) reading))
+
+  module _ (rises : (j k : ℕ) → reads graph k (Made j) ≡ true → j < k) (same_length : length graph.nodes ≡ length insns) where
+    counted : (s : Source) → IsSmall s → IsReadByMember s → IsCounted graph s
+    counted (Entry r) small read = small
+    counted (Made j) small (k, below, member, reading) = omega (arith, rises j k reading)
+
+    pub few_inputs : All IsSmall (inputs_of insns graph cut) → length (inputs_of insns graph cut) ≤ inputs graph cut
+    few_inputs small =
+        let list : List Source = inputs_of insns graph cut in
+        distinct_few graph (λ s. is_outside cut s && is_read_by graph cut s) list (once_distinct (filter (is_outside cut) sources_read))
+        (each_weaker (λ s. IsSmall s × ((is_outside cut s ≡ true) × IsReadByMember s))
+        (λ s. IsCounted graph s × ((is_outside cut s && is_read_by graph cut s) ≡ true))
+        (λ s (is_small, (is_out, (k, below, member, reading))). (
+          counted s is_small (k, below, member, reading),
+          and_from (is_outside cut s) (is_read_by graph cut s) is_out
+              ((some_below_iff (length graph.nodes) (λ j. cut j && reads graph j s)).1
+              (k, omega arith, and_from (cut k) (reads graph k s) member reading)),
+        ))
+        list
+        (each_both IsSmall (λ s. (is_outside cut s ≡ true) × IsReadByMember s) list (recursion_from_All IsSmall list small) inputs_read))

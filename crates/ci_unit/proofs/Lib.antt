@@ -6,4 +6,5 @@ mod Rows
 pub mod SourceLaws
 pub mod TableLaws
 pub mod UnitLaws
+pub mod UseLaws
 pub mod ValueLaws

@@ -1,12 +1,14 @@
 -- The units of a few cuts, computed.
-use Rattle.std.proofs.Common.{◌≡◌, ℕ, Bool, true, false, List, [], ◌∷◌, refl}
+use Rattle.std.proofs.Common.{◌≡◌, ℕ, Bool, true, false, List, [], ◌∷◌, refl, lit<}
 use Rattle.std.specs.Prelude.{pos, nat_lt, if◌then◌else◌}
 use Rattle.std.specs.FinSet as set
 use Rattle.ci_word.specs.declared.arithmetic.Op.TheVariants.{Add, Sub, Xor, Sll}
 use Rattle.ci_word.specs.declared.arithmetic.Class.TheVariants as class
 use Rattle.ci_word.specs.Numbers.{numbers_below, count_below, some_below}
 use Rattle.ci_isa.specs.declared.instruction.Insn.{Insn}
-use Rattle.ci_isa.specs.declared.instruction.Insn.TheVariants.{Alu, AluImm, Lui}
+use Rattle.ci_isa.specs.declared.instruction.Insn.TheVariants.{Alu, AluImm, Lui, Load, Unit, Cread}
+use Rattle.ci_isa.specs.declared.instruction.LoadKind.TheVariants as kinds
+use Rattle.ci_isa.specs.Table.{ReadsX}
 use Rattle.ci_cut.specs.declared.graph.Source.{Source}
 use Rattle.ci_cut.specs.declared.graph.Source.TheVariants.{Entry, Made}
 use Rattle.ci_cut.specs.declared.graph.Node.{Node}
@@ -15,6 +17,7 @@ use Rattle.ci_cut.specs.Hardware.{descending_lists}
 use Rattle.ci_unit.specs.declared.operations.Arg.TheVariants.{Input, Earlier, Constant}
 use Rattle.ci_unit.specs.Units.{unit_of, IsValueOf}
 use Rattle.ci_unit.specs.Units as units
+use Rattle.ci_unit.specs.Uses.{use_of}
 use Rattle.ci_unit.specs.Equality.{same_unit}
 
 abbrev node : List Source → Bool → Node
@@ -102,3 +105,46 @@ other_class :
     ≡ false
 unfolding numbers_below count_below some_below descending_lists
 other_class = refl
+
+-- ---- the words of a use
+
+-- of a pair of sums with one output, as unit 0: the words 60B5028B and B15A040B
+sum_words :
+    (use_of (Alu Add 5 10 11 ∷ Alu Add 5 5 12 ∷ [])
+    (graph_of (node (Entry 10 ∷ Entry 11 ∷ []) false ∷ node (Made 0 ∷ Entry 12 ∷ []) true ∷ [])) (λ k. nat_lt k 2) 0
+    ≡ Unit 0 5 10 11 12 ∷ []) × ReadsX 0x60b5028b (Unit 0 5 10 11 12)
+    × (use_of (Alu Add 8 20 21 ∷ Alu Add 8 8 22 ∷ [])
+    (graph_of (node (Entry 20 ∷ Entry 21 ∷ []) false ∷ node (Made 0 ∷ Entry 22 ∷ []) true ∷ [])) (λ k. nat_lt k 2) 0
+    ≡ Unit 0 8 20 21 22 ∷ []) × ReadsX 0xb15a040b (Unit 0 8 20 21 22)
+unfolding numbers_below some_below
+sum_words = (refl, (lit< tt, (refl, refl, refl, refl, refl, refl, refl)), refl, (lit< tt, (refl, refl, refl, refl, refl, refl, refl)))
+
+-- of a constant, which has no inputs: 0000028B
+constant_words :
+    (use_of (Lui 5 305418240 ∷ AluImm Add 5 5 (pos 1656) ∷ []) (graph_of (node [] false ∷ node (Made 0 ∷ []) true ∷ [])) (λ k. nat_lt k 2) 0
+    ≡ Unit 0 5 0 0 0 ∷ []) × ReadsX 0x0000028b (Unit 0 5 0 0 0)
+unfolding numbers_below some_below
+constant_words = (refl, (lit< tt, (refl, refl, refl, refl, refl, refl, refl)))
+
+-- xor x5, x10, x11; xor x6, x5, x12; xor x6, x6, x10; xor x6, x6, x11, where x5 and x6 are live: 60B5028B 0000032B
+abbrev mixed : ℕ → ℕ → List Insn
+mixed first second = Alu Xor first 10 11 ∷ Alu Xor second first 12 ∷ Alu Xor second second 10 ∷ Alu Xor second second 11 ∷ []
+
+abbrev mixed_graph : FlowGraph
+mixed_graph =
+    graph_of (node (Entry 10 ∷ Entry 11 ∷ []) true ∷ node (Made 0 ∷ Entry 12 ∷ []) false ∷ node (Made 1 ∷ Entry 10 ∷ []) false
+    ∷ node (Made 2 ∷ Entry 11 ∷ []) true ∷ [])
+
+two_words :
+    (use_of (mixed 5 6) mixed_graph (λ k. nat_lt k 4) 0 ≡ Unit 0 5 10 11 12 ∷ Cread 6 ∷ []) × ReadsX 0x0000032b (Cread 6)
+    × (use_of (mixed 6 5) mixed_graph (λ k. nat_lt k 4) 0 ≡ Unit 0 6 10 11 12 ∷ Cread 5 ∷ []) × ReadsX 0x000002ab (Cread 5)
+unfolding numbers_below some_below
+two_words = (refl, (lit< tt, (refl, refl, refl)), refl, (lit< tt, (refl, refl, refl)))
+
+-- lw x6, 0(x5); add x7, x6, x12; add x7, x7, x7, of which the sums are members: the load's result is in its register
+made_input :
+    use_of (Load kinds.W 6 5 (pos 0) ∷ Alu Add 7 6 12 ∷ Alu Add 7 7 7 ∷ [])
+    (graph_of (node (Entry 5 ∷ []) false ∷ node (Made 0 ∷ Entry 12 ∷ []) false ∷ node (Made 1 ∷ Made 1 ∷ []) true ∷ [])) (λ k. nat_lt 0 k) 31
+    ≡ Unit 31 7 6 12 0 ∷ []
+unfolding numbers_below some_below
+made_input = refl

@@ -1,6 +1,7 @@
 -- Lists of sources, in which each stands once.
 use Rattle.std.proofs.Common.{◌≡◌, ℕ, zero, suc, ◌<◌, Bool, true, false, not, cond, if◌then◌else◌}
-use Rattle.std.proofs.Common.{List, [], ◌∷◌, ◌++◌, length, filter, Contains, refl, sym, ap, ◌∙◌, subst, inl, inr, arith, true≢false}
+use Rattle.std.proofs.Common.{List, [], ◌∷◌, ◌++◌, ◌⊎◌, length, filter, map, get_or, slice_index, Contains, refl, sym, ap, ◌∙◌, subst}
+use Rattle.std.proofs.Common.{inl, inr, arith, true≢false}
 use Rattle.std.specs.List.{list_any, flat_map, AllByRecursion, IsDistinct}
 use Rattle.std.specs.Cmp.{unsigned_Decides}
 use Rattle.std.proofs.lemmas.Bool.{cases_Bool, or_cases, or_left, or_right, not_from_false, false_from_ne_true}
@@ -145,6 +146,21 @@ module _ (s : Source) where
         | inr later ↦ place_within xs later
       ])
 
+  -- what stands there is the source
+  pub at_place : (xs : List Source) (past : Source) → list_any (is_source s) xs ≡ true → get_or xs (place_in xs s) past ≡ s
+  at_place [] past found = absurd (true≢false (sym found))
+  at_place (x ∷ xs) past found = by_first (at_place xs past) (is_source s x) refl
+    where
+      by_first : (list_any (is_source s) xs ≡ true → get_or xs (place_in xs s) past ≡ s)
+          → (b : Bool) → is_source s x ≡ b → get_or (x ∷ xs) (if b then 0 else suc (place_in xs s)) past ≡ s
+      by_first later true is = sym (same_source s x is)
+      by_first later false is = elim (or_cases (is_source s x) (list_any (is_source s) xs) found) [
+        | inl here ↦ absurd (true≢false (sym here ∙ is))
+        | inr behind ↦ later behind
+      ]
+
+-- ---- elements
+
 -- each source of a list is in it
 pub own_sources : (xs : List Source) → AllByRecursion (λ s. list_any (is_source s) xs ≡ true) xs
 own_sources [] = tt
@@ -153,3 +169,21 @@ own_sources (x ∷ xs) = (
   each_weaker (λ s. list_any (is_source s) xs ≡ true) (λ s. list_any (is_source s) (x ∷ xs) ≡ true)
       (λ s found. or_right (is_source s x) (list_any (is_source s) xs) found) xs (own_sources xs),
 )
+
+-- what holds of each source of a list holds of one that is in it
+pub each_among : (P : Source → Type 0) (s : Source) (xs : List Source) → AllByRecursion P xs → list_any (is_source s) xs ≡ true → P s
+each_among P s [] all found = absurd (true≢false (sym found))
+each_among P s (x ∷ xs) all found = elim (or_cases (is_source s x) (list_any (is_source s) xs) found) [
+  | inl here ↦ subst P (sym (same_source s x here)) all.0
+  | inr later ↦ each_among P s xs all.1 later
+]
+
+-- at a place of what a list of sources gives stands 0, past its end, or what one of them gives
+pub given_at : (f : Source → ℕ) (xs : List Source) (i : ℕ)
+    → (slice_index (map f xs) i ≡ 0) ⊎ ((s : Source) × (list_any (is_source s) xs ≡ true) × (f s ≡ slice_index (map f xs) i))
+given_at f [] i = inl refl
+given_at f (x ∷ xs) zero = inr (x, or_left (is_source x x) (list_any (is_source x) xs) (is_source-itself x), refl)
+given_at f (x ∷ xs) (suc i) = elim (given_at f xs i) [
+  | inl past ↦ inl past
+  | inr found ↦ inr (found.0, or_right (is_source found.0 x) (list_any (is_source found.0) xs) found.1, found.2)
+]

@@ -1,16 +1,17 @@
 -- The unit of a cut is a unit.
-use Rattle.std.proofs.Common.{◌≡◌, ℕ, zero, suc, ◌+◌, ◌*◌, ◌<◌, ◌≤◌, Bool, true, not, if◌then◌else◌, IsTrue}
+use Rattle.std.proofs.Common.{◌≡◌, ℕ, zero, suc, ◌+◌, ◌*◌, ◌<◌, ◌≤◌, Bool, true, false, not, if◌then◌else◌, ◌==◌, IsTrue}
 use Rattle.std.proofs.Common.{List, [], ◌∷◌, length, map, get_or, slice_index, All, Contains, refl, sym, ap, ◌∙◌, subst, inl, inr, arith, true≢false}
 use Rattle.std.specs.Prelude.{⊤}
 use Rattle.std.specs.List.{AllByRecursion}
 use Rattle.std.proofs.lemmas.Bool.{and_parts, cases_lt, cases_Bool, not_from_false}
+use Rattle.std.proofs.lemmas.Bool.Decides.{nat_tests}
 use Rattle.std.proofs.lemmas.List.{get_or-map, length-map}
 use Rattle.std.proofs.lemmas.List.Sums.{sum_by-cons}
 use Rattle.ci_word.specs.Numbers.{numbers_below, count_below}
 use Rattle.ci_word.proofs.NumberLaws.{count_below-le, length-numbers_below}
 use Rattle.ci_isa.specs.declared.instruction.Insn.{Insn}
 use Rattle.ci_isa.specs.declared.instruction.Insn.TheVariants.{Alu, AluImm, Lui}
-use Rattle.ci_isa.specs.Effects.{operands, is_division, may_join}
+use Rattle.ci_isa.specs.Effects.{operands, is_division, may_join, without_x0}
 use Rattle.ci_isa.specs.Sequences.{nth_insn}
 use Rattle.ci_cut.specs.declared.graph.Source.{Source}
 use Rattle.ci_cut.specs.declared.graph.Source.TheVariants.{Entry, Made}
@@ -35,6 +36,25 @@ use Rattle.ci_unit.proofs.InputLaws.{few_inputs, has_input}
 use Rattle.ci_unit.proofs.ReadingLaws.{inputs_are}
 
 -- ---- arguments and operations
+
+-- the arguments of operands with these sources
+module _ (cut : ℕ → Bool) (inputs : List Source) (f : ℕ → Source) where
+  abbrev pub arg_in : ℕ → Arg
+  arg_in r = if r == 0 then Constant 0 else arg_from cut inputs (f r)
+
+  pub args_are : (registers : List ℕ) → args_from cut inputs registers (map f (without_x0 registers)) ≡ map arg_in registers
+  args_are [] = refl
+  args_are (zero ∷ rest) = ap (λ args. Constant 0 ∷ args) (args_are rest)
+  args_are (suc r ∷ rest) = by_zero (args_are rest) (suc r == 0) (never r)
+    where
+      never : (n : ℕ) → (suc n == 0) ≡ false
+      never n = grind (arith, nat_tests)
+
+      by_zero : args_from cut inputs rest (map f (without_x0 rest)) ≡ map arg_in rest → (b : Bool) → b ≡ false
+          → args_from cut inputs (suc r ∷ rest) (map f (if not b then suc r ∷ without_x0 rest else without_x0 rest))
+          ≡ (if b then Constant 0 else arg_from cut inputs (f (suc r))) ∷ map arg_in rest
+      by_zero more true is = cc
+      by_zero more false is = ap (λ args. arg_from cut inputs (f (suc r)) ∷ args) more
 
 -- an argument of operation n, whatever the constants are
 abbrev IsPlaced : ℕ → Arg → Type 0
@@ -99,7 +119,7 @@ module _ (insns : List Insn) (graph : FlowGraph) (cut : ℕ → Bool) (kept : Is
   is_node k member = eligible_below graph k (fits.eligible k member)
 
   pub three_inputs : length (inputs_of insns graph cut) ≤ 3
-  three_inputs = omega (arith, few_inputs insns graph cut kept are.same_length small, fits.inputs_within, limits.inputs_in_range.1)
+  three_inputs = omega (arith, few_inputs insns graph cut kept.sources_rise are.same_length small, fits.inputs_within, limits.inputs_in_range.1)
 
   arg_placed : (k : ℕ) (s : Source) → k < length insns → IsTrue (cut k) → reads graph k s ≡ true
       → IsPlaced (count_below k cut) (arg_from cut (inputs_of insns graph cut) s)
@@ -108,7 +128,7 @@ module _ (insns : List Insn) (graph : FlowGraph) (cut : ℕ → Bool) (kept : Is
         arith,
         three_inputs,
         place_within (Entry r) (inputs_of insns graph cut)
-            (has_input insns graph cut kept are.same_length k (Entry r) below member reading refl),
+            (has_input insns graph cut k (Entry r) below member reading refl),
       )
   arg_placed k (Made m) below member reading = elim (cases_Bool (cut m)) [
     | inl inside ↦
@@ -121,7 +141,7 @@ module _ (insns : List Insn) (graph : FlowGraph) (cut : ℕ → Bool) (kept : Is
           arith,
           three_inputs,
           place_within (Made m) (inputs_of insns graph cut)
-              (has_input insns graph cut kept are.same_length k (Made m) below member reading (not_from_false (cut m) outside)),
+              (has_input insns graph cut k (Made m) below member reading (not_from_false (cut m) outside)),
         ))
   ]
 

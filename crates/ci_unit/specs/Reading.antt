@@ -1,11 +1,13 @@
 -- For private contracts only: the inputs of a cut, read from the block step by step, and the ranges of what is read.
-use Rattle.std.specs.Prelude.{ℕ, zero, suc, Bool, ◌&&◌, not, if◌then◌else◌, List, [], ◌∷◌, ◌++◌, fold}
+use Rattle.std.specs.Prelude.{◌≡◌, ℕ, zero, suc, Bool, ◌&&◌, not, if◌then◌else◌, List, [], ◌∷◌, ◌++◌, fold, map}
+use Rattle.std.specs.Prelude.{slice_get, Option}
 use Rattle.std.specs.Prelude.{◌<◌, ◌^◌, ⊤}
-use Rattle.std.specs.List.{list_any}
+use Rattle.std.specs.List.{list_any, flat_map}
+use Rattle.ci_word.specs.Numbers.{numbers_below}
 use Rattle.ci_cut.specs.declared.graph.Source.{Source}
 use Rattle.ci_cut.specs.declared.graph.Source.TheVariants.{Entry, Made}
 use Rattle.ci_cut.specs.FlowGraph.{FlowGraph, node_at, is_source}
-use Rattle.ci_cut.specs.Ports.{is_outside}
+use Rattle.ci_cut.specs.Ports.{is_outside, is_output}
 use Rattle.ci_unit.specs.declared.operations.Arg.{Arg}
 use Rattle.ci_unit.specs.declared.operations.Arg.TheVariants.{Input, Earlier, Constant}
 use Rattle.ci_unit.specs.declared.operations.UnitOp.{UnitOp}
@@ -37,3 +39,26 @@ IsWordArg (Constant word) = word < 2 ^ 32
 
 abbrev pub HasWords : UnitOp → Type 0
 HasWords op = IsWordArg op.left × IsWordArg op.right
+
+-- the source lies outside the cut, and is not among those that were seen
+abbrev pub is_further : (ℕ → Bool) → List Source → Source → Bool
+is_further cut seen source = is_outside cut source && not (list_any (is_source source) seen)
+
+-- the sources of the members below n
+abbrev pub sources_below : FlowGraph → (ℕ → Bool) → ℕ → List Source
+sources_below graph cut n = flat_map (λ k. (node_at graph k).sources) (numbers_below n cut)
+
+-- the first three of the sources, as far as there are any
+pub record AreFirstOf (sources : List Source) (first second third : Option Source) : Type 0 where
+  pub first_is : first ≡ slice_get sources 0
+  pub second_is : second ≡ slice_get sources 1
+  pub third_is : third ≡ slice_get sources 2
+
+-- the outputs below n, as sources
+abbrev pub outputs_below : FlowGraph → (ℕ → Bool) → ℕ → List Source
+outputs_below graph cut n = map (λ k. Made k) (numbers_below n (is_output graph cut))
+
+-- where the source is a register at the block's entry, that is one of x0 to x31
+abbrev pub IsRegister : Source → Type 0
+IsRegister (Entry r) = r < 32
+IsRegister (Made k) = ⊤

@@ -76,7 +76,7 @@ fn push_inputs(inputs: &mut Sources, sources: &[Source], cut: &Row) -> Result<()
 }
 
 /// Whether the source is a register at entry, or a node outside the cut.
-fn is_outside(source: Source, cut: &Row) -> bool
+pub(crate) fn is_outside(source: Source, cut: &Row) -> bool
     ensures value { result ≡ ports.is_outside (set.contains cut.now) source }
     ensures small { IsSmall source }
 {
@@ -87,7 +87,7 @@ fn is_outside(source: Source, cut: &Row) -> bool
 }
 
 /// Whether the source is among these.
-fn has_source(sources: &[Source], source: Source) -> bool
+pub(crate) fn has_source(sources: &[Source], source: Source) -> bool
     ensures { result ≡ list_any (is_source source) sources.now }
 {
     for other in sources {
@@ -246,7 +246,7 @@ fn outputs(alloc: Global, graph: &Graph, cut: &Row) -> Result<SmallVec<u8, 2>, A
 }
 
 /// Whether node `k` is a member whose value is live after the block or read by a node outside.
-fn is_output(graph: &Graph, cut: &Row, k: u8) -> bool
+pub(crate) fn is_output(graph: &Graph, cut: &Row, k: u8) -> bool
     requires { k < length graph.now.nodes }
     ensures { result ≡ ports.is_output graph.now (set.contains cut.now) k }
 {

@@ -6,6 +6,7 @@ pub use laws::units_have_values;
 pub use operations::{Arg, UnitOp};
 pub use table::UnitTable;
 pub use units::Unit;
+pub use uses::encode_use;
 pub use values::apply;
 
 mod cuts;
@@ -15,4 +16,5 @@ mod table;
 #[cfg(test)]
 mod tests;
 mod units;
+mod uses;
 mod values;

@@ -7,14 +7,16 @@ ghost use Rattle.ci_isa.specs.Effects.{without_x0};
 ghost use Rattle.ci_cut.specs.declared.graph.Source.TheVariants as sources;
 ghost use Rattle.ci_cut.specs.FlowGraph.{is_source};
 ghost use Rattle.ci_unit.specs.Operands.{AreOperands};
+ghost use Rattle.ci_unit.specs.Uses.{AreRegisters};
 
 use crate::cuts::unit_of;
 use crate::table::UnitTable;
 use crate::units::Unit;
+use crate::uses::encode_use;
 use crate::values::apply;
 use ci_cut::Source::{Entry, Made};
 use ci_cut::{Graph, Limits, Node, Source, Sources, fits};
-use ci_isa::{Insn, Reg, is_eligible, operands};
+use ci_isa::{Insn, Reg, encode, is_eligible, operands};
 use ci_word::{Op, Row};
 use std::alloc::Global;
 use std::process::Abort;
@@ -56,11 +58,14 @@ fn sources_of(
     ensures value { IfOk result (λ list. list ≡ operands.now) }
     ensures made { IfOk result (λ list.
         (j : ℕ) → IsTrue (list_any (is_source (sources.Made j)) list) → j < count) }
+    ensures registers { IfOk result (λ list.
+        (r : ℕ) → IsTrue (list_any (is_source (sources.Entry r)) list) → r < 32) }
 {
     let mut list = Sources::new(alloc);
     for source in operands {
-        if let Made(node) = source {
-            assert!(rt; (*node as usize) < count);
+        match source {
+            Entry(register) => assert!(rt; *register < 32),
+            Made(node) => assert!(rt; (*node as usize) < count),
         }
         list.push(*source)?;
     }
@@ -77,7 +82,8 @@ fn graph_of(
     insns: &[Insn],
     parts: &[Part<'_>],
 ) -> Result<Graph, Fail>
-    ensures { IfOk result (λ graph. AreOperands insns.now graph) }
+    ensures operands { IfOk result (λ graph. AreOperands insns.now graph) }
+    ensures registers { IfOk result AreRegisters }
 {
     assert!(rt; insns.len() <= 256);
     assert!(rt; parts.len() == insns.len());
@@ -114,6 +120,28 @@ fn unit_of_all(
     };
     assert!(rt; fits(&graph, &limits, &cut));
     Ok(unit_of(alloc, insns, &graph, &cut)?)
+}
+
+/// The words by which a block of the instructions uses the unit of all of them, as unit 0.
+fn words_of_use(
+    rt: &impl Abort,
+    alloc: Global,
+    insns: &[Insn],
+    parts: &[Part<'_>],
+) -> Result<(u32, Option<u32>), Fail> {
+    let graph = graph_of(rt, alloc, insns, parts)?;
+    let cut = all_below(graph.nodes().len());
+    let limits = Limits {
+        inputs: 3,
+        outputs: 2,
+    };
+    assert!(rt; fits(&graph, &limits, &cut));
+    let (unit, read) = encode_use(insns, &graph, &cut, 0);
+    let read = match read {
+        Some(read) => Some(encode(&read)),
+        None => None,
+    };
+    Ok((encode(&unit), read))
 }
 
 /// The unit's number, after the unit was put into the table where it was not there.
@@ -155,6 +183,8 @@ fn constant_of_two_instructions(rt: HostRuntime) -> Result<(), Fail> {
     ];
     let parts = [(&[][..], false), (&[Made(0)][..], true)];
     let unit = unit_of_all(&rt, rt.alloc(), &insns, &parts)?;
+    let words = words_of_use(&rt, rt.alloc(), &insns, &parts)?;
+    assert_eq!(rt; words, (0x0000_028b, None));
     assert_eq!(rt; apply(&unit, 1, 2, 3), (0x1234_5678, 0));
     assert_eq!(rt; unit.cycles(), 2);
     Ok(())
@@ -190,5 +220,58 @@ fn equal_units_share_a_number(rt: HostRuntime) -> Result<(), Fail> {
     let unit = unit_of_all(&rt, alloc, &insns, &parts)?;
     assert_eq!(rt; number(&rt, &mut table, unit)?, 0);
     assert_eq!(rt; table.len(), 2);
+    Ok(())
+}
+
+// add x5, x10, x11; add x5, x5, x12, and add x8, x20, x21; add x8, x8, x22
+#[test]
+fn words_of_sums(rt: HostRuntime) -> Result<(), Fail> {
+    let alloc = rt.alloc();
+    let insns = [alu(&rt, Op::Add, 5, 10, 11), alu(&rt, Op::Add, 5, 5, 12)];
+    let parts = [
+        (&[Entry(10), Entry(11)][..], false),
+        (&[Made(0), Entry(12)][..], true),
+    ];
+    let words = words_of_use(&rt, alloc, &insns, &parts)?;
+    assert_eq!(rt; words, (0x60b5_028b, None));
+    let insns = [alu(&rt, Op::Add, 8, 20, 21), alu(&rt, Op::Add, 8, 8, 22)];
+    let parts = [
+        (&[Entry(20), Entry(21)][..], false),
+        (&[Made(0), Entry(22)][..], true),
+    ];
+    let words = words_of_use(&rt, alloc, &insns, &parts)?;
+    assert_eq!(rt; words, (0xb15a_040b, None));
+    Ok(())
+}
+
+/// The words for xor FIRST, x10, x11; xor SECOND, FIRST, x12; xor SECOND, SECOND, x10; xor SECOND, SECOND, x11, of
+/// which both registers are live.
+fn words_of_two_outputs(
+    rt: &impl Abort,
+    alloc: Global,
+    first: u8,
+    second: u8,
+) -> Result<(u32, Option<u32>), Fail> {
+    let insns = [
+        alu(rt, Op::Xor, first, 10, 11),
+        alu(rt, Op::Xor, second, first, 12),
+        alu(rt, Op::Xor, second, second, 10),
+        alu(rt, Op::Xor, second, second, 11),
+    ];
+    let parts = [
+        (&[Entry(10), Entry(11)][..], true),
+        (&[Made(0), Entry(12)][..], false),
+        (&[Made(1), Entry(10)][..], false),
+        (&[Made(2), Entry(11)][..], true),
+    ];
+    words_of_use(rt, alloc, &insns, &parts)
+}
+
+#[test]
+fn outputs_in_the_order_of_the_block(rt: HostRuntime) -> Result<(), Fail> {
+    let words = words_of_two_outputs(&rt, rt.alloc(), 5, 6)?;
+    assert_eq!(rt; words, (0x60b5_028b, Some(0x0000_032b)));
+    let words = words_of_two_outputs(&rt, rt.alloc(), 6, 5)?;
+    assert_eq!(rt; words, (0x60b5_030b, Some(0x0000_02ab)));
     Ok(())
 }

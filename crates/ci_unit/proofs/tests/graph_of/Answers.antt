@@ -1,13 +1,17 @@
-use Rattle.std.proofs.Common.{◌≡◌, ◌+◌, IsTrue, length, sym, ap, ◌∙◌, subst, arith}
+use Rattle.std.proofs.Common.{◌≡◌, ℕ, ◌+◌, ◌<◌, IsTrue, length, sym, ap, ◌∙◌, subst, arith}
 use Rattle.std.specs.FinSet as set
 use Rattle.std.proofs.lemmas.List.{get_or_read, length-append}
+use Rattle.std.specs.List.{list_any}
 use Rattle.ci_isa.specs.declared.instruction.Insn.TheVariants.{Ebreak}
 use Rattle.ci_isa.specs.Effects.{operands, without_x0, may_join}
 use Rattle.ci_isa.specs.Sequences.{nth_insn}
+use Rattle.ci_cut.specs.declared.graph.Source.TheVariants.{Entry}
+use Rattle.ci_cut.specs.FlowGraph.{is_source}
 use Rattle.ci_cut.specs.GraphRules.{IsFlowGraph}
 use Rattle.ci_cut.proofs.SetLaws.{below_empty}
 use Rattle.ci_cut.proofs.GraphLaws.{flow_graph_none, flow_graph_push}
-use Rattle.ci_unit.proofs.NodeLaws.{each_more}
+use Rattle.ci_unit.specs.Uses.{AreRegisters}
+use Rattle.ci_unit.proofs.NodeLaws.{each_more, registers_of}
 use Rattle.ci_unit.proofs.tests.graph_of.Goals as goal
 
 pub loop-k-init : goal.loop-k-init
@@ -15,6 +19,7 @@ loop-k-init g c = record {
   count = ap length c.new-nodes.ensures.items;
   kept = subst (λ nodes. IsFlowGraph (record { nodes = nodes; read = 1; pad = 0 })) (sym c.new-nodes.ensures.items) (flow_graph_none 1 0 (omega arith));
   eligible = λ j below. absurd (omega arith);
+  registers = λ j below. absurd (omega arith);
   sources = λ j below. absurd (omega arith);
 }
 
@@ -41,7 +46,16 @@ loop-k-preserved g c =
       eligible =
           each_more (λ j node. node.eligible ≡ may_join (nth_insn insns j)) nodes _ _ k pushed before.count before.eligible
           (c.is_eligible.ensures ∙ ap may_join insn);
+      registers =
+          each_more (λ j node. (r : ℕ) → IsTrue (list_any (is_source (Entry r)) node.sources) → r < 32) nodes _ _ k pushed before.count
+          before.registers c.in_ok-sources.ensures.registers;
       sources =
           each_more (λ j node. length node.sources ≡ length (without_x0 (operands (nth_insn insns j)))) nodes _ _ k pushed before.count before.sources
           (omega (arith, ap length c.in_ok-sources.ensures.value, c.kept_operands.ensures, ap (λ i. length (without_x0 (operands i))) insn));
     }
+
+pub returns-clause-registers : goal.returns-clause-registers
+returns-clause-registers g c =
+    subst AreRegisters (sym c.new.ensures)
+    (registers_of (record { nodes = c.loop-k.nodes.items; read = 1; pad = 0 })
+    (λ j below. c.loop-k.invariant.registers j (omega (arith, below, c.loop-k.invariant.count))))

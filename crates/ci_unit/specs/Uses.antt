@@ -1,0 +1,48 @@
+-- How a block uses the unit of a cut, for everybody: by a unit word, and by a `cread` of the second output.
+use Rattle.std.specs.Prelude.{◌≡◌, ℕ, ◌<◌, Bool, true, List, ◌∷◌, map, drop, slice_index}
+use Rattle.ci_isa.specs.declared.instruction.Insn.{Insn}
+use Rattle.ci_isa.specs.declared.instruction.Insn.TheVariants.{Unit, Cread}
+use Rattle.ci_isa.specs.Effects.{results}
+use Rattle.ci_isa.specs.Sequences.{nth_insn}
+use Rattle.ci_cut.specs.declared.graph.Source.{Source}
+use Rattle.ci_cut.specs.declared.graph.Source.TheVariants.{Entry, Made}
+use Rattle.ci_cut.specs.FlowGraph.{FlowGraph, reads}
+use Rattle.ci_unit.specs.Units.{inputs_of, outputs_of}
+
+-- what nodes read at the block's entry is in registers
+abbrev pub AreRegisters : FlowGraph → Type 0
+AreRegisters graph = (k r : ℕ) → reads graph k (Entry r) ≡ true → r < 32
+
+module _ (insns : List Insn) where
+  -- the register that takes node k's result, and x0 where it has none
+  abbrev pub result_register : ℕ → ℕ
+  result_register k = slice_index (results (nth_insn insns k)) 0
+
+  -- the register that a source is in
+  abbrev pub register_of : Source → ℕ
+  register_of (Entry r) = r
+  register_of (Made k) = result_register k
+
+  module _ (graph : FlowGraph) (cut : ℕ → Bool) where
+    -- the registers of the inputs in their order
+    abbrev pub input_registers : List ℕ
+    input_registers = map register_of (inputs_of insns graph cut)
+
+    -- and those of the outputs
+    abbrev pub output_registers : List ℕ
+    output_registers = map result_register (outputs_of insns graph cut)
+
+    -- The unit word of this number. Its sources are the registers of the inputs, x0 where there is none, and it gives
+    -- the first output.
+    abbrev pub unit_word : ℕ → Insn
+    unit_word number =
+        Unit number (slice_index output_registers 0)
+        (slice_index input_registers 0) (slice_index input_registers 1) (slice_index input_registers 2)
+
+    -- a `cread` of each output behind the first
+    abbrev pub output_reads : List Insn
+    output_reads = map (λ r. Cread r) (drop 1 output_registers)
+
+    -- the words of a use, in their order
+    abbrev pub use_of : ℕ → List Insn
+    use_of number = unit_word number ∷ output_reads
