@@ -1,61 +1,105 @@
--- What a plain machine fetches, and the step that it makes of it.
-use Rattle.std.proofs.Common.{◌≡◌, ℕ, ◌%◌, ap, sym, subst, refl, le_refl, None, Some, Ok, Err}
-use Rattle.std.specs.Prelude.{true, ◌==◌, IfOk, OnErr}
+-- What a machine fetches, and the step that it makes of it.
+use Rattle.std.proofs.Common.{◌≡◌, ℕ, ◌%◌, ap, sym, subst, refl, ◌∙◌, le_refl, Option, None, Some, Ok, Err, []}
+use Rattle.std.specs.Prelude.{Bool, true, false, ◌==◌, if◌then◌else◌, IfOk, IfSome, IfNone, OnErr, unwrap_or}
 use Rattle.std.specs.declared.result.Result.{Result}
 use Rattle.ci_isa.specs.declared.instruction.Insn.{Insn}
-use Rattle.ci_isa.specs.declared.instruction.Insn.TheVariants.{Unit, Cread}
-use Rattle.ci_isa.specs.Table.{IsInsnAt}
-use Rattle.ci_machine.specs.Actions.{Units}
+use Rattle.ci_isa.specs.declared.instruction.Insn.TheVariants.{Unit, Cread, Illegal}
+use Rattle.ci_isa.specs.Laws.{IsInsnAtX}
+use Rattle.ci_isa.specs.Table.{ReadsX}
+use Rattle.ci_isa.proofs.TableLaws.{one_insn_at_each_word}
+use Rattle.ci_elf.specs.WordPlaces.{word_place}
+use Rattle.ci_machine.specs.Cores.{Core}
 use Rattle.ci_machine.specs.Outcomes.{Reached}
 use Rattle.ci_machine.specs.Programs.{Program, State, in_text}
-use Rattle.ci_machine.specs.Steps.{Meaning, IsPlain, word_at, execute, step}
-use Rattle.ci_machine.proofs.PlainMeaning.{plain_exists}
+use Rattle.ci_machine.specs.Steps.{Meaning, word_at, execute, fetched}
+use Rattle.ci_machine.specs.Touches.{moved}
 use Rattle.ci_emu.specs.declared.steps.Outcome.{Outcome}
-use Rattle.ci_emu.specs.Fetched.{IsOnlyAt, IsFetched, IsPlainInsn}
-use Rattle.ci_elf.specs.WordPlaces.{word_place}
+use Rattle.ci_emu.specs.Fetched.{IsOnlyAt}
+use Rattle.ci_emu.specs.Machines.{standing, StandAs}
+use Rattle.ci_emu.specs.Counting.{target_of}
+use Rattle.ci_emu.specs.Steps.{LeadsTo, IsStep, IsReached}
 use Rattle.ci_emu.proofs.CountLaws.{no_word}
-use Rattle.ci_emu.specs.Steps.{LeadsTo, IsPlainStep, IsReached}
 
--- the instruction that stands at a word alone is one of the plain table, or none
-pub plain_at : (word : ℕ) (insn : Insn) → IsOnlyAt word insn → IsPlainInsn insn
-plain_at word insn only = subst IsPlainInsn (only stands.0 stands.1) (plain_row stands.0 stands.1)
-  where
-    stands : (other : Insn) × IsInsnAt word other
-    stands = (plain_exists.0.insn word, plain_exists.1 word)
+-- ---- decoded words
 
-    plain_row : (other : Insn) → IsInsnAt word other → IsPlainInsn other
-    plain_row (Unit number rd rs1 rs2 rs3) is = is.1
-    plain_row (Cread rd) is = is.1
-    plain_row other is = tt
+-- what a row reads is what stands there
+pub row_stands : (word : ℕ) (insn : Insn) → ReadsX word insn → IsInsnAtX word insn
+row_stands word (Illegal bare) reads = absurd reads.1
+row_stands word insn reads = reads
+
+pub read_stands : (word : ℕ) (answer : Option Insn) → IfSome answer (λ insn. ReadsX word insn)
+    → IfNone answer ((insn : Insn) → ¬ ReadsX word insn) → IsInsnAtX word (unwrap_or answer (Illegal word))
+read_stands word None found none = (refl, none)
+read_stands word (Some insn) found none = row_stands word insn found
+
+pub only_at : (word : ℕ) (insn : Insn) → IsInsnAtX word insn → IsOnlyAt word insn
+only_at word insn stands other there = let one = (one_insn_at_each_word word).1 in one.only other there ∙ sym (one.only insn stands)
+
+pub stands_at : (word : ℕ) (insn : Insn) → IsOnlyAt word insn → IsInsnAtX word insn
+stands_at word insn only = let one = (one_insn_at_each_word word).1 in subst (IsInsnAtX word) (only one.insn one.stands) one.stands
+
+-- ---- what a machine makes of them
+
+chosen : {X : Type 0} (f : Insn → X) (x : X) (b : Bool) (kept bare : Insn) → f kept ≡ x → f bare ≡ x → f (if b then kept else bare) ≡ x
+chosen f x true kept bare same none = same
+chosen f x false kept bare same none = none
+
+-- what a machine may not have moves no memory, and leads nowhere
+module _ (has_unit : ℕ → Bool) (has_cread : Bool) (word : ℕ) where
+  pub same_moved : (core : Core) (reading : Insn) → moved (standing has_unit has_cread word reading) core ≡ moved reading core
+  same_moved core (Unit number rd rs1 rs2 rs3) =
+      chosen (λ insn. moved insn core) [] (has_unit number) (Unit number rd rs1 rs2 rs3) (Illegal word) refl refl
+  same_moved core (Cread rd) = chosen (λ insn. moved insn core) [] has_cread (Cread rd) (Illegal word) refl refl
+  same_moved core insn = refl
+
+  pub same_target : (outcome : Outcome) (pc : ℕ) (reading : Insn)
+      → target_of (standing has_unit has_cread word reading) outcome pc ≡ target_of reading outcome pc
+  same_target outcome pc (Unit number rd rs1 rs2 rs3) =
+      chosen (λ insn. target_of insn outcome pc) None (has_unit number) (Unit number rd rs1 rs2 rs3) (Illegal word) refl refl
+  same_target outcome pc (Cread rd) = chosen (λ insn. target_of insn outcome pc) None has_cread (Cread rd) (Illegal word) refl refl
+  same_target outcome pc insn = refl
+
+-- ---- steps
+
+-- what a machine fetches of a word, by what the extended table has for it
+pub fetched_as : (Means : Meaning → Type 0) (has_unit : ℕ → Bool) (has_cread : Bool) → StandAs Means has_unit has_cread
+    → (program : Program) (state : State) (word : ℕ) (reading : Insn) → IsInsnAtX word reading
+    → ((meaning : Meaning) → fetched meaning program state ≡ Some (meaning.insn word))
+    → (meaning : Meaning) → Means meaning → fetched meaning program state ≡ Some (standing has_unit has_cread word reading)
+fetched_as Means has_unit has_cread stand program state word reading stands is meaning means =
+    is meaning ∙ ap Some (stand meaning means word reading stands)
 
 module _ (program : Program) (state : State) where
-  -- the instruction that a word of the text stands for
-  pub fetched_is : (word : ℕ) (insn : Insn)
-      → (state.pc % 4 == 0) ≡ true → in_text program state.pc ≡ true → word_at state.core.memory state.pc ≡ Some word
-      → IsOnlyAt word insn → IsFetched program state (Some insn)
-  fetched_is word insn aligned text at only meaning plain =
-      rw (aligned, text, at) (ap Some (only (meaning.insn word) (plain word)))
+  -- a word of the text is fetched
+  pub fetched_is : (meaning : Meaning) (word : ℕ) → (state.pc % 4 == 0) ≡ true → in_text program state.pc ≡ true
+      → word_at state.core.memory state.pc ≡ Some word → fetched meaning program state ≡ Some (meaning.insn word)
+  fetched_is meaning word aligned text at = rw (aligned, text, at) refl
 
   -- where there is no word of the text
-  pub nothing_fetched : word_place program.text state.pc ≡ None → IsFetched program state None
-  nothing_fetched none meaning plain = rw (no_word program state.pc none) refl
+  pub nothing_fetched : (meaning : Meaning) → word_place program.text state.pc ≡ None → fetched meaning program state ≡ None
+  nothing_fetched meaning none = rw (no_word program state.pc none) refl
 
-  -- a step executes what is fetched
-  pub executed_is : (after : State) (insn : Insn) {E : Type 0} (result : Result Outcome E) → IsFetched program state (Some insn)
-      → IfOk result (λ outcome. (units : Units) → LeadsTo state (execute units program insn state) after outcome)
-      → IfOk result (IsPlainStep program state after)
-  executed_is after insn (Ok outcome) is executed = λ meaning plain. rw (is meaning plain) (executed meaning.units)
-  executed_is after insn (Err e) is executed = tt
+  module _ (Means : Meaning → Type 0) (after : State) (insn : Insn)
+      (is : (meaning : Meaning) → Means meaning → fetched meaning program state ≡ Some insn) where
+    made : (outcome : Outcome)
+        → ((meaning : Meaning) → Means meaning → LeadsTo state (execute meaning.units program insn state) after outcome)
+        → IsStep Means program state after outcome
+    made outcome executed meaning means = rw (is meaning means) (executed meaning means)
 
-  -- where memory runs out behind a step, one step was made
-  pub behind_one : (after : State) (outcome : Outcome) (insn : Insn) {A E : Type 0} (result : Result A E) → IsFetched program state (Some insn)
-      → ((units : Units) → LeadsTo state (execute units program insn state) after outcome) → OnErr result (IsReached program state 1 after)
-  behind_one after outcome insn (Ok value) is executed = tt
-  behind_one after outcome insn (Err e) is executed = record {
-    steps = 1;
-    within = le_refl 1;
-    there = λ meaning plain. sym (ap (λ (r : Reached State). r.state) (made meaning plain));
-  }
-    where
-      made : (meaning : Meaning) → IsPlain meaning → LeadsTo state (step meaning program state) after outcome
-      made meaning plain = rw (is meaning plain) (executed meaning.units)
+    -- a step executes what is fetched
+    pub executed_is : {E : Type 0} (result : Result Outcome E)
+        → IfOk result (λ outcome. (meaning : Meaning) → Means meaning → LeadsTo state (execute meaning.units program insn state) after outcome)
+        → IfOk result (IsStep Means program state after)
+    executed_is (Ok outcome) executed = made outcome executed
+    executed_is (Err e) executed = tt
+
+    -- where memory runs out behind a step, one step was made
+    pub behind_one : (outcome : Outcome) {A E : Type 0} (result : Result A E)
+        → ((meaning : Meaning) → Means meaning → LeadsTo state (execute meaning.units program insn state) after outcome)
+        → OnErr result (IsReached Means program state 1 after)
+    behind_one outcome (Ok value) executed = tt
+    behind_one outcome (Err e) executed = record {
+      steps = 1;
+      within = le_refl 1;
+      there = λ meaning means. sym (ap (λ (r : Reached State). r.state) (made outcome executed meaning means));
+    }

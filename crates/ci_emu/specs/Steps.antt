@@ -17,13 +17,18 @@ end_of (Ended end) = Some end
 abbrev pub LeadsTo : State → machine.Outcome State → State → Outcome → Type 0
 LeadsTo before due after outcome = machine.reached before due ≡ record { state = after; end = end_of outcome }
 
--- A step of a plain machine leads from one state to the other, and comes to this.
-abbrev pub IsPlainStep : Program → State → State → Outcome → Type 0
-IsPlainStep program before after outcome =
-    (meaning : Meaning) → IsPlain meaning → LeadsTo before (step meaning program before) after outcome
+-- A step of a machine of these meanings leads from one state to the other, and comes to this.
+abbrev pub IsStep : (Meaning → Type 0) → Program → State → State → Outcome → Type 0
+IsStep Means program before after outcome =
+    (meaning : Meaning) → Means meaning → LeadsTo before (step meaning program before) after outcome
 
--- some of n steps of a plain machine lead from one state to the other
-pub record IsReached (program : Program) (before : State) (n : ℕ) (reached : State) : Type 0 where
+-- so does one of a plain machine
+abbrev pub IsPlainStep : Program → State → State → Outcome → Type 0
+IsPlainStep = IsStep IsPlain
+
+-- some of n steps of a machine of these meanings lead from one state to the other
+pub record IsReached (Means : Meaning → Type 0) (program : Program) (before : State) (n : ℕ) (reached : State)
+    : Type 0 where
   pub steps : ℕ
   pub within : steps ≤ n
-  pub there : (meaning : Meaning) → IsPlain meaning → reached ≡ (after meaning program steps before).state
+  pub there : (meaning : Meaning) → Means meaning → reached ≡ (after meaning program steps before).state

@@ -1,13 +1,21 @@
 //! Decoded words.
 ghost use Rattle.std.specs.Prelude.{◌≡◌, IfOk};
 ghost use Rattle.ci_isa.specs.Effects.{class_of};
+ghost use Rattle.ci_isa.specs.Laws.{IsInsnAtX};
 ghost use Rattle.ci_emu.specs.Fetched.{IsOnlyAt};
 
-use ci_isa::{Insn, class, insn_at};
+use ci_isa::{Insn, class, decode_x};
 use ci_word::Class;
 use std::alloc::{AllocError, Global};
 
-/// A word and the instruction that it stands for.
+/// What the extended table has for a word: the instruction that it reads as, or the bare word.
+pub(crate) fn reading(word: u32) -> Insn
+    ensures { IsInsnAtX word result }
+{
+    decode_x(word).unwrap_or(Insn::Illegal { word })
+}
+
+/// A word and what the extended table has for it.
 #[derive(Clone, Copy)]
 pub(crate) struct Decoded {
     pub(crate) word: u32,
@@ -18,11 +26,12 @@ pub(crate) struct Decoded {
 }
 
 impl Decoded {
-    /// The instruction of a word.
+    /// What the table has for a word.
+    #[inline(always)]
     fn of(word: u32) -> Decoded
         ensures { result.word ≡ word }
     {
-        let insn = insn_at(word);
+        let insn = reading(word);
         Decoded {
             word,
             insn,
@@ -31,6 +40,7 @@ impl Decoded {
     }
 
     /// What was decoded of the word, anew where it was of another word.
+    #[inline(always)]
     fn refreshed(&mut self, word: u32) -> Decoded
         ensures { result.word ≡ word }
     {
@@ -42,7 +52,7 @@ impl Decoded {
 }
 
 /// What was decoded of the words of a text, by their places. It may be of another word than the one that stands there
-/// now.
+/// now. It knows no machine.
 #[derive(Drop)]
 pub(crate) struct DecodeCache {
     words: Vec<Decoded>,
@@ -57,6 +67,7 @@ impl DecodeCache {
     }
 
     /// The instruction of the word that stands at a place, decoded anew where the cache has that of another word.
+    #[inline(always)]
     pub(crate) fn get(&mut self, place: usize, word: u32) -> Decoded
         ensures { result.word ≡ word }
     {

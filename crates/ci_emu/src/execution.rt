@@ -4,36 +4,47 @@ ghost use Rattle.ci_word.specs.Arithmetic.{word_of};
 ghost use Rattle.ci_isa.specs.declared.instruction.Insn.TheVariants.{Branch, Load, Store};
 ghost use Rattle.ci_isa.specs.Effects.{width_bytes};
 ghost use Rattle.ci_machine.specs.Accesses.{extended, load_width, addresses, bytes_at};
-ghost use Rattle.ci_machine.specs.Actions.{Units, act, address_from, loaded, stored};
+ghost use Rattle.ci_machine.specs.Actions.{act, address_from, loaded, stored};
 ghost use Rattle.ci_machine.specs.Calls.{call};
-ghost use Rattle.ci_machine.specs.Cores.{register, with_register};
+ghost use Rattle.ci_machine.specs.Cores.{first_hidden, register, with_register};
 ghost use Rattle.ci_machine.specs.States.{bytes_of, program_of, state_of};
 ghost use Rattle.ci_machine.specs.Steps.{control, directed, even, execute, following, is_taken, onward, then_onward};
-ghost use Rattle.ci_emu.specs.Fetched.{IsPlainInsn};
+ghost use Rattle.ci_machine.specs.Steps.{Meaning};
+ghost use Rattle.ci_emu.specs.Machines.{standing};
 ghost use Rattle.ci_emu.specs.Steps.{LeadsTo};
 
+use crate::machine::Machine;
 use crate::steps::Outcome;
 use ci_isa::{Cond, Insn, LoadKind, Reg, Width};
 use ci_machine::{Call, End, State};
 use ci_word::alu;
 use std::alloc::{AllocError, Global};
 
-/// Does what the instruction does. The state stays as it is where that ends the run, and where memory runs out.
-pub(crate) fn execute(alloc: Global, state: &mut State, insn: &Insn) -> Result<Outcome, AllocError>
-    requires { IsPlainInsn insn.now }
-    ensures executed { IfOk result (λ outcome. (units : Units)
-        → LeadsTo (state_of state.old) (execute units (program_of state.old) insn.now (state_of state.old))
+/// Does what the word's instruction does on the machine, for which the extended table has this reading.
+///
+/// The state stays as it is where that ends the run, and where memory runs out.
+#[inline(always)]
+pub(crate) fn execute<M: Machine>(
+    alloc: Global,
+    machine: &M,
+    state: &mut State,
+    word: u32,
+    reading: &Insn,
+) -> Result<Outcome, AllocError>
+    ensures executed { IfOk result (λ outcome. (meaning : Meaning) → M.meanings machine.now meaning
+        → LeadsTo (state_of state.old) (execute meaning.units (program_of state.old)
+        (standing (M.has_unit machine.now) (M.has_cread machine.now) word reading.now) (state_of state.old))
         (state_of state.new) outcome) }
     ensures refused { OnErr result (state_of state.new ≡ state_of state.old) }
     ensures program { program_of state.new ≡ program_of state.old }
 {
-    match *insn {
+    match *reading {
         Insn::Alu { op, rd, rs1, rs2 } => {
             let value = alu(op, state.register(rs1), state.register(rs2));
             Ok(write_back(state, rd, value))
         }
         Insn::AluImm { op, rd, rs1, imm } => {
-            let value = alu(op, state.register(rs1), word(imm));
+            let value = alu(op, state.register(rs1), word_of(imm));
             Ok(write_back(state, rd, value))
         }
         Insn::Lui { rd, upper } => Ok(write_back(state, rd, upper)),
@@ -42,7 +53,7 @@ pub(crate) fn execute(alloc: Global, state: &mut State, insn: &Insn) -> Result<O
             Ok(write_back(state, rd, value))
         }
         Insn::Jal { rd, offset } => {
-            let target = state.pc().wrapping_add(word(offset));
+            let target = state.pc().wrapping_add(word_of(offset));
             Ok(jump(state, rd, target))
         }
         Insn::Jalr { rd, rs1, offset } => {
@@ -77,12 +88,35 @@ pub(crate) fn execute(alloc: Global, state: &mut State, insn: &Insn) -> Result<O
         Insn::Ecall => call(alloc, state),
         Insn::Ebreak => Ok(Outcome::Ended(End::Break)),
         Insn::Illegal { word } => Ok(Outcome::Ended(End::Illegal(word))),
-        Insn::Unit { .. } | Insn::Cread { .. } => unreachable!(),
+        Insn::Unit {
+            number,
+            rd,
+            rs1,
+            rs2,
+            rs3,
+        } => {
+            let (a, b, c) = (
+                state.register(rs1),
+                state.register(rs2),
+                state.register(rs3),
+            );
+            match machine.unit(number, a, b, c) {
+                Some((first, second)) => Ok(write_both(state, rd, first, second)),
+                None => Ok(Outcome::Ended(End::Illegal(word))),
+            }
+        }
+        Insn::Cread { rd } => {
+            if !machine.has_cread() {
+                return Ok(Outcome::Ended(End::Illegal(word)));
+            }
+            let value = state.hidden();
+            Ok(write_back(state, rd, value))
+        }
     }
 }
 
 /// The word of a constant or an offset.
-pub(crate) fn word(constant: i32) -> u32
+pub(crate) fn word_of(constant: i32) -> u32
     ensures { result ≡ word_of constant }
 {
     constant.cast_unsigned()
@@ -92,7 +126,7 @@ pub(crate) fn word(constant: i32) -> u32
 pub(crate) fn address(state: &State, rs1: Reg, offset: i32) -> u32
     ensures { result ≡ address_from (state_of state.now).core rs1 offset }
 {
-    state.register(rs1).wrapping_add(word(offset))
+    state.register(rs1).wrapping_add(word_of(offset))
 }
 
 /// On at the next instruction.
@@ -115,6 +149,17 @@ fn write_back(state: &mut State, rd: Reg, value: u32) -> Outcome
 {
     state.set_register(rd, value);
     advance(state)
+}
+
+/// The register and the hidden one take the results of a unit, and on at the next instruction.
+fn write_both(state: &mut State, rd: Reg, first: u32, second: u32) -> Outcome
+    ensures outcome { LeadsTo (state_of state.old) (onward (state_of state.old).pc
+        (with_register (with_register (state_of state.old).core first_hidden second) rd first))
+        (state_of state.new) result }
+    ensures program { program_of state.new ≡ program_of state.old }
+{
+    state.set_hidden(second);
+    write_back(state, rd, first)
 }
 
 /// On at the target, where that is a multiple of four.
@@ -169,7 +214,7 @@ fn branch(state: &mut State, cond: Cond, rs1: Reg, rs2: Reg, offset: i32) -> Out
     ensures program { program_of state.new ≡ program_of state.old }
 {
     if taken(cond, state.register(rs1), state.register(rs2)) {
-        let target = state.pc().wrapping_add(word(offset));
+        let target = state.pc().wrapping_add(word_of(offset));
         go_to(state, target)
     } else {
         advance(state)
@@ -207,6 +252,7 @@ pub(crate) fn width_of(kind: LoadKind) -> Width
 }
 
 /// A load from an address.
+#[inline(always)]
 fn load(state: &mut State, kind: LoadKind, rd: Reg, address: u32) -> Outcome
     ensures outcome { LeadsTo (state_of state.old)
         (then_onward (state_of state.old).pc
@@ -223,6 +269,7 @@ fn load(state: &mut State, kind: LoadKind, rd: Reg, address: u32) -> Outcome
 }
 
 /// A store to an address.
+#[inline(always)]
 fn store(state: &mut State, width: Width, rs2: Reg, address: u32) -> Outcome
     ensures outcome { LeadsTo (state_of state.old)
         (then_onward (state_of state.old).pc

@@ -1,15 +1,20 @@
-//! The plain machine: steps and runs of RV32IM programs, and what is counted over them
+//! Steps and runs of RV32IM programs, and what is counted over them
 //! (RISC-V Unprivileged ISA 20191213, chapters 2 and 7).
+//!
+//! The plain machine is one of many: a `Machine` says what stands at the words that the plain table has not, and all
+//! else is the same of every machine.
 #![tactic(auto)]
 
 pub use ci_machine::End;
+pub use machine::{Machine, PlainMachine};
 pub use profile::Profile;
-pub use runs::run;
-pub use steps::{Outcome, step};
+pub use runs::{run, run_on};
+pub use steps::{Outcome, step, step_on};
 
 mod counts;
 mod decode_cache;
 mod execution;
+mod machine;
 mod profile;
 mod runs;
 mod steps;

@@ -1,12 +1,14 @@
 //! One step.
-ghost use Rattle.std.specs.Prelude.{◌≡◌, IfOk, OnErr, IfSome};
+ghost use Rattle.std.specs.Prelude.{◌≡◌, IfOk, OnErr};
 ghost use Rattle.ci_machine.specs.States.{program_of, state_of};
-ghost use Rattle.ci_machine.specs.Steps.{word_at};
-ghost use Rattle.ci_emu.specs.Fetched.{IsFetched, IsPlainInsn};
-ghost use Rattle.ci_emu.specs.Steps.{IsPlainStep};
+ghost use Rattle.ci_machine.specs.Steps.{Meaning, fetched, word_at};
+ghost use Rattle.std.specs.Option.{option_map};
+ghost use Rattle.ci_emu.specs.Steps.{IsStep, IsPlainStep};
 
+use crate::decode_cache::reading;
 use crate::execution::execute;
-use ci_isa::{Insn, Width, insn_at};
+use crate::machine::{Machine, PlainMachine};
+use ci_isa::Width;
 use ci_machine::{End, State};
 use std::alloc::{AllocError, Global};
 
@@ -17,7 +19,7 @@ pub enum Outcome {
     Ended(End),
 }
 
-/// One step: the instruction at the pc is fetched, and acts.
+/// One step of the plain machine: the instruction at the pc is fetched, and acts.
 ///
 /// The state stays as it is where the step ends the run, and where memory runs out.
 pub fn step(alloc: Global, state: &mut State) -> Result<Outcome, AllocError>
@@ -25,23 +27,38 @@ pub fn step(alloc: Global, state: &mut State) -> Result<Outcome, AllocError>
     ensures refused { OnErr result (state_of state.new ≡ state_of state.old) }
     ensures program { program_of state.new ≡ program_of state.old }
 {
+    step_on(alloc, &PlainMachine, state)
+}
+
+/// One step of the machine: the instruction at the pc is fetched, and acts.
+///
+/// The state stays as it is where the step ends the run, and where memory runs out.
+pub fn step_on<M: Machine>(
+    alloc: Global,
+    machine: &M,
+    state: &mut State,
+) -> Result<Outcome, AllocError>
+    ensures stepped { IfOk result
+        (IsStep (M.meanings machine.now) (program_of state.old) (state_of state.old) (state_of state.new)) }
+    ensures refused { OnErr result (state_of state.new ≡ state_of state.old) }
+    ensures program { program_of state.new ≡ program_of state.old }
+{
     match fetch(state) {
-        Some(insn) => execute(alloc, state, &insn),
+        Some(word) => execute(alloc, machine, state, word, &reading(word)),
         None => Ok(Outcome::Ended(End::Fetch(state.pc()))),
     }
 }
 
-/// The instruction at the pc, where that is a multiple of four in the text.
-fn fetch(state: &State) -> Option<Insn>
-    ensures fetched { IsFetched (program_of state.now) (state_of state.now) result }
-    ensures plain { IfSome result IsPlainInsn }
+/// The word at the pc, where that is a multiple of four in the text.
+fn fetch(state: &State) -> Option<u32>
+    ensures { (meaning : Meaning) → fetched meaning (program_of state.now) (state_of state.now)
+        ≡ option_map meaning.insn result }
 {
     let pc = state.pc();
     if pc % 4 != 0 || !state.in_text(pc) {
         return None;
     }
-    let word = fetch_word(state)?;
-    Some(insn_at(word))
+    fetch_word(state)
 }
 
 /// The word in memory at the pc.

@@ -1,24 +1,29 @@
 //! What is counted while a run is made.
-ghost use Rattle.std.specs.Prelude.{◌≡◌, ◌+◌, ◌<◌, ◌≤◌, ◌^◌, ◌==◌, ◌⊎◌, ◌↔◌, ℕ, Some, find, if◌then◌else◌, IfOk, OnOk};
-ghost use Rattle.std.specs.Prelude.{OnErr, IfSome};
+ghost use Rattle.std.specs.Prelude.{◌≡◌, ◌+◌, ◌-◌, ◌<◌, ◌≤◌, ◌^◌, ◌==◌, ◌⊎◌, ◌↔◌, ℕ, Some, find};
+ghost use Rattle.std.specs.Prelude.{if◌then◌else◌, IfOk, OnOk, OnErr, false, []};
 ghost use Rattle.std.specs.BTreeSet.{IsOrdered};
 ghost use Rattle.std.specs.Option.{option_map};
 ghost use Rattle.std.specs.Ordering.{nat_cmp};
+ghost use Rattle.ci_isa.specs.declared.instruction.Insn.{Insn};
+ghost use Rattle.ci_isa.specs.Effects.{class_of};
+ghost use Rattle.ci_machine.specs.Cores.{Core};
 ghost use Rattle.ci_machine.specs.Programs.{in_text};
 ghost use Rattle.ci_machine.specs.Runs.{after, latency};
 ghost use Rattle.ci_machine.specs.States.{program_of, state_of};
-ghost use Rattle.ci_machine.specs.Steps.{Meaning, IsPlain};
+ghost use Rattle.ci_machine.specs.Steps.{Meaning, fetched};
 ghost use Rattle.ci_machine.specs.Touches.{moved};
 ghost use Rattle.ci_emu.specs.Counting.{first_touch, target_of, IsStepCounted, Led};
 ghost use Rattle.ci_elf.specs.Executables.{IsTextWord};
 ghost use Rattle.ci_emu.specs.Profiles.{count_at};
-ghost use Rattle.ci_emu.specs.TableLatencies.{latencies_of};
-ghost use Rattle.ci_emu.specs.Fetched.{IsFetched, IsPlainInsn};
-ghost use Rattle.ci_emu.specs.Steps.{IsPlainStep, IsReached};
+ghost use Rattle.ci_word.specs.declared.arithmetic.Class.TheVariants.{Free};
+ghost use Rattle.ci_emu.specs.TableLatencies.{latencies_on};
+ghost use Rattle.ci_emu.specs.Machines.{standing};
+ghost use Rattle.ci_emu.specs.Steps.{IsStep, IsReached};
 
 use crate::counts::Counts;
 use crate::decode_cache::{DecodeCache, Decoded};
 use crate::execution::{address, execute, width_of};
+use crate::machine::Machine;
 use crate::profile::Profile;
 use crate::steps::{Outcome, fetch_word};
 use ci_elf::Range;
@@ -85,24 +90,59 @@ impl Tally {
     }
 }
 
-/// How long the instruction takes by the table, in cycles. A word that is none takes no time.
-fn latency(table: &Table, decoded: &Decoded) -> u32
-    requires { IsPlainInsn decoded.now.insn }
-    ensures value { result ≡ latency (latencies_of table.now) decoded.now.insn }
-    ensures greatest { result ≤ 1000 }
+/// How long the instruction at the word takes on the machine, in cycles. A word that is none takes no time.
+#[inline(always)]
+fn latency<M: Machine>(machine: &M, table: &Table, decoded: &Decoded) -> u32
+    ensures { result ≡ latency (latencies_on table.now (M.unit_cycles machine.now))
+        (standing (M.has_unit machine.now) (M.has_cread machine.now) decoded.now.word decoded.now.insn) }
+{
+    match decoded.class {
+        Class::Free => free_latency(machine, table, decoded),
+        class => table.latency(class),
+    }
+}
+
+/// The same of an instruction whose class has no latency in the table.
+#[inline(always)]
+fn free_latency<M: Machine>(machine: &M, table: &Table, decoded: &Decoded) -> u32
+    requires { decoded.now.class ≡ Free }
+    ensures { result ≡ latency (latencies_on table.now (M.unit_cycles machine.now))
+        (standing (M.has_unit machine.now) (M.has_cread machine.now) decoded.now.word decoded.now.insn) }
 {
     match decoded.insn {
         Insn::Illegal { .. } => 0,
-        Insn::AluImm { .. } if decoded.class == Class::Free => table.pad(),
+        Insn::AluImm { .. } => table.pad(),
+        Insn::Unit { number, .. } => machine.cycles(number),
+        Insn::Cread { .. } => read_latency(machine, table),
         _ => table.latency(decoded.class),
     }
 }
 
-/// The first byte of the text that the instruction moves.
-fn touched(state: &State, insn: &Insn) -> Option<u32>
-    ensures { result ≡ find (in_text (program_of state.now)) (moved insn.now (state_of state.now).core) }
+/// How long `cread` takes on the machine, in cycles: no time where it is not there.
+fn read_latency<M: Machine>(machine: &M, table: &Table) -> u32
+    ensures { result ≡ (if M.has_cread machine.now then table.now.read else 0) }
 {
-    match *insn {
+    if machine.has_cread() { table.read() } else { 0 }
+}
+
+/// Whether instructions of the class may move bytes of memory.
+fn moves_bytes(class: Class) -> bool
+    ensures { (insn : Insn) (core : Core) → class_of insn ≡ class → result ≡ false → moved insn core ≡ [] }
+{
+    matches!(class, Class::Load | Class::Store | Class::System)
+}
+
+/// The first byte of the text that the instruction moves.
+///
+/// Most instructions move none, which their class tells at once.
+#[inline(always)]
+fn touched(state: &State, decoded: &Decoded) -> Option<u32>
+    ensures { result ≡ find (in_text (program_of state.now)) (moved decoded.now.insn (state_of state.now).core) }
+{
+    if !moves_bytes(decoded.class) {
+        return None;
+    }
+    match decoded.insn {
         Insn::Load {
             kind,
             rs1,
@@ -121,18 +161,20 @@ fn touched(state: &State, insn: &Insn) -> Option<u32>
 }
 
 /// The touch that is told after a step more: an earlier one, or that of this instruction.
-fn first_touch(earlier: Option<(u32, u32)>, state: &State, insn: &Insn) -> Option<(u32, u32)>
+#[inline(always)]
+fn first_touch(earlier: Option<(u32, u32)>, state: &State, decoded: &Decoded) -> Option<(u32, u32)>
     ensures { result ≡ first_touch earlier (state_of state.now).pc
-        (find (in_text (program_of state.now)) (moved insn.now (state_of state.now).core)) }
+        (find (in_text (program_of state.now)) (moved decoded.now.insn (state_of state.now).core)) }
 {
     if earlier.is_some() {
         return earlier;
     }
-    let address = touched(state, insn)?;
+    let address = touched(state, decoded)?;
     Some((state.pc(), address))
 }
 
 /// Where the instruction led, if it is a JALR and did not end.
+#[inline(always)]
 fn target(state: &State, insn: &Insn, outcome: Outcome) -> Option<u32>
     ensures { result ≡ target_of insn.now outcome (state_of state.now).pc }
 {
@@ -142,15 +184,20 @@ fn target(state: &State, insn: &Insn, outcome: Outcome) -> Option<u32>
     }
 }
 
-/// Notes an address to which a JALR led. They stay as they are where there is no memory.
-fn note(targets: &mut BTreeSet<u32>, target: u32) -> Result<(), AllocError>
-    ensures { OnOk result ((address : ℕ) → Led targets.new address ↔ (Led targets.old address ⊎ (target ≡ address))) }
+/// Notes the address to which a JALR led, if one did. They stay as they are where there is no memory.
+#[inline(always)]
+fn note(targets: &mut BTreeSet<u32>, target: Option<u32>) -> Result<(), AllocError>
+    ensures { OnOk result ((address : ℕ)
+        → Led targets.new address ↔ (Led targets.old address ⊎ (target ≡ Some address))) }
 {
-    targets.insert(target)?;
+    if let Some(address) = target {
+        targets.insert(address)?;
+    }
     Ok(())
 }
 
-/// Counts the step that begins at the pc, and gives its decoded instruction, if it fetches one.
+/// Counts the step that begins at the pc, and gives the word that it fetches, decoded, if it fetches one.
+#[inline(always)]
 fn enter(
     counts: &mut Counts,
     cache: &mut DecodeCache,
@@ -160,9 +207,8 @@ fn enter(
     requires text { counts.old.places ≡ (program_of state.now).text }
     requires room { IsTextWord (program_of state.now).text (state_of state.now).pc
         → count_at counts.old (state_of state.now).pc < 2 ^ 32 }
-    ensures fetched { IsFetched (program_of state.now) (state_of state.now)
-        (option_map (λ decoded. decoded.insn) result) }
-    ensures plain { IfSome result (λ decoded. IsPlainInsn decoded.insn) }
+    ensures fetched { (meaning : Meaning) → fetched meaning (program_of state.now) (state_of state.now)
+        ≡ option_map (λ decoded. meaning.insn decoded.word) result }
     ensures text { counts.new.places ≡ counts.old.places }
     ensures counted { (address : ℕ) → IsTextWord (program_of state.now).text address → count_at counts.new address
         ≡ count_at counts.old address + (if (state_of state.now).pc == address then 1 else 0) }
@@ -180,8 +226,10 @@ fn enter(
 /// One step, counted.
 ///
 /// Where memory runs out, the state is as before the step or behind it.
-pub(crate) fn counted_step(
+#[inline(always)]
+pub(crate) fn counted_step<M: Machine>(
     alloc: Global,
+    machine: &M,
     state: &mut State,
     table: &Table,
     tally: &mut Tally,
@@ -189,25 +237,28 @@ pub(crate) fn counted_step(
     requires text { tally.old.counts.places ≡ (program_of state.old).text }
     requires room { IsTextWord (program_of state.old).text (state_of state.old).pc
         → count_at tally.old.counts (state_of state.old).pc < 2 ^ 32 }
-    requires cheap { tally.old.cost < 2 ^ 63 }
-    ensures stepped { IfOk result (IsPlainStep (program_of state.old) (state_of state.old) (state_of state.new)) }
-    ensures counted { OnOk result ((meaning : Meaning) → IsPlain meaning
-        → IsStepCounted meaning (program_of state.old) (latencies_of table.now)
+    requires cheap { tally.old.cost ≤ 2 ^ 64 - 2 ^ 32 }
+    ensures stepped { IfOk result
+        (IsStep (M.meanings machine.now) (program_of state.old) (state_of state.old) (state_of state.new)) }
+    ensures counted { OnOk result ((meaning : Meaning) → M.meanings machine.now meaning
+        → IsStepCounted meaning (program_of state.old) (latencies_on table.now (M.unit_cycles machine.now))
         (state_of state.old) tally.old tally.new) }
-    ensures cost { tally.new.cost ≤ tally.old.cost + 1000 }
-    ensures refused { OnErr result (IsReached (program_of state.old) (state_of state.old) 1 (state_of state.new)) }
+    ensures cost { tally.new.cost < tally.old.cost + 2 ^ 32 }
+    ensures entered { (address : ℕ) → IsTextWord (program_of state.old).text address → count_at tally.new.counts address
+        ≡ count_at tally.old.counts address + (if (state_of state.old).pc == address then 1 else 0) }
+    ensures refused { OnErr result
+        (IsReached (M.meanings machine.now) (program_of state.old) (state_of state.old) 1 (state_of state.new)) }
     ensures program { program_of state.new ≡ program_of state.old }
     ensures text { tally.new.counts.places ≡ tally.old.counts.places }
 {
+    // Two machines share these functions: without the hints at them each would be called out of line in every step.
     let Some(decoded) = enter(&mut tally.counts, &mut tally.cache, &mut tally.last, state) else {
         return Ok(Outcome::Ended(End::Fetch(state.pc())));
     };
-    tally.cost += u64::from(latency(table, &decoded));
-    tally.touched = first_touch(tally.touched, state, &decoded.insn);
-    let outcome = execute(alloc, state, &decoded.insn)?;
-    if let Some(target) = target(state, &decoded.insn, outcome) {
-        note(&mut tally.targets, target)?;
-    }
+    tally.cost += u64::from(latency(machine, table, &decoded));
+    tally.touched = first_touch(tally.touched, state, &decoded);
+    let outcome = execute(alloc, machine, state, decoded.word, &decoded.insn)?;
+    note(&mut tally.targets, target(state, &decoded.insn, outcome))?;
     Ok(outcome)
 }
 

@@ -5,7 +5,7 @@ use Rattle.ci_elf.specs.Executables.{IsTextWord}
 use Rattle.ci_elf.specs.WordPlaces.{word_place}
 use Rattle.ci_elf.proofs.WordPlaceLaws.{text_word}
 use Rattle.ci_emu.proofs.CountLaws.{place_at, entered, not_entered, count_here}
-use Rattle.ci_emu.proofs.Fetching.{fetched_is, nothing_fetched, plain_at}
+use Rattle.ci_emu.proofs.Fetching.{fetched_is, nothing_fetched}
 use Rattle.ci_emu.proofs.tally.enter.Goals as goal
 use Rattle.ci_emu.proofs.tally.enter.Goals.{In-Some, In-None}
 
@@ -24,14 +24,11 @@ add-requires-clause-room c =
     subst (λ (n : ℕ). n < 2 ^ 32) same (c.requires.room (word (goal.at.add-requires-clause-room c).In-Some))
 
 pub returns-in_ok-word-in-Some-clause-fetched : goal.returns-in_ok-word-in-Some-clause-fetched
-returns-in_ok-word-in-Some-clause-fetched c =
+returns-in_ok-word-in-Some-clause-fetched c meaning =
     let state = state_of c.args.state.now in
     let at = word (goal.at.returns-in_ok-word-in-Some-clause-fetched c).In-Some in
-    fetched_is (program_of c.args.state.now) state c.get.result.word c.get.result.insn (eq-eqb (state.pc % 4) 0 at.0) at.1
-    (sym c.fetch_word.ensures ∙ c.in_ok-word-in-Some.was ∙ ap Some (sym c.get.ensures)) c.get.result.decoded
-
-pub returns-in_ok-word-in-Some-clause-plain : goal.returns-in_ok-word-in-Some-clause-plain
-returns-in_ok-word-in-Some-clause-plain c = plain_at c.get.result.word c.get.result.insn c.get.result.decoded
+    fetched_is (program_of c.args.state.now) state meaning c.get.result.word (eq-eqb (state.pc % 4) 0 at.0) at.1
+    (sym c.fetch_word.ensures ∙ c.in_ok-word-in-Some.was ∙ ap Some (sym c.get.ensures))
 
 pub returns-in_ok-word-in-Some-clause-counted : goal.returns-in_ok-word-in-Some-clause-counted
 returns-in_ok-word-in-Some-clause-counted c =
@@ -44,7 +41,7 @@ returns-in_err-word-in-Some-clause-counted c =
     (here (goal.at.returns-in_err-word-in-Some-clause-counted c).In-Some) c.in-Some.ensures.within c.add.ensures.places c.add.ensures.counted
 
 pub returns-in-None-clause-fetched : goal.returns-in-None-clause-fetched
-returns-in-None-clause-fetched c = nothing_fetched (program_of c.args.state.now) (state_of c.args.state.now) (nowhere c)
+returns-in-None-clause-fetched c meaning = nothing_fetched (program_of c.args.state.now) (state_of c.args.state.now) meaning (nowhere c)
 
 pub returns-in-None-clause-counted : goal.returns-in-None-clause-counted
 returns-in-None-clause-counted c = not_entered (program_of c.args.state.now) c.args.counts.now c.requires.text _ (nowhere c)

@@ -1,0 +1,79 @@
+use Rattle.std.proofs.Common.{ℕ, ◌≤◌, sym, subst, ◌∙◌, refl, arith}
+use Rattle.ci_machine.specs.States.{program_of, state_of}
+use Rattle.ci_emu.specs.TableLatencies.{latencies_on}
+use Rattle.ci_emu.proofs.RunCounts.{none_counted}
+use Rattle.ci_emu.proofs.RunSteps.{on_error, stepped_to, reached_more, reached_next, counted_more, ended_profile}
+use Rattle.ci_emu.proofs.RunSteps.{ended_state, has_room, few_more, whole_profile, whole_state}
+use Rattle.ci_emu.proofs.runs.run_on.Goals as goal
+
+pub loop-i-init : goal.loop-i-init
+loop-i-init g c = let fresh = c.in_ok-tally.ensures.fresh in record {
+  program = refl;
+  text = c.in_ok-tally.ensures.text ∙ c.text.ensures.value;
+  cost = subst (λ (n : ℕ). n ≤ 0) (sym fresh.cost) (omega arith);
+  few = λ address word. subst (λ (n : ℕ). n ≤ 0) (sym (fresh.entries address)) (omega arith);
+  reached = λ meaning means. refl;
+  counted = λ meaning means.
+      none_counted meaning (program_of c.args.state.now) (latencies_on c.args.table.now (g.M.Machine.unit_cycles c.args.machine.now))
+      (state_of c.args.state.now) _ fresh;
+}
+
+pub counted_step-requires-clause-room : goal.counted_step-requires-clause-room
+counted_step-requires-clause-room g c =
+    has_room (program_of c.args.state.now) (program_of c.loop-i.state) c.loop-i.invariant.program c.loop-i.i _ c.loop-i.invariant.few (omega arith) _
+
+pub loop-i-preserved : goal.loop-i-preserved
+loop-i-preserved g c = record {
+  program = c.in_ok-end.ensures.program ∙ c.loop-i.invariant.program;
+  text = c.in_ok-end.ensures.text ∙ c.loop-i.invariant.text;
+  cost = let more = c.in_ok-end.ensures.cost in let so_far = c.loop-i.invariant.cost in omega arith;
+  few = few_more (program_of c.args.state.now) (program_of c.loop-i.state) c.loop-i.invariant.program c.loop-i.i _ c.loop-i.invariant.few _ _
+      c.in_ok-end.ensures.entered;
+  reached = λ meaning means.
+      rw c.in_default.is at (stepped_to (g.M.Machine.meanings c.args.machine.now) (program_of c.args.state.now) (state_of c.args.state.now) c.loop-i.i
+      (program_of c.loop-i.state) c.loop-i.invariant.program (state_of c.loop-i.state) c.loop-i.invariant.reached
+      _ c.in_ok-end.field-0 c.in_ok-end.ensures.stepped meaning means);
+  counted = counted_more (g.M.Machine.meanings c.args.machine.now) (program_of c.args.state.now) (state_of c.args.state.now) c.loop-i.i
+      (program_of c.loop-i.state) c.loop-i.invariant.program (state_of c.loop-i.state) c.loop-i.invariant.reached
+      _ c.in_ok-end.field-0 c.in_ok-end.ensures.stepped (latencies_on c.args.table.now (g.M.Machine.unit_cycles c.args.machine.now))
+      c.loop-i.tally _ c.loop-i.invariant.counted c.in_ok-end.ensures.counted;
+}
+
+pub returns-in_err-end-clause-refused : goal.returns-in_err-end-clause-refused
+returns-in_err-end-clause-refused g c =
+    on_error _ (reached_more (g.M.Machine.meanings c.args.machine.now) (program_of c.args.state.now) (state_of c.args.state.now) c.loop-i.i
+    (program_of c.loop-i.state) c.loop-i.invariant.program (state_of c.loop-i.state) c.loop-i.invariant.reached
+    c.args.n 1 _ (omega arith) c.in_err-end.ensures.refused)
+
+pub returns-in-Ended-clause-state : goal.returns-in-Ended-clause-state
+returns-in-Ended-clause-state g c =
+    ended_state (g.M.Machine.meanings c.args.machine.now) (program_of c.args.state.now) (state_of c.args.state.now) c.loop-i.i
+    (program_of c.loop-i.state) c.loop-i.invariant.program (state_of c.loop-i.state) c.loop-i.invariant.reached
+    _ c.in_ok-end.field-0 c.in_ok-end.ensures.stepped (latencies_on c.args.table.now (g.M.Machine.unit_cycles c.args.machine.now))
+    c.loop-i.tally c.counted_step.new.tally c.loop-i.invariant.counted c.in_ok-end.ensures.counted c.args.n c.loop-i-test.true c.in-Ended.end c.in-Ended.is _
+
+pub returns-in-Ended-clause-profile : goal.returns-in-Ended-clause-profile
+returns-in-Ended-clause-profile g c =
+    ended_profile (g.M.Machine.meanings c.args.machine.now) (program_of c.args.state.now) (state_of c.args.state.now) c.loop-i.i
+    (program_of c.loop-i.state) c.loop-i.invariant.program (state_of c.loop-i.state) c.loop-i.invariant.reached
+    _ c.in_ok-end.field-0 c.in_ok-end.ensures.stepped (latencies_on c.args.table.now (g.M.Machine.unit_cycles c.args.machine.now))
+    c.loop-i.tally c.counted_step.new.tally c.loop-i.invariant.counted c.in_ok-end.ensures.counted c.args.n
+    c.loop-i-test.true c.in-Ended.end c.in-Ended.is _ c.profile.ensures
+
+pub returns-in-Ended-clause-refused : goal.returns-in-Ended-clause-refused
+returns-in-Ended-clause-refused g c =
+    on_error _ (reached_next (g.M.Machine.meanings c.args.machine.now) (program_of c.args.state.now) (state_of c.args.state.now) c.loop-i.i
+    (program_of c.loop-i.state) c.loop-i.invariant.program (state_of c.loop-i.state) c.loop-i.invariant.reached
+    _ c.in_ok-end.field-0 c.in_ok-end.ensures.stepped c.args.n c.loop-i-test.true)
+
+pub returns-clause-state : goal.returns-clause-state
+returns-clause-state g c =
+    whole_state (g.M.Machine.meanings c.args.machine.now) (program_of c.args.state.now) (state_of c.args.state.now) c.loop-i.i
+    (program_of c.loop-i.state) c.loop-i.invariant.program (state_of c.loop-i.state) c.loop-i.invariant.reached c.args.n (omega arith) _
+
+pub returns-clause-profile : goal.returns-clause-profile
+returns-clause-profile g c =
+    whole_profile (g.M.Machine.meanings c.args.machine.now) (program_of c.args.state.now) (state_of c.args.state.now) c.loop-i.i
+    (program_of c.loop-i.state) c.loop-i.invariant.program (state_of c.loop-i.state) c.loop-i.invariant.reached
+    (latencies_on c.args.table.now (g.M.Machine.unit_cycles c.args.machine.now))
+    c.loop-i.tally c.loop-i.invariant.counted c.args.n (omega arith) _ c.profile-2.ensures

@@ -1,0 +1,11 @@
+use Rattle.ci_machine.specs.States.{program_of, state_of}
+use Rattle.ci_emu.proofs.Fetching.{executed_is, fetched_as}
+use Rattle.ci_emu.proofs.steps.step_on.Goals as goal
+
+pub returns-in-Some-clause-stepped : goal.returns-in-Some-clause-stepped
+returns-in-Some-clause-stepped g c =
+    executed_is (program_of c.args.state.now) (state_of c.args.state.now) (g.M.Machine.meanings c.args.machine.now) _ _
+    (fetched_as (g.M.Machine.meanings c.args.machine.now) (g.M.Machine.has_unit c.args.machine.now) (g.M.Machine.has_cread c.args.machine.now)
+    (g.met.M.Machine.stands c.args.machine.now) (program_of c.args.state.now) (state_of c.args.state.now)
+    c.in-Some.word c.reading.result c.reading.ensures c.in-Some.ensures)
+    _ c.execute.ensures.executed
