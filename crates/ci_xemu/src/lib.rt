@@ -1,0 +1,10 @@
+//! The extended machine: steps and runs of programs whose words may run units and read the hidden register.
+#![tactic(auto)]
+
+pub use ci_emu::{End, Outcome, Profile};
+pub use running::{run_x, step_x};
+
+mod machine;
+mod running;
+#[cfg(test)]
+mod tests;
