@@ -1,0 +1,150 @@
+-- Folding keeps the shape and the effect of a block.
+use Rattle.std.specs.Prelude.{◌≡◌, ◌≢◌, ℕ, ◌<◌, Bool, true, false, List, length, take, drop}
+use Rattle.std.specs.FinSet as finite
+use Rattle.std.specs.Ordering.{nat_cmp}
+use Rattle.std.proofs.Common.{refl, sym, ap, ◌∙◌, subst, arith, inl, inr, true≢false}
+use Rattle.std.proofs.lemmas.Bool.{cases_lt, false_from_ne_true}
+use Rattle.ci_isa.specs.declared.instruction.Insn.{Insn}
+use Rattle.ci_isa.specs.declared.instruction.Insn.TheVariants.{Ebreak}
+use Rattle.ci_isa.specs.FieldBounds.{FieldsFit}
+use Rattle.ci_isa.specs.Effects.{may_join}
+use Rattle.ci_isa.specs.Sequences.{nth_insn}
+use Rattle.ci_isa.proofs.OperandLaws.{joins}
+use Rattle.ci_lat.specs.Latencies.{Latencies}
+use Rattle.ci_verilog.specs.Modules.{Module}
+use Rattle.ci_machine.specs.Actions.{Units, accessed}
+use Rattle.ci_machine.specs.Cores.{first_hidden}
+use Rattle.ci_machine.specs.Extended.{HasModule}
+use Rattle.ci_machine.specs.Words.{MakesWords}
+use Rattle.ci_machine.proofs.NamedReads.{needed, needed_behind}
+use Rattle.ci_machine.proofs.RelatedLists.{no_text}
+use Rattle.ci_cut.specs.declared.graph.Limits.{Limits}
+use Rattle.ci_cut.specs.Gain.{Fits}
+use Rattle.ci_dfg.specs.BlockGraph.{graph_of}
+use Rattle.ci_dfg.proofs.BlockIsGraph.{node_at_within, node_at_past}
+use Rattle.ci_unit.specs.Units.{unit_of}
+use Rattle.ci_rewrite.specs.Blocks.{IsBlock, AreNamed, Covers, live_behind}
+use Rattle.ci_rewrite.specs.FoldedBlock.{AreEarly, IsFolded}
+use Rattle.ci_rewrite.specs.SameEffect.{Serve, ComputesUnit, HasSameEffect, KeepsShape, KeepsBlock, FoldingKeepsShape, FoldingKeeps}
+use Rattle.ci_rewrite.specs.UnitModules.{HaveModules}
+use Rattle.ci_rewrite.proofs.Alive.{living}
+use Rattle.ci_rewrite.proofs.AllNodes.{block_clear}
+use Rattle.ci_rewrite.proofs.BundlePlaces.{keeps_bundles}
+use Rattle.ci_rewrite.proofs.Coverage.{needed_before}
+use Rattle.ci_rewrite.proofs.CoverLaws.{live_behind_is, covered, covers_needed}
+use Rattle.ci_rewrite.proofs.CutNodes.{IsFolding}
+use Rattle.ci_rewrite.proofs.FurtherWords.{places_fill}
+use Rattle.ci_rewrite.proofs.Lists.{take_those}
+use Rattle.ci_rewrite.proofs.ReadFirst.{no_hidden}
+use Rattle.ci_rewrite.proofs.SameRuns.{same_runs, folded_leaves_text}
+use Rattle.ci_rewrite.proofs.Shapes.{folded_length, folded_drop, folded_take, folded_fits, all_folded, all_behind, bundled_end, is_block}
+use Rattle.ci_rewrite.proofs.Stages.{those_below}
+use Rattle.ci_rewrite.proofs.Tracking.{core_at}
+use Rattle.ci_rewrite.proofs.UnitPorts.{few_inputs, output_nodes}
+
+module _ (insns : List Insn) (n : ℕ) (live_out : finite.FinSet nat_cmp) (table : Latencies) (limits : Limits) (cut : ℕ → Bool)
+    (block : IsBlock insns n) (fits : Fits (graph_of insns live_out table) limits cut) where
+  -- a member of a cut that fits acts, and may join
+  members_act : (k : ℕ) → cut k ≡ true → (k < n) × (may_join (nth_insn insns k) ≡ true)
+  members_act k member = elim (cases_lt k (length insns)) [
+    | inl there ↦
+        let may : may_join (nth_insn insns k) ≡ true =
+        sym (ap (λ node. node.eligible) (node_at_within insns live_out table k there)) ∙ fits.eligible k member in
+        elim (cases_lt k n) [
+          | inl acts ↦ (acts, may)
+          | inr past ↦ absurd (true≢false (sym (block.actions.end k past there) ∙ (joins (nth_insn insns k) may).acts))
+        ]
+    | inr past ↦ absurd (true≢false (sym (fits.eligible k member) ∙ ap (λ node. node.eligible) (node_at_past insns live_out table k past)))
+  ]
+
+  pub folding_of : (early : ℕ → Bool) → AreEarly insns (graph_of insns live_out table) cut early → IsFolding insns live_out table cut early n
+  folding_of early are_early = record {
+    convex = fits.convex;
+    are_early = are_early;
+    actions = block.actions;
+    bundled = block.bundled;
+    fit = block.fit;
+    members = members_act;
+    few_inputs = omega (arith, few_inputs insns live_out table cut block.fit, fits.inputs_within, limits.inputs_in_range.1);
+    outs = output_nodes insns live_out table cut fits.has_output (omega (arith, fits.outputs_within, limits.outputs_in_range.1));
+    room = places_fill (graph_of insns live_out table) limits cut fits;
+  }
+
+-- ---- one fold
+
+module _ (insns : List Insn) (n : ℕ) (live_out : finite.FinSet nat_cmp) (table : Latencies) (limits : Limits) (cut : ℕ → Bool)
+    (number : ℕ) (folded : List Insn) (block : IsBlock insns n) (fits : Fits (graph_of insns live_out table) limits cut) (small : number < 32)
+    (is : IsFolded insns (graph_of insns live_out table) cut number folded) where
+  known : IsFolding insns live_out table cut is.early n
+  known = folding_of insns n live_out table limits cut block fits is.early is.are_early
+
+  pub shape : KeepsShape insns n folded
+  shape = record {
+    same_length = folded_length known number folded is refl;
+    same_end = folded_drop known number folded is refl;
+    bundles = keeps_bundles known number folded is refl;
+    is_block = is_block known number folded is refl small block.few;
+  }
+
+  pub have_modules : (modules : List Module) → HaveModules modules insns → number < length modules → HaveModules modules folded
+  have_modules modules have there k =
+      all_folded known number folded is refl (HasModule modules) have (λ m member. there) (λ r member. tt) tt k Ebreak
+
+  -- ---- registers
+
+  module _ (named : AreNamed live_out) where
+    hidden_behind : needed_behind insns n live_out first_hidden ≡ false
+    hidden_behind =
+        no_hidden false (drop n insns) (finite.contains live_out) refl (bundled_end known number folded is refl)
+        (all_behind known number folded is refl FieldsFit (block.fit n))
+        (false_from_ne_true (finite.contains live_out first_hidden) (λ live. let below = named first_hidden live in absurd (omega arith)))
+
+    live_is : (r : ℕ) → needed_behind insns n live_out r ≡ live_behind insns n live_out r
+    live_is = live_behind_is insns n live_out block.actions
+
+    visible : (r : ℕ) → live_behind insns n live_out r ≡ true → r ≢ first_hidden
+    visible r live same = true≢false (sym live ∙ sym (live_is r) ∙ ap (needed_behind insns n live_out) same ∙ hidden_behind)
+
+    pub covers : (set : ℕ → Bool) → Covers set insns live_out → Covers set folded live_out
+    covers set has = covers_needed set folded live_out (folded_fits known number folded is refl small) named (λ r below needs.
+        covered set insns live_out has r below
+        (needed_before known number r (λ same. absurd (omega arith)) (sym (ap (λ l. needed l (finite.contains live_out) r) is.is_list) ∙ needs)))
+
+    -- ---- the actions
+
+    module _ (text : ℕ → Bool) (units : Units) (serve : Serve units insns)
+        (computes : ComputesUnit units number (unit_of insns (graph_of insns live_out table) cut)) where
+      actions : List Insn
+      actions = those_below insns (λ _. true) n
+
+      effect : HasSameEffect text (live_behind insns n live_out) units (take n insns) (take n folded)
+      effect = subst (λ (p : List Insn × List Insn). HasSameEffect text (live_behind insns n live_out) units p.0 p.1)
+          (λ i. (sym (take_those insns n block.actions.within) i, sym (folded_take known number folded is refl) i))
+          (record {
+            runs = λ core holds.
+                same_runs known number serve computes core holds (λ _. false)
+                (λ k below access none. no_text (accessed (nth_insn insns k) (core_at units insns core k)))
+                (live_behind insns n live_out) (sym (live_is first_hidden) ∙ hidden_behind)
+                (λ r w live last. living known r w last (visible r live) (live_is r ∙ live));
+            leaves_text = λ core holds leaves.
+                folded_leaves_text known number serve computes core holds text (λ k below access. block_clear units insns core text n leaves k below);
+          })
+
+      keeps_block : KeepsBlock text units insns n live_out folded
+      keeps_block = record {
+        shape = shape;
+        effect = effect;
+        covers = covers;
+        serve = record {
+          named = serve.named;
+          words = λ k. all_folded known number folded is refl (MakesWords units) serve.words (λ m member. computes.words) (λ r member. tt) tt k Ebreak;
+        };
+      }
+
+pub folding_keeps_shape : FoldingKeepsShape
+folding_keeps_shape insns n live_out table limits cut number folded block fits small is =
+    shape insns n live_out table limits cut number folded block fits small is
+
+pub folding_keeps : FoldingKeeps
+folding_keeps text units insns n live_out table limits cut number folded block named fits small is serve computes =
+    keeps_block insns n live_out table limits cut number folded block fits small is named text units serve computes

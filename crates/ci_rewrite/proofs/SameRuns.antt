@@ -1,0 +1,231 @@
+-- A folded block has the same effect as the block.
+use Rattle.std.specs.Prelude.{◌≡◌, ℕ, zero, suc, ◌<◌, Bool, true, false, not, ◌&&◌, ◌||◌, nat_lt}
+use Rattle.std.specs.Prelude.{List, [], ◌∷◌, ◌++◌, replicate, slice_index, slice_index_or, drop, None, Some}
+use Rattle.std.specs.FinSet as finite
+use Rattle.std.specs.List.{list_any}
+use Rattle.std.specs.Ordering.{nat_cmp}
+use Rattle.std.proofs.Common.{refl, sym, ap, ◌∙◌, subst, arith, inl, inr}
+use Rattle.std.proofs.lemmas.Bool.{or_cases, lt-ltb}
+use Rattle.std.proofs.lemmas.Bool.Decides.{nat_tests}
+use Rattle.std.proofs.lemmas.List.{length-map}
+use Rattle.std.proofs.lemmas.List.Elements.{All-contains}
+use Rattle.ci_isa.specs.declared.instruction.Insn.{Insn}
+use Rattle.ci_isa.specs.declared.instruction.Insn.TheVariants.{Cread}
+use Rattle.ci_isa.specs.Effects.{is_access}
+use Rattle.ci_isa.specs.Sequences.{nth_insn}
+use Rattle.ci_isa.proofs.LastPassing.{IsLast}
+use Rattle.ci_isa.proofs.LastWriter.{written}
+use Rattle.ci_isa.proofs.OperandLaws.{joins}
+use Rattle.ci_lat.specs.Latencies.{Latencies}
+use Rattle.ci_machine.specs.declared.ends.End.{End}
+use Rattle.ci_machine.specs.Cores.{Core, first_hidden, register, values_in}
+use Rattle.ci_machine.specs.Outcomes.{Reached, Next, continued, at_start}
+use Rattle.ci_machine.specs.Actions.{Units, act}
+use Rattle.ci_machine.specs.Agreement.{act_all, AreRelated, LeavesText, AllLeaveText}
+use Rattle.ci_machine.specs.Words.{HoldsWords, MakesWords}
+use Rattle.ci_machine.proofs.TestLaws.{by_end, no_end}
+use Rattle.ci_machine.proofs.BlockSteps.{over_stays}
+use Rattle.ci_machine.proofs.InstructionFrame.{keeps}
+use Rattle.ci_machine.proofs.LeavingLists.{leaves-append, quiet_list}
+use Rattle.ci_machine.proofs.NamedReads.{reads_no_hidden}
+use Rattle.ci_machine.proofs.RegisterLaws.{x0_stays}
+use Rattle.ci_machine.proofs.RelatedLists.{act_all-append, goes_on, idle_stays}
+use Rattle.ci_machine.proofs.WordLaws.{values_words, lists_words}
+use Rattle.ci_cut.specs.FlowGraph.{FlowGraph}
+use Rattle.ci_dfg.specs.BlockGraph.{graph_of}
+use Rattle.ci_unit.specs.Units as terms
+use Rattle.ci_unit.specs.Uses as uses
+use Rattle.ci_rewrite.specs.FoldedBlock.{no_op, places_left}
+use Rattle.ci_rewrite.specs.SameEffect.{Serve, ComputesUnit}
+use Rattle.ci_rewrite.proofs.AllNodes.{all_related, start_follows}
+use Rattle.ci_rewrite.proofs.Contraction.{HasOutputs, tracks_gathered}
+use Rattle.ci_rewrite.proofs.CutNodes.{IsFolding, late, is_dead, within}
+use Rattle.ci_rewrite.proofs.Lists.{all_those}
+use Rattle.ci_rewrite.proofs.Orders.{early_order, late_order, block_order}
+use Rattle.ci_rewrite.proofs.Stages.{IsStage, those_below, up_to, stage}
+use Rattle.ci_rewrite.proofs.Tracking.{Tracks, Follows, IsBody, core_at, end_at, goes_to_memory, follows_same}
+use Rattle.ci_rewrite.proofs.UnitPorts.{unit_word, used_one, used_two, in_place, folded_actions}
+use Rattle.ci_rewrite.proofs.UnitSteps.{behind_unit, behind_cread, one_output, two_outputs}
+
+-- ---- no-ops
+
+quiet_no_ops : (count : ℕ) → list_any is_access (replicate count no_op) ≡ false
+quiet_no_ops zero = refl
+quiet_no_ops (suc count) = quiet_no_ops count
+
+-- ---- the folded block
+
+module _ {insns : List Insn} {live_out : finite.FinSet nat_cmp} {table : Latencies} {cut early : ℕ → Bool} {n : ℕ}
+    (known : IsFolding insns live_out table cut early n) {units : Units} (number : ℕ)
+    (serve : Serve units insns) (gives : ComputesUnit units number (terms.unit_of insns (graph_of insns live_out table) cut)) where
+  abbrev graph : FlowGraph
+  graph = graph_of insns live_out table
+
+  abbrev dead : ℕ → Bool
+  dead = is_dead known
+
+  abbrev used : List Insn
+  used = uses.use_of insns graph cut number
+
+  abbrev in_its_place : List Insn
+  in_its_place = in_place known number
+
+  -- what the unit gives, from a core of words
+  abbrev input : ℕ → ℕ
+  input = slice_index (uses.input_registers insns graph cut)
+
+  abbrev input_of : Core → ℕ → ℕ
+  input_of core i = register core (input i)
+
+  abbrev sources : List ℕ
+  sources = input 0 ∷ input 1 ∷ input 2 ∷ units.further number
+
+  abbrev values_of : Core → List ℕ
+  values_of core = values_in core sources
+
+  abbrev Gives : List ℕ → List ℕ → Type 0
+  Gives inputs results = terms.IsPairOf (terms.unit_of insns graph cut) inputs (slice_index_or results 0 0) (slice_index_or (drop 1 results) 0 0)
+
+  gives_same : (values inputs made results : List ℕ) → values ≡ inputs → made ≡ results → Gives values made → Gives inputs results
+  gives_same values inputs made results same_inputs same_results pair =
+      subst (λ (p : List ℕ × List ℕ). Gives p.0 p.1) (λ i. (same_inputs i, same_results i)) pair
+
+  gives_at : (core : Core) → HoldsWords core → Gives (input_of core 0 ∷ input_of core 1 ∷ input_of core 2 ∷ []) (units.results number (values_of core))
+  gives_at core holds =
+      let made = gives.value (values_of core)
+      (record { count = omega (arith, length-map (units.further number) (register core)); words = values_words core holds sources }) in
+      gives_same (values_of core) _ (made.0 ∷ made.1 ∷ []) _
+      (λ i. input_of core 0 ∷ input_of core 1 ∷ input_of core 2 ∷ values_in core (serve.named number i)) (sym made.2) made.3
+
+  -- the use of the unit goes to no memory
+  quiet_use : list_any is_access used ≡ false
+  quiet_use = elim known.outs [
+    | inl (m, same) ↦ ap (list_any is_access) (used_one known number m same)
+    | inr (m, o, same) ↦ ap (list_any is_access) (used_two known number m o same)
+  ]
+
+  module _ (start : Core) (holds : HoldsWords start) (text : ℕ → Bool)
+      (clear : (k : ℕ) → k < n → goes_to_memory insns k ≡ true → ((j : ℕ) → j < k → end_at units insns start j ≡ None)
+      → LeavesText text (nth_insn insns k) (core_at units insns start k)) where
+    body : IsBody units insns start n text
+    body = record {
+      named = serve.named;
+      acts = known.actions.act;
+      visible = λ k below. reads_no_hidden (nth_insn insns k) (known.fit k (within known k below));
+      clear = clear;
+    }
+
+    -- the block
+    block_stage : IsStage units insns start n text (λ _. false) (λ _. false) (λ _. true) (at_start start) n
+    block_stage = stage units insns start n text (λ _. false) (λ _. false) (λ _. true) (at_start start) body
+        (block_order known units start) (start_follows units insns start n (λ _. false)) n (omega arith)
+
+    -- the nodes before the unit
+    early_stage : IsStage units insns start n text (λ _. false) dead early (at_start start) n
+    early_stage = stage units insns start n text (λ _. false) dead early (at_start start) body
+        (early_order known units start) (start_follows units insns start n dead) n (omega arith)
+
+    abbrev before_unit : Reached Core
+    before_unit = act_all units (those_below insns early n) (at_start start)
+
+    words_before : HoldsWords before_unit.state
+    words_before = lists_words units (those_below insns early n) (at_start start)
+        (λ insn. All-contains (MakesWords units) (those_below insns early n) insn
+        (all_those (MakesWords units) insns early n (λ k below is. serve.words k (within known k below)))) holds
+
+    early_follows : Follows units insns start n early dead before_unit
+    early_follows =
+        follows_same units insns start n (up_to (λ _. false) early n) early dead before_unit (λ j below. all_there (early j) j below) early_stage.follows
+      where
+        all_there : (e : Bool) (j : ℕ) → j < n → (false || (e && nat_lt j n)) ≡ e
+        all_there e j below = grind (arith, nat_tests)
+
+    -- the unit
+    abbrev gathered : ℕ → Bool
+    gathered j = early j || cut j
+
+    abbrev behind_unit_run : Reached Core
+    behind_unit_run = act_all units in_its_place before_unit
+
+    unit_follows : Follows units insns start n gathered dead behind_unit_run
+    unit_follows = by_end before_unit.end going_on over
+      where
+        no_ops : (words : List Insn) → used ≡ words → behind_unit_run ≡ act_all units words before_unit
+        no_ops words same =
+            act_all-append units used (replicate (places_left graph cut) no_op) before_unit
+            ∙ idle_stays units no_op (λ core i. Next (x0_stays core 0 i)) (places_left graph cut) (act_all units used before_unit)
+            ∙ ap (λ l. act_all units l before_unit) same
+
+        going_on : before_unit.end ≡ None → Follows units insns start n gathered dead behind_unit_run
+        going_on on = elim known.outs [
+          | inl (m, same) ↦
+              made (behind_unit known tracks number m)
+              (no_ops _ (used_one known number m same) ∙ goes_on units (unit_word known number m) before_unit on)
+              (one_output known tracks number (gives_at before_unit.state words_before) m same)
+          | inr (m, o, same) ↦
+              made (behind_cread known tracks number m o)
+              (no_ops _ (used_two known number m o same)
+              ∙ ap (continued (act units (Cread (uses.result_register insns o)))) (goes_on units (unit_word known number m) before_unit on))
+              (two_outputs known tracks number (gives_at before_unit.state words_before) m o same)
+        ]
+          where
+            tracks : Tracks units insns start n early dead before_unit.state
+            tracks = early_follows.going on
+
+            made : (core : Core) → behind_unit_run ≡ at_start core → HasOutputs known tracks core
+                → Follows units insns start n gathered dead behind_unit_run
+            made core same has = subst (Follows units insns start n gathered dead) (sym same) (record {
+              going = λ _. tracks_gathered known tracks core has;
+              unended = λ _ j below acted. elim (or_cases (early j) (cut j) acted) [
+                | inl is_early ↦ early_follows.unended on j below is_early
+                | inr member ↦
+                    (keeps units (nth_insn insns j) (core_at units insns start j)).goes_on (joins (nth_insn insns j) (known.members j member).1).no_access
+              ];
+              stopped = λ e is. cc;
+            })
+
+        over : (e : End) → before_unit.end ≡ Some e → Follows units insns start n gathered dead behind_unit_run
+        over e ended = subst (Follows units insns start n gathered dead) (sym (over_stays units in_its_place before_unit e ended)) (record {
+          going = λ on. absurd (no_end _ e on ended);
+          unended = λ on. absurd (no_end _ e on ended);
+          stopped = early_follows.stopped;
+        })
+
+    -- the nodes behind the unit
+    late_stage : IsStage units insns start n text gathered dead (late known) behind_unit_run n
+    late_stage = stage units insns start n text gathered dead (late known) behind_unit_run body (late_order known units start) unit_follows n (omega arith)
+
+    -- ---- the law
+
+    pub folded_leaves_text : AllLeaveText units text (folded_actions known number) (at_start start)
+    folded_leaves_text =
+        leaves-append text units (those_below insns early n ++ in_its_place) (those_below insns (late known) n) (at_start start)
+        (leaves-append text units (those_below insns early n) in_its_place (at_start start) early_stage.leaves_text
+        (leaves-append text units used (replicate (places_left graph cut) no_op) before_unit (quiet_list text units used before_unit quiet_use)
+        (quiet_list text units _ _ (quiet_no_ops (places_left graph cut)))))
+        (subst (λ run. AllLeaveText units text (those_below insns (late known) n) run)
+        (sym (act_all-append units (those_below insns early n) in_its_place (at_start start))) late_stage.leaves_text)
+
+    folded_run : act_all units (folded_actions known number) (at_start start) ≡ act_all units (those_below insns (late known) n) behind_unit_run
+    folded_run =
+        act_all-append units (those_below insns early n ++ in_its_place) (those_below insns (late known) n) (at_start start)
+        ∙ ap (act_all units (those_below insns (late known) n)) (act_all-append units (those_below insns early n) in_its_place (at_start start))
+
+    module _ (alive : ℕ → Bool) (no_hidden : alive first_hidden ≡ false)
+        (living : (r w : ℕ) → alive r ≡ true → IsLast (written insns r) n w → dead w ≡ false) where
+      pub same_runs : AreRelated (λ _. false) alive
+          (act_all units (those_below insns (λ _. true) n) (at_start start)) (act_all units (folded_actions known number) (at_start start))
+      same_runs = all_related
+          (follows_same units insns start n (up_to (λ _. false) (λ _. true) n) (λ j. nat_lt j n) (λ _. false) _
+          (λ j below. all_there (nat_lt j n)) block_stage.follows)
+          (subst (Follows units insns start n (λ j. nat_lt j n) dead) (sym folded_run)
+          (follows_same units insns start n (up_to gathered (late known) n) (λ j. nat_lt j n) dead _
+          (λ j below. whole (early j) (cut j) j below) late_stage.follows))
+          (λ j below. lt-ltb j n below) alive no_hidden (λ r w is last. (refl, living r w is last))
+        where
+          all_there : (t : Bool) → (false || (true && t)) ≡ t
+          all_there t = grind arith
+
+          whole : (e c : Bool) (j : ℕ) → j < n → ((e || c) || ((not c && not e) && nat_lt j n)) ≡ nat_lt j n
+          whole true c j below = grind (arith, nat_tests)
+          whole false c j below = grind (arith, nat_tests)

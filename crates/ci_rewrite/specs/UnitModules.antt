@@ -1,0 +1,53 @@
+-- Modules that compute the unit of a cut, and serve the unit words of a block, for everybody.
+use Rattle.std.specs.Prelude.{◌≡◌, ℕ, ◌^◌, ◌<◌, ◌↔◌, List, [], ◌∷◌, All, length, slice_get, Some}
+use Rattle.ci_isa.specs.declared.instruction.Insn.{Insn}
+use Rattle.ci_isa.specs.FieldBounds.{FieldsFit}
+use Rattle.ci_isa.specs.Sequences.{nth_insn}
+use Rattle.ci_verilog.specs.Modules.{Module, IsModule}
+use Rattle.ci_verilog.specs.Values.{IsValueOf}
+use Rattle.ci_machine.specs.Extended.{HasModule, IsExtended}
+use Rattle.ci_machine.specs.Steps.{Meaning}
+use Rattle.ci_unit.specs.Units.{Unit, IsPairOf}
+use Rattle.ci_rewrite.specs.SameEffect.{Serve, ComputesUnit}
+
+-- ---- modules
+
+-- at all words the module has the unit's value
+abbrev pub HasUnitValue : Module → Unit → Type 0
+HasUnitValue m unit =
+    (a b c y z : ℕ) → a < 2 ^ 32 → b < 2 ^ 32 → c < 2 ^ 32
+    → IsValueOf m (a ∷ b ∷ c ∷ []) (y ∷ z ∷ []) ↔ IsPairOf unit (a ∷ b ∷ c ∷ []) y z
+
+-- so does the module of this number
+pub record ComputeUnit (modules : List Module) (number : ℕ) (unit : Unit) : Type 0 where
+  pub computing : Module
+  pub there : slice_get modules number ≡ Some computing
+  pub value : HasUnitValue computing unit
+
+-- there is a module for each unit word of the list
+abbrev pub HaveModules : List Module → List Insn → Type 0
+HaveModules modules insns = (k : ℕ) → k < length insns → HasModule modules (nth_insn insns k)
+
+-- The meaning is one of the extended machine with modules, among which are those of the unit words of a block, and that
+-- of the number has the unit's value.
+pub record HasUnits (modules : List Module) (meaning : Meaning) (insns : List Insn) (number : ℕ) (unit : Unit)
+    : Type 0 where
+  pub are_modules : All IsModule modules
+  pub is_extended : IsExtended modules meaning
+  pub have : HaveModules modules insns
+  pub compute : ComputeUnit modules number unit
+
+-- ---- what such machines do
+
+-- Their units serve lists of which they have the modules,
+abbrev pub ModulesServe : Type 0
+ModulesServe =
+    (modules : List Module) (meaning : Meaning) → All IsModule modules → IsExtended modules meaning
+    → (insns : List Insn) → ((k : ℕ) → k < length insns → FieldsFit (nth_insn insns k)) → HaveModules modules insns
+    → Serve meaning.units insns
+
+-- and compute what their modules do.
+abbrev pub ModulesCompute : Type 0
+ModulesCompute =
+    (modules : List Module) (meaning : Meaning) → All IsModule modules → IsExtended modules meaning
+    → (number : ℕ) (unit : Unit) → ComputeUnit modules number unit → ComputesUnit meaning.units number unit
