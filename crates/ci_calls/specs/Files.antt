@@ -1,8 +1,10 @@
 -- For every reader: the files that several commands read, also those that an option may name, each with its limit and
 -- its form.
-use Rattle.std.specs.Prelude.{◌≡◌, ℕ, List, [], ◌∷◌, Option, Some, None, is_some, unwrap_or}
+use Rattle.std.specs.Prelude.{◌≡◌, ℕ, ⊤, List, [], ◌∷◌, Option, Some, None, is_some, unwrap_or}
 use Rattle.ci_lat.specs.Latencies.{Latencies, usual}
 use Rattle.ci_lat.specs.Faults.{AreTable}
+use Rattle.ci_verilog.specs.Modules.{Module}
+use Rattle.ci_vread.specs.Spelling.{Spell}
 use Rattle.ci_calls.specs.Forms.{any_bytes, executable_file, latency_table, verilog_units}
 use Rattle.ci_calls.specs.Inputs.{Input}
 
@@ -40,6 +42,12 @@ AreGiven name bytes = is_some bytes ≡ is_some name
 abbrev pub AreLatencies : Option (List ℕ) → Latencies → Type 0
 AreLatencies None latencies = latencies ≡ usual
 AreLatencies (Some bytes) latencies = AreTable bytes latencies
+
+-- the modules that the file spells, or none at all where there is no file
+abbrev pub AreModules : Option (List ℕ) → Option (List Module) → Type 0
+AreModules None None = ⊤
+AreModules (Some bytes) (Some modules) = Spell bytes modules
+AreModules bytes modules = ⊥
 
 -- the bytes that a program may read, of which there are none where there is no file
 abbrev pub input_bytes : Option (List ℕ) → List ℕ

@@ -1,6 +1,7 @@
 -- For the contracts of commands: why a command makes nothing.
-use Rattle.std.specs.Prelude.{◌≡◌, ℕ, ◌⊎◌, Bool, IsTrue, List, Option}
+use Rattle.std.specs.Prelude.{◌≡◌, ℕ, ◌⊎◌, Bool, IsTrue, List, Option, Vec}
 use Rattle.std.specs.Option.{option_map}
+use Rattle.std.specs.declared.alloc.Global.{Global}
 use Rattle.ci_io.specs.Outcomes.{Rises, ShelfState}
 use Rattle.ci_asm.specs.declared.faults.AsmFault.{AsmFault}
 use Rattle.ci_asm.specs.declared.faults.AsmFault.TheVariants as assembly
@@ -8,6 +9,7 @@ use Rattle.ci_elf.specs.declared.faults.ElfFault.{ElfFault}
 use Rattle.ci_elf.specs.declared.faults.ElfFault.TheVariants as elf
 use Rattle.ci_lat.specs.declared.faults.LatFault.{LatFault}
 use Rattle.ci_lat.specs.declared.faults.LatFault.TheVariants as lat
+use Rattle.ci_verilog.specs.Modules.{Module}
 use Rattle.ci_vread.specs.declared.faults.VFault.{VFault}
 use Rattle.ci_vread.specs.declared.faults.VFault.TheVariants as verilog
 use Rattle.ci_calls.specs.declared.refusals.Refusal.{Refusal}
@@ -18,6 +20,10 @@ use Rattle.ci_calls.specs.Refusals.{Name}
 -- the name, if there is one
 abbrev pub name_in : Option Name → Option (List ℕ)
 name_in name = option_map (λ name. name.now) name
+
+-- the modules, if there are any
+abbrev pub modules_in : Option (Vec Module Global) → Option (List Module)
+modules_in modules = option_map (λ modules. modules.items) modules
 
 -- the refusal of a file that is no executable, or for which memory ran out
 abbrev pub elf_refusal : ElfFault → Refusal

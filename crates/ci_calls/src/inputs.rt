@@ -4,8 +4,8 @@ ghost use Rattle.ci_elf.specs.Executables.{IsImageOf};
 ghost use Rattle.ci_lat.specs.Faults.{AreTable};
 ghost use Rattle.ci_vread.specs.Spelling.{Spell};
 ghost use Rattle.ci_calls.specs.Files.{executable_input, table_input, units_input, program_input};
-ghost use Rattle.ci_calls.specs.Files.{optional_input, optional_bytes, AreGiven, AreLatencies, input_bytes};
-ghost use Rattle.ci_calls.specs.Refused.{name_in, AreUnread};
+ghost use Rattle.ci_calls.specs.Files.{optional_input, optional_bytes, AreGiven, AreLatencies, AreModules, input_bytes};
+ghost use Rattle.ci_calls.specs.Refused.{name_in, modules_in, AreUnread};
 ghost use Rattle.ci_calls.specs.Forms.{Form};
 ghost use Rattle.ci_calls.specs.Inputs.{Input, MayHold, IsGood, AreRead};
 
@@ -154,6 +154,31 @@ pub fn read_units<'a, F: Shelf>(
     let bytes = read_file(alloc, name, UNITS_LIMIT, shelf)?;
     let modules = ci_vread::read(alloc, bytes.as_slice())?;
     Ok(modules)
+}
+
+/// The modules that the file of a name spells, where one is given.
+///
+/// # Errors
+///
+/// Those of [`read_units`].
+pub fn read_optional_units<'a, F: Shelf>(
+    alloc: Global,
+    name: Option<&'a str>,
+    shelf: &mut F,
+) -> Result<Option<Vec<Module>>, Refusal<'a>>
+    ensures read { IfOk result (λ modules. (bytes : Option (List ℕ)) × AreGiven (name_in name.entry) bytes
+        × AreRead (F.state shelf.old).files (optional_input units_input (name_in name.entry)) (optional_bytes bytes)
+        × AreModules bytes (modules_in modules)) }
+    ensures refused { IfErr result (λ refusal. (others : List Input) → AreUnread F.read_may_fail
+        (F.state shelf.old) (F.state shelf.new) (optional_input units_input (name_in name.entry) ++ others) refusal) }
+    ensures never_falls { (F.state shelf.old).read_faults ≤ (F.state shelf.new).read_faults }
+    ensures files_stay { (F.state shelf.new).files ≡ (F.state shelf.old).files }
+    ensures no_write { (F.state shelf.new).write_faults ≡ (F.state shelf.old).write_faults }
+{
+    match name {
+        Some(name) => Ok(Some(read_units(alloc, name, shelf)?)),
+        None => Ok(None),
+    }
 }
 
 /// The input of a program, from the file of a name, or none where no name is given.

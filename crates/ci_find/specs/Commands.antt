@@ -45,8 +45,12 @@ call_by Dis reading = record {
   Refuses = RefusesNothing;
 }
 call_by Run reading = record {
-  inputs = run_inputs (name_at reading 0) (name_set reading option.Table) (name_set reading option.Input);
-  Makes = IsRunMade (number_set reading option.Steps) (name_set reading option.Table) (name_set reading option.Input);
+  inputs =
+      run_inputs (name_at reading 0) (name_set reading option.Units) (name_set reading option.Table)
+      (name_set reading option.Input);
+  Makes =
+      IsRunMade (number_set reading option.Steps) (name_set reading option.Units) (name_set reading option.Table)
+      (name_set reading option.Input);
   Refuses = RefusesNothing;
 }
 call_by Blocks reading = record {

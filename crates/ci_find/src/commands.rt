@@ -111,6 +111,7 @@ fn evaluate_run<'a, F: Shelf>(
 {
     let settings = RunSettings {
         steps: words.number(OptionName::Steps),
+        units: words.name(OptionName::Units),
         input: words.name(OptionName::Input),
         table: words.name(OptionName::Table),
     };

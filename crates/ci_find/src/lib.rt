@@ -26,13 +26,14 @@ mod tests;
 ///   leader. With `--leader ADDR`, as often as wanted, a block begins at that address too.
 /// - `blocks FILE`, with `--leader ADDR`: puts a line for each basic block of the executable FILE, with its leader, its
 ///   length and the registers that are live at the leader.
-/// - `run FILE`, with the options `--steps N`, `--input FILE` and `--table FILE`: runs the executable FILE, and puts
-///   its output and a line with its end, its steps and their cost.
+/// - `run FILE`, with the options `--steps N`, `--units UNITS`, `--input FILE` and `--table FILE`: runs the executable
+///   FILE, and puts its output and a line with its end, its steps and their cost. With `--units UNITS`, its unit words
+///   do what the modules of UNITS compute, and take their cycles.
 /// - `asm TEXT OUT`: writes the words that TEXT assembles to, the lowest byte of each first, to OUT. It puts nothing.
 /// - `dis FILE`: puts a line for each whole word of FILE.
 ///
-/// Files are read in the order FILE, table, input, each with its limit and its form tested before the next; only what
-/// gives status 7 is tested once all are read. Every refusal puts one fault line:
+/// Files are read in the order FILE, UNITS, table, input, each with its limit and its form tested before the next; only
+/// what gives status 7 is tested once all are read. Every refusal puts one fault line:
 ///
 /// - 1, `fault 1 usage`: the words have no reading.
 /// - 2, `fault 2 read NAME`: the file isn't there, or reading it failed.

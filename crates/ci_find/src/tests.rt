@@ -359,5 +359,6 @@ fn a_write_that_fails(rt: HostRuntime) -> Result<(), Fail> {
 }
 
 mod analyses;
+mod extended;
 mod runs;
 mod units;

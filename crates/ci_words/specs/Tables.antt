@@ -8,8 +8,8 @@ use Rattle.ci_words.specs.declared.tables.DefaultValue.TheVariants as default
 use Rattle.ci_words.specs.declared.tables.Kind.{Kind}
 use Rattle.ci_words.specs.declared.tables.Kind.TheVariants.{File, Number, Word}
 use Rattle.ci_words.specs.declared.tables.OptionName.{OptionName}
-use Rattle.ci_words.specs.declared.tables.OptionName.TheVariants.{Inputs, Outputs, Budget, Steps, Table, Input}
-use Rattle.ci_words.specs.declared.tables.OptionName.TheVariants.{Leader, At}
+use Rattle.ci_words.specs.declared.tables.OptionName.TheVariants.{Inputs, Outputs, Budget, Steps, Units, Table}
+use Rattle.ci_words.specs.declared.tables.OptionName.TheVariants.{Input, Leader, At}
 
 -- An option of a command: its name without hyphens, which one it is, the kind of its values, whether it may stand more
 -- than once, and what it is set to where it is not given.
@@ -63,6 +63,7 @@ commands =
     ∷ command_of (codes "dis") Dis (File Reads ∷ []) []
     ∷ command_of (codes "run") Run (File Reads ∷ [])
     (single (codes "steps") Steps (Number 1 4294967296) (default.Number 16777216)
+    ∷ single (codes "units") Units (File Reads) default.Nothing
     ∷ table
     ∷ single (codes "input") Input (File Reads) default.Nothing
     ∷ [])

@@ -28,6 +28,8 @@ pub enum OptionName {
     Budget,
     /// `--steps`
     Steps,
+    /// `--units`
+    Units,
     /// `--table`
     Table,
     /// `--input`
@@ -147,6 +149,15 @@ const STEPS: NamedOption<'static> = (
     },
 );
 
+const UNITS: NamedOption<'static> = (
+    "units",
+    OptionShape {
+        option: OptionName::Units,
+        kind: READ,
+        repeatable: false,
+    },
+);
+
 const TABLE: NamedOption<'static> = (
     "table",
     OptionShape {
@@ -206,6 +217,7 @@ pub const COMMANDS: &[CommandRow<'static>] = &[
         &[READ],
         &[
             (STEPS, DefaultValue::Number(16_777_216)),
+            (UNITS, DefaultValue::Nothing),
             (TABLE, DefaultValue::Nothing),
             (INPUT, DefaultValue::Nothing),
         ],

@@ -63,7 +63,12 @@ fn run_shown(alloc: Global, said: &Words) -> Result<String, AllocError> {
     let (file, steps) = (said.name_at(0), said.number(OptionName::Steps));
     let input = said.name(OptionName::Input).unwrap_or("-");
     let table = said.name(OptionName::Table).unwrap_or("-");
-    format!(in alloc; "run {file} {steps} {input} {table}")
+    let mut text = format!(in alloc; "run {file} {steps} {input} {table}")?;
+    if let Some(units) = said.name(OptionName::Units) {
+        text.push_str(" units ")?;
+        text.push_str(units)?;
+    }
+    Ok(text)
 }
 
 /// What `eval` is asked, in short.
@@ -235,6 +240,15 @@ fn files_of_options(rt: HostRuntime) -> Result<(), Fail> {
     expect(&rt, "run F --input -x", "none")?;
     expect(&rt, "run F --input=-x", "none")?;
     expect(&rt, "run F --table T --table T", "none")?;
+    expect(&rt, "run F --units U", "run F 16777216 - - units U")?;
+    expect(
+        &rt,
+        "run --units=F F --table T",
+        "run F 16777216 - T units F",
+    )?;
+    expect(&rt, "run F --units U --units U", "none")?;
+    expect(&rt, "run F --units", "none")?;
+    expect(&rt, "best F --units U", "none")?;
     expect(&rt, "best F --input I", "none")?;
     expect(&rt, "asm T O --table X", "none")?;
     Ok(())

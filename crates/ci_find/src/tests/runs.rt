@@ -10,7 +10,7 @@ use std::process::Abort;
 use std::test::Fail;
 
 /// Puts the file of a name among the others, where it has bytes.
-fn hold(
+pub(super) fn hold(
     alloc: Global,
     files: &mut BTreeMap<String, Vec<u8>>,
     name: &str,
@@ -26,7 +26,7 @@ fn hold(
 }
 
 /// The files `F`, `T` and `I`, each of these bytes, if it is there.
-fn files_of(
+pub(super) fn files_of(
     alloc: Global,
     file: Option<&[u8]>,
     table: Option<&[u8]>,
@@ -40,7 +40,7 @@ fn files_of(
 }
 
 /// Calls the program over these files, and asserts its status and the bytes that it put.
-fn expect_over(
+pub(super) fn expect_over(
     rt: &(impl Abort + AllocGlobal),
     files: BTreeMap<String, Vec<u8>>,
     text: &str,
@@ -357,14 +357,19 @@ fn long_files(rt: HostRuntime) -> Result<(), Fail> {
     Ok(())
 }
 
-// The second and the third read of the shelf are those of the table and of the input.
+// The reads of the shelf from the second to the fourth are those of the units, of the table and of the input.
 #[test]
 fn later_reads_that_fail(rt: HostRuntime) -> Result<(), Fail> {
     let alloc = rt.alloc();
     let good = program(&rt, &[0x00100073], &[], &[])?;
-    let words = words(alloc, "run F --input I --table T")?;
-    for (failing, line) in [(2, "fault 2 read T\n"), (3, "fault 2 read I\n")] {
-        let files = files_of(alloc, Some(good.as_slice()), Some(b""), Some(b""))?;
+    let words = words(alloc, "run F --input I --table T --units U")?;
+    for (failing, line) in [
+        (2, "fault 2 read U\n"),
+        (3, "fault 2 read T\n"),
+        (4, "fault 2 read I\n"),
+    ] {
+        let mut files = files_of(alloc, Some(good.as_slice()), Some(b""), Some(b""))?;
+        hold(alloc, &mut files, "U", Some(b""))?;
         let mut shelf = MemShelf::new(files, vec![in alloc; failing]?);
         let mut out = SureSink::new(alloc);
         assert_eq!(rt; run(alloc, &words, &mut shelf, &mut out), 2);

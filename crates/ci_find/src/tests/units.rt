@@ -3,7 +3,7 @@ use super::expect;
 use std::test::Fail;
 
 /// The unit of two sums.
-const SUMS: &str = "// cycles 1\n\
+pub(super) const SUMS: &str = "// cycles 1\n\
     module ci_0(input [31:0] a, input [31:0] b, input [31:0] c, output [31:0] y, output [31:0] z);\n\
     wire [31:0] p0;\nassign p0 = a;\nwire [31:0] q0;\nassign q0 = b;\n\
     wire [31:0] t0;\nassign t0 = p0 + q0;\n\
