@@ -26,7 +26,7 @@ LINES = {
     **{f"6 table {rule} KEY": ["best", "best --at", "run"] for rule in (3, 4)},
     "7 unsupported POSITION WORD": ["best", "best --at", "blocks"],
     "7 unsupported POSITION 00000000": ["eval"],
-    **{f"9 units {kind} OFFSET": ["eval"] for kind in range(1, 10)},
+    **{f"9 units {kind} OFFSET": ["eval", "run"] for kind in range(1, 10)},
     "12 no memory": CALLS,
     **{f"13 asm {kind} LINE COLUMN": ["asm"] for kind in range(1, 8)},
 }

@@ -1,1 +1,2 @@
-mod BlockUnits
+mod NodeSets
+mod Fields

@@ -1,28 +1,53 @@
-//! Writes the Verilog of the units of cuts, for the check that compares it with what other tools make of it.
+//! Writes folded blocks and the Verilog of the units of cuts, for the checks that compare them with what others make of
+//! the same blocks; and runs blocks that it makes up beside their folded blocks.
 //!
-//! Each line of standard input has the words of a block in hex digits, `|`, and the numbers of a cut's members; blanks
-//! stand between them. Every register is live after the block, and latencies are the usual ones. Equal units are
-//! written once. A line that isn't so, whose cut doesn't fit, or whose unit is the 33rd, ends the program with the
-//! status 1.
+//! A line of standard input asks for one of these. The parts of a line stand apart by `|`, and their words by blanks.
+//!
+//! - The words of a block in hex digits, and the numbers of a cut's members: the unit of the cut, where every register
+//!   is live after the block and latencies are the usual ones. Equal units are written once, behind all else.
+//! - These two, the number of a unit, and the registers that are live after the block: the words of the folded block.
+//! - `made`, a seed and a count: how many runs of folded blocks pass as those of the blocks do, and how many don't.
+//!
+//! A line that isn't so, whose cut doesn't fit, or whose unit is the 33rd, ends the program with the status 1.
 #![tactic(auto)]
 
+ghost use Rattle.ci_rewrite.specs.Blocks.{AllFieldsFit};
+
+use ci_isa::Insn;
 use ci_unit::UnitTable;
 use ci_vemit::emit;
-use cuts::unit_of_line;
+use cuts::number_of;
+use folds::compare_blocks;
+use instructions::words_of;
+use lines::{folded_of_line, made_of_line, unit_of_line};
+use runs::Tally;
 use std::alloc::{AllocError, Global};
 use std::io::{self, Write};
 use std::process::ExitCode;
 
 mod cuts;
-
-/// The most units of a table.
-const MOST_UNITS: u8 = 32;
+mod folds;
+mod instructions;
+mod lines;
+mod made;
+mod random;
+mod runs;
 
 fn main(rt: HostRuntime) -> io::Result<ExitCode> {
     let mut units = UnitTable::new(rt.alloc());
     for line in rt.lines(rt.alloc()) {
         let line = line?;
-        if !add_unit_of(rt.alloc(), line.as_str(), &mut units)? {
+        if let Some((seed, count)) = made_of_line(line.as_str()) {
+            let tally = compare_blocks(rt.alloc(), seed, count)?;
+            print!(rt; "{} pass alike, {} end alike, ", tally.passed, tally.ended)?;
+            print!(rt;
+                "{} end by the same access, {} touch the text, ",
+                tally.refused, tally.touched
+            )?;
+            println!(rt; "{} differ", tally.different)?;
+        } else if let Some(folded) = folded_of_line(rt.alloc(), line.as_str())? {
+            println!(rt; "{}", text_of(rt.alloc(), folded.as_slice())?)?;
+        } else if !add_unit_of(rt.alloc(), line.as_str(), &mut units)? {
             println!(rt; "no block with a cut, or a unit too many: {line}")?;
             return Ok(ExitCode::from(1));
         }
@@ -32,18 +57,31 @@ fn main(rt: HostRuntime) -> io::Result<ExitCode> {
     Ok(ExitCode::SUCCESS)
 }
 
+/// The words of instructions in hex digits.
+fn text_of(alloc: Global, insns: &[Insn]) -> Result<String, AllocError>
+    requires { AllFieldsFit insns.now }
+{
+    let words = words_of(alloc, insns)?;
+    let mut text = String::new(alloc);
+    for word in &words {
+        if !text.is_empty() {
+            text.push(' ')?;
+        }
+        push_word(&mut text, *word)?;
+    }
+    Ok(text)
+}
+
+/// Puts the eight hex digits of a word at the end.
+fn push_word(text: &mut String, word: u32) -> Result<(), AllocError> {
+    write!(text, "{word:08x}")
+}
+
 /// Puts the unit that the line tells into the table, unless it is there already. Answers whether the line tells one,
 /// and there was room for it.
 fn add_unit_of(alloc: Global, line: &str, units: &mut UnitTable) -> Result<bool, AllocError> {
     let Some(unit) = unit_of_line(alloc, line)? else {
         return Ok(false);
     };
-    if units.number_of(&unit).is_some() {
-        return Ok(true);
-    }
-    if units.len() == MOST_UNITS {
-        return Ok(false);
-    }
-    units.add(unit)?;
-    Ok(true)
+    Ok(number_of(units, unit)?.is_some())
 }

@@ -1,0 +1,138 @@
+#!/usr/bin/env python3
+"""Compares folded blocks with a plain reading of what one is, word for word.
+
+    compare_folds.py PROGRAM FOLDER
+
+FOLDER is the program of the crate `ci_units`: it writes the folded block of each line that it is given. The blocks are
+those of the executables of samples/ and of checks/programs, which GCC builds with picolibc. Each is folded by its best
+cut, which `best --at` of PROGRAM tells, and by some other cuts, as are blocks that are made up, always in the same way;
+and the folded blocks, in which units stand now, are folded again by some cuts. What takes a tool that is missing is
+skipped, with a line that says so. It ends with status 0 where all agree.
+"""
+import os
+import random
+import subprocess
+import sys
+import tempfile
+
+import compiled
+import executable
+from blocks import Text, live_sets
+from folds import Block, is_cread, is_unit
+from operations import WORDS, with_registers
+
+LIMIT = 120
+# How many blocks are taken of an executable; how many cuts are tried of a block, and how many of them are folded.
+EACH, TRIES, SOME = 20, 12, 2
+# How many folds have to be compared of each kind.
+LEAST = 100
+NUMBERS = 32
+# How many blocks are made up, and the words of a load and a store.
+MADE, LOAD, STORE = 200, 0x2003, 0x2023
+
+
+class Folds:
+    """The lines that the program is given, and what it has to write of them."""
+
+    def __init__(self):
+        self.lines, self.wanted, self.units = [], [], 0
+
+    def add(self, block, live, cut):
+        """A fold of a block, by the number that is next. Gives the words of the folded block."""
+        number = len(self.lines) % NUMBERS
+        words = block.folded(cut, number)
+        parts = (f"{word:08x}" for word in block.words), sorted(cut), [number], sorted(live)
+        self.lines.append(" | ".join(" ".join(map(str, part)) for part in parts))
+        self.wanted.append(" ".join(f"{word:08x}" for word in words))
+        self.units += any(map(is_unit, block.words))
+        return words
+
+
+def best_cut(program, path, leader):
+    """The best cut of the block at a leader, or None where there is none or the search for it is too long."""
+    done = subprocess.run([program, "best", path, "--at", f"0x{leader:x}"], stdout=subprocess.PIPE, text=True,
+                          timeout=LIMIT, check=True)
+    kind, *words = done.stdout.split()
+    return set(map(int, words[:-2])) if kind == "cut" else None
+
+
+def some_cuts(source, block):
+    """Cuts that fit: of most of those that may join among nodes that stand together."""
+    found = []
+    for _ in range(TRIES):
+        begin, size = source.choice(block.nodes), source.randrange(1, 9)
+        cut = {node for node in block.nodes[begin:begin + size] if block.joins(node) and source.randrange(4)}
+        if cut and cut not in found and block.fits(cut):
+            found.append(cut)
+    return found[:SOME]
+
+
+def fold_block(source, folds, words, live, best):
+    """Folds a block by its best cut and by others, and the folded blocks again."""
+    block = Block(words, live)
+    for cut in some_cuts(source, block) + ([best] if best else []):
+        again = Block(folds.add(block, live, cut), live)
+        for other in some_cuts(source, again):
+            folds.add(again, live, other)
+
+
+def made_word(source, registers):
+    """Some word that doesn't end a block, over a few registers."""
+    target, first, second = (source.choice(registers) for _ in range(3))
+    kind = source.randrange(10)
+    if kind < 2:
+        return LOAD | target << 7 | first << 15 if kind else STORE | first << 15 | second << 20
+    return with_registers(source.choice(sorted(WORDS)), target, first, second)
+
+
+def fold_made(source, folds):
+    """Folds a block that is made up."""
+    registers = source.sample(range(32), source.randrange(3, 6))
+    words = [made_word(source, registers) for _ in range(source.randrange(2, 16))]
+    fold_block(source, folds, words, {register for register in registers if source.randrange(3)}, None)
+
+
+def fold_executable(source, folds, program, path):
+    """Folds some blocks of an executable without custom words. Gives how many best cuts they have."""
+    with open(path, "rb") as file:
+        text = Text(executable.Image(file.read()), [])
+    if text.custom() is not None:
+        return 0
+    blocks = text.blocks()
+    _, after = live_sets(text, blocks)
+    long = [leader for leader, block in blocks.items() if len(block) > 1]
+    count = 0
+    for leader in source.sample(long, min(EACH, len(long))):
+        best = best_cut(program, path, leader)
+        count += best is not None
+        fold_block(source, folds, [text.words[address] for address in blocks[leader]], after[leader], best)
+    return count
+
+
+def main():
+    program, folder_program = map(os.path.abspath, sys.argv[1:3])
+    source, folds, missing = random.Random(1), Folds(), compiled.missing({})
+    if missing:
+        print(missing)
+    with tempfile.TemporaryDirectory() as folder:
+        paths = [path for _, path in (compiled.samples() if missing else compiled.executables(folder))]
+        best = sum(fold_executable(source, folds, program, path) for path in paths)
+    for _ in range(MADE):
+        fold_made(source, folds)
+    done = subprocess.run([folder_program], input="".join(f"{line}\n" for line in folds.lines), stdout=subprocess.PIPE,
+                          text=True, timeout=LIMIT, check=False)
+    ours = done.stdout.splitlines()
+    faults = [f"{line}: {our!r} and not {wanted!r}" for line, our, wanted in zip(folds.lines, ours, folds.wanted)
+              if our != wanted]
+    if done.returncode != 0 or len(ours) != len(folds.lines):
+        faults.append(f"status {done.returncode} and {len(ours)} lines of {len(folds.lines)}, the last {ours[-1:]}")
+    for fault in faults[:20]:
+        print(fault)
+    seconds = sum(any(is_cread(int(word, 16)) for word in wanted.split()) for wanted in folds.wanted)
+    print(f"{len(folds.lines)} folds of blocks of {len(paths)} executables and of {MADE} made-up blocks compared, "
+          f"{best} by best cuts, {folds.units} of blocks with units, {seconds} with a second output: "
+          f"{len(faults)} differences")
+    return 1 if faults or min(best, folds.units, seconds) < (LEAST if not missing else 1) else 0
+
+
+sys.exit(main())

@@ -1,0 +1,115 @@
+"""A naive reading of what a folded block is, by sets of nodes and all walks along the arcs of its graph, where words
+may be units and `cread`. It shares nothing with the program, so that the checks can compare the two."""
+import itertools
+
+import instructions
+from cuts import MEMORY, may_join
+from instructions import mnemonic
+
+UNIT, CREAD = 0x0B, 0x2B
+NO_OPERATION = 0x00000013
+
+
+def is_unit(word):
+    return word & 0x7F == UNIT
+
+
+def is_cread(word):
+    return word & 0x7F == CREAD
+
+
+def unit_word(number, target, sources):
+    """The word of a unit, with x0 for each source that is missing."""
+    first, second, third = [*sources, 0, 0, 0][:3]
+    return third << 27 | number // 8 << 25 | second << 20 | first << 15 | number % 8 << 12 | target << 7 | UNIT
+
+
+def operands(word):
+    """The registers that a word reads, in their order."""
+    if is_unit(word):
+        return word >> 15 & 31, word >> 20 & 31, word >> 27
+    if mnemonic(word) == "ecall":
+        return 10, 11, 12, 17
+    return [field for field in (word >> 15 & 31, word >> 20 & 31) if field in instructions.reads(word)]
+
+
+def writes(word):
+    """The register that a word writes, in a set; none where it writes x0 or nothing."""
+    return {word >> 7 & 31} - {0} if is_unit(word) or is_cread(word) else instructions.writes(word)
+
+
+class Block:
+    """A block of words, after which some registers are live. Nodes are numbers from 0. A source is a node, or the name
+    of a register at entry."""
+
+    def __init__(self, words, live):
+        self.words, self.nodes = words, range(len(words))
+        self.sources, writer = [], {}
+        for node, word in enumerate(words):
+            self.sources.append({writer.get(register, f"x{register}"): register for register in operands(word)})
+            writer.update((register, node) for register in writes(word))
+        self.live = {writer[register] for register in live if register in writer}
+        self.arcs = self.all_arcs()
+        self.behind = [{later for _, later in self.walks(node)} for node in self.nodes]
+
+    def own_arc(self, node, later):
+        """Whether two nodes have to stay in their order for what they read, write or access. Arcs to the instruction
+        that ends a block are left out, since no walk goes on from there."""
+        first, second = self.words[node], self.words[later]
+        true = node in self.sources[later]
+        anti = set(operands(first)) & writes(second)
+        output = writes(first) & writes(second)
+        memory = mnemonic(first) in MEMORY and mnemonic(second) in MEMORY
+        return bool(true or anti or output or memory)
+
+    def all_arcs(self):
+        """Those arcs, and those by which each unit word and the `cread` behind it move together: what leaves the unit
+        word leaves the `cread` too. Arcs into the `cread` enter the unit word too, but are left out here, since they
+        add no walk between other nodes."""
+        bundles = [(node - 1, node) for node in self.nodes[1:]
+                   if is_cread(self.words[node]) and is_unit(self.words[node - 1])]
+        arcs = {pair for pair in itertools.combinations(self.nodes, 2) if self.own_arc(*pair)} | set(bundles)
+        return arcs | {(read, later) for unit, read in bundles for node, later in arcs
+                       if node == unit and later != read}
+
+    def walks(self, start):
+        """The first and the last node of each walk from a node."""
+        reached, fresh = set(), {start}
+        while fresh:
+            fresh = {later for node, later in self.arcs if node in fresh} - reached
+            reached |= fresh
+        return {(start, later) for later in reached}
+
+    def is_convex(self, cut):
+        return not any(self.behind[node] & cut and any(node in self.behind[member] for member in cut)
+                       for node in self.nodes if node not in cut)
+
+    def inputs(self, cut):
+        """The registers of the inputs, numbered by their first use."""
+        found = {}
+        for node in sorted(cut):
+            for source, register in self.sources[node].items():
+                if source not in cut:
+                    found.setdefault(source, register)
+        return list(found.values())
+
+    def outputs(self, cut):
+        """The members whose values are live after the block, or read by other nodes, in their order."""
+        return [node for node in sorted(cut) if node in self.live
+                or any(node in self.sources[other] for other in self.nodes if other not in cut)]
+
+    def fits(self, cut):
+        return (all(self.joins(node) for node in cut) and self.is_convex(cut) and len(self.inputs(cut)) <= 3
+                and 1 <= len(self.outputs(cut)) <= 2 and len(cut) >= len(self.outputs(cut)))
+
+    def joins(self, node):
+        return self.words[node] & 0x7F not in (UNIT, CREAD) and may_join(self.words[node])
+
+    def folded(self, cut, number):
+        """The words of the folded block, where the unit of this number stands for the members."""
+        outputs = [next(iter(writes(self.words[node]))) for node in self.outputs(cut)]
+        early = [node for node in self.nodes if node not in cut and self.behind[node] & cut]
+        late = [node for node in self.nodes if node not in cut and node not in early]
+        use = [unit_word(number, outputs[0], self.inputs(cut)), *(register << 7 | CREAD for register in outputs[1:])]
+        return [*(self.words[node] for node in early), *use, *[NO_OPERATION] * (len(cut) - len(use)),
+                *(self.words[node] for node in late)]

@@ -1,0 +1,133 @@
+//! Folds of blocks that are made up, each of which is run beside its block.
+ghost use Rattle.std.specs.Prelude.{◌≤◌, IfOk, IfSome, length};
+ghost use Rattle.std.specs.FinSet as set;
+ghost use Rattle.ci_cut.specs.GraphRules.{AreNodes};
+ghost use Rattle.ci_rewrite.specs.Blocks.{AllFieldsFit};
+ghost use Rattle.ci_unit.specs.Operands.{FitsSomeLimits};
+
+use crate::cuts::{MOST_WORDS, is_cut, number_of};
+use crate::instructions::insns_of;
+use crate::lines::unit_of_line;
+use crate::made;
+use crate::random::Random;
+use crate::runs::{Tally, compare_runs};
+use ci_cut::Graph;
+use ci_dfg::graph;
+use ci_isa::Insn;
+use ci_lat::Table;
+use ci_rewrite::fold;
+use ci_unit::{UnitTable, unit_of};
+use ci_vemit::modules;
+use ci_word::Row;
+use std::alloc::{AllocError, Global};
+
+/// How many folds of a block are tried.
+const FOLDS: usize = 10;
+
+/// How many sets of nodes are tried for a fold.
+const TRIES: usize = 24;
+
+/// The line of unit 0: xor x5, x10, x11 and add x6, x5, x12.
+const FIRST_UNIT: &str = "00b542b3 00c28333 | 0 1";
+
+/// Makes blocks of the numbers of a seed, folds each by some cuts, and some of the folded blocks again, and compares
+/// the runs of each block and its folded block.
+pub fn compare_blocks(alloc: Global, seed: u32, count: u32) -> Result<Tally, AllocError> {
+    let mut random = Random::new(seed);
+    let mut tally = Tally::new();
+    for _ in 0..count {
+        compare_block(alloc, &mut random, &mut tally)?;
+    }
+    Ok(tally)
+}
+
+/// The same of one block.
+fn compare_block(alloc: Global, random: &mut Random, tally: &mut Tally) -> Result<(), AllocError> {
+    let live = made::registers(random);
+    let words = made::block(alloc, random)?;
+    let mut insns = insns_of(alloc, words.as_slice())?;
+    let mut units = first_unit(alloc)?;
+    for _ in 0..FOLDS {
+        let found = compare_fold(alloc, random, insns.as_slice(), live, &mut units, tally)?;
+        if let Some(folded) = found {
+            if random.below(2) == 0 {
+                insns = folded;
+            }
+        }
+    }
+    Ok(())
+}
+
+/// A table with the unit that unit words of blocks name.
+fn first_unit(alloc: Global) -> Result<UnitTable, AllocError> {
+    let mut units = UnitTable::new(alloc);
+    if let Some(unit) = unit_of_line(alloc, FIRST_UNIT)? {
+        number_of(&mut units, unit)?;
+    }
+    Ok(units)
+}
+
+/// Folds the block by some cut, if one is found, and compares runs. Answers the folded block.
+fn compare_fold(
+    alloc: Global,
+    random: &mut Random,
+    insns: &[Insn],
+    live: Row,
+    units: &mut UnitTable,
+    tally: &mut Tally,
+) -> Result<Option<Vec<Insn>>, AllocError>
+    requires { AllFieldsFit insns.now }
+    ensures { IfOk result (λ found. IfSome found (λ folded. AllFieldsFit folded.items)) }
+{
+    if insns.len() > MOST_WORDS {
+        return Ok(None);
+    }
+    let graph = graph(alloc, insns, live, &Table::usual())?;
+    let Some(cut) = some_cut(random, &graph) else {
+        return Ok(None);
+    };
+    let Some(number) = number_of(units, unit_of(alloc, insns, &graph, &cut)?)? else {
+        return Ok(None);
+    };
+    let folded = fold(alloc, insns, &graph, &cut, number)?;
+    let modules = modules(alloc, units)?;
+    let verdict = compare_runs(
+        alloc,
+        random,
+        insns,
+        folded.as_slice(),
+        &live,
+        modules.as_slice(),
+    )?;
+    tally.count(verdict);
+    Ok(Some(folded))
+}
+
+/// A cut of the graph that fits, if one is found.
+fn some_cut(random: &mut Random, graph: &Graph) -> Option<Row>
+    ensures { IfSome result (λ cut. FitsSomeLimits graph.now (set.contains cut)) }
+{
+    for _ in 0..TRIES {
+        let cut = some_nodes(random, graph);
+        if is_cut(graph, &cut) {
+            return Some(cut);
+        }
+    }
+    None
+}
+
+/// Most of the eligible nodes among some that stand together.
+#[tactic(auto, using(crate::proofs::NodeSets::no_nodes, crate::proofs::NodeSets::insert_node))]
+fn some_nodes(random: &mut Random, graph: &Graph) -> Row
+    ensures { AreNodes graph.now result }
+{
+    let begin = random.below(24) as usize;
+    let past = begin + 1 + random.below(12) as usize;
+    let mut nodes = Row::empty();
+    for (k, node) in graph.nodes().iter().enumerate() {
+        if k >= begin && k < past && node.eligible && random.below(8) > 0 {
+            nodes.insert(k as u8);
+        }
+    }
+    nodes
+}
