@@ -101,6 +101,13 @@ impl Image {
         &self.bytes
     }
 
+    /// The bytes of the file, without a copy.
+    pub fn into_bytes(self) -> Vec<u8>
+        ensures { result.items ≡ self.bytes }
+    {
+        self.bytes
+    }
+
     /// The address of the first instruction.
     pub fn entry(&self) -> u32
         ensures { result ≡ self.now.entry }

@@ -1,5 +1,5 @@
 -- For proofs that a text has the tokens that it is written with: texts that are written token by token.
-use Rattle.std.specs.Prelude.{ℕ, ◌+◌, List, [], ◌∷◌, ◌++◌}
+use Rattle.std.specs.Prelude.{ℕ, List, [], ◌∷◌, ◌++◌}
 use Rattle.ci_reading.specs.Tokens.{TokenFormat}
 
 -- no token begins with these bytes and the first of the rest, so that they don't join

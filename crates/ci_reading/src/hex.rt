@@ -35,3 +35,15 @@ pub fn hex_text(alloc: Global, word: u32) -> Result<String, AllocError>
     push_hex(&mut text, word)?;
     Ok(text)
 }
+
+/// Appends a name and the eight hexadecimal digits of a word, in lower case.
+///
+/// # Errors
+///
+/// Out of memory. Some of it may then be appended.
+pub fn push_word(text: &mut String, name: &str, word: u32) -> Result<(), AllocError>
+    ensures { OnOk result (string_bytes text.new ≡ string_bytes text.old ++ name.now ++ eight_hex_digits word) }
+{
+    text.push_str(name)?;
+    push_hex(text, word)
+}

@@ -5,7 +5,7 @@
 pub use bytes::{bytes_of_words, word_at};
 pub use digits::{digit_value, number_of_digits};
 pub use fields::{Numbers, Stop, address, begins_with, number, word};
-pub use hex::{hex_text, push_hex};
+pub use hex::{hex_text, push_hex, push_word};
 
 mod bytes;
 mod digits;

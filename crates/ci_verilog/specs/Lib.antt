@@ -2,3 +2,7 @@ pub mod Modules
 pub mod Values
 pub mod Laws
 pub mod Held
+pub mod NameEquality
+pub mod ItemEquality
+pub mod WireEquality
+pub mod ModuleEquality

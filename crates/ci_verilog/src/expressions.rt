@@ -55,8 +55,28 @@ impl Name {
     }
 }
 
+/// Names are equal where their bytes are.
+impl PartialEq for Name {
+    ghost use Rattle.std.specs.Cmp.{partial_equiv_from_equiv};
+    ghost use Rattle.ci_verilog.specs.NameEquality.{same_name, names_equivalent};
+
+    ghost eq = { same_name };
+
+    ghost laws = { partial_equiv_from_equiv names_equivalent };
+
+    fn eq(&self, other: &Name) -> bool {
+        self.bytes == other.bytes
+    }
+}
+
+impl Eq for Name {
+    ghost use Rattle.ci_verilog.specs.NameEquality.{names_equivalent};
+
+    ghost laws = { names_equivalent };
+}
+
 /// A part of a term that names one thing.
-#[derive(Debug, Drop)]
+#[derive(Debug, Drop, PartialEq, Eq)]
 pub enum Simple {
     /// All bits of a name.
     Whole(Name),
@@ -67,7 +87,7 @@ pub enum Simple {
 }
 
 /// A part of a concatenation.
-#[derive(Debug, Drop)]
+#[derive(Debug, Drop, PartialEq, Eq)]
 pub enum Item {
     Plain(Simple),
     /// So many copies, one behind the other (IEEE 1364-2005, section 5.1.14).
@@ -116,8 +136,28 @@ impl Items {
     }
 }
 
+/// Lists of items are equal where their items are.
+impl PartialEq for Items {
+    ghost use Rattle.std.specs.Cmp.{partial_equiv_from_equiv};
+    ghost use Rattle.ci_verilog.specs.ItemEquality.{same_items, items_equivalent};
+
+    ghost eq = { same_items };
+
+    ghost laws = { partial_equiv_from_equiv items_equivalent };
+
+    fn eq(&self, other: &Items) -> bool {
+        self.items == other.items
+    }
+}
+
+impl Eq for Items {
+    ghost use Rattle.ci_verilog.specs.ItemEquality.{items_equivalent};
+
+    ghost laws = { items_equivalent };
+}
+
 /// An operand.
-#[derive(Debug, Drop)]
+#[derive(Debug, Drop, PartialEq, Eq)]
 pub enum Term {
     Plain(Simple),
     /// So many copies, one behind the other (IEEE 1364-2005, section 5.1.14).
@@ -143,7 +183,7 @@ pub enum Operator {
 }
 
 /// An expression (IEEE 1364-2005, section 5.1).
-#[derive(Debug, Drop)]
+#[derive(Debug, Drop, PartialEq, Eq)]
 pub enum Expr {
     One(Term),
     Two(Operator, Term, Term),
@@ -152,7 +192,7 @@ pub enum Expr {
 }
 
 /// A wire of so many bits, which always has the value of its expression (IEEE 1364-2005, section 6.1).
-#[derive(Debug, Drop)]
+#[derive(Debug, Drop, PartialEq, Eq)]
 pub struct Wire {
     pub name: Name,
     pub width: u8,

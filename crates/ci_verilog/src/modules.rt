@@ -29,6 +29,30 @@ impl Model for Module {
         IsModule (record { number = m.number; cycles = m.cycles; wires = m.wires; y = m.y; z = m.z }) };
 }
 
+/// Modules are equal where their numbers, their cycles, their wires and the expressions of their results are.
+impl PartialEq for Module {
+    ghost use Rattle.std.specs.Cmp.{partial_equiv_from_equiv};
+    ghost use Rattle.ci_verilog.specs.ModuleEquality.{same_module, modules_equivalent};
+
+    ghost eq = { same_module };
+
+    ghost laws = { partial_equiv_from_equiv modules_equivalent };
+
+    fn eq(&self, other: &Module) -> bool {
+        self.number == other.number
+            && self.cycles == other.cycles
+            && self.wires == other.wires
+            && self.y == other.y
+            && self.z == other.z
+    }
+}
+
+impl Eq for Module {
+    ghost use Rattle.ci_verilog.specs.ModuleEquality.{modules_equivalent};
+
+    ghost laws = { modules_equivalent };
+}
+
 impl Module {
     ghost use Rattle.ci_verilog.specs.Modules.{IsModule, IsExpr, known_by};
 

@@ -32,6 +32,26 @@ impl Model for Wires {
     ghost invariant = { λ w. AreWires inputs w.wires.items × (length w.wires.items ≤ 2048) };
 }
 
+/// Lists of wires are equal where their wires are.
+impl PartialEq for Wires {
+    ghost use Rattle.std.specs.Cmp.{partial_equiv_from_equiv};
+    ghost use Rattle.ci_verilog.specs.WireEquality.{same_wires, wires_equivalent};
+
+    ghost eq = { same_wires };
+
+    ghost laws = { partial_equiv_from_equiv wires_equivalent };
+
+    fn eq(&self, other: &Wires) -> bool {
+        self.wires == other.wires
+    }
+}
+
+impl Eq for Wires {
+    ghost use Rattle.ci_verilog.specs.WireEquality.{wires_equivalent};
+
+    ghost laws = { wires_equivalent };
+}
+
 impl Wires {
     /// No wires. It takes no memory.
     pub fn new(alloc: Global) -> Wires
