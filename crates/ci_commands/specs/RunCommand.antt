@@ -2,16 +2,14 @@
 use Rattle.std.specs.Prelude.{◌≡◌, ℕ, List, [], ◌∷◌, ◌++◌, codes, Option, Some, None}
 use Rattle.std.specs.Fmt.{decimal}
 use Rattle.ci_reading.specs.Lines.{line}
-use Rattle.ci_reading.specs.Hex.{eight_hex_digits}
-use Rattle.ci_isa.specs.Effects.{width_bytes}
 use Rattle.ci_elf.specs.Executables.{Executable, IsImageOf}
 use Rattle.ci_lat.specs.Latencies.{Latencies as Table}
 use Rattle.ci_machine.specs.declared.ends.End.{End}
-use Rattle.ci_machine.specs.declared.ends.End.TheVariants as ends
 use Rattle.ci_machine.specs.Extended.{IsExtended, latencies_with}
 use Rattle.ci_machine.specs.Programs.{loaded_program, opening}
 use Rattle.ci_machine.specs.Steps.{Meaning, IsPlain}
 use Rattle.ci_machine.specs.Runs.{Latencies, after, steps_made, cost}
+use Rattle.ci_emu.specs.Ends.{end_text}
 use Rattle.ci_emu.specs.TableLatencies.{latencies_of}
 use Rattle.ci_verilog.specs.Modules.{Module}
 use Rattle.ci_calls.specs.declared.success.Success.{Success}
@@ -20,17 +18,6 @@ use Rattle.ci_calls.specs.Files.{optional_input, optional_bytes, AreGiven, AreMo
 use Rattle.ci_calls.specs.Inputs.{Input}
 
 -- ---- the end line
-
--- how a run ended, or that it made as many steps as it may
-abbrev pub end_text : Option End → List ℕ
-end_text (Some (ends.Exit code)) = codes "exit " ++ eight_hex_digits code
-end_text (Some ends.Break) = codes "break"
-end_text (Some (ends.Access address width)) =
-    codes "access " ++ eight_hex_digits address ++ codes " " ++ decimal (width_bytes width)
-end_text (Some (ends.Misaligned target)) = codes "misaligned " ++ eight_hex_digits target
-end_text (Some (ends.Fetch pc)) = codes "fetch " ++ eight_hex_digits pc
-end_text (Some (ends.Illegal word)) = codes "illegal " ++ eight_hex_digits word
-end_text None = codes "limit"
 
 -- the end of a run, its steps, and their cost in cycles
 abbrev pub end_line : Option End → ℕ → ℕ → List ℕ

@@ -1,9 +1,6 @@
 //! The command `run`: the run of an executable file.
-ghost use Rattle.std.specs.Prelude.{◌≡◌, ◌≤◌, ◌++◌, IfOk, IfErr, OnOk, IfSome, All, codes};
+ghost use Rattle.std.specs.Prelude.{◌≡◌, ◌≤◌, IfOk, IfErr, OnOk, IfSome, All};
 ghost use Rattle.std.specs.String.{string_bytes};
-ghost use Rattle.std.specs.Fmt.{decimal};
-ghost use Rattle.ci_reading.specs.Hex.{eight_hex_digits};
-ghost use Rattle.ci_isa.specs.Effects.{width_bytes};
 ghost use Rattle.ci_machine.specs.Runs.{after};
 ghost use Rattle.ci_machine.specs.States.{program_of, state_of};
 ghost use Rattle.ci_machine.specs.Steps.{Meaning};
@@ -11,17 +8,15 @@ ghost use Rattle.ci_emu.specs.Profiles.{IsProfileOf};
 ghost use Rattle.ci_verilog.specs.Modules.{IsModule};
 ghost use Rattle.ci_calls.specs.Evaluations.{Evaluates, RefusesNothing};
 ghost use Rattle.ci_calls.specs.Refused.{name_in, modules_in, IsRefusedBy};
-ghost use Rattle.ci_commands.specs.RunCommand.{end_line, end_text, run_inputs, IsRunMade, IsRunText};
+ghost use Rattle.ci_commands.specs.RunCommand.{end_line, run_inputs, IsRunMade, IsRunText};
 ghost use Rattle.ci_commands.specs.RunCommand.{IsMachine, latencies_by};
 
 use ci_calls::{Refusal, Success, read_image, read_input, read_optional_units, read_table};
 use ci_elf::Image;
-use ci_emu::{End, Profile};
+use ci_emu::{Profile, end_text};
 use ci_io::Shelf;
-use ci_isa::Width;
 use ci_lat::Table;
 use ci_machine::State;
-use ci_reading::hex_text;
 use ci_verilog::Module;
 use std::alloc::{AllocError, Global};
 
@@ -132,39 +127,5 @@ fn end_line(alloc: Global, profile: &Profile) -> Result<String, AllocError>
     let cost = profile.cost;
     write!(text, " steps {steps}")?;
     writeln!(text, " cost {cost}")?;
-    Ok(text)
-}
-
-/// How a run ended, or `limit` where it made as many steps as it may.
-fn end_text(alloc: Global, end: Option<End>) -> Result<String, AllocError>
-    ensures { IfOk result (λ text. string_bytes text ≡ end_text end) }
-{
-    match end {
-        Some(End::Exit(code)) => word_text(alloc, "exit ", code),
-        Some(End::Break) => String::from_str(alloc, "break"),
-        Some(End::Access(address, width)) => access_text(alloc, address, width),
-        Some(End::Misaligned(target)) => word_text(alloc, "misaligned ", target),
-        Some(End::Fetch(pc)) => word_text(alloc, "fetch ", pc),
-        Some(End::Illegal(word)) => word_text(alloc, "illegal ", word),
-        None => String::from_str(alloc, "limit"),
-    }
-}
-
-/// A name and the eight digits of a word.
-fn word_text(alloc: Global, name: &str, word: u32) -> Result<String, AllocError>
-    ensures { IfOk result (λ text. string_bytes text ≡ name.now ++ eight_hex_digits word) }
-{
-    let digits = hex_text(alloc, word)?;
-    format!(in alloc; "{name}{digits}")
-}
-
-/// The address of an access, and how many bytes it moves.
-fn access_text(alloc: Global, address: u32, width: Width) -> Result<String, AllocError>
-    ensures { IfOk result (λ text. string_bytes text
-        ≡ codes "access " ++ eight_hex_digits address ++ codes " " ++ decimal (width_bytes width)) }
-{
-    let mut text = word_text(alloc, "access ", address)?;
-    let bytes = width.bytes();
-    write!(text, " {bytes}")?;
     Ok(text)
 }
