@@ -9,7 +9,7 @@ pub mod EffectLaws
 pub mod PushLaws
 pub mod LiveLaws
 pub mod NeededLaws
-mod OneAnalysis
+pub mod OneAnalysis
 mod LeadLaws
 mod RegisterLaws
 mod Rows

@@ -31,15 +31,15 @@ block_with blocks leader (k, within, is) =
         (block, (k, within, at), sym (ap (λ (b : Block). b.leader) at) ∙ sym (get_or-map (λ (b : Block). b.leader) blocks k block leader below) ∙ is)
 
 -- the other list has a block that says the same
-record IsOther (right : List Block) (block : Block) : Type 0 where
-  other : Block
-  there : Contains right other
-  leader : block.leader ≡ other.leader
-  insns : block.insns.items ≡ other.insns.items
-  next : block.next ≡ other.next
+pub record IsOther (right : List Block) (block : Block) : Type 0 where
+  pub other : Block
+  pub there : Contains right other
+  pub leader : block.leader ≡ other.leader
+  pub insns : block.insns.items ≡ other.insns.items
+  pub next : block.next ≡ other.next
 
 module _ (left right : List Block) (same : map contents_of left ≡ map contents_of right) where
-  other_of : (block : Block) → Contains left block → IsOther right block
+  pub other_of : (block : Block) → Contains left block → IsOther right block
   other_of block (k, within, is) =
       let many : length left ≡ length right = sym (length-map left contents_of) ∙ ap length same ∙ length-map right contents_of in
       let below : k < length right = omega arith in
