@@ -1,0 +1,83 @@
+-- A block of a file is a block that can be folded.
+use Rattle.std.proofs.Common.{◌≡◌, ℕ, ◌+◌, ◌-◌, ◌*◌, ◌<◌, true, false, List, length, sym, subst, inl, inr, arith, true≢false}
+use Rattle.std.proofs.lemmas.Bool.{cases_Bool, cases_lt}
+use Rattle.ci_isa.specs.declared.instruction.Insn.{Insn}
+use Rattle.ci_isa.specs.declared.instruction.Insn.TheVariants.{Unit, Cread, Illegal, Ebreak}
+use Rattle.ci_isa.specs.Effects.{ends_block, is_cread}
+use Rattle.ci_isa.specs.Sequences.{nth_insn}
+use Rattle.ci_isa.specs.Table.{IsInsnAt, IsWordOf, IsWellFormed}
+use Rattle.ci_isa.proofs.WellFormed.{fields_fit, well_formed}
+use Rattle.ci_elf.specs.Executables.{Executable, place_of, text_word}
+use Rattle.ci_elf.proofs.FieldLaws.{field_fits}
+use Rattle.ci_machine.specs.Words.{AreBytes}
+use Rattle.ci_block.specs.declared.blocks.Block.{Block}
+use Rattle.ci_block.specs.Blocks.{IsBlockAt, size_of}
+use Rattle.ci_rewrite.specs.Blocks.{AllFieldsFit, AreActionsOf, AreBundled, IsBlock}
+
+-- what stands at a word is spelt by it
+pub word_of_insn : (word : ℕ) (insn : Insn) → word < 4294967296 → IsInsnAt word insn → IsWordOf word insn
+word_of_insn word (Illegal w) small is = (small, sym is.0)
+word_of_insn word (Unit number rd rs1 rs2 rs3) small is = absurd is.1
+word_of_insn word (Cread rd) small is = absurd is.1
+word_of_insn word insn small is = is
+
+-- instructions whose fields fit have words
+pub words_of : (insns : List Insn) → AllFieldsFit insns → (k : ℕ) → k < length insns → IsWellFormed (nth_insn insns k)
+words_of insns fit k below = well_formed (nth_insn insns k) (fit k below)
+
+-- a word of a file of bytes is below 2 ^ 32
+text_word_small : (image : Executable) (address : ℕ) → AreBytes image.bytes → text_word image address < 4294967296
+text_word_small image address bytes = field_fits 4 (place_of image.segments address) image.bytes bytes
+
+module _ {image : Executable} {leaders : List ℕ} {block : Block} (bytes : AreBytes image.bytes) (is : IsBlockAt image leaders block) where
+  pub fields_of_block : AllFieldsFit block.insns.items
+  fields_of_block k below =
+      let address = block.leader + 4 * k in
+      fields_fit (nth_insn block.insns.items k) (
+        text_word image address,
+        word_of_insn (text_word image address) (nth_insn block.insns.items k) (text_word_small image address bytes)
+            (is.insns k Ebreak below).reads,
+      )
+
+  -- a plain block has no `cread`
+  no_cread : AreBundled block.insns.items
+  no_cread k below reads =
+      absurd (plain (text_word image (block.leader + 4 * k)) (nth_insn block.insns.items k) (is.insns k Ebreak below).reads reads)
+    where
+      plain : (word : ℕ) (insn : Insn) → IsInsnAt word insn → is_cread insn ≡ true → ⊥
+      plain word (Cread rd) at reads = at.1
+      plain word insn at reads = absurd (true≢false (sym reads))
+
+  -- its actions are all of its instructions but a terminator
+  actions_of : (n : ℕ) × AreActionsOf block.insns.items n
+  actions_of = elim (cases_Bool (ends_block (nth_insn block.insns.items (size_of block - 1)))) [
+    | inl ends ↦ (
+      size_of block - 1,
+      record {
+        within = omega arith;
+        most = omega arith;
+        act = λ k below. is.one_terminator k (omega (arith, is.some)) Ebreak;
+        end = λ k from below. let last : size_of block - 1 ≡ k = omega arith in
+            subst (λ j. ends_block (nth_insn block.insns.items j) ≡ true) last ends;
+      },
+    )
+    | inr acts ↦ (
+      size_of block,
+      record {
+        within = omega arith;
+        most = omega arith;
+        act = λ k below. elim (cases_lt (k + 1) (size_of block)) [
+          | inl inner ↦ is.one_terminator k inner Ebreak
+          | inr last ↦ let same : size_of block - 1 ≡ k = omega arith in
+              subst (λ j. ends_block (nth_insn block.insns.items j) ≡ false) same acts
+        ];
+        end = λ k from below. absurd (omega arith);
+      },
+    )
+  ]
+
+  pub block_can_be_folded : (n : ℕ) × IsBlock block.insns.items n
+  block_can_be_folded = (
+    actions_of.0,
+    record { actions = actions_of.1; few = is.at_most; fit = fields_of_block; bundled = no_cread },
+  )

@@ -1,0 +1,40 @@
+mod Rows
+pub mod HistoryLaws
+mod SearchDues
+mod SearchesDue
+mod BlockForms
+mod FoldedLeavesFewer
+pub mod PresentIsOne
+pub mod PresentLaws
+mod PresentIsThere
+mod BlockSums
+pub mod WordIsOne
+mod PatchLaws
+mod NewFileLaws
+mod NewImageLaws
+pub mod UnitLaws
+mod CandidateLaws
+pub mod SavingLaws
+pub mod TakenUnits
+mod DueLaws
+mod EnteredPlaces
+mod FirstRounds
+mod RankLaws
+mod DuePlaces
+pub mod EachIsPresent
+mod EachIsSearched
+mod EntryLaws
+mod GainBounds
+mod RankTies
+mod SearchFollowed
+mod TakeFollowed
+pub mod TruthLaws
+mod EntryLists
+mod BookOrder
+mod BookEntries
+mod BookLaws
+mod SearchSlots
+mod DueBlocks
+pub mod AlikeLaws
+mod JudgeLaws
+pub mod VerdictLaws

@@ -1,0 +1,14 @@
+pub mod Instances
+pub mod Histories
+pub mod PresentBlocks
+pub mod UnitNumbers
+pub mod Candidates
+pub mod Savings
+pub mod Dues
+pub mod LegalBooks
+pub mod NewFiles
+pub mod WrongPlaces
+pub mod Laws
+pub mod Followed
+pub mod Patched
+pub mod Judged
