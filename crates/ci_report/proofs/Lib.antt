@@ -1,0 +1,4 @@
+mod LineLaws
+mod ReportLaws
+mod Rows
+mod TakenLaws
