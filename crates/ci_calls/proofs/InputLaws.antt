@@ -10,14 +10,18 @@ use Rattle.ci_lat.specs.declared.faults.LatFault.{LatFault}
 use Rattle.ci_lat.specs.declared.faults.LatFault.TheVariants as lat
 use Rattle.ci_lat.specs.Latencies.{Latencies}
 use Rattle.ci_lat.specs.Faults.{AreTable, HaveFault}
+use Rattle.ci_log.specs.declared.faults.LogFault.{LogFault}
+use Rattle.ci_log.specs.declared.faults.LogFault.TheVariants as log
+use Rattle.ci_log.specs.Faults.{IsFaultOf as IsLogFaultOf}
 use Rattle.ci_vread.specs.declared.faults.VFault.{VFault}
 use Rattle.ci_vread.specs.declared.faults.VFault.TheVariants as verilog
 use Rattle.ci_vread.specs.Promised.{IsFaultOf}
 use Rattle.ci_calls.specs.declared.refusals.Refusal.{Refusal}
-use Rattle.ci_calls.specs.Files.{executable_input, table_input, units_input, program_input, optional_bytes, AreGiven, AreLatencies, input_bytes}
+use Rattle.ci_calls.specs.Files.{book_input, executable_input, table_input, units_input, program_input, optional_bytes}
+use Rattle.ci_calls.specs.Files.{AreGiven, AreLatencies, input_bytes}
 use Rattle.ci_calls.specs.Forms.{IsWellFormed}
 use Rattle.ci_calls.specs.Inputs.{Input, MayHold, IsGood, AreRead, malformed, IsFileRefusal, IsDueName}
-use Rattle.ci_calls.specs.Refused.{AreUnread, elf_refusal, table_refusal, units_refusal}
+use Rattle.ci_calls.specs.Refused.{AreUnread, elf_refusal, log_refusal, table_refusal, units_refusal}
 use Rattle.ci_calls.proofs.Counts.{Rises-later}
 
 -- one file is all that is read
@@ -92,6 +96,15 @@ module _
       → AreUnread may_fail before after (units_input name ∷ others) (units_refusal fault)
   unread_units verilog.NoMemory within has = inr (inr refl)
   unread_units (verilog.Bad kind offset) within has = inl (inl (malformed bytes there within has))
+
+  -- a file that holds no log book
+  pub unread_book : (fault : LogFault) → length bytes ≤ 268435456 → IsLogFaultOf bytes fault
+      → AreUnread may_fail before after (book_input name ∷ others) (log_refusal fault)
+  unread_book log.NoMemory within has = inr (inr refl)
+  unread_book log.BadHeader within has = inl (inl (malformed bytes there within has))
+  unread_book (log.BadItem offset) within has = inl (inl (malformed bytes there within has))
+  unread_book log.Unfinished within has = inl (inl (malformed bytes there within has))
+  unread_book (log.Trailing offset) within has = inl (inl (malformed bytes there within has))
 
 -- ---- files that an option names
 

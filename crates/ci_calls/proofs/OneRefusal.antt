@@ -2,10 +2,12 @@
 use Rattle.std.proofs.Common.{◌≡◌, ℕ, inl, inr, List, [], ◌∷◌, Option, Some, None, length, refl, sym, ap, subst, ◌∙◌, arith}
 use Rattle.ci_io.specs.Outcomes.{Files}
 use Rattle.ci_lat.proofs.FaultLaws.{table_or_fault}
+use Rattle.ci_log.proofs.OneFault.{no_fault as no_log_fault}
 use Rattle.ci_vread.proofs.TextLaws.{never_both}
 use Rattle.ci_calls.specs.declared.refusals.Refusal.{Refusal}
-use Rattle.ci_calls.specs.declared.refusals.Refusal.TheVariants.{BadElf, BadTable, BadUnits, BadAsm}
-use Rattle.ci_calls.specs.Forms.{Form, assembler_text, executable_file, latency_table, verilog_units, IsWellFormed, IsMalformed}
+use Rattle.ci_calls.specs.declared.refusals.Refusal.TheVariants.{BadElf, BadTable, BadUnits, BadLog, BadAsm}
+use Rattle.ci_calls.specs.Forms.{Form, assembler_text, executable_file, latency_table, log_book, verilog_units}
+use Rattle.ci_calls.specs.Forms.{IsWellFormed, IsMalformed}
 use Rattle.ci_calls.specs.Inputs.{Input, IsGood, AreRead, IsRefusedFile, absent, too_large, malformed, IsFileRefusal}
 use Rattle.ci_calls.specs.Refusals.{status_of}
 use Rattle.ci_calls.proofs.FormLaws.{text_or_fault, kept_or_broken}
@@ -20,6 +22,7 @@ formed_or_not assembler_text bytes (BadAsm kind line column) good bad =
 formed_or_not executable_file bytes (BadElf fault) good bad = kept_or_broken bytes fault good bad
 formed_or_not latency_table bytes (BadTable fault) good bad = table_or_fault bytes good.0 fault good.1 bad
 formed_or_not verilog_units bytes (BadUnits kind offset) good bad = never_both bytes good.0 kind offset good.1 bad
+formed_or_not log_book bytes (BadLog fault) good bad = no_log_fault bytes good.0 fault good.1 bad
 formed_or_not form bytes refusal good bad = absurd bad
 
 -- bytes are malformed with one status
@@ -33,6 +36,8 @@ malformed_once latency_table bytes (BadTable fault) (BadTable fault') a b = refl
 malformed_once latency_table bytes (BadTable fault) second a b = absurd b
 malformed_once verilog_units bytes (BadUnits kind offset) (BadUnits kind' offset') a b = refl
 malformed_once verilog_units bytes (BadUnits kind offset) second a b = absurd b
+malformed_once log_book bytes (BadLog fault) (BadLog fault') a b = refl
+malformed_once log_book bytes (BadLog fault) second a b = absurd b
 malformed_once form bytes first second a b = absurd a
 
 -- ---- the files of a shelf that tells them

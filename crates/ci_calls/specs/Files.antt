@@ -5,7 +5,7 @@ use Rattle.ci_lat.specs.Latencies.{Latencies, usual}
 use Rattle.ci_lat.specs.Faults.{AreTable}
 use Rattle.ci_verilog.specs.Modules.{Module}
 use Rattle.ci_vread.specs.Spelling.{Spell}
-use Rattle.ci_calls.specs.Forms.{any_bytes, executable_file, latency_table, verilog_units}
+use Rattle.ci_calls.specs.Forms.{any_bytes, executable_file, latency_table, log_book, verilog_units}
 use Rattle.ci_calls.specs.Inputs.{Input}
 
 abbrev pub executable_input : List ℕ → Input
@@ -17,6 +17,14 @@ table_input name = record { name = name; limit = 65536; form = latency_table }
 -- the modules of units
 abbrev pub units_input : List ℕ → Input
 units_input name = record { name = name; limit = 4194304; form = verilog_units }
+
+-- a log book
+abbrev pub book_input : List ℕ → Input
+book_input name = record { name = name; limit = 268435456; form = log_book }
+
+-- the new file of a choice, which may hold anything
+abbrev pub new_file_input : List ℕ → Input
+new_file_input name = record { name = name; limit = 16777216; form = any_bytes }
 
 -- the input of a program that is run
 abbrev pub program_input : List ℕ → Input

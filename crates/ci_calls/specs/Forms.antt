@@ -4,11 +4,13 @@ use Rattle.ci_asm.specs.Assembly.{IsAssembly, HasFault}
 use Rattle.ci_elf.specs.Rules.{rules, KeepsRules, BreaksFirst}
 use Rattle.ci_lat.specs.Latencies.{Latencies}
 use Rattle.ci_lat.specs.Faults.{AreTable, HaveFault}
+use Rattle.ci_log.specs.Books.{Book, Spells}
+use Rattle.ci_log.specs.Faults.{HasFault as HasLogFault}
 use Rattle.ci_verilog.specs.Modules.{Module}
 use Rattle.ci_vread.specs.Rules.{HasFault as HasUnitFault}
 use Rattle.ci_vread.specs.Spelling.{Spell}
 use Rattle.ci_calls.specs.declared.refusals.Refusal.{Refusal}
-use Rattle.ci_calls.specs.declared.refusals.Refusal.TheVariants.{BadElf, BadTable, BadUnits, BadAsm}
+use Rattle.ci_calls.specs.declared.refusals.Refusal.TheVariants.{BadElf, BadTable, BadUnits, BadLog, BadAsm}
 
 -- ---- assembler texts as bytes
 
@@ -31,6 +33,7 @@ pub data Form : Type 0 where
   executable_file : Form
   latency_table : Form
   verilog_units : Form
+  log_book : Form
 
 abbrev pub IsWellFormed : Form → List ℕ → Type 0
 IsWellFormed any_bytes bytes = ⊤
@@ -38,6 +41,7 @@ IsWellFormed assembler_text bytes = (words : List ℕ) × IsText bytes words
 IsWellFormed executable_file bytes = KeepsRules bytes (rules bytes)
 IsWellFormed latency_table bytes = (latencies : Latencies) × AreTable bytes latencies
 IsWellFormed verilog_units bytes = (modules : List Module) × Spell bytes modules
+IsWellFormed log_book bytes = (book : Book) × Spells bytes book
 
 -- the refusal of bytes that are not of the form
 abbrev pub IsMalformed : Form → List ℕ → Refusal → Type 0
@@ -45,4 +49,5 @@ IsMalformed assembler_text bytes (BadAsm kind line column) = IsBadText bytes kin
 IsMalformed executable_file bytes (BadElf fault) = BreaksFirst bytes (rules bytes) fault
 IsMalformed latency_table bytes (BadTable fault) = HaveFault bytes fault
 IsMalformed verilog_units bytes (BadUnits kind offset) = HasUnitFault bytes kind offset
+IsMalformed log_book bytes (BadLog fault) = HasLogFault bytes fault
 IsMalformed form bytes refusal = ⊥

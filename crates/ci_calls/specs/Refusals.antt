@@ -9,9 +9,12 @@ use Rattle.ci_elf.specs.declared.faults.ElfFault.TheVariants as elf
 use Rattle.ci_lat.specs.declared.faults.LatFault.{LatFault}
 use Rattle.ci_lat.specs.declared.faults.LatFault.TheVariants as lat
 use Rattle.ci_lat.specs.Keys.{key_name}
+use Rattle.ci_log.specs.declared.faults.LogFault.{LogFault}
+use Rattle.ci_log.specs.declared.faults.LogFault.TheVariants as log
 use Rattle.ci_calls.specs.declared.refusals.Refusal.{Refusal}
 use Rattle.ci_calls.specs.declared.refusals.Refusal.TheVariants.{Usage, Read, Write, Put, TooLarge, BadElf, BadTable}
-use Rattle.ci_calls.specs.declared.refusals.Refusal.TheVariants.{Unsupported, BadUnits, NoMemory, BadAsm}
+use Rattle.ci_calls.specs.declared.refusals.Refusal.TheVariants.{Unsupported, TextTouched, BadUnits, BadLog, Rejected}
+use Rattle.ci_calls.specs.declared.refusals.Refusal.TheVariants.{NoMemory, BadAsm}
 
 -- the name of a file, as words and refusals hold it
 abbrev pub Name : Type 0
@@ -26,14 +29,24 @@ status_of (TooLarge name) = 4
 status_of (BadElf fault) = 5
 status_of (BadTable fault) = 6
 status_of (Unsupported position word) = 7
+status_of (TextTouched pc address) = 8
 status_of (BadUnits kind offset) = 9
+status_of (BadLog fault) = 10
+status_of (Rejected round leader item reason) = 11
 status_of NoMemory = 12
 status_of (BadAsm kind line column) = 13
 
--- a word and three numbers
+-- a word and two numbers, or three
+abbrev pub pair_text : List ℕ → ℕ → ℕ → List ℕ
+pair_text word first second = word ++ codes " " ++ decimal first ++ codes " " ++ decimal second
+
 abbrev pub numbers_text : List ℕ → ℕ → ℕ → ℕ → List ℕ
 numbers_text word first second third =
     word ++ codes " " ++ decimal first ++ codes " " ++ decimal second ++ codes " " ++ decimal third
+
+-- a word, and two words of 32 bits
+abbrev pub words_text : List ℕ → ℕ → ℕ → List ℕ
+words_text word first second = word ++ codes " " ++ eight_hex_digits first ++ codes " " ++ eight_hex_digits second
 
 -- the number of the rule that a file breaks, and the fault's numbers, 0 where it has none
 abbrev pub elf_fault_numbers : ElfFault → ℕ × ℕ × ℕ
@@ -59,11 +72,22 @@ table_text (lat.OutOfRange key) = codes "table 3 " ++ key_name key
 table_text (lat.PadTooLarge key) = codes "table 4 " ++ key_name key
 table_text lat.NoMemory = codes "table 5"
 
-abbrev pub unsupported_text : ℕ → ℕ → List ℕ
-unsupported_text position word = codes "unsupported " ++ eight_hex_digits position ++ codes " " ++ eight_hex_digits word
+-- the number of a fault of a log book, and its offset, 0 where it has none
+abbrev pub log_fault_numbers : LogFault → ℕ × ℕ
+log_fault_numbers log.BadHeader = (1, 0)
+log_fault_numbers (log.BadItem offset) = (2, offset)
+log_fault_numbers log.Unfinished = (3, 0)
+log_fault_numbers (log.Trailing offset) = (4, offset)
+log_fault_numbers log.NoMemory = (5, 0)
 
-abbrev pub units_text : ℕ → ℕ → List ℕ
-units_text kind offset = codes "units " ++ decimal kind ++ codes " " ++ decimal offset
+abbrev pub log_text : LogFault → List ℕ
+log_text fault = let numbers = log_fault_numbers fault in pair_text (codes "log") numbers.0 numbers.1
+
+-- the first wrong place of a book with modules and a new file
+abbrev pub rejected_text : ℕ → ℕ → ℕ → ℕ → List ℕ
+rejected_text round leader item reason =
+    codes "rejected" ++ codes " " ++ decimal round ++ codes " " ++ eight_hex_digits leader ++ codes " " ++ decimal item
+    ++ codes " " ++ decimal reason
 
 -- what stands in the fault line behind the status
 abbrev pub text_of : Refusal → List ℕ
@@ -74,8 +98,11 @@ text_of Put = codes "write -"
 text_of (TooLarge name) = codes "too large " ++ name.now
 text_of (BadElf fault) = elf_text fault
 text_of (BadTable fault) = table_text fault
-text_of (Unsupported position word) = unsupported_text position word
-text_of (BadUnits kind offset) = units_text kind offset
+text_of (Unsupported position word) = words_text (codes "unsupported") position word
+text_of (TextTouched pc address) = words_text (codes "text touched") pc address
+text_of (BadUnits kind offset) = pair_text (codes "units") kind offset
+text_of (BadLog fault) = log_text fault
+text_of (Rejected round leader item reason) = rejected_text round leader item reason
 text_of NoMemory = codes "no memory"
 text_of (BadAsm kind line column) = numbers_text (codes "asm") kind line column
 

@@ -9,11 +9,14 @@ use Rattle.ci_elf.specs.declared.faults.ElfFault.{ElfFault}
 use Rattle.ci_elf.specs.declared.faults.ElfFault.TheVariants as elf
 use Rattle.ci_lat.specs.declared.faults.LatFault.{LatFault}
 use Rattle.ci_lat.specs.declared.faults.LatFault.TheVariants as lat
+use Rattle.ci_log.specs.declared.faults.LogFault.{LogFault}
+use Rattle.ci_log.specs.declared.faults.LogFault.TheVariants as log
 use Rattle.ci_verilog.specs.Modules.{Module}
 use Rattle.ci_vread.specs.declared.faults.VFault.{VFault}
 use Rattle.ci_vread.specs.declared.faults.VFault.TheVariants as verilog
 use Rattle.ci_calls.specs.declared.refusals.Refusal.{Refusal}
-use Rattle.ci_calls.specs.declared.refusals.Refusal.TheVariants.{Read, BadElf, BadTable, BadUnits, NoMemory, BadAsm}
+use Rattle.ci_calls.specs.declared.refusals.Refusal.TheVariants.{Read, BadElf, BadTable, BadUnits, BadLog, NoMemory}
+use Rattle.ci_calls.specs.declared.refusals.Refusal.TheVariants.{BadAsm}
 use Rattle.ci_calls.specs.Inputs.{Input, AreRead, IsFileRefusal, IsDueName}
 use Rattle.ci_calls.specs.Refusals.{Name}
 
@@ -39,6 +42,11 @@ table_refusal fault = BadTable fault
 abbrev pub units_refusal : VFault → Refusal
 units_refusal (verilog.Bad kind offset) = BadUnits kind offset
 units_refusal verilog.NoMemory = NoMemory
+
+-- the refusal of a file that holds no log book, or for which memory ran out
+abbrev pub log_refusal : LogFault → Refusal
+log_refusal log.NoMemory = NoMemory
+log_refusal fault = BadLog fault
 
 -- the refusal of a file that holds no assembler text, or for which memory ran out
 abbrev pub asm_refusal : AsmFault → Refusal

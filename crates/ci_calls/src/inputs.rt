@@ -3,7 +3,8 @@ ghost use Rattle.std.specs.Prelude.{◌≡◌, ◌≤◌, ◌∷◌, ◌++◌, �
 ghost use Rattle.ci_elf.specs.Executables.{IsImageOf};
 ghost use Rattle.ci_lat.specs.Faults.{AreTable};
 ghost use Rattle.ci_vread.specs.Spelling.{Spell};
-ghost use Rattle.ci_calls.specs.Files.{executable_input, table_input, units_input, program_input};
+ghost use Rattle.ci_log.specs.Books.{Spells};
+ghost use Rattle.ci_calls.specs.Files.{book_input, executable_input, new_file_input, program_input, table_input, units_input};
 ghost use Rattle.ci_calls.specs.Files.{optional_input, optional_bytes, AreGiven, AreLatencies, AreModules, input_bytes};
 ghost use Rattle.ci_calls.specs.Refused.{name_in, modules_in, AreUnread};
 ghost use Rattle.ci_calls.specs.Forms.{Form};
@@ -13,6 +14,7 @@ use crate::refusals::Refusal;
 use ci_elf::Image;
 use ci_io::{Shelf, ShelfErr};
 use ci_lat::Table;
+use ci_log::LogBook;
 use ci_verilog::Module;
 use std::alloc::Global;
 
@@ -24,6 +26,9 @@ const TABLE_LIMIT: u64 = 65_536;
 
 /// The maximum length of a text of modules, in bytes.
 const UNITS_LIMIT: u64 = 4_194_304;
+
+/// The maximum length of a text of a log book, in bytes.
+const BOOK_LIMIT: u64 = 268_435_456;
 
 /// The maximum length of the input of a program, in bytes.
 const INPUT_LIMIT: u64 = 16_777_216;
@@ -179,6 +184,51 @@ pub fn read_optional_units<'a, F: Shelf>(
         Some(name) => Ok(Some(read_units(alloc, name, shelf)?)),
         None => Ok(None),
     }
+}
+
+/// The log book that the file of a name spells.
+///
+/// # Errors
+///
+/// `Read` where no file has the name, or reading it failed. `TooLarge` where the file has more than 268,435,456 bytes.
+/// `BadLog` where it spells no log book, by its first fault. `NoMemory`: memory ran out.
+pub fn read_book<'a, F: Shelf>(
+    alloc: Global,
+    name: &'a str,
+    shelf: &mut F,
+) -> Result<LogBook, Refusal<'a>>
+    ensures read { IfOk result (λ book. (bytes : List ℕ)
+        × IsGood (F.state shelf.old).files (book_input name.now) bytes × Spells bytes book) }
+    ensures refused { IfErr result (λ refusal. (others : List Input) → AreUnread F.read_may_fail
+        (F.state shelf.old) (F.state shelf.new) (book_input name.now ∷ others) refusal) }
+    ensures never_falls { (F.state shelf.old).read_faults ≤ (F.state shelf.new).read_faults }
+    ensures files_stay { (F.state shelf.new).files ≡ (F.state shelf.old).files }
+    ensures no_write { (F.state shelf.new).write_faults ≡ (F.state shelf.old).write_faults }
+{
+    let bytes = read_file(alloc, name, BOOK_LIMIT, shelf)?;
+    let book = ci_log::read(alloc, bytes.as_slice())?;
+    Ok(book)
+}
+
+/// The bytes of the file of a name, which may hold anything.
+///
+/// # Errors
+///
+/// `Read` where no file has the name, or reading it failed. `TooLarge` where the file has more than 16,777,216 bytes.
+/// `NoMemory`: memory ran out.
+pub fn read_new_file<'a, F: Shelf>(
+    alloc: Global,
+    name: &'a str,
+    shelf: &mut F,
+) -> Result<Vec<u8>, Refusal<'a>>
+    ensures read { IfOk result (λ bytes. IsGood (F.state shelf.old).files (new_file_input name.now) bytes.items) }
+    ensures refused { IfErr result (λ refusal. (others : List Input) → AreUnread F.read_may_fail
+        (F.state shelf.old) (F.state shelf.new) (new_file_input name.now ∷ others) refusal) }
+    ensures never_falls { (F.state shelf.old).read_faults ≤ (F.state shelf.new).read_faults }
+    ensures files_stay { (F.state shelf.new).files ≡ (F.state shelf.old).files }
+    ensures no_write { (F.state shelf.new).write_faults ≡ (F.state shelf.old).write_faults }
+{
+    read_file(alloc, name, EXECUTABLE_LIMIT, shelf)
 }
 
 /// The input of a program, from the file of a name, or none where no name is given.

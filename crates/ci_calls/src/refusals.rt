@@ -3,14 +3,15 @@ ghost use Rattle.std.specs.Prelude.{◌≡◌, ◌++◌, IfOk, OnOk};
 ghost use Rattle.std.specs.String.{string_bytes};
 ghost use Rattle.ci_calls.specs.Finishing.{IsPut};
 ghost use Rattle.ci_calls.specs.RefusedCalls.{IsRefused};
-ghost use Rattle.ci_calls.specs.Refusals.{elf_fault_numbers, elf_text, line_of, numbers_text, status_of, table_text};
-ghost use Rattle.ci_calls.specs.Refusals.{text_of, units_text, unsupported_text};
+ghost use Rattle.ci_calls.specs.Refusals.{elf_fault_numbers, elf_text, line_of, log_fault_numbers, log_text};
+ghost use Rattle.ci_calls.specs.Refusals.{numbers_text, pair_text, rejected_text, status_of, table_text, text_of, words_text};
 
 use ci_asm::AsmFault;
 use ci_elf::ElfFault;
 use ci_io::Sink;
 use ci_lat::LatFault;
-use ci_reading::push_hex;
+use ci_log::LogFault;
+use ci_reading::push_word;
 use ci_vread::VFault;
 use std::alloc::{AllocError, AllocFailed, Global};
 
@@ -32,13 +33,38 @@ pub enum Refusal<'a> {
     /// The file is no latency table.
     BadTable(LatFault),
     /// The file isn't one that the command takes, for this word at this position.
-    Unsupported { position: u32, word: u32 },
+    Unsupported {
+        position: u32,
+        word: u32,
+    },
+    /// The profiled run touches its text: the instruction at this pc, at this byte.
+    TextTouched {
+        pc: u32,
+        address: u32,
+    },
     /// The file holds no modules, by a fault of this kind at this offset in bytes.
-    BadUnits { kind: u8, offset: u32 },
+    BadUnits {
+        kind: u8,
+        offset: u32,
+    },
+    /// The file holds no log book, by this fault.
+    BadLog(LogFault),
+    /// The log book, the modules or the new file aren't those of a choice: the first place that is wrong, by the cuts
+    /// that were taken before, the leader of the block that is due there or 0, the item of its log or 0, and why.
+    Rejected {
+        round: u32,
+        leader: u32,
+        item: u32,
+        reason: u8,
+    },
     /// Memory ran out.
     NoMemory,
     /// The file holds no assembler text, by a fault of this kind at this line and column.
-    BadAsm { kind: u8, line: u32, column: u32 },
+    BadAsm {
+        kind: u8,
+        line: u32,
+        column: u32,
+    },
 }
 
 impl<'a, T: Drop> From<AllocFailed<T>> for Refusal<'a> {
@@ -108,6 +134,21 @@ impl<'a> From<VFault> for Refusal<'a> {
     }
 }
 
+/// A file holds no log book, or memory ran out for it.
+impl<'a> From<LogFault> for Refusal<'a> {
+    ghost use Rattle.std.specs.Prelude.{◌≡◌};
+    ghost use Rattle.ci_calls.specs.Refused.{log_refusal};
+
+    ghost from_gives = { λ fault refusal. refusal ≡ log_refusal fault };
+
+    fn from(fault: LogFault) -> Refusal<'a> {
+        match fault {
+            LogFault::NoMemory => Refusal::NoMemory,
+            _ => Refusal::BadLog(fault),
+        }
+    }
+}
+
 /// A file holds no assembler text, or memory ran out for it.
 impl<'a> From<AsmFault> for Refusal<'a> {
     ghost use Rattle.std.specs.Prelude.{◌≡◌};
@@ -137,7 +178,10 @@ impl<'a> Refusal<'a> {
             Refusal::BadElf(_) => 5,
             Refusal::BadTable(_) => 6,
             Refusal::Unsupported { .. } => 7,
+            Refusal::TextTouched { .. } => 8,
             Refusal::BadUnits { .. } => 9,
+            Refusal::BadLog(_) => 10,
+            Refusal::Rejected { .. } => 11,
             Refusal::NoMemory => 12,
             Refusal::BadAsm { .. } => 13,
         }
@@ -167,8 +211,23 @@ impl<'a> Refusal<'a> {
             Refusal::TooLarge(name) => format!(in alloc; "too large {name}"),
             Refusal::BadElf(fault) => elf_text(alloc, fault),
             Refusal::BadTable(fault) => table_text(alloc, fault),
-            Refusal::Unsupported { position, word } => unsupported_text(alloc, *position, *word),
-            Refusal::BadUnits { kind, offset } => units_text(alloc, *kind, *offset),
+            Refusal::Unsupported { position, word } => {
+                words_text(alloc, "unsupported", *position, *word)
+            }
+            Refusal::TextTouched { pc, address } => words_text(
+                alloc,
+                "text touched",
+                *pc,
+                *address,
+            ),
+            Refusal::BadUnits { kind, offset } => pair_text(alloc, "units", *kind, *offset),
+            Refusal::BadLog(fault) => log_text(alloc, fault),
+            Refusal::Rejected {
+                round,
+                leader,
+                item,
+                reason,
+            } => rejected_text(alloc, *round, *leader, *item, *reason),
             Refusal::NoMemory => String::from_str(alloc, "no memory"),
             Refusal::BadAsm { kind, line, column } => {
                 numbers_text(alloc, "asm", *kind, *line, *column)
@@ -233,24 +292,62 @@ fn table_text(alloc: Global, fault: &LatFault) -> Result<String, AllocError>
     }
 }
 
-/// That the command doesn't take a file.
-fn unsupported_text(alloc: Global, position: u32, word: u32) -> Result<String, AllocError>
-    ensures { IfOk result (λ text. string_bytes text ≡ unsupported_text position word) }
+/// The number of a fault of a log book, and its offset, 0 where it has none.
+fn log_fault_numbers(fault: &LogFault) -> (u8, u32)
+    ensures { result ≡ log_fault_numbers fault.now }
 {
-    let mut text = String::from_str(alloc, "unsupported ")?;
-    push_hex(&mut text, position)?;
-    text.push(' ')?;
-    push_hex(&mut text, word)?;
+    match fault {
+        LogFault::BadHeader => (1, 0),
+        LogFault::BadItem(offset) => (2, *offset),
+        LogFault::Unfinished => (3, 0),
+        LogFault::Trailing(offset) => (4, *offset),
+        LogFault::NoMemory => (5, 0),
+    }
+}
+
+/// That a file holds no log book.
+fn log_text(alloc: Global, fault: &LogFault) -> Result<String, AllocError>
+    ensures { IfOk result (λ text. string_bytes text ≡ log_text fault.now) }
+{
+    let (kind, offset) = log_fault_numbers(fault);
+    pair_text(alloc, "log", kind, offset)
+}
+
+/// That a book, modules or a new file aren't those of a choice.
+fn rejected_text(
+    alloc: Global,
+    round: u32,
+    leader: u32,
+    item: u32,
+    reason: u8,
+) -> Result<String, AllocError>
+    ensures { IfOk result (λ text. string_bytes text ≡ rejected_text round leader item reason) }
+{
+    let mut text = String::from_str(alloc, "rejected")?;
+    write!(text, " {round}")?;
+    push_word(&mut text, " ", leader)?;
+    write!(text, " {item}")?;
+    write!(text, " {reason}")?;
     Ok(text)
 }
 
-/// That a file holds no modules.
-fn units_text(alloc: Global, kind: u8, offset: u32) -> Result<String, AllocError>
-    ensures { IfOk result (λ text. string_bytes text ≡ units_text kind offset) }
+/// A word, and two words of 32 bits in hexadecimal digits.
+fn words_text(alloc: Global, word: &str, first: u32, second: u32) -> Result<String, AllocError>
+    ensures { IfOk result (λ text. string_bytes text ≡ words_text word.now first second) }
 {
-    let mut text = String::from_str(alloc, "units ")?;
-    write!(text, "{kind} ")?;
-    write!(text, "{offset}")?;
+    let mut text = String::from_str(alloc, word)?;
+    push_word(&mut text, " ", first)?;
+    push_word(&mut text, " ", second)?;
+    Ok(text)
+}
+
+/// A word and two numbers.
+fn pair_text(alloc: Global, word: &str, first: u8, second: u32) -> Result<String, AllocError>
+    ensures { IfOk result (λ text. string_bytes text ≡ pair_text word.now first second) }
+{
+    let mut text = String::from_str(alloc, word)?;
+    write!(text, " {first}")?;
+    write!(text, " {second}")?;
     Ok(text)
 }
 

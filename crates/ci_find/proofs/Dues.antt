@@ -1,9 +1,10 @@
 -- What is due to the words over the files that a shelf tells: one status.
 use Rattle.std.proofs.Common.{◌≡◌, ℕ, ◌⊎◌, inl, inr, List, [], ◌∷◌, Some, sym, subst, ◌∙◌}
 use Rattle.ci_io.specs.Outcomes.{Files}
+use Rattle.ci_select.specs.declared.plan.Plan.{Plan}
 use Rattle.ci_words.specs.Words.{Reading, ReadsAs, HasNoReading, number_at, word_at, name_set, number_set, word_set, words_set}
 use Rattle.ci_words.specs.declared.tables.CommandName.{CommandName}
-use Rattle.ci_words.specs.declared.tables.CommandName.TheVariants.{Best, Asm, Dis, Run, Blocks, Eval}
+use Rattle.ci_words.specs.declared.tables.CommandName.TheVariants.{Best, Asm, Dis, Run, Blocks, Eval, Find, Check}
 use Rattle.ci_words.specs.declared.tables.OptionName.TheVariants as option
 use Rattle.ci_words.proofs.Readings.{one_reading}
 use Rattle.ci_calls.specs.declared.refusals.Refusal.{Refusal}
@@ -17,10 +18,23 @@ use Rattle.ci_commands.proofs.Causes.{unsupported_once}
 use Rattle.ci_commands.specs.EvalCommand.{IsNoModule}
 use Rattle.ci_commands.proofs.OneBlock.{best_or_refused, blocks_or_refused}
 use Rattle.ci_commands.proofs.OneModule.{eval_or_refused}
-use Rattle.ci_find.specs.Commands.{inputs_of, IsMade, IsRefusedOf, MakesBy, RefusesBy}
+use Rattle.ci_find.specs.CheckCommand.{IsCheckRefused}
+use Rattle.ci_find.specs.Commands.{find_names, inputs_of, settings_of, IsMade, IsPlanOf, IsRefusedOf, MakesBy, RefusesBy}
 use Rattle.ci_find.specs.Endings.{IsRefusal, usage, file, once_read, IsDue}
+use Rattle.ci_find.specs.FindCommand.{IsFindRefused}
+use Rattle.ci_find.proofs.OneChoice.{check_or_refused, check_refused_once, find_or_refused, find_refused_once, one_plan}
 
 -- ---- the commands
+
+-- what a choice refuses by one plan of its reading it refuses by another
+module _ (reading : Reading) (read : List (List ℕ)) (refusal : Refusal) (plan : Plan) (is_plan : IsPlanOf reading plan) where
+  found_by : RefusesBy Find reading read refusal → IsFindRefused (settings_of reading plan) read refusal
+  found_by (other, also, is) =
+      subst (λ p. IsFindRefused (settings_of reading p) read refusal) (one_plan reading other plan also is_plan) is
+
+  checked_by : RefusesBy Check reading read refusal → IsCheckRefused (settings_of reading plan) read refusal
+  checked_by (other, also, is) =
+      subst (λ p. IsCheckRefused (settings_of reading p) read refusal) (one_plan reading other plan also is_plan) is
 
 -- of what something is made is not refused
 made_or_refused : (command : CommandName) (reading : Reading) (read : List (List ℕ)) (success : Success) (refusal : Refusal)
@@ -36,6 +50,12 @@ made_or_refused Blocks reading read success refusal made is =
 made_or_refused Eval reading read success refusal made is =
     eval_or_refused read success refusal (number_at reading 1)
     (word_at reading 2 ∷ word_at reading 3 ∷ word_at reading 4 ∷ []) made is
+made_or_refused Find reading read success refusal made is =
+    find_or_refused (find_names reading) (settings_of reading made.0) read success refusal made.2
+    (found_by reading read refusal made.0 made.1 is)
+made_or_refused Check reading read success refusal made is =
+    check_or_refused (settings_of reading made.0) read success refusal made.2
+    (checked_by reading read refusal made.0 made.1 is)
 
 -- it is refused with one status
 refused_once : (command : CommandName) (reading : Reading) (read : List (List ℕ)) (first second : Refusal)
@@ -52,6 +72,10 @@ refused_once Blocks reading read first second a b =
 refused_once Eval reading read first second a b =
     unsupported_once (IsNoModule a.modules (number_at reading 1)) (IsNoModule b.modules (number_at reading 1)) first second
     a.unsupported b.unsupported
+refused_once Find reading read first second a b =
+    find_refused_once (settings_of reading a.0) read first second a.2 (found_by reading read second a.0 a.1 b)
+refused_once Check reading read first second a b =
+    check_refused_once (settings_of reading a.0) read first second a.2 (checked_by reading read second a.0 a.1 b)
 
 -- ---- one status is due
 

@@ -1,3 +1,8 @@
+mod OneProfile
+mod OneChoice
+mod ChoiceWords
 mod Dues
 mod Runs
 mod Kept
+mod ProfiledRuns
+mod Judgements

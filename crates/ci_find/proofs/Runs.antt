@@ -2,7 +2,8 @@
 use Rattle.std.proofs.Common.{◌≡◌, ℕ, inl, inr, List, ◌∷◌, [], Contains, lit<, Option, Some, None, IfSome, refl, sym, subst}
 use Rattle.ci_io.specs.Outcomes.{Files}
 use Rattle.ci_calls.specs.declared.refusals.Refusal.{Refusal}
-use Rattle.ci_calls.specs.declared.refusals.Refusal.TheVariants.{Usage, Read, Write, Put, TooLarge, BadElf, BadTable, Unsupported, BadUnits, NoMemory, BadAsm}
+use Rattle.ci_calls.specs.declared.refusals.Refusal.TheVariants.{Usage, Read, Write, Put, TooLarge, BadElf, BadTable, Unsupported}
+use Rattle.ci_calls.specs.declared.refusals.Refusal.TheVariants.{TextTouched, BadUnits, BadLog, Rejected, NoMemory, BadAsm}
 use Rattle.ci_calls.specs.declared.success.Success.{Success}
 use Rattle.ci_calls.specs.RefusedCalls.{IsRefused}
 use Rattle.ci_calls.specs.Finishing.{Change, IsPut, IsUnwritten, Finishes, done, write_fault, put_fault, no_memory_in_write, no_memory_in_put}
@@ -78,7 +79,7 @@ Answers-due words change status ends (Some held) tells = λ due is. Answers-end 
 -- ---- the statuses
 
 abbrev statuses : List ℕ
-statuses = 0 ∷ 1 ∷ 2 ∷ 3 ∷ 4 ∷ 5 ∷ 6 ∷ 7 ∷ 9 ∷ 12 ∷ 13 ∷ []
+statuses = 0 ∷ 1 ∷ 2 ∷ 3 ∷ 4 ∷ 5 ∷ 6 ∷ 7 ∷ 8 ∷ 9 ∷ 10 ∷ 11 ∷ 12 ∷ 13 ∷ []
 
 -- the status of a refusal is one of them
 refusal-status : (refusal : Refusal) → Contains statuses (status_of refusal)
@@ -90,9 +91,12 @@ refusal-status (TooLarge name) = (4, lit< tt, refl)
 refusal-status (BadElf fault) = (5, lit< tt, refl)
 refusal-status (BadTable fault) = (6, lit< tt, refl)
 refusal-status (Unsupported position word) = (7, lit< tt, refl)
-refusal-status (BadUnits kind offset) = (8, lit< tt, refl)
-refusal-status NoMemory = (9, lit< tt, refl)
-refusal-status (BadAsm kind line column) = (10, lit< tt, refl)
+refusal-status (TextTouched pc address) = (8, lit< tt, refl)
+refusal-status (BadUnits kind offset) = (9, lit< tt, refl)
+refusal-status (BadLog fault) = (10, lit< tt, refl)
+refusal-status (Rejected round leader item reason) = (11, lit< tt, refl)
+refusal-status NoMemory = (12, lit< tt, refl)
+refusal-status (BadAsm kind line column) = (13, lit< tt, refl)
 
 Finishes-status : (change : Change) (success : Success) (status : ℕ) → Finishes change success status → Contains statuses status
 Finishes-status change success status (done written took) = (0, lit< tt, refl)

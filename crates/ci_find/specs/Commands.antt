@@ -4,7 +4,7 @@ use Rattle.std.specs.Prelude.{◌≡◌, ℕ, List, [], ◌∷◌}
 use Rattle.ci_cut.specs.declared.graph.Limits.{Limits}
 use Rattle.ci_words.specs.Words.{Reading, name_at, number_at, word_at, name_set, number_set, word_set, words_set}
 use Rattle.ci_words.specs.declared.tables.CommandName.{CommandName}
-use Rattle.ci_words.specs.declared.tables.CommandName.TheVariants.{Best, Asm, Dis, Run, Blocks, Eval}
+use Rattle.ci_words.specs.declared.tables.CommandName.TheVariants.{Best, Asm, Dis, Run, Blocks, Eval, Find, Check}
 use Rattle.ci_words.specs.declared.tables.OptionName.TheVariants as option
 use Rattle.ci_calls.specs.declared.refusals.Refusal.{Refusal}
 use Rattle.ci_calls.specs.declared.success.Success.{Success}
@@ -16,6 +16,10 @@ use Rattle.ci_commands.specs.DisCommand.{dis_inputs, IsDisMade}
 use Rattle.ci_commands.specs.RunCommand.{run_inputs, IsRunMade}
 use Rattle.ci_commands.specs.BlocksCommand.{blocks_inputs, IsBlocksMade, IsBlocksRefused}
 use Rattle.ci_commands.specs.EvalCommand.{eval_inputs, IsEvalMade, IsEvalRefused}
+use Rattle.ci_select.specs.declared.plan.Plan.{Plan}
+use Rattle.ci_find.specs.Profiled.{Settings}
+use Rattle.ci_find.specs.FindCommand.{FindNames, find_inputs, IsFindMade, IsFindRefused}
+use Rattle.ci_find.specs.CheckCommand.{CheckNames, check_inputs, IsCheckMade, IsCheckRefused}
 
 -- what a call of a command is: the files that it reads, in order; what it makes of their bytes; and what it refuses of
 -- them, though each file alone is well formed
@@ -23,6 +27,41 @@ pub record CommandCall : Type 1 where
   pub inputs : List Input
   pub Makes : List (List ℕ) → Success → Type 0
   pub Refuses : List (List ℕ) → Refusal → Type 0
+
+-- ---- choices of cuts
+
+-- the limits are those of the reading
+pub record IsPlanOf (reading : Reading) (plan : Plan) : Type 0 where
+  pub inputs : plan.limits.inputs ≡ number_set reading option.Inputs
+  pub outputs : plan.limits.outputs ≡ number_set reading option.Outputs
+  pub count : plan.count ≡ number_set reading option.Count
+  pub budget : plan.budget ≡ number_set reading option.Budget
+
+abbrev pub settings_of : Reading → Plan → Settings
+settings_of reading plan = record {
+  steps = number_set reading option.Steps;
+  named = words_set reading option.Leader;
+  plan = plan;
+  table = name_set reading option.Table;
+  input = name_set reading option.Input;
+}
+
+abbrev pub find_names : Reading → FindNames
+find_names reading = record {
+  new = name_at reading 1;
+  units = name_at reading 2;
+  logs = name_at reading 3;
+  report = name_at reading 4;
+}
+
+abbrev pub check_names : Reading → CheckNames
+check_names reading = record {
+  new = name_at reading 1;
+  units = name_at reading 2;
+  logs = name_at reading 3;
+}
+
+-- ---- all commands
 
 abbrev pub call_by : CommandName → Reading → CommandCall
 call_by Best reading = record {
@@ -62,6 +101,23 @@ call_by Eval reading = record {
   inputs = eval_inputs (name_at reading 0);
   Makes = IsEvalMade (number_at reading 1) (word_at reading 2 ∷ word_at reading 3 ∷ word_at reading 4 ∷ []);
   Refuses = IsEvalRefused (number_at reading 1);
+}
+call_by Find reading = record {
+  inputs = find_inputs (name_at reading 0) (name_set reading option.Table) (name_set reading option.Input);
+  Makes = λ read success.
+      (plan : Plan) × IsPlanOf reading plan
+      × IsFindMade (find_names reading) (settings_of reading plan) read success;
+  Refuses = λ read refusal.
+      (plan : Plan) × IsPlanOf reading plan × IsFindRefused (settings_of reading plan) read refusal;
+}
+call_by Check reading = record {
+  inputs =
+      check_inputs (name_at reading 0) (check_names reading) (name_set reading option.Table)
+      (name_set reading option.Input);
+  Makes = λ read success.
+      (plan : Plan) × IsPlanOf reading plan × IsCheckMade (settings_of reading plan) read success;
+  Refuses = λ read refusal.
+      (plan : Plan) × IsPlanOf reading plan × IsCheckRefused (settings_of reading plan) read refusal;
 }
 
 abbrev pub inputs_by : CommandName → Reading → List Input

@@ -1,3 +1,9 @@
+pub mod Profiled
+pub mod FindCommand
+pub mod CheckCommand
 pub mod Commands
 pub mod Endings
 pub mod Explained
+pub mod Unprofiled
+pub mod Chosen
+pub mod Judged

@@ -5,16 +5,23 @@ ghost use Rattle.ci_words.specs.Ranges.{KeepsRanges, KeepsPlaces};
 ghost use Rattle.ci_words.specs.Read.{reading_of};
 ghost use Rattle.ci_calls.specs.Evaluations.{Evaluates};
 ghost use Rattle.ci_calls.specs.Refused.{IsRefusedBy};
-ghost use Rattle.ci_find.specs.Commands.{inputs_by, MakesBy, RefusesBy};
+ghost use Rattle.ci_words.specs.declared.tables.OptionName.TheVariants as option;
+ghost use Rattle.ci_words.specs.Words.{words_set};
+ghost use Rattle.ci_find.specs.Commands.{inputs_by, settings_of, IsPlanOf, MakesBy, RefusesBy};
+ghost use Rattle.ci_find.specs.Chosen.{settings_by, KeepsChoiceRanges};
 ghost use Rattle.ci_find.specs.Endings.{IsDone};
 ghost use Rattle.ci_find.specs.Explained.{Explains};
 
+use crate::check::{self, CheckNames};
+use crate::choice::ChoiceSettings;
+use crate::find::{self, FindNames};
 use ci_calls::{Refusal, Success};
 use ci_commands::best::BestSettings;
 use ci_commands::run::RunSettings;
 use ci_commands::{asm, best, blocks, dis, eval, run};
 use ci_cut::Limits;
 use ci_io::Shelf;
+use ci_select::Plan;
 use ci_words::{CommandName, OptionName, Words, WordsErr, read_words};
 use std::alloc::Global;
 
@@ -64,6 +71,8 @@ fn evaluate_command<'a, F: Shelf>(
             blocks::evaluate(alloc, file, leaders.as_slice(), shelf)
         }
         CommandName::Eval => evaluate_eval(alloc, words, shelf),
+        CommandName::Find => evaluate_find(alloc, words, shelf),
+        CommandName::Check => evaluate_check(alloc, words, shelf),
     }
 }
 
@@ -135,4 +144,78 @@ fn evaluate_eval<'a, F: Shelf>(
     let number = words.number_at(1) as u32;
     let arguments = (words.word_at(2), words.word_at(3), words.word_at(4));
     eval::evaluate(alloc, words.name_at(0), number, arguments, shelf)
+}
+
+/// What `find` makes of its files, by the names and the settings that the words say.
+fn evaluate_find<'a, F: Shelf>(
+    alloc: Global,
+    words: &Words<'a>,
+    shelf: &mut F,
+) -> Result<Success<'a>, Refusal<'a>>
+    requires ranges { KeepsRanges CommandName.Find (reading_of words.now) }
+    requires places { KeepsPlaces CommandName.Find (reading_of words.now) }
+    ensures made { IfOk result (Evaluates (F.state shelf.old).files
+        (inputs_by CommandName.Find (reading_of words.now)) (MakesBy CommandName.Find (reading_of words.now))) }
+    ensures refused { IfErr result (IsRefusedBy F.read_may_fail (F.state shelf.old) (F.state shelf.new)
+        (inputs_by CommandName.Find (reading_of words.now)) (RefusesBy CommandName.Find (reading_of words.now))) }
+    ensures files_stay { (F.state shelf.new).files ≡ (F.state shelf.old).files }
+    ensures no_write { (F.state shelf.new).write_faults ≡ (F.state shelf.old).write_faults }
+{
+    let leaders = words.words(alloc, OptionName::Leader)?;
+    let names = FindNames {
+        new: words.name_at(1),
+        units: words.name_at(2),
+        logs: words.name_at(3),
+        report: words.name_at(4),
+    };
+    let settings = choice_settings(words, leaders.as_slice());
+    find::evaluate(alloc, words.name_at(0), &names, &settings, shelf)
+}
+
+/// What `check` makes of its files, by the names and the settings that the words say.
+fn evaluate_check<'a, F: Shelf>(
+    alloc: Global,
+    words: &Words<'a>,
+    shelf: &mut F,
+) -> Result<Success<'a>, Refusal<'a>>
+    requires ranges { KeepsRanges CommandName.Check (reading_of words.now) }
+    requires places { KeepsPlaces CommandName.Check (reading_of words.now) }
+    ensures made { IfOk result (Evaluates (F.state shelf.old).files
+        (inputs_by CommandName.Check (reading_of words.now)) (MakesBy CommandName.Check (reading_of words.now))) }
+    ensures refused { IfErr result (IsRefusedBy F.read_may_fail (F.state shelf.old) (F.state shelf.new)
+        (inputs_by CommandName.Check (reading_of words.now)) (RefusesBy CommandName.Check (reading_of words.now))) }
+    ensures files_stay { (F.state shelf.new).files ≡ (F.state shelf.old).files }
+    ensures no_write { (F.state shelf.new).write_faults ≡ (F.state shelf.old).write_faults }
+{
+    let leaders = words.words(alloc, OptionName::Leader)?;
+    let names = CheckNames {
+        new: words.name_at(1),
+        units: words.name_at(2),
+        logs: words.name_at(3),
+    };
+    let settings = choice_settings(words, leaders.as_slice());
+    check::evaluate(alloc, words.name_at(0), &names, &settings, shelf)
+}
+
+/// The settings of a choice that the words of `find` or `check` say.
+fn choice_settings<'a, 'b>(words: &Words<'a>, leaders: &'b [u32]) -> ChoiceSettings<'a, 'b>
+    requires { KeepsChoiceRanges (reading_of words.now) }
+    ensures plan { IsPlanOf (reading_of words.now) result.plan }
+    ensures settings { leaders.now ≡ words_set (reading_of words.now) option.Leader
+        → settings_by result ≡ settings_of (reading_of words.now) result.plan }
+{
+    ChoiceSettings {
+        steps: words.number(OptionName::Steps),
+        leaders,
+        plan: Plan {
+            limits: Limits {
+                inputs: words.number(OptionName::Inputs) as u8,
+                outputs: words.number(OptionName::Outputs) as u8,
+            },
+            count: words.number(OptionName::Count) as u8,
+            budget: words.number(OptionName::Budget) as u32,
+        },
+        table: words.name(OptionName::Table),
+        input: words.name(OptionName::Input),
+    }
 }

@@ -12,7 +12,10 @@ use ci_io::{Shelf, Sink};
 use commands::evaluate;
 use std::alloc::Global;
 
+mod check;
+mod choice;
 mod commands;
+mod find;
 #[cfg(test)]
 mod tests;
 
@@ -32,22 +35,34 @@ mod tests;
 /// - `asm TEXT OUT`: writes the words that TEXT assembles to, the lowest byte of each first, to OUT. It puts nothing.
 /// - `dis FILE`: puts a line for each whole word of FILE.
 ///
-/// Files are read in the order FILE, UNITS, table, input, each with its limit and its form tested before the next; only
-/// what gives status 7 is tested once all are read. Every refusal puts one fault line:
+/// - `find OLD NEW UNITS LOGS REPORT`, with the options `--in N`, `--out N`, `--count N`, `--budget N`, `--steps N`,
+///   `--table FILE`, `--input FILE` and `--leader ADDR`: chooses cuts of the basic blocks of the executable OLD, by a run
+///   of it. It writes the modules of their units to UNITS, the log book of the choice to LOGS, its report to REPORT and
+///   the executable that uses the units to NEW, in this order, and then puts a line of numbers.
+/// - `check OLD NEW UNITS LOGS`, with the same options: puts `accepted` where NEW, UNITS and LOGS are those of such a
+///   choice.
+///
+/// Files are read in the order that the words have them, then units, table, input, each with its limit and its form
+/// tested before the next; only what gives status 7, 8 or 11 is tested once all are read. Every refusal puts one fault
+/// line:
 ///
 /// - 1, `fault 1 usage`: the words have no reading.
 /// - 2, `fault 2 read NAME`: the file isn't there, or reading it failed.
 /// - 3, `fault 3 write NAME`: writing the file failed, or the sink, whose name is `-`, failed to take the text.
 /// - 4, `fault 4 too large NAME`: the file has more bytes than one of its kind may have: 1024 for the words of a block,
-///   1,048,576 for FILE of `dis` and for a text, 65,536 for a table, 4,194,304 for modules, and
-///   16,777,216 for an executable and for an input.
+///   1,048,576 for FILE of `dis` and for a text, 65,536 for a table, 4,194,304 for modules, 268,435,456 for a log book,
+///   and 16,777,216 for an executable, NEW of `check` and an input.
 /// - 5, `fault 5 elf RULE A B`: the file is no executable, and RULE is the number of the fault and A and B its numbers.
 /// - 6, `fault 6 table RULE KEY`: the file is no latency table, and RULE is the number of the fault and KEY its key.
 /// - 7, `fault 7 unsupported POSITION WORD`: in an executable, the address of the first word of a custom opcode and
 ///   that word, or the address of `--at`, where no block begins, and 0; in a file of words, its length, where that is
 ///   no multiple of four, and 0, or the offset of the first word of a custom opcode or of a terminator that isn't last,
 ///   and that word; of `eval` the number of the module, where the file has none of it, and 0.
+/// - 8, `fault 8 text touched PC ADDR`: the profiled run of `find` or `check` touches the text: the pc of the first step
+///   that does, and the first byte of the text that it moves.
 /// - 9, `fault 9 units KIND OFFSET`: the file spells no modules, by its first fault.
+/// - 10, `fault 10 log KIND OFFSET`: the file spells no log book, by its first fault.
+/// - 11, `fault 11 rejected ROUND LEADER ITEM REASON`: the files are those of no choice: their first wrong place.
 /// - 12, `fault 12 no memory`: memory ran out.
 /// - 13, `fault 13 asm KIND LINE COLUMN`: the file holds no assembler text. Where it isn't UTF-8 the numbers are 1 1 1.
 pub fn run<F: Shelf, O: Sink>(alloc: Global, words: &Vec<String>, shelf: &mut F, out: &mut O) -> u8
@@ -64,7 +79,7 @@ pub fn run<F: Shelf, O: Sink>(alloc: Global, words: &Vec<String>, shelf: &mut F,
         (F.state shelf.old) (F.state shelf.new) (O.state out.old) (O.state out.new))
         status result) }
     // No other status comes.
-    ensures statuses { Contains (0 ∷ 1 ∷ 2 ∷ 3 ∷ 4 ∷ 5 ∷ 6 ∷ 7 ∷ 9 ∷ 12 ∷ 13 ∷ []) result }
+    ensures statuses { Contains (0 ∷ 1 ∷ 2 ∷ 3 ∷ 4 ∷ 5 ∷ 6 ∷ 7 ∷ 8 ∷ 9 ∷ 10 ∷ 11 ∷ 12 ∷ 13 ∷ []) result }
     // A refusal changes no file.
     ensures files_stay { result ≢ 0 → result ≢ 3 → result ≢ 12 → (F.state shelf.new).files ≡ (F.state shelf.old).files }
     // No file changes but those that the command writes, and these by a success or a write that failed.

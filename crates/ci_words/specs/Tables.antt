@@ -2,13 +2,13 @@
 use Rattle.std.specs.Prelude.{ℕ, Bool, true, false, List, [], ◌∷◌, codes}
 use Rattle.ci_words.specs.declared.tables.Access.TheVariants.{Reads, Writes}
 use Rattle.ci_words.specs.declared.tables.CommandName.{CommandName}
-use Rattle.ci_words.specs.declared.tables.CommandName.TheVariants.{Best, Asm, Dis, Run, Blocks, Eval}
+use Rattle.ci_words.specs.declared.tables.CommandName.TheVariants.{Best, Asm, Dis, Run, Blocks, Eval, Find, Check}
 use Rattle.ci_words.specs.declared.tables.DefaultValue.{DefaultValue}
 use Rattle.ci_words.specs.declared.tables.DefaultValue.TheVariants as default
 use Rattle.ci_words.specs.declared.tables.Kind.{Kind}
 use Rattle.ci_words.specs.declared.tables.Kind.TheVariants.{File, Number, Word}
 use Rattle.ci_words.specs.declared.tables.OptionName.{OptionName}
-use Rattle.ci_words.specs.declared.tables.OptionName.TheVariants.{Inputs, Outputs, Budget, Steps, Units, Table}
+use Rattle.ci_words.specs.declared.tables.OptionName.TheVariants.{Inputs, Outputs, Count, Budget, Steps, Units, Table}
 use Rattle.ci_words.specs.declared.tables.OptionName.TheVariants.{Input, Leader, At}
 
 -- An option of a command: its name without hyphens, which one it is, the kind of its values, whether it may stand more
@@ -48,25 +48,41 @@ table = single (codes "table") Table (File Reads) default.Nothing
 abbrev pub leader : OptionRow
 leader = repeated (codes "leader") Leader Word default.Nothing
 
+-- the limits of a cut, and of the search for one
+abbrev pub inputs : OptionRow
+inputs = single (codes "in") Inputs (Number 1 3) (default.Number 3)
+
+abbrev pub outputs : OptionRow
+outputs = single (codes "out") Outputs (Number 1 2) (default.Number 2)
+
+abbrev pub budget : OptionRow
+budget = single (codes "budget") Budget (Number 1 4194304) (default.Number 65536)
+
+-- how far a program is run, and what it reads
+abbrev pub steps : OptionRow
+steps = single (codes "steps") Steps (Number 1 4294967296) (default.Number 16777216)
+
+abbrev pub input : OptionRow
+input = single (codes "input") Input (File Reads) default.Nothing
+
+-- what a choice of cuts is bounded by and made from
+abbrev pub choice : List OptionRow
+choice =
+    inputs ∷ outputs ∷ single (codes "count") Count (Number 1 32) (default.Number 32) ∷ budget ∷ steps ∷ table ∷ input
+    ∷ leader ∷ []
+
 -- the table of the program
 unfoldable pub commands : List CommandRow
 commands =
     command_of (codes "best") Best (File Reads ∷ [])
-    (single (codes "in") Inputs (Number 1 3) (default.Number 3)
-    ∷ single (codes "out") Outputs (Number 1 2) (default.Number 2)
-    ∷ single (codes "budget") Budget (Number 1 4194304) (default.Number 65536)
-    ∷ table
-    ∷ leader
-    ∷ single (codes "at") At Word default.Nothing
-    ∷ [])
+    (inputs ∷ outputs ∷ budget ∷ table ∷ leader ∷ single (codes "at") At Word default.Nothing ∷ [])
     ∷ command_of (codes "asm") Asm (File Reads ∷ File Writes ∷ []) []
     ∷ command_of (codes "dis") Dis (File Reads ∷ []) []
     ∷ command_of (codes "run") Run (File Reads ∷ [])
-    (single (codes "steps") Steps (Number 1 4294967296) (default.Number 16777216)
-    ∷ single (codes "units") Units (File Reads) default.Nothing
-    ∷ table
-    ∷ single (codes "input") Input (File Reads) default.Nothing
-    ∷ [])
+    (steps ∷ single (codes "units") Units (File Reads) default.Nothing ∷ table ∷ input ∷ [])
     ∷ command_of (codes "blocks") Blocks (File Reads ∷ []) (leader ∷ [])
     ∷ command_of (codes "eval") Eval (File Reads ∷ Number 0 31 ∷ Word ∷ Word ∷ Word ∷ []) []
+    ∷ command_of (codes "find") Find
+    (File Reads ∷ File Writes ∷ File Writes ∷ File Writes ∷ File Writes ∷ []) choice
+    ∷ command_of (codes "check") Check (File Reads ∷ File Reads ∷ File Reads ∷ File Reads ∷ []) choice
     ∷ []

@@ -15,6 +15,10 @@ pub enum CommandName {
     Blocks,
     /// `eval`
     Eval,
+    /// `find`
+    Find,
+    /// `check`
+    Check,
 }
 
 /// The options by name.
@@ -24,6 +28,8 @@ pub enum OptionName {
     Inputs,
     /// `--out`
     Outputs,
+    /// `--count`
+    Count,
     /// `--budget`
     Budget,
     /// `--steps`
@@ -125,6 +131,18 @@ const OUT: NamedOption<'static> = (
     },
 );
 
+const COUNT: NamedOption<'static> = (
+    "count",
+    OptionShape {
+        option: OptionName::Count,
+        kind: Kind::Number {
+            minimum: 1,
+            maximum: 32,
+        },
+        repeatable: false,
+    },
+);
+
 const BUDGET: NamedOption<'static> = (
     "budget",
     OptionShape {
@@ -194,6 +212,18 @@ const AT: NamedOption<'static> = (
     },
 );
 
+/// What a choice of cuts is bounded by and made from.
+const CHOICE: &[CommandOption<'static>] = &[
+    (IN, DefaultValue::Number(3)),
+    (OUT, DefaultValue::Number(2)),
+    (COUNT, DefaultValue::Number(32)),
+    (BUDGET, DefaultValue::Number(65_536)),
+    (STEPS, DefaultValue::Number(16_777_216)),
+    (TABLE, DefaultValue::Nothing),
+    (INPUT, DefaultValue::Nothing),
+    (LEADER, DefaultValue::Nothing),
+];
+
 /// The table of the commands.
 pub const COMMANDS: &[CommandRow<'static>] = &[
     (
@@ -233,5 +263,17 @@ pub const COMMANDS: &[CommandRow<'static>] = &[
         CommandName::Eval,
         &[READ, MODULE, Kind::Word, Kind::Word, Kind::Word],
         &[],
+    ),
+    (
+        "find",
+        CommandName::Find,
+        &[READ, WRITTEN, WRITTEN, WRITTEN, WRITTEN],
+        CHOICE,
+    ),
+    (
+        "check",
+        CommandName::Check,
+        &[READ, READ, READ, READ],
+        CHOICE,
     ),
 ];

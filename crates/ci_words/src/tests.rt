@@ -82,6 +82,36 @@ fn eval_shown(alloc: Global, said: &Words) -> Result<String, AllocError> {
     Ok(text)
 }
 
+/// What `find` or `check` is asked, in short: its files, and then the numbers and the other files.
+fn choice_shown(
+    alloc: Global,
+    said: &Words,
+    name: &str,
+    files: usize,
+) -> Result<String, AllocError> {
+    let mut text = String::from_str(alloc, name)?;
+    for place in 0..files {
+        let file = said.name_at(place);
+        write!(text, " {file}")?;
+    }
+    for option in [
+        OptionName::Inputs,
+        OptionName::Outputs,
+        OptionName::Count,
+        OptionName::Budget,
+        OptionName::Steps,
+    ] {
+        let number = said.number(option);
+        write!(text, " {number}")?;
+    }
+    for option in [OptionName::Table, OptionName::Input] {
+        let file = said.name(option).unwrap_or("-");
+        write!(text, " {file}")?;
+    }
+    push_leaders(alloc, &mut text, said)?;
+    Ok(text)
+}
+
 /// What the program is asked, in short: the command, the names in it and what its options are set to.
 fn said_shown(alloc: Global, said: &Words) -> Result<String, AllocError> {
     match said.command() {
@@ -102,6 +132,8 @@ fn said_shown(alloc: Global, said: &Words) -> Result<String, AllocError> {
             Ok(text)
         }
         CommandName::Eval => eval_shown(alloc, said),
+        CommandName::Find => choice_shown(alloc, said, "find", 5),
+        CommandName::Check => choice_shown(alloc, said, "check", 4),
     }
 }
 
@@ -134,6 +166,32 @@ fn options_stand_anywhere(rt: HostRuntime) -> Result<(), Fail> {
     expect(&rt, "best --in 1 -- F", "best F 1 2 -")?;
     expect(&rt, "best F --", "best F 3 2 -")?;
     expect(&rt, "eval U 03 0x1 -- 0xFf 0x10", "eval U 3 1 255 16")?;
+    Ok(())
+}
+
+#[test]
+fn choices_and_their_options(rt: HostRuntime) -> Result<(), Fail> {
+    expect(
+        &rt,
+        "find A B C D E",
+        "find A B C D E 3 2 32 65536 16777216 - -",
+    )?;
+    expect(
+        &rt,
+        "find --count=8 A B C D E --steps 5 --leader 0x10 --table T --budget 7 --in 1 --input I --out 1",
+        "find A B C D E 1 1 8 7 5 T I leader 10",
+    )?;
+    expect(&rt, "find A A B C D", "none")?;
+    expect(&rt, "find A B C D C", "none")?;
+    expect(&rt, "find A B C D E --table C", "none")?;
+    expect(&rt, "find A B C D E --count 33", "none")?;
+    expect(&rt, "find A B C D", "none")?;
+    expect(
+        &rt,
+        "check A A B B --count 1",
+        "check A A B B 3 2 1 65536 16777216 - -",
+    )?;
+    expect(&rt, "check A B C D E", "none")?;
     Ok(())
 }
 

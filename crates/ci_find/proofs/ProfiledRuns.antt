@@ -1,0 +1,111 @@
+-- The run that a choice is made from, what the command `find` makes of it, and what it refuses.
+use Rattle.std.proofs.Common.{◌≡◌, ℕ, inl, inr, Bool, List, ◌∷◌, ◌++◌, Option, Some, refl, subst}
+use Rattle.ci_io.specs.Outcomes.{Files, ShelfState}
+use Rattle.ci_elf.specs.Executables.{Executable, IsImageOf}
+use Rattle.ci_lat.specs.Latencies.{Latencies}
+use Rattle.ci_machine.specs.Programs.{Program, State, loaded_program, opening}
+use Rattle.ci_machine.specs.Runs.{Latencies as Costs}
+use Rattle.ci_machine.specs.Steps.{Meaning}
+use Rattle.ci_machine.specs.Touches.{IsFirstTouch}
+use Rattle.ci_block.specs.declared.blocks.Block.{Block}
+use Rattle.ci_live.specs.Sets.{Sets}
+use Rattle.ci_emu.specs.declared.profile.Profile.{Profile}
+use Rattle.ci_emu.specs.Profiles.{IsProfileOf, IsTouch}
+use Rattle.ci_select.specs.Instances.{instance_of}
+use Rattle.ci_calls.specs.declared.refusals.Refusal.{Refusal}
+use Rattle.ci_calls.specs.declared.success.Success.{Success}
+use Rattle.ci_calls.specs.Evaluations.{Evaluates}
+use Rattle.ci_calls.specs.Files.{optional_bytes, AreGiven, AreLatencies, input_bytes}
+use Rattle.ci_calls.specs.Inputs.{Input, AreRead}
+use Rattle.ci_calls.specs.Refused.{IsRefusedBy}
+use Rattle.ci_find.specs.Profiled.{Settings, RunFiles, IsProfiled, IsUnprofiled}
+use Rattle.ci_find.specs.FindCommand.{FindNames, IsChoice, IsFindMade, IsFindRefused}
+use Rattle.ci_find.specs.Unprofiled.{IsUnprofiledCause}
+
+-- ---- the run
+
+module _ (meaning : Meaning) (file : Executable) (input : List ℕ) (steps : ℕ) where
+  -- the profile of a run from a state that is the opening one
+  pub opened :
+      (latencies : Costs) (program : Program) (start : State) (profile : Profile)
+      → program ≡ loaded_program file → start ≡ opening file input
+      → IsProfileOf meaning program steps start latencies profile
+      → IsProfileOf meaning (loaded_program file) steps (opening file input) latencies profile
+  opened latencies program start profile same_program same_start counted =
+      subst (λ T. T) (λ i. IsProfileOf meaning (same_program i) steps (same_start i) latencies profile) counted
+
+  -- the first touch of the text that the profile tells
+  pub first_touch :
+      (touch : Option (ℕ × ℕ)) (pc address : ℕ) → touch ≡ Some (pc, address)
+      → IsTouch meaning (loaded_program file) steps (opening file input) touch
+      → IsFirstTouch meaning (loaded_program file) steps (opening file input) pc address
+  first_touch touch pc address is told = subst (IsTouch meaning (loaded_program file) steps (opening file input)) is told
+
+-- ---- the files
+
+-- what the bytes of the files of a run say
+abbrev pub files_of :
+    (settings : Settings) (executable : List ℕ) (table input : Option (List ℕ)) (file : Executable)
+    (latencies : Latencies) → AreGiven settings.table table → AreGiven settings.input input
+    → IsImageOf executable file → AreLatencies table latencies
+    → RunFiles settings executable (optional_bytes table ++ optional_bytes input)
+files_of settings executable table input file latencies table_given input_given file_is latencies_are = record {
+  table = table;
+  input = input;
+  others_are = refl;
+  table_given = table_given;
+  input_given = input_given;
+  file = file;
+  latencies = latencies;
+  file_is = file_is;
+  latencies_are = latencies_are;
+}
+
+module _
+    (settings : Settings) (executable : List ℕ) (others : List (List ℕ)) (inputs : List Input)
+    (run : RunFiles settings executable others) (input : List ℕ) (same : input ≡ input_bytes run.input) where
+  -- an executable that can't be chosen from
+  pub find_refused :
+      (may_fail : List ℕ → Bool) (before after : ShelfState) → AreRead before.files inputs (executable ∷ others)
+      → (refusal : Refusal) → IsUnprofiledCause run.file input settings.steps refusal
+      → IsRefusedBy may_fail before after inputs (IsFindRefused settings) refusal
+  find_refused may_fail before after files refusal (inl is) = inr (record {
+    read = executable ∷ others;
+    files = files;
+    refused = record {
+      executable = executable;
+      others = others;
+      read_is = refl;
+      files = run;
+      unprofiled = subst (λ bytes. IsUnprofiled run.file bytes settings.steps refusal) same is;
+    };
+  })
+  find_refused may_fail before after files refusal (inr none) = inl (inr (inr none))
+
+  -- a choice for it
+  pub find_made :
+      (told : Option Files) → AreRead told inputs (executable ∷ others)
+      → (profile : Profile) (blocks : List Block) (live : Sets)
+      → IsProfiled run.file run.latencies input settings.steps settings.named profile blocks live
+      → (names : FindNames) (success : Success)
+      → IsChoice (instance_of profile blocks live run.latencies settings.plan) profile run.file names success
+      → Evaluates told inputs (IsFindMade names settings) success
+  find_made told files profile blocks live is names success choice = record {
+    read = executable ∷ others;
+    files = files;
+    made = record {
+      executable = executable;
+      others = others;
+      read_is = refl;
+      profiled = record {
+        files = run;
+        profile = profile;
+        blocks = blocks;
+        live = live;
+        is_profiled =
+            subst (λ bytes. IsProfiled run.file run.latencies bytes settings.steps settings.named profile blocks live)
+            same is;
+      };
+      choice = choice;
+    };
+  }

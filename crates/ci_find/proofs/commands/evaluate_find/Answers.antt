@@ -1,0 +1,63 @@
+-- The settings are those that the words say, and the numbers are in the ranges of the options of `find`.
+use Rattle.std.proofs.Common.{◌≡◌, ◌∙◌, ap, arith, subst, IfOk}
+use Rattle.std.specs.Prelude.{IfErr}
+use Rattle.ci_words.specs.Read.{reading_of}
+use Rattle.ci_words.specs.Words.{name_at, name_set}
+use Rattle.ci_words.specs.declared.tables.OptionName.TheVariants as option
+use Rattle.ci_calls.specs.Evaluations.{Evaluates}
+use Rattle.ci_calls.specs.Refused.{IsRefusedBy}
+use Rattle.ci_find.specs.Commands.{find_names, settings_of}
+use Rattle.ci_find.specs.FindCommand.{FindNames, find_inputs, IsFindMade, IsFindRefused}
+use Rattle.ci_find.specs.Profiled.{Settings}
+use Rattle.ci_find.proofs.ChoiceWords.{find_ranges, made_by, refused_by}
+use Rattle.ci_find.proofs.commands.evaluate_find.Goals as goal
+
+pub choice_settings-settings-requires : goal.choice_settings-settings-requires
+choice_settings-settings-requires g c = find_ranges (reading_of c.args.words.now) c.requires.ranges
+
+pub evaluate-requires : goal.evaluate-requires
+evaluate-requires g c =
+    let same = c.choice_settings-settings.ensures.settings (c.as_slice.ensures.value ∙ c.in_ok-leaders.ensures) in
+    let steps = ap (λ (s : Settings). s.steps) same in
+    omega (arith, steps, (find_ranges (reading_of c.args.words.now) c.requires.ranges).steps)
+
+pub returns-clause-made : goal.returns-clause-made
+returns-clause-made g c =
+    let reading = reading_of c.args.words.now in
+    let plan = c.choice_settings-settings.result.plan in
+    let same = c.choice_settings-settings.ensures.settings (c.as_slice.ensures.value ∙ c.in_ok-leaders.ensures) in
+    let names : FindNames = record {
+      new = c.name_at.result.now;
+      units = c.name_at-2.result.now;
+      logs = c.name_at-3.result.now;
+      report = c.name_at-4.result.now;
+    } in
+    let names_are : names ≡ find_names reading =
+    λ i. record {
+      new = c.name_at.ensures i;
+      units = c.name_at-2.ensures i;
+      logs = c.name_at-3.ensures i;
+      report = c.name_at-4.ensures i;
+    } in
+    made_by reading plan c.choice_settings-settings.ensures.plan
+    (find_inputs (name_at reading 0) (name_set reading option.Table) (name_set reading option.Input)) c.evaluate.result
+    (g.F.Shelf.state c.args.shelf.now).files (λ p. IsFindMade (find_names reading) (settings_of reading p))
+    (subst (λ T. T)
+    (λ i. IfOk c.evaluate.result (Evaluates (g.F.Shelf.state c.args.shelf.now).files
+    (find_inputs (c.name_at-5.ensures i) (same i).table (same i).input) (IsFindMade (names_are i) (same i))))
+    c.evaluate.ensures.made)
+
+pub returns-clause-refused : goal.returns-clause-refused
+returns-clause-refused g c =
+    let reading = reading_of c.args.words.now in
+    let plan = c.choice_settings-settings.result.plan in
+    let same = c.choice_settings-settings.ensures.settings (c.as_slice.ensures.value ∙ c.in_ok-leaders.ensures) in
+    refused_by reading plan c.choice_settings-settings.ensures.plan
+    (find_inputs (name_at reading 0) (name_set reading option.Table) (name_set reading option.Input)) c.evaluate.result
+    g.F.Shelf.read_may_fail (g.F.Shelf.state c.args.shelf.now) (g.F.Shelf.state c.evaluate.new.shelf)
+    (λ p. IsFindRefused (settings_of reading p))
+    (subst (λ T. T)
+    (λ i. IfErr c.evaluate.result (IsRefusedBy g.F.Shelf.read_may_fail (g.F.Shelf.state c.args.shelf.now)
+    (g.F.Shelf.state c.evaluate.new.shelf)
+    (find_inputs (c.name_at-5.ensures i) (same i).table (same i).input) (IsFindRefused (same i))))
+    c.evaluate.ensures.refused)

@@ -1,0 +1,157 @@
+//! The command `find`: a whole choice of cuts.
+ghost use Rattle.std.specs.Prelude.{◌≡◌, ◌≤◌, ℕ, List, Ok, IfOk, IfErr, filter, length};
+ghost use Rattle.std.specs.String.{string_bytes};
+ghost use Rattle.ci_elf.specs.Rules.{IsReadAs};
+ghost use Rattle.ci_machine.specs.Words.{AreBytes};
+ghost use Rattle.ci_calls.specs.Evaluations.{Evaluates};
+ghost use Rattle.ci_calls.specs.Refused.{name_in, IsRefusedBy};
+ghost use Rattle.ci_find.specs.Profiled.{IsProfiled};
+ghost use Rattle.ci_find.specs.FindCommand.{find_inputs, is_spent, summary_line, IsChoice, IsFindMade, IsFindRefused};
+ghost use Rattle.ci_find.specs.Chosen.{instance_from, names_of, settings_by};
+ghost use Rattle.ci_select.specs.Histories.{is_take};
+
+use crate::choice::{ChoiceSettings, Profiled, RunFiles, profiled_run, read_run_files};
+use ci_calls::{Refusal, Success, Written, read_image};
+use ci_elf::Image;
+use ci_io::Shelf;
+use ci_lat::Table;
+use ci_log::Entry;
+use ci_report::report;
+use ci_select::{Chosen, Plan, choose};
+use ci_vemit::emit;
+use std::alloc::{AllocError, Global};
+
+/// The names of the files that `find` writes.
+#[derive(Clone, Copy)]
+pub struct FindNames<'a> {
+    pub new: &'a str,
+    pub units: &'a str,
+    pub logs: &'a str,
+    pub report: &'a str,
+}
+
+/// Makes the units, the log book, the report and the new file of a choice for the executable in the file. The steps of
+/// the settings are at most 4,294,967,296.
+///
+/// # Errors
+///
+/// The first fault of the executable, then of the table, and of the input, as [`ci_calls`] says. Then `Unsupported` where
+/// the text has a word of a custom opcode: the first of these, at its address. Then `TextTouched` where the run touches the
+/// text: the first touch. `NoMemory`: memory ran out.
+pub fn evaluate<'a, F: Shelf>(
+    alloc: Global,
+    file: &'a str,
+    names: &FindNames<'a>,
+    settings: &ChoiceSettings<'a, '_>,
+    shelf: &mut F,
+) -> Result<Success<'a>, Refusal<'a>>
+    requires { settings.now.steps ≤ 4294967296 }
+    ensures made { IfOk result (Evaluates (F.state shelf.old).files
+        (find_inputs file.now (name_in settings.now.table) (name_in settings.now.input))
+        (IsFindMade (names_of names.now) (settings_by settings.now))) }
+    ensures refused { IfErr result (IsRefusedBy F.read_may_fail (F.state shelf.old) (F.state shelf.new)
+        (find_inputs file.now (name_in settings.now.table) (name_in settings.now.input))
+        (IsFindRefused (settings_by settings.now))) }
+    ensures files_stay { (F.state shelf.new).files ≡ (F.state shelf.old).files }
+    ensures no_write { (F.state shelf.new).write_faults ≡ (F.state shelf.old).write_faults }
+{
+    let image = read_image(alloc, file, shelf)?;
+    let RunFiles { table, input } = read_run_files(alloc, settings.table, settings.input, shelf)?;
+    let (steps, leaders) = (settings.steps, settings.leaders);
+    let profiled = profiled_run(alloc, &image, &table, input, steps, leaders)?;
+    let success = success_of(alloc, &image, &table, &profiled, names, &settings.plan)?;
+    Ok(success)
+}
+
+/// The files of the choice, and the line of its numbers.
+fn success_of<'a>(
+    alloc: Global,
+    image: &Image,
+    table: &Table,
+    profiled: &Profiled,
+    names: &FindNames<'a>,
+    plan: &Plan,
+) -> Result<Success<'a>, AllocError>
+    requires image { IsReadAs image.now.bytes (Ok image.now) }
+    requires profiled { (input : List ℕ) × (steps : ℕ) × (named : List ℕ) × IsProfiled image.now table.now input steps
+        named profiled.now.profile profiled.now.analysis.blocks profiled.now.analysis.live }
+    ensures { IfOk result (IsChoice (instance_from table.now profiled.now plan.now)
+        profiled.now.profile image.now (names_of names.now)) }
+{
+    let (profile, analysis) = (&profiled.profile, &profiled.analysis);
+    let (blocks, live) = (&analysis.blocks, &analysis.live);
+    bytes_are_small(image.bytes());
+    let chosen = choose(alloc, image, profile, blocks, live, table, plan)?;
+    let report = report(alloc, profile, blocks, live, table, plan, &chosen)?;
+    let units = emit(alloc, &chosen.units)?;
+    let logs = ci_log::write(alloc, &chosen.book)?;
+    let text = summary_line(alloc, &chosen)?;
+    let mut writes = Vec::with_capacity(alloc, 4)?;
+    writes.push(Written {
+        name: names.units,
+        bytes: units,
+    })?;
+    writes.push(Written {
+        name: names.logs,
+        bytes: logs,
+    })?;
+    writes.push(Written {
+        name: names.report,
+        bytes: report,
+    })?;
+    writes.push(Written {
+        name: names.new,
+        bytes: chosen.image.into_bytes(),
+    })?;
+    Ok(Success {
+        writes,
+        text: text.into_bytes(),
+    })
+}
+
+/// The law of bytes: each is below 256. Nothing happens when it runs.
+fn bytes_are_small(bytes: &[u8])
+    ensures { AreBytes bytes.now }
+{}
+
+/// How many cuts were taken, how many units they have, how many searches were given up, and the cycles that are saved.
+fn summary_line(alloc: Global, chosen: &Chosen) -> Result<String, AllocError>
+    ensures { IfOk result (λ text. string_bytes text
+        ≡ summary_line chosen.now.book.entries chosen.now.units chosen.now.saved) }
+{
+    let entries = chosen.book.entries();
+    let (cuts, skipped) = (takes(entries), skips(entries));
+    let units = chosen.units.len();
+    let saved = chosen.saved;
+    let mut text = format!(in alloc; "cuts {cuts}")?;
+    write!(text, " units {units}")?;
+    write!(text, " skipped {skipped}")?;
+    writeln!(text, " gain {saved}")?;
+    Ok(text)
+}
+
+/// How many of the entries are takes.
+fn takes(entries: &[Entry]) -> usize
+    ensures { result ≡ length (filter is_take entries.now) }
+{
+    let mut takes = 0;
+    for entry in entries {
+        if matches!(entry, Entry::Take { .. }) {
+            takes += 1;
+        }
+    }
+    takes
+}
+
+/// How many of the entries tell of searches that were given up.
+fn skips(entries: &[Entry]) -> usize
+    ensures { result ≡ length (filter is_spent entries.now) }
+{
+    let mut skips = 0;
+    for entry in entries {
+        if matches!(entry, Entry::Spent { .. }) {
+            skips += 1;
+        }
+    }
+    skips
+}
