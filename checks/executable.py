@@ -200,3 +200,15 @@ def fault(data):
     except Fault as found:
         return found.args
     return None
+
+
+def frame(text, constants=(), values=()):
+    """A small executable: words of the text at 0x10074, of constants behind it and of values at 0x20000."""
+    parts, offset, sections = [], 116, [section(0, 0, 0, 0, 0)]
+    for words, flags, address in ((text, 6, 0x10074), (constants, 2, 0x10074 + 4 * len(text)), (values, 3, 0x20000)):
+        sections.append(section(PROGBITS, flags, address, offset, 4 * len(words)))
+        parts.append(b"".join(struct.pack("<I", word) for word in words))
+        offset += 4 * len(words)
+    code = 116 + len(parts[0] + parts[1])
+    return (header(0x10074, (52, 2), (offset, 4)) + load(0, 0x10000, code, code)
+            + load(code, 0x20000, len(parts[2]), len(parts[2])) + b"".join(parts + sections))

@@ -2,8 +2,8 @@
 """Checks docs/faults.tsv, by which the script `rumtsafi` says fault lines in words.
 
 A row has to stand for each fault line that the program can print: for each status, each rule of an executable and of a
-table, and each kind of a fault of assembler text, whatever the other figures are. No row may stand behind another one
-that fits all its lines. The words may name what varies in the line alone.
+table, each kind of a fault of a text, and each reason for a rejection, whatever the other figures are. No row may stand
+behind another one that fits all its lines. The words may name what varies in the line alone.
 """
 import itertools
 import os
@@ -13,20 +13,27 @@ import sys
 import usage
 
 TOP = os.path.join(os.path.dirname(os.path.abspath(__file__)), "..")
+CHOICES = ["find", "check"]
 CALLS = ["best --at", *(command.name for command in usage.usage()[0])]
 # What is printed behind `fault`, of which calls, with an example for each name that varies.
 LINES = {
     "1 usage": CALLS,
     "2 read NAME": CALLS,
     "3 write -": CALLS,
-    "3 write NAME": ["asm"],
+    "3 write NAME": ["asm", "find"],
     "4 too large NAME": CALLS,
-    **{f"5 elf {rule} A B": ["best --at", "blocks", "run"] for rule in range(1, 10)},
-    **{f"6 table {rule}": ["best", "best --at", "run"] for rule in (1, 2)},
-    **{f"6 table {rule} KEY": ["best", "best --at", "run"] for rule in (3, 4)},
-    "7 unsupported POSITION WORD": ["best", "best --at", "blocks"],
+    **{f"5 elf {rule} A B": ["best --at", "blocks", "run", *CHOICES] for rule in range(1, 10)},
+    **{f"6 table {rule}": ["best", "best --at", "run", *CHOICES] for rule in (1, 2)},
+    **{f"6 table {rule} KEY": ["best", "best --at", "run", *CHOICES] for rule in (3, 4)},
+    "7 unsupported POSITION WORD": ["best", "best --at", "blocks", *CHOICES],
     "7 unsupported POSITION 00000000": ["eval"],
-    **{f"9 units {kind} OFFSET": ["eval", "run"] for kind in range(1, 10)},
+    "8 text touched PC ADDR": CHOICES,
+    **{f"9 units {kind} OFFSET": ["eval", "run", "check"] for kind in range(1, 10)},
+    **{f"10 log {kind} 0": ["check"] for kind in (1, 3)},
+    **{f"10 log {kind} OFFSET": ["check"] for kind in (2, 4)},
+    **{f"11 rejected ROUND LEADER ITEM {reason}": ["check"] for reason in range(1, 7)},
+    **{f"11 rejected ROUND LEADER 0 {reason}": ["check"] for reason in range(7, 10)},
+    **{f"11 rejected ROUND 00000000 0 {reason}": ["check"] for reason in range(10, 13)},
     "12 no memory": CALLS,
     **{f"13 asm {kind} LINE COLUMN": ["asm"] for kind in range(1, 8)},
 }
@@ -34,6 +41,7 @@ EXAMPLES = {
     "NAME": ["a file", "-x"], "A": ["0", "4", "5", "6", "16", "18", "20", "36", "42", "46", "84", "4294967295"],
     "B": ["0", "1", "2", "3", "62"], "KEY": ["read", "pad", "software", "hardware", "software.add", "hardware.mul"],
     "POSITION": ["00000000", "00010074"], "WORD": ["00000000", "0000050b", "464c457f"], "LINE": ["1", "2"],
+    "PC": ["00010078"], "ADDR": ["00010074"], "ROUND": ["0", "2"], "LEADER": ["00010074"], "ITEM": ["0", "10"],
     "COLUMN": ["1"], "OFFSET": ["0", "19"],
 }
 

@@ -50,7 +50,7 @@ class Block:
             writer.update((register, node) for register in writes(word))
         self.live = {writer[register] for register in live if register in writer}
         self.arcs = self.all_arcs()
-        self.behind = [{later for _, later in self.walks(node)} for node in self.nodes]
+        self.behind = self.all_behind()
 
     def own_arc(self, node, later):
         """Whether two nodes have to stay in their order for what they read, write or access. Arcs to the instruction
@@ -72,13 +72,12 @@ class Block:
         return arcs | {(read, later) for unit, read in bundles for node, later in arcs
                        if node == unit and later != read}
 
-    def walks(self, start):
-        """The first and the last node of each walk from a node."""
-        reached, fresh = set(), {start}
-        while fresh:
-            fresh = {later for node, later in self.arcs if node in fresh} - reached
-            reached |= fresh
-        return {(start, later) for later in reached}
+    def all_behind(self):
+        """The nodes to which walks lead from each node. Arcs lead to later nodes."""
+        behind = [set() for _ in self.nodes]
+        for node, later in sorted(self.arcs, reverse=True):
+            behind[node] |= {later} | behind[later]
+        return behind
 
     def is_convex(self, cut):
         return not any(self.behind[node] & cut and any(node in self.behind[member] for member in cut)

@@ -4,7 +4,8 @@ two."""
 from collections import namedtuple
 
 from cuts import KEYS
-from instructions import mnemonic, reads, writes
+from folds import writes
+from instructions import mnemonic, reads
 
 WORD = 2 ** 32
 

@@ -36,7 +36,7 @@ rumtsafi area OLD --limit N [--in N]
   K             a number, 0 to 31
   A, B          words, as 0x and hex digits
 """
-COMMANDS = "there are: best blocks run eval asm dis"
+COMMANDS = "there are: find check best blocks run eval asm dis"
 TOOLCHAIN = "kit of the tests"
 # What a call of the script asks of `rt`, with the folder that it does so in.
 BUILDS = ["a clone all check --jobs N", "ci_main run -- dis /dev/null"]
@@ -220,7 +220,7 @@ class Built(Repository):
 
     def test_status_1_names_the_word_that_has_no_reading(self):
         self.use("one")
-        for words, why in ((["bset"], "there is no command 'bset'; there are: best"),
+        for words, why in ((["bset"], "there is no command 'bset'; there are: find"),
                            (["--help", "best"], "--help stands alone"),
                            (["best", "a", "-o", "3"], "best has no option '-o'"),
                            (["best", "a", "--in", "-1"], "--in can't be '-1': no name or value begins with -"),

@@ -1,0 +1,292 @@
+#!/usr/bin/env python3
+"""Compares what `rumtsafi find` and `check` print with worked rows.
+
+    compare_rejections.py PROGRAM
+
+For each reason by which `check` rejects files there are some that it has to reject by it, made from the right files of
+a small program; a plain reading of log books has to find the same. Other rows are of a program with calls, a jump table
+and environment calls, whose files have to be these, byte by byte, but for the logs of searches; and of refusals, which
+may write no file but those before the one that can't be written. It ends with status 0 where all agree.
+"""
+import os
+import subprocess
+import sys
+import tempfile
+from collections import Counter
+
+import executable
+from choices import Choice, Plan, Profile, is_book, trees_of
+from cuts import Table
+from made_units import unit_text
+
+LIMIT = 60
+A, B, C = (("input", number) for number in range(3))
+# Two sums around a load from an address where no memory is, and an exit.
+SUMS = 0x00B502B3, 0x00002303, 0x00C28533, 0x05D00893, 0x00000073
+FOLDED = 0x60B5050B, 0x00000013, 0x00002303, 0x05D00893, 0x00000073
+UNIT = unit_text(0, ([("add", A, B), ("add", ("earlier", 0), C)], [1], 1))
+LOGS = """ci-log 1
+block 00010074 best 0 2
+BBOBOFBBFFG
+take 00010074 unit 0
+block 00010074 none
+G
+end none
+"""
+SPENT = "ci-log 1\nblock 00010074 spent 1\nend none\n"
+# What stands in LOGS, what stands there instead, and what is put behind `fault 11 rejected`.
+LOG_ROWS = (
+    ("FFG", "OFG", "0 00010074 8 1"), ("BOFBB", "OBB", "0 00010074 3 1"), ("OFB", "OCB", "0 00010074 5 2"),
+    ("FFG", "FIG", "0 00010074 9 3"), ("BBOBOFBBFFG", "G", "0 00010074 0 4"), ("BBFFG", "G", "0 00010074 6 4"),
+    ("FFG", "FFF", "0 00010074 10 5"), ("BBFFG", "F", "0 00010074 6 5"), ("OFB", "OBFFB", "0 00010074 5 6"),
+    ("best 0 2", "best 0 1", "0 00010074 0 7"), ("best 0 2", "best 2", "0 00010074 0 7"),
+    ("best 0 2", "best 0 2 9", "0 00010074 0 7"), ("best 0 2\n", "none\n", "0 00010074 8 5"),
+    ("none\nG", "best 3\nF", "1 00010074 0 7"), ("none\nG", "none\nO", "1 00010074 0 1"),
+    ("none\nG", "none\nBFBFF", "1 00010074 2 6"),
+    ("10074 best", "10078 best", "0 00010074 0 8"), ("best 0 2\nBBOBOFBBFFG", "spent 65536", "0 00010074 0 8"),
+    ("none\nG\n", "spent 65536\n", "1 00010074 0 8"), ("74 none", "78 none", "1 00010074 0 8"),
+    (LOGS[9:], "end none\n", "0 00010074 0 8"),
+    ("unit 0", "unit 1", "0 00010074 0 9"), ("take 00010074", "take 00010078", "0 00010074 0 9"),
+    (LOGS[45:], "end none\n", "0 00010074 0 9"), (LOGS[45:], "end count\n", "0 00010074 0 9"),
+    ("take", "block 00010074 none\nG\ntake", "0 00010074 0 9"),
+    ("end none", "end count", "1 00000000 0 10"),
+    ("end none", "take 00010074 unit 0\nblock 00010074 none\nG\nend none", "1 00000000 0 10"))
+# Like these, with what is put behind `fault 10 log`.
+FORM_ROWS = (
+    ("end none\n", "end none\nx", "4 97"), ("end none\n", "end none", "3 0"), ("ci-log", "ci-lag", "1 0"),
+    (LOGS, "", "3 0"), (LOGS, "ci-log 1", "3 0"), ("FFG\n", "FFGG\n", "4 44"), ("FFG\n", "FF\n", "2 43"),
+    ("best 0 2", "best 2 0", "2 31"), ("best 0 2", "best 0 256", "2 33"), ("unit 0", "unit 32", "2 65"),
+    ("best 0 2", "best", "2 28"), ("end none", "end nine", "2 93"), ("00010074 best", "0001007A best", "2 22"))
+# The program of all kinds, its constants and values, and what `find` has to write of it.
+CALLS = """start: lui x8, 0x20
+       addi x9, x0, 4
+       addi x18, x0, 0
+loop:  lw x5, 0(x8)
+       addi x10, x18, 0
+       jalr x1, 0(x5)
+       addi x18, x10, 0
+       addi x8, x8, 4
+       addi x9, x9, -1
+       bne x9, x0, loop
+       lui x11, 0x20
+       sw x18, 16(x11)
+       addi x11, x11, 16
+       addi x10, x0, 1
+       addi x12, x0, 4
+       addi x17, x0, 64
+       ecall
+       addi x10, x0, 0
+       addi x17, x0, 93
+       ecall
+f0:    slli x6, x10, 3
+       xor x6, x6, x10
+       addi x10, x6, 5
+       jalr x0, 0(x1)
+f1:    lui x7, 0x10
+       lw x7, 236(x7)
+       add x10, x10, x7
+       srli x6, x10, 1
+       xor x10, x10, x6
+       jalr x0, 0(x1)
+"""
+CONSTANTS, VALUES = (1000,), (0x100C4, 0x100D4, 0x100C4, 0x100D4, 0)
+PATCHES = {20: 0x0005050B, 21: 0x13, 22: 0x13, 26: 0x0075150B, 27: 0x13, 28: 0x13}
+CALLS_UNITS = (unit_text(0, ([("sll", A, ("constant", 3)), ("xor", ("earlier", 0), A),
+                              ("add", ("earlier", 1), ("constant", 5))], [2], 1))
+               + unit_text(1, ([("add", A, B), ("srl", ("earlier", 0), ("constant", 1)),
+                                ("xor", ("earlier", 0), ("earlier", 1))], [2], 1)))
+CALLS_LOGS = """ci-log 1
+block 00010074 none
+block 00010080 none
+block 0001008c none
+block 0001009c none
+block 000100b8 none
+block 000100c4 best 0 1 2
+block 000100d4 best 2 3 4
+take 000100c4 unit 0
+block 000100c4 none
+take 000100d4 unit 1
+block 000100d4 none
+end none
+"""
+CALLS_REPORT = """ci-report 1
+ports 3 2 count 32 budget 65536 pad 0 read 1
+profile exit 00000000 steps 61 cost 75
+block 00010074 length 3 entries 1
+block 00010080 length 3 entries 4
+block 0001008c length 4 entries 4
+block 0001009c length 7 entries 1
+block 000100b8 length 3 entries 1
+block 000100c4 length 4 entries 2
+block 000100d4 length 6 entries 2
+cut 0 block 000100c4 unit 0 gain 2 entries 2 nodes 0 1 2 word 0005050b
+cut 1 block 000100d4 unit 1 gain 2 entries 2 nodes 2 3 4 word 0075150b
+unit 0 cycles 1 operations 3 uses 1
+unit 1 cycles 1 operations 3 uses 1
+total 8
+"""
+WRITTEN = b"\xe8\x1d\x00\x00"
+# Words that `find` refuses, and the line that it prints.
+REFUSED = (((0x0000000B,), "fault 7 unsupported 00010074 0000000b"),
+           ((0x00000297, 0x0002A303, 0x00100073), "fault 8 text touched 00010078 00010074"),
+           ((0x00100073, 0x0000002B), "fault 7 unsupported 00010078 0000002b"))
+
+
+class Rows:
+    """Calls in a folder, and where they don't print what is due."""
+
+    def __init__(self, program, folder):
+        self.program, self.folder, self.calls, self.faults = program, folder, 0, []
+
+    def write(self, name, data):
+        with open(os.path.join(self.folder, name), "wb") as file:
+            file.write(data)
+
+    def need(self, what, ours, due):
+        if ours != due:
+            self.faults.append(f"{what}: {ours!r} and not {due!r}")
+
+    def need_file(self, name, due):
+        """A file has these bytes, or isn't there."""
+        path, ours = os.path.join(self.folder, name), None
+        if os.path.exists(path):
+            with open(path, "rb") as file:
+                ours = file.read()
+        self.need(name, ours, due)
+
+    def call(self, words, due, output=b""):
+        """A call in the folder has to print this line behind this output, and to end with its status."""
+        done = subprocess.run([self.program, *words.split()], cwd=self.folder, stdout=subprocess.PIPE, timeout=LIMIT,
+                              check=False)
+        status = int(due.split()[1]) if due.startswith("fault") else 0
+        self.calls += 1
+        self.need(words, (done.stdout, done.returncode), (output + f"{due}\n".encode(), status))
+
+
+def sums(rows):
+    """The program of two sums, and its right files."""
+    old, new = executable.frame(SUMS), executable.frame(FOLDED)
+    rows.write("old", old)
+    rows.call("find old new units logs report --out 1", "cuts 1 units 1 skipped 0 gain 1")
+    rows.need_file("new", new)
+    rows.need_file("units", UNIT.encode())
+    rows.call("run old", "end access 00000000 4 steps 2 cost 3")
+    rows.call("run new --units units", "end access 00000000 4 steps 3 cost 3")
+    rows.call("check old new units logs --out 1", "accepted")
+    rows.write("logs", LOGS.encode())
+    rows.call("check old new units logs --out 1", "accepted")
+    return old, new
+
+
+def rejections(rows, old, new):
+    """Each reason to reject files of the program of two sums, and each kind of a fault of a log book."""
+    profile = Profile(Counter((0x10074, 0x10078)), set(), "access 00000000 4 steps 2 cost 3")
+    choice = Choice(old, profile, Plan(3, 1, 32, 65536), Table())
+    reasons = set()
+    for before, behind, figures in LOG_ROWS:
+        book = LOGS.replace(before, behind, 1)
+        rows.write("logs", book.encode())
+        rows.call("check old new units logs --out 1", f"fault 11 rejected {figures}")
+        rows.need("the plain verdict", choice.verdict(book), f"fault 11 rejected {figures}\n")
+        reasons.add(figures.split()[3])
+    for before, behind, figures in FORM_ROWS:
+        book = LOGS.replace(before, behind, 1)
+        rows.write("logs", book.encode())
+        rows.call("check old new units logs --out 1", f"fault 10 log {figures}")
+        rows.need("the plain form", is_book(book), False)
+    rows.write("logs", LOGS.encode())
+    for text in ("", UNIT.replace("cycles 1", "cycles 2"), UNIT.replace("assign q1 = c", "assign q1 = b"),
+                 UNIT.replace("p0", "p2"), UNIT + UNIT.replace("ci_0", "ci_1")):
+        rows.write("units", text.encode())
+        rows.call("check old new units logs --out 1", "fault 11 rejected 1 00000000 0 11")
+        reasons.add("11")
+    rows.write("units", UNIT.replace("= ", " =\t").replace("32'h00000000", "32'h0").encode())
+    rows.call("check old new units logs --out 1", "accepted")
+    for data in (old, b"", new[:-1], new + b"\0", new[:120] + b"\x12" + new[121:]):
+        rows.write("other", data)
+        rows.call("check old other units logs --out 1", "fault 11 rejected 1 00000000 0 12")
+        reasons.add("12")
+    rows.need("the reasons", sorted(map(int, reasons)), list(range(1, 13)))
+
+
+def order(rows):
+    """Which of several faults comes first, and files of another choice, with those of the program of two sums there."""
+    rows.write("empty", b"")
+    rows.write("bad", b"x")
+    rows.call("check old old empty logs --out 1", "fault 11 rejected 1 00000000 0 11")
+    rows.call("check old empty bad logs --out 1", "fault 9 units 2 0")
+    rows.call("check old empty empty bad --out 1", "fault 10 log 1 0")
+    rows.call("check old missing bad bad", "fault 2 read missing")
+    rows.call("check bad missing bad bad", "fault 5 elf 1 0 0")
+    rows.call("check old new units logs --out 1 --table missing", "fault 2 read missing")
+    rows.call("check old new units logs --out 1 --table bad", "fault 6 table 1")
+    rows.call("find old new new logs report", "fault 1 usage")
+    rows.call("find old new units logs old", "fault 1 usage")
+    rows.call("check old new units logs --out 1 --in 2", "fault 11 rejected 0 00010074 0 7")
+    rows.call("find old spent-new spent-units spent-logs spent-report --out 1 --budget 1",
+              "cuts 0 units 0 skipped 1 gain 0")
+    rows.need_file("spent-logs", SPENT.encode())
+    rows.call("check old old empty spent-logs --out 1 --budget 1", "accepted")
+    rows.call("check old old empty spent-logs --out 1 --budget 2", "fault 11 rejected 0 00010074 0 8")
+    rows.write("spent-logs", SPENT.replace("spent 1", "spent 65536").encode())
+    rows.call("check old old empty spent-logs --out 1", "fault 11 rejected 0 00010074 0 8")
+
+
+def calls(rows):
+    """The program with calls."""
+    rows.write("text", CALLS.encode())
+    subprocess.run([rows.program, "asm", "text", "words"], cwd=rows.folder, check=True, timeout=LIMIT)
+    with open(os.path.join(rows.folder, "words"), "rb") as file:
+        data = file.read()
+    words = [int.from_bytes(data[at:at + 4], "little") for at in range(0, len(data), 4)]
+    rows.write("calls", executable.frame(words, CONSTANTS, VALUES))
+    rows.call("run calls", "end exit 00000000 steps 61 cost 75", WRITTEN)
+    rows.call("find calls calls-new calls-units calls-logs calls-report", "cuts 2 units 2 skipped 0 gain 8")
+    folded = [PATCHES.get(place, word) for place, word in enumerate(words)]
+    rows.need_file("calls-new", executable.frame(folded, CONSTANTS, VALUES))
+    rows.need_file("calls-units", CALLS_UNITS.encode())
+    rows.need_file("calls-report", CALLS_REPORT.encode())
+    with open(os.path.join(rows.folder, "calls-logs"), encoding="ascii") as file:
+        book = file.read()
+    trees = set(trees_of(book))
+    rows.need("calls-logs", "".join(line for line in book.splitlines(True) if line.strip() not in trees), CALLS_LOGS)
+    rows.call("run calls-new --units calls-units", "end exit 00000000 steps 61 cost 67", WRITTEN)
+    rows.call("check calls calls-new calls-units calls-logs", "accepted")
+
+
+def refusals(rows):
+    """Refused calls, which write nothing, and a file that can't be written, before which three are."""
+    files = "none-new none-units none-logs none-report"
+    data = [(executable.frame(words), line) for words, line in REFUSED]
+    data.append((executable.frame((0x13,))[:60], "fault 5 elf 1 52 0"))
+    shared = bytearray(executable.frame((0x13, 0x13), (), (0,)))
+    shared[84:116] = executable.load(116, 0x20000, 8, 8)
+    for file, line in [*data, (shared, "fault 5 elf 6 0 1")]:
+        rows.write("refused", file)
+        rows.call(f"find refused {files}", line)
+    rows.call("check refused old units logs", "fault 5 elf 6 0 1")
+    for words, line in REFUSED:
+        rows.write("refused", executable.frame(words))
+        rows.call("check refused old units logs", line)
+    for name in files.split():
+        rows.need_file(name, None)
+    rows.call("find old missing/new last-units last-logs last-report --out 1", "fault 3 write missing/new")
+    rows.need_file("last-units", UNIT.encode())
+    for name in ("last-logs", "last-report"):
+        rows.need(name, os.path.getsize(os.path.join(rows.folder, name)) > 0, True)
+
+
+def main():
+    with tempfile.TemporaryDirectory() as folder:
+        rows = Rows(os.path.abspath(sys.argv[1]), folder)
+        rejections(rows, *sums(rows))
+        order(rows)
+        calls(rows)
+        refusals(rows)
+    for fault in rows.faults[:20]:
+        print(fault)
+    print(f"{rows.calls} calls compared: {len(rows.faults)} differences")
+    return 1 if rows.faults else 0
+
+
+sys.exit(main())

@@ -1,0 +1,124 @@
+"""Texts of units, which are compared by what other tools make of them."""
+import os
+import re
+import subprocess
+
+import units
+from made_units import unit_text
+from operations import ALU, outputs
+
+LIMIT = 120
+# The Debian packages have the tools' names.
+ICARUS, YOSYS, VERILATOR = "iverilog", "yosys", "verilator"
+# What Yosys does to all units, and to one of each operation, which it takes down to gates.
+ELABORATION, SYNTHESIS = "hierarchy -check; proc; opt_expr; opt_clean; check -assert", "synth -noabc; check -assert"
+BOUNDS = (0, 1, 31, 2 ** 31 - 1, 2 ** 31, 2 ** 32 - 1)
+RANDOM_VECTORS = 40
+# How many of the vectors `eval` is called with, for each module.
+CALLS = 2
+# What units ask for: several modules in one file, ports, wires and bits that nobody reads, and comparisons with 0.
+UNAVOIDABLE = "DECLFILENAME", "MULTITOP", "UNUSED", "UNSIGNED", "CMPCONST"
+
+
+def vectors(source):
+    """Words for a, b and c."""
+    some = [(a, b, source.choice(BOUNDS)) for a in BOUNDS for b in BOUNDS]
+    return some + [tuple(source.choice((source.choice(BOUNDS), source.getrandbits(5), source.getrandbits(32)))
+                         for _ in "abc") for _ in range(RANDOM_VECTORS)]
+
+
+class Texts:
+    """Texts of units, and what their modules have to give of each vector."""
+
+    def __init__(self, folder, name, values):
+        self.folder, self.name, self.vectors = folder, name, values
+        self.texts, self.wanted, self.faults = [], [], []
+        self.path = os.path.join(folder, f"{name}.v")
+
+    def add(self, text, known=None):
+        """Takes a text, with the units of its modules where these are known, and compares its plain reading."""
+        self.texts.append(text)
+        for module in units.read(text.encode()):
+            read = [units.evaluate(module, *vector) for vector in self.vectors]
+            if known is not None:
+                unit = known[module.number]
+                self.compare(f"the text of {unit}", read, [outputs(unit, vector) for vector in self.vectors])
+            self.wanted.append((len(self.texts) - 1, module.number, read))
+
+    def compare(self, name, ours, due):
+        for vector, our, wanted in zip(self.vectors, ours, due, strict=True):
+            if our != wanted:
+                self.faults.append(f"{self.name}: {name} gives {our} of {vector}, and not {wanted}")
+                return
+
+    def write(self):
+        """All modules in one file, with names of their own."""
+        with open(self.path, "w", encoding="ascii") as file:
+            for number, text in enumerate(self.texts):
+                file.write(re.sub(r"\bmodule(\s+)ci_", rf"module\1t{number}_ci_", text))
+
+    def say(self, tool, done, allowed=None):
+        """Puts down what a tool says, where it fails or says anything but what is allowed."""
+        lines = [line for line in done.stdout.splitlines() if allowed is None or not re.search(allowed, line)]
+        if done.returncode != 0 or lines:
+            self.faults.append(f"{self.name}: {tool} ends with status {done.returncode} and says {lines[:10]}")
+
+    def simulate(self, allowed=None):
+        """Icarus runs all modules on all vectors."""
+        bench, built = os.path.join(self.folder, "bench.v"), os.path.join(self.folder, "bench")
+        names = [f"t{text}_ci_{number}" for text, number, _ in self.wanted]
+        with open(bench, "w", encoding="ascii") as file:
+            print("module bench;\nreg [31:0] a, b, c;", file=file)
+            for name in names:
+                print(f"wire [31:0] {name}_y, {name}_z;\n{name} {name}_unit(a, b, c, {name}_y, {name}_z);", file=file)
+            print("initial begin", file=file)
+            for vector in self.vectors:
+                print("a = 32'h{:x}; b = 32'h{:x}; c = 32'h{:x}; #1 show;".format(*vector), file=file)
+            print("end\ntask show; begin", file=file)
+            for name in names:
+                print(f'$display("%h %h", {name}_y, {name}_z);', file=file)
+            print("end endtask\nendmodule", file=file)
+        self.say(ICARUS, told([ICARUS, "-g2005", "-Wall", "-Wno-timescale", "-o", built, bench, self.path]), allowed)
+        printed = told(["vvp", "-n", built]).stdout.splitlines()
+        for place, (text, number, due) in enumerate(self.wanted):
+            lines = printed[place:len(self.vectors) * len(names):len(names)]
+            # Digits that are no number say that a bit is unknown.
+            ours = [tuple(int(digits, 16) if re.fullmatch("[0-9a-f]+", digits) else digits for digits in line.split())
+                    for line in lines]
+            self.compare(f"module {number} of text {text}, by Icarus,", ours, due)
+
+    def call(self, program, source):
+        """The program evaluates each module on a few of the vectors. Gives the number of the calls."""
+        path, held, calls = os.path.join(self.folder, "units"), None, 0
+        for text, number, due in self.wanted:
+            if held != text:
+                held = text
+                with open(path, "w", encoding="ascii") as file:
+                    file.write(self.texts[text])
+            for place in source.sample(range(len(self.vectors)), CALLS):
+                words = [str(number), *(f"0x{operand:x}" for operand in self.vectors[place])]
+                done, wanted = told([program, "eval", path, *words]), "{:08x} {:08x}\n".format(*due[place])
+                calls += 1
+                if (done.returncode, done.stdout) != (0, wanted):
+                    self.faults.append(f"{self.name}: eval {' '.join(words)} of text {text}: status "
+                                       f"{done.returncode}, {done.stdout!r} and not {wanted!r}")
+        return calls
+
+    def synthesise(self):
+        """Yosys takes all modules, and makes gates of one for each operation."""
+        each = os.path.join(self.folder, "each.v")
+        with open(each, "w", encoding="ascii") as file:
+            for number, name in enumerate(ALU):
+                file.write(unit_text(number, ([(name, ("input", 0), ("input", 1))], [0], 1)))
+        for path, passes in ((self.path, ELABORATION), (each, SYNTHESIS)):
+            self.say(YOSYS, told([YOSYS, "-q", "-p", f"read_verilog {path}; {passes}"]))
+
+    def lint(self):
+        self.say(VERILATOR, told([VERILATOR, "--lint-only", "-Wall", *(f"-Wno-{name}" for name in UNAVOIDABLE),
+                                  self.path]))
+
+
+def told(words):
+    """What a call prints, on both ways, and its status."""
+    return subprocess.run(words, stdout=subprocess.PIPE, stderr=subprocess.STDOUT, text=True, timeout=LIMIT,
+                          check=False)
