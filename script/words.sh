@@ -1,9 +1,11 @@
 # shellcheck shell=bash disable=SC2034
 # Made by checks/usage.py from docs/usage.txt: the words of each command, for script/explain.sh.
 
-commands='best blocks run eval asm dis'
+commands='find check best blocks run eval asm dis'
 # The words behind a command, in order; its options; and those that must stand.
 declare -A words_of=(
+    [find]='OLD NEW UNITS LOGS REPORT'
+    [check]='OLD NEW UNITS LOGS'
     [best]='FILE'
     [blocks]='FILE'
     [run]='FILE'
@@ -12,6 +14,8 @@ declare -A words_of=(
     [dis]='FILE'
 )
 declare -A options_of=(
+    [find]='in out count budget steps input table leader'
+    [check]='in out count budget steps input table leader'
     [best]='at leader in out budget table'
     [blocks]='leader'
     [run]='steps units input table'
@@ -20,6 +24,8 @@ declare -A options_of=(
     [dis]=''
 )
 declare -A needed_of=(
+    [find]=''
+    [check]=''
     [best]=''
     [blocks]=''
     [run]=''
@@ -33,6 +39,7 @@ declare -A kind_of=(
     [leader]='address'
     [in]='number'
     [out]='number'
+    [count]='number'
     [budget]='number'
     [steps]='number'
     [units]='file'
@@ -42,14 +49,19 @@ declare -A kind_of=(
     [A]='address'
     [B]='address'
     [C]='address'
-    [FILE]='file'
+    [OLD]='file'
+    [NEW]='file'
     [UNITS]='file'
+    [LOGS]='file'
+    [REPORT]='file'
+    [FILE]='file'
     [TEXT]='file'
     [OUT]='file'
 )
 declare -A least_of=(
     [in]='1'
     [out]='1'
+    [count]='1'
     [budget]='1'
     [steps]='1'
     [K]='0'
@@ -57,6 +69,7 @@ declare -A least_of=(
 declare -A greatest_of=(
     [in]='3'
     [out]='2'
+    [count]='32'
     [budget]='4194304'
     [steps]='4294967296'
     [K]='31'
