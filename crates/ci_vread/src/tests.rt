@@ -1,4 +1,4 @@
-//! Tokens of a text, and the fault of each text by its kind and place: both sides of each rule.
+//! Tokens of a text, and the fault of texts by its kind and place: for each kind one that has it, and some that have none.
 use crate::scanning::symbols;
 use crate::tokens::{Kind, Sign, Token};
 use crate::values::{constant_of, cycles_of, name_of, number_of};
@@ -70,128 +70,36 @@ const TEXTS: [(&str, u8, u32); 11] = [
 ];
 
 /// What stands behind the first two lines of a module, which are 107 bytes, and the kind and the offset of the fault.
-const BODIES: [(&str, u8, u32); 55] = [
-    (
-        "wire [0:0] w;\nassign w = 1'h1;\nassign y = w ? w : a;",
-        5,
-        157,
-    ),
-    (
-        "wire [0:0] w;\nassign w = 1'h1;\nassign y = w ? 1'h0",
-        2,
-        157,
-    ),
-    ("wire [0:0] w;\nassign w = 1'h1;\nassign y = w + a;", 5, 153),
+const BODIES: [(&str, u8, u32); 17] = [
     (
         "assign y = {a[31], a[30:1], b[3:3]};\nassign z = {1{a}};\nendmodule\n",
         0,
         0,
     ),
-    (
-        "wire [63:0] v;\nassign v = 64'h0;\nassign y = {v, a[0]};",
-        6,
-        158,
-    ),
-    (
-        "wire [63:0] v;\nassign v = 64'h0;\nassign y = v << a;",
-        5,
-        156,
-    ),
-    ("assign y = a;\nassign z = a;\nendmodule\n", 0, 0),
     ("assign\ty=b;assign z=32'hFFFFffff;endmodule", 0, 0),
     ("assign y = 'h0;", 1, 118),
-    ("assign y = 032'h0;", 2, 118),
-    ("wire [63:0] v;\nassign v = 64'h00000000000000000;", 2, 133),
-    (
-        "wire [63:0] v;\nassign v = 64'h0123456789abcdef;\nassign y = a;\nassign z = a;\nendmodule\n",
-        0,
-        0,
-    ),
-    ("assign y = a[01];", 2, 120),
-    ("wire [0:0] n23456789_123456789_123456789_123;", 2, 118),
-    (
-        "wire [0:0] n23456789_123456789_123456789_12;\nassign n23456789_123456789_123456789_12 = 1'h0;\n\
-         assign y = a;\nassign z = a;\nendmodule\n",
-        0,
-        0,
-    ),
-    ("wire [7:1] w;", 2, 115),
-    ("assign z = a;", 2, 114),
     ("assign y = a + b + c;", 2, 124),
-    ("assign y = {2{2{a}}};", 2, 121),
-    ("assign y = a;\nassign z = a;\nendmodule\nendmodule", 2, 145),
-    ("assign y = a", 2, 119),
     ("assign y = 31'h0", 2, 123),
-    ("wire [0:0] w;\nassign w = 1'h1;\nassign y = a + w", 2, 154),
     ("assign y = d;", 3, 118),
-    ("wire [31:0] w;\nassign w = w;", 3, 133),
     ("wire [0:0] w;\nassign w = 1'h1;\nwire [0:0] w;", 4, 149),
     ("wire [0:0] w;\nassign w = 1'h1;\nassign y = w;", 5, 149),
-    ("assign y = a[3];", 5, 121),
     ("assign y = {a[15:0], b[14:0]};", 5, 135),
-    ("wire [0:0] w;\nassign w = 1'h1;\nassign y = a + w;", 5, 153),
-    ("assign y = a < b;", 5, 122),
-    (
-        "wire [0:0] w;\nassign w = a < b;\nassign y = a << w;\nassign z = a;\nendmodule\n",
-        0,
-        0,
-    ),
-    ("assign y = a * 31'h0", 5, 122),
     ("wire [6:0] w;\nassign w = {32'h0}@", 5, 138),
-    ("assign y = a ? b : c;", 5, 118),
-    (
-        "wire [0:0] w;\nassign w = 1'h1;\nassign y = w ? a : w;",
-        5,
-        157,
-    ),
     (
         "wire [0:0] w;\nassign w = 1'h1;\nassign y = w ? a : b;\nassign z = a;\nendmodule\n",
         0,
         0,
     ),
-    ("wire [0:0] w;\nassign w = 1'h2;", 5, 132),
     ("assign y = 65'h0;", 5, 118),
     ("assign y = 65'h0", 6, 118),
-    ("assign y = {0'h0", 6, 119),
     ("wire [64:0] w;", 6, 113),
     (
         "wire [63:0] v;\nassign v = {a, b};\nassign y = a;\nassign z = a;\nendmodule\n",
         0,
         0,
     ),
-    ("assign y = a[32];", 6, 120),
-    ("assign y = a[3:4];", 6, 122),
-    ("assign y = {0{a}};", 6, 119),
-    (
-        "wire [0:0] w;\nassign w = 1'h1;\nassign y = {65{w}};",
-        6,
-        150,
-    ),
-    (
-        "wire [0:0] w;\nassign w = 1'h1;\nwire [63:0] v;\nassign v = {64{w}};\n\
-         assign y = a;\nassign z = a;\nendmodule\n",
-        0,
-        0,
-    ),
     ("assign y = {a, b, c};", 6, 125),
-    (
-        "wire [0:0] w;\nassign w = 1'h1;\nassign y = {a, {2{w}}, {31{w",
-        2,
-        166,
-    ),
     ("wire [0:0] w;\nassign v = 1'h0;", 7, 128),
-    ("wire [0:0] w;\nassign y = 1'h0;", 2, 128),
-    (
-        "assign y = a;\nassign z = a;\nendmodule\n// cycles 1\nmodule ci_0(",
-        9,
-        164,
-    ),
-    (
-        "assign y = a;\nassign z = a;\nendmodule\n// cycles 1\nmodule ci_1(",
-        2,
-        169,
-    ),
-    ("wire [0:0] w;\nassign w = 1'h1;\nassign y = w@", 5, 149),
 ];
 
 /// The first two lines of a module.
