@@ -119,6 +119,28 @@ module _ (document : Members) (sound : first_fault (causes document) ≡ None) w
     maximum_delay = λ k d h. (hardware_within document k d h).1;
   }
 
+-- ---- the table by default
+
+module _ (minimum maximum : ℕ) (numbers : List ℕ) where
+  numbers_within : list_all (λ n. nat_le minimum n && nat_le n maximum) numbers ≡ true → All (Within minimum maximum) numbers
+  numbers_within fit k d h =
+      within_from_test minimum maximum (get_or numbers k d)
+      (AllPass-from_list_all (λ n. nat_le minimum n && nat_le n maximum) numbers fit k d h)
+
+pub usual_is_table : IsLatencyTable usual
+unfolding usual listed
+usual_is_table = record {
+  rows_with_latency = refl;
+  rows_with_delay = refl;
+  minimum_read = lit≤ tt;
+  maximum_read = lit≤ tt;
+  pad_below_read = lit≤ tt;
+  minimum_latency = λ k d h. (numbers_within 1 1000 usual.software refl k d h).0;
+  maximum_latency = λ k d h. (numbers_within 1 1000 usual.software refl k d h).1;
+  pad_below_latency = λ k d h. omega arith;
+  maximum_delay = λ k d h. (numbers_within 0 100000 usual.hardware refl k d h).1;
+}
+
 -- ---- the places of the classes
 
 pub latency_of-table_of : (document : Members) (c : Class) → c ≢ class.Free → latency_of (table_of document) c ≡ setting document (SoftwareOf c)

@@ -10,6 +10,6 @@ pub mod PushLaws
 pub mod LiveLaws
 pub mod NeededLaws
 pub mod OneAnalysis
-mod LeadLaws
-mod RegisterLaws
+pub mod LeadLaws
+pub mod RegisterLaws
 mod Rows

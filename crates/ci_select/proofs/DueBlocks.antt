@@ -1,11 +1,12 @@
 -- The block whose search is due is one of the file's, and an entry that tells of its search is right.
-use Rattle.std.proofs.Common.{◌≡◌, ℕ, nat_lt, false, List, length, map, slice_index_or, refl, sym, ap, ◌∙◌, subst, inl}
+use Rattle.std.proofs.Common.{◌≡◌, ◌↔◌, ℕ, nat_lt, false, List, length, map, slice_index_or, refl, sym, ap, ◌∙◌, subst, inl}
 use Rattle.std.proofs.lemmas.List.Elements.{All-contains, All-contains_itself, All-filter, All-map, All-weaker}
 use Rattle.std.proofs.lemmas.Option.{slice_get_within, get_or_from_slice_get}
 use Rattle.std.specs.List.{All, Contains}
 use Rattle.ci_isa.specs.declared.instruction.Insn.{Insn}
 use Rattle.ci_block.specs.declared.blocks.Block.{Block}
 use Rattle.ci_cut.specs.FlowGraph.{FlowGraph}
+use Rattle.ci_cut.specs.Need.{NeedExceeds}
 use Rattle.ci_log.specs.declared.book.Entry.{Entry}
 use Rattle.ci_log.specs.declared.book.Entry.TheVariants.{Best, Without, Spent, Take}
 use Rattle.ci_select.specs.declared.plan.Plan.{Plan}
@@ -16,6 +17,7 @@ use Rattle.ci_select.specs.Instances.{Instance, entered}
 use Rattle.ci_select.specs.PresentBlocks.{IsPresent}
 use Rattle.ci_select.specs.Dues.{IsDue, IsSearchDue, at_first, after_take}
 use Rattle.ci_select.specs.LegalBooks.{IsLegalHistory, IsRight, IsSearched, searched}
+use Rattle.ci_select.specs.GivenUp.{IsGivenUp, IsGivenUpByNeed}
 use Rattle.ci_select.specs.Followed.{Follows, IsDueGraph, instance_in}
 use Rattle.ci_select.proofs.PresentLaws.{block_of_present, due_search, take_is_due}
 
@@ -63,6 +65,12 @@ module _ {history : History} {rounds : Rounds} (follows : Follows history rounds
 
   -- ---- its entry
 
+  -- the search of the block of the entry is due
+  search_here :
+      (entry : Entry) {leader : ℕ} → leader_of entry ≡ leader → IsDue (instance_in rounds) history (due.Search leader)
+      → IsDue (instance_in rounds) history (due.Search (leader_of entry))
+  search_here entry same what = subst (λ leader. IsDue (instance_in rounds) history (due.Search leader)) (sym same) what
+
   -- an entry that tells of the search of its graph is right
   pub search_is_right :
       (graph : FlowGraph) (plan : Plan) (entry : Entry) {leader : ℕ} → IsDueGraph rounds graph
@@ -70,13 +78,26 @@ module _ {history : History} {rounds : Rounds} (follows : Follows history rounds
       → IsDue (instance_in rounds) history (due.Search leader) → IsSearched graph plan entry
       → IsRight (instance_in rounds) history entry
   search_is_right graph plan entry of_block same_plan same what is =
-      let here : IsDue (instance_in rounds) history (due.Search (leader_of entry)) =
-      subst (λ leader. IsDue (instance_in rounds) history (due.Search leader)) (sym same) what in
+      let here = search_here entry same what in
       let present = present_of_search (due_search here) in
       searched here present.1
       (subst (λ graph. IsSearched graph (instance_in rounds).plan entry)
       (of_block history (leader_of entry) present.0 follows (inl here) present.1)
       (subst (λ plan. IsSearched graph plan entry) same_plan is))
+
+  -- and one that is given up exactly by the need of its graph is so by that of its block
+  pub gives_up_by_need :
+      (graph : FlowGraph) (plan : Plan) (entry : Entry) {leader : ℕ} → IsDueGraph rounds graph
+      → plan ≡ (instance_in rounds).plan → leader_of entry ≡ leader
+      → IsDue (instance_in rounds) history (due.Search leader)
+      → IsGivenUp entry ↔ NeedExceeds graph plan.limits plan.budget
+      → IsGivenUpByNeed (instance_in rounds) history entry
+  gives_up_by_need graph plan entry of_block same_plan same what is insns search present =
+      let here = search_here entry same what in
+      let bounds = (instance_in rounds).plan in
+      subst (λ (graph : FlowGraph). IsGivenUp entry ↔ NeedExceeds graph bounds.limits bounds.budget)
+      (of_block history (leader_of entry) insns follows (inl here) present)
+      (subst (λ (plan : Plan). IsGivenUp entry ↔ NeedExceeds graph plan.limits plan.budget) same_plan is)
 
 -- and it is no take
 pub search_is_no_take : (graph : FlowGraph) (plan : Plan) (entry : Entry) → IsSearched graph plan entry → is_take entry ≡ false

@@ -15,8 +15,8 @@ use Rattle.ci_select.specs.declared.plan.Plan.{Plan}
 use Rattle.ci_select.specs.Histories.{History, leader_of}
 use Rattle.ci_select.specs.Instances.{Instance, AreOfSomeFile}
 use Rattle.ci_select.specs.PresentBlocks.{HasPresentCut, IsPresent, graph_at}
-use Rattle.ci_select.specs.LegalBooks.{IsLegalHistory, IsRight, IsSearched}
-use Rattle.ci_select.specs.Laws.{EntriesAreTrue, IsTrueOf, TakesAreBest}
+use Rattle.ci_select.specs.LegalBooks.{IsLegalHistory, IsRight, IsSearched, IsTrueOf}
+use Rattle.ci_select.specs.Laws.{EntriesAreTrue, TakesAreBest}
 use Rattle.ci_select.proofs.PresentLaws.{IsTakeDue, cut_is_best, present_flows, present_is_sound, right_cases, take_is_due}
 
 -- what stands in a legal history is right behind what stands before it

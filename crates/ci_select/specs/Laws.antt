@@ -1,5 +1,5 @@
 -- What the definitions say of all books: laws, which the functions of `src/laws.rt` have as their contracts.
-use Rattle.std.specs.Prelude.{◌≡◌, ℕ, true, List, ◌∷◌, ◌++◌, reverse, slice_get, Some, ⊤}
+use Rattle.std.specs.Prelude.{◌≡◌, ℕ, true, List, ◌∷◌, ◌++◌, reverse, slice_get, Some}
 use Rattle.std.specs.FinSet as finite
 use Rattle.std.specs.List.{AllByRecursion, Contains}
 use Rattle.std.specs.Ordering.{nat_cmp}
@@ -8,17 +8,14 @@ use Rattle.ci_lat.specs.TableRules.{IsLatencyTable}
 use Rattle.ci_elf.specs.Executables.{Executable, IsWellFormed}
 use Rattle.ci_block.specs.declared.blocks.Block.{Block}
 use Rattle.ci_block.specs.Blocks.{AreInOrder}
-use Rattle.ci_cut.specs.Best.{IsBest, HasNoCut}
-use Rattle.ci_cut.specs.FlowGraph.{FlowGraph}
-use Rattle.ci_cut.specs.Need.{NeedExceeds}
+use Rattle.ci_cut.specs.Best.{IsBest}
 use Rattle.ci_log.specs.declared.book.Entry.{Entry}
-use Rattle.ci_log.specs.declared.book.Entry.TheVariants.{Best, Without, Spent, Take}
+use Rattle.ci_log.specs.declared.book.Entry.TheVariants.{Take}
 use Rattle.ci_log.specs.Books.{Book, IsBook}
 use Rattle.ci_machine.specs.Words.{AreBytes}
 use Rattle.ci_unit.specs.Units.{Unit}
 use Rattle.ci_verilog.specs.Modules.{Module}
 use Rattle.ci_select.specs.declared.acceptance.Verdict.{Verdict}
-use Rattle.ci_select.specs.declared.plan.Plan.{Plan}
 use Rattle.ci_select.specs.declared.rounds.Due.{Due}
 use Rattle.ci_select.specs.Histories.{History, is_search_of, leader_of}
 use Rattle.ci_select.specs.Instances.{Instance, AreAlike, AreBlocksOf, AreOfSomeFile, entered}
@@ -26,19 +23,11 @@ use Rattle.ci_select.specs.PresentBlocks.{HasPresentCut, IsPresent, graph_at}
 use Rattle.ci_select.specs.UnitNumbers.{AreUnits, IsUnitAt}
 use Rattle.ci_select.specs.Savings.{IsSaved}
 use Rattle.ci_select.specs.Dues.{IsDue}
-use Rattle.ci_select.specs.LegalBooks.{HasShortLog, IsLegal, IsLegalHistory}
+use Rattle.ci_select.specs.LegalBooks.{HasShortLog, IsLegal, IsLegalHistory, IsTrueOf}
 use Rattle.ci_select.specs.NewFiles.{IsNewFile}
 use Rattle.ci_select.specs.WrongPlaces.{IsAcceptable, IsVerdict}
 
 -- ---- for readers of a book
-
--- What a search entry says of the graph of its block: the cut is the best one; or there is none; or the search for one
--- needs more than the budget.
-abbrev pub IsTrueOf : FlowGraph → Plan → Entry → Type 0
-IsTrueOf graph plan (Best leader cut log) = IsBest graph plan.limits (finite.contains cut)
-IsTrueOf graph plan (Without leader log) = HasNoCut graph plan.limits
-IsTrueOf graph plan (Spent leader budget) = (budget ≡ plan.budget) × NeedExceeds graph plan.limits plan.budget
-IsTrueOf graph plan (Take leader unit) = ⊤
 
 -- Each entry of a legal book is true of the block that it names, as that stands in the program before it.
 abbrev pub EntriesAreTrue : Type 0

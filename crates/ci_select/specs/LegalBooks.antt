@@ -1,6 +1,8 @@
 -- Legal books: each entry is the one that is due behind those before it, and right.
 use Rattle.std.specs.Prelude.{◌≡◌, ℕ, ◌<◌, ◌^◌, List, [], ◌∷◌, length, reverse, Some, None, ⊤}
+use Rattle.std.specs.FinSet as finite
 use Rattle.ci_isa.specs.declared.instruction.Insn.{Insn}
+use Rattle.ci_cut.specs.Best.{IsBest, HasNoCut}
 use Rattle.ci_cut.specs.FlowGraph.{FlowGraph}
 use Rattle.ci_log.specs.declared.book.Entry.{Entry}
 use Rattle.ci_log.specs.declared.book.Entry.TheVariants.{Best, Without, Spent, Take}
@@ -21,6 +23,14 @@ IsSearched graph plan (Best leader cut log) = IsAccepted graph plan.limits (Some
 IsSearched graph plan (Without leader log) = IsAccepted graph plan.limits None log
 IsSearched graph plan (Spent leader budget) = (budget ≡ plan.budget) × NeedExceeds graph plan.limits plan.budget
 IsSearched graph plan (Take leader unit) = ⊥
+
+-- What a search entry says of the graph of its block: the cut is the best one; or there is none; or the search for one
+-- needs more than the budget.
+abbrev pub IsTrueOf : FlowGraph → Plan → Entry → Type 0
+IsTrueOf graph plan (Best leader cut log) = IsBest graph plan.limits (finite.contains cut)
+IsTrueOf graph plan (Without leader log) = HasNoCut graph plan.limits
+IsTrueOf graph plan (Spent leader budget) = (budget ≡ plan.budget) × NeedExceeds graph plan.limits plan.budget
+IsTrueOf graph plan (Take leader unit) = ⊤
 
 -- The log of the entry, if it has one, has fewer than 2 to the power 32 items, as each that is read or written has.
 abbrev pub HasShortLog : Entry → Type 0

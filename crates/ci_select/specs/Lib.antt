@@ -6,6 +6,7 @@ pub mod Candidates
 pub mod Savings
 pub mod Dues
 pub mod LegalBooks
+pub mod GivenUp
 pub mod NewFiles
 pub mod WrongPlaces
 pub mod Laws

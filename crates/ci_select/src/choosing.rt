@@ -1,5 +1,6 @@
 //! The choice of cuts.
-ghost use Rattle.std.specs.Prelude.{◌≡◌, ◌∷◌, ◌<◌, [], reverse, Ok, IfOk};
+ghost use Rattle.std.specs.Prelude.{◌≡◌, ◌↔◌, ◌∷◌, ◌<◌, [], reverse, Ok, IfOk};
+ghost use Rattle.ci_cut.specs.Need.{NeedExceeds};
 ghost use Rattle.ci_elf.specs.Rules.{IsReadAs};
 ghost use Rattle.ci_machine.specs.Words.{AreBytes};
 ghost use Rattle.ci_select.specs.Histories.{History, leader_of};
@@ -7,6 +8,7 @@ ghost use Rattle.ci_select.specs.Instances.{instance_of, AreBlocksOf};
 ghost use Rattle.ci_select.specs.UnitNumbers.{AreUnits};
 ghost use Rattle.ci_select.specs.Dues.{IsDue};
 ghost use Rattle.ci_select.specs.LegalBooks.{HasShortLog, IsLegal, IsSearched};
+ghost use Rattle.ci_select.specs.GivenUp.{IsGivenUp, IsGivenUpByNeed, GivesUpByNeed};
 ghost use Rattle.ci_select.specs.Savings.{IsSaved};
 ghost use Rattle.ci_select.specs.NewFiles.{IsNewFile, with_bytes};
 ghost use Rattle.ci_select.specs.Followed.{Follows, instance_in, steps_left};
@@ -70,6 +72,8 @@ pub fn choose(
     ensures saved { IfOk result (λ chosen. IsSaved (instance_of profile.now blocks.now live.now table.now plan.now)
         (reverse chosen.book.entries) chosen.saved) }
     ensures same_else { IfOk result (λ chosen. chosen.image ≡ with_bytes image.now chosen.image.bytes) }
+    ensures given_up { IfOk result (λ chosen.
+        GivesUpByNeed (instance_of profile.now blocks.now live.now table.now plan.now) (reverse chosen.book.entries)) }
 {
     bytes_are_small(image.bytes());
     let mut rounds = Rounds::new(alloc, profile, blocks, live, table, plan)?;
@@ -93,6 +97,7 @@ fn book_of(alloc: Global, rounds: &mut Rounds) -> Result<LogBook, AllocError>
     requires { Follows [] rounds.old }
     ensures legal { IfOk result (IsLegal (instance_in rounds.old)) }
     ensures followed { IfOk result (λ book. Follows (reverse book.entries) rounds.new) }
+    ensures given_up { IfOk result (λ book. GivesUpByNeed (instance_in rounds.old) (reverse book.entries)) }
     ensures instance { instance_in rounds.new ≡ instance_in rounds.old }
 {
     let mut region = Region::with_capacity(alloc, rounds.plan().budget)?;
@@ -124,6 +129,9 @@ fn search_block(
     requires budget { region.old.capacity ≡ (instance_in rounds.old).plan.budget }
     ensures followed { IfOk result (λ entry. (history : History) → Follows history rounds.old
         → IsDue (instance_in rounds.old) history (Due.Search leader) → Follows (entry ∷ history) rounds.new) }
+    ensures given_up { IfOk result (λ entry. (history : History) → Follows history rounds.old
+        → IsDue (instance_in rounds.old) history (Due.Search leader)
+        → IsGivenUpByNeed (instance_in rounds.old) history entry) }
     ensures short { IfOk result HasShortLog }
     ensures fewer { IfOk result (λ _. steps_left rounds.new < steps_left rounds.old) }
     ensures instance { instance_in rounds.new ≡ instance_in rounds.old }
@@ -145,6 +153,8 @@ fn search_graph(
 ) -> Result<Entry, AllocError>
     requires { region.old.capacity ≡ plan.now.budget }
     ensures searched { IfOk result (IsSearched graph.now plan.now) }
+    ensures given_up { IfOk result (λ entry.
+        IsGivenUp entry ↔ NeedExceeds graph.now plan.now.limits plan.now.budget) }
     ensures short { IfOk result HasShortLog }
     ensures leader { IfOk result (λ entry. leader_of entry ≡ leader) }
     ensures budget { region.new.capacity ≡ region.old.capacity }

@@ -212,7 +212,8 @@ impl<'a> Rounds<'a> {
         self.profile.entries(self.blocks[self.place()].leader)
     }
 
-    /// The cut whose take is due, if one is.
+    /// The cut of the candidate that goes first, if there is one: the cut whose take is due, where a take is due. There
+    /// may be one too where a search is due, or the end since there are as many units as the plan allows.
     pub fn cut(&self) -> Option<Row>
         ensures { (history : History) (leader unit : ℕ) → Follows history self.now
             → IsDue (instance_in self.now) history (Due.Take leader unit)

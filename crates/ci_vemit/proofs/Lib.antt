@@ -9,7 +9,8 @@ mod WrittenPhrases
 mod NameLaws
 mod SpeltExpressions
 mod SpeltModules
-mod UnitTexts
+pub mod UnitTexts
+pub mod TextBounds
 mod Rows
 pub mod BuildingLaws
 mod TemplateRows

@@ -1,4 +1,4 @@
-use Rattle.std.proofs.Common.{◌≡◌, List, [], ◌∷◌, ◌++◌, reverse, sym, ap, ◌∙◌, subst}
+use Rattle.std.proofs.Common.{◌≡◌, true≢false, List, [], ◌∷◌, ◌++◌, reverse, sym, ap, ◌∙◌, subst}
 use Rattle.std.proofs.lemmas.List.{reverse-append}
 use Rattle.std.specs.List.{AllByRecursion}
 use Rattle.ci_region.specs.BoundedMap.{BoundedMap}
@@ -14,6 +14,7 @@ use Rattle.ci_select.specs.Histories.{History}
 use Rattle.ci_select.specs.Instances.{Instance}
 use Rattle.ci_select.specs.Dues.{IsDue}
 use Rattle.ci_select.specs.LegalBooks.{HasShortLog, IsLegal}
+use Rattle.ci_select.specs.GivenUp.{IsGivenUpByNeed, GivesUpByNeed}
 use Rattle.ci_select.specs.Followed.{Follows, instance_in}
 use Rattle.ci_select.proofs.BookLaws.{legal_books_are_books}
 use Rattle.ci_select.proofs.EntryLists.{all_and_one}
@@ -22,13 +23,26 @@ use Rattle.ci_select.proofs.choosing.book_of.Goals as goal
 -- ---- the loop
 
 -- an entry that is put at the end is the newest one
+newest :
+    (entries longer : List Entry) (entry : Entry) → longer ≡ entries ++ entry ∷ [] → reverse longer ≡ entry ∷ reverse entries
+newest entries longer entry pushed = ap reverse pushed ∙ reverse-append entries (entry ∷ [])
+
+-- which the rounds follow,
 followed :
     (entries longer : List Entry) (entry : Entry) (rounds : Rounds) → longer ≡ entries ++ entry ∷ []
     → Follows (entry ∷ reverse entries) rounds → Follows (reverse longer) rounds
 followed entries longer entry rounds pushed follows =
-    subst (λ (history : History). Follows history rounds) (sym (ap reverse pushed ∙ reverse-append entries (entry ∷ []))) follows
+    subst (λ (history : History). Follows history rounds) (sym (newest entries longer entry pushed)) follows
 
--- and all logs are short then
+-- and each search is given up exactly by need then,
+given_up_by_need :
+    {instance : Instance} (entries longer : List Entry) (entry : Entry) → longer ≡ entries ++ entry ∷ []
+    → GivesUpByNeed instance (reverse entries) → IsGivenUpByNeed instance (reverse entries) entry
+    → GivesUpByNeed instance (reverse longer)
+given_up_by_need {instance} entries longer entry pushed before one =
+    subst (GivesUpByNeed instance) (sym (newest entries longer entry pushed)) (one, before)
+
+-- and all logs are short
 short_logs :
     (entries longer : List Entry) (entry : Entry) → longer ≡ entries ++ entry ∷ [] → AllByRecursion HasShortLog entries
     → HasShortLog entry → AllByRecursion HasShortLog longer
@@ -41,6 +55,8 @@ loop-leader-init c = record {
   same = λ _. instance_in c.args.rounds.now;
   budget = ap (λ (region : BoundedMap LogNode). region.capacity) c.in_ok-region.ensures ∙ ap (λ (plan : Plan). plan.budget) c.plan.ensures;
   short = subst (AllByRecursion HasShortLog) (sym c.new-entries.ensures.items) tt;
+  given_up = subst (λ (entries : List Entry). GivesUpByNeed (instance_in c.args.rounds.now) (reverse entries))
+      (sym c.new-entries.ensures.items) tt;
 }
 
 pub due-requires : goal.due-requires
@@ -76,6 +92,9 @@ loop-leader-preserved-in_ok-push-in-Search c =
       same = c.search_block.ensures.instance ∙ was.same;
       budget = c.search_block.ensures.budget ∙ was.budget;
       short = short_logs entries c.push.new.self.items c.in_ok-search_block-in-Search.field-0 pushed was.short done.short;
+      given_up = given_up_by_need entries c.push.new.self.items c.in_ok-search_block-in-Search.field-0 pushed was.given_up
+          (subst (λ (instance : Instance). IsGivenUpByNeed instance (reverse entries) c.in_ok-search_block-in-Search.field-0)
+          was.same (done.given_up (reverse entries) was.follows (c.in-Search.ensures (reverse entries) was.follows)));
     }
 
 pub returns-in_err-push-in-Search-clause-instance : goal.returns-in_err-push-in-Search-clause-instance
@@ -108,6 +127,8 @@ loop-leader-preserved c =
       same = c.follow_take.ensures.instance ∙ was.same;
       budget = was.budget;
       short = short_logs entries c.push-in-Take.new.self.items entry pushed was.short tt;
+      given_up = given_up_by_need entries c.push-in-Take.new.self.items entry pushed was.given_up
+          (λ insns search present. absurd (true≢false search));
     }
 
 pub returns-in_err-push-in-Take-clause-instance : goal.returns-in_err-push-in-Take-clause-instance
@@ -141,6 +162,11 @@ returns-in-End-clause-legal c =
 pub returns-in-End-clause-followed : goal.returns-in-End-clause-followed
 returns-in-End-clause-followed c =
     subst (λ (book : Book). Follows (reverse book.entries) c.loop-leader.rounds) (sym c.new.ensures) c.loop-leader.invariant.follows
+
+pub returns-in-End-clause-given_up : goal.returns-in-End-clause-given_up
+returns-in-End-clause-given_up c =
+    subst (λ (book : Book). GivesUpByNeed (instance_in c.args.rounds.now) (reverse book.entries)) (sym c.new.ensures)
+    c.loop-leader.invariant.given_up
 
 pub returns-in-End-clause-instance : goal.returns-in-End-clause-instance
 returns-in-End-clause-instance c = c.loop-leader.invariant.same
