@@ -1,0 +1,6 @@
+pub mod WholeRuns
+pub mod FoldedFiles
+pub mod Laws
+pub mod Fronts
+pub mod Crossings
+pub mod CrossedFiles
