@@ -1,0 +1,4 @@
+pub mod TakenSavings
+pub mod UnitModules
+pub mod TakenFolds
+pub mod ChosenFileLaws
