@@ -1,0 +1,5 @@
+mod StateLaws
+mod PushLaws
+mod OperationLaws
+mod InstructionLaws
+pub mod ProgramLaws

@@ -1,0 +1,4 @@
+pub mod Draws
+pub mod Texts
+pub mod Programs
+pub mod Pushed
