@@ -1,7 +1,7 @@
 # shellcheck shell=bash disable=SC2034
 # Made by checks/usage.py from docs/usage.txt: the words of each command, for script/explain.sh.
 
-commands='find check best blocks run eval asm dis'
+commands='find check best blocks run eval load asm dis'
 # The words behind a command, in order; its options; and those that must stand.
 declare -A words_of=(
     [find]='OLD NEW UNITS LOGS REPORT'
@@ -10,6 +10,7 @@ declare -A words_of=(
     [blocks]='FILE'
     [run]='FILE'
     [eval]='UNITS K A B C'
+    [load]='SEED'
     [asm]='TEXT OUT'
     [dis]='FILE'
 )
@@ -20,6 +21,7 @@ declare -A options_of=(
     [blocks]='leader'
     [run]='steps units input table'
     [eval]=''
+    [load]=''
     [asm]=''
     [dis]=''
 )
@@ -30,6 +32,7 @@ declare -A needed_of=(
     [blocks]=''
     [run]=''
     [eval]=''
+    [load]=''
     [asm]=''
     [dis]=''
 )
@@ -45,6 +48,7 @@ declare -A kind_of=(
     [units]='file'
     [input]='file'
     [table]='file'
+    [SEED]='number'
     [K]='number'
     [A]='address'
     [B]='address'
@@ -64,6 +68,7 @@ declare -A least_of=(
     [count]='1'
     [budget]='1'
     [steps]='1'
+    [SEED]='0'
     [K]='0'
 )
 declare -A greatest_of=(
@@ -72,6 +77,7 @@ declare -A greatest_of=(
     [count]='32'
     [budget]='4194304'
     [steps]='4294967296'
+    [SEED]='4294967295'
     [K]='31'
 )
 # The options that may stand more than once.

@@ -1,5 +1,5 @@
 -- The settings of a choice, as words say them: the numbers are in their ranges, and there is one plan of the limits.
-use Rattle.std.proofs.Common.{◌≡◌, ◌≤◌, ◌∙◌, ℕ, inl, inr, Bool, List, Option, Result, Ok, Err, IfOk, refl, sym, subst}
+use Rattle.std.proofs.Common.{ℕ, inl, inr, Bool, List, Option, Result, Ok, Err, IfOk, refl}
 use Rattle.std.specs.Prelude.{IfErr}
 use Rattle.ci_io.specs.Outcomes.{Files, ShelfState}
 use Rattle.ci_select.specs.declared.plan.Plan.{Plan}

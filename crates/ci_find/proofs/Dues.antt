@@ -4,7 +4,7 @@ use Rattle.ci_io.specs.Outcomes.{Files}
 use Rattle.ci_select.specs.declared.plan.Plan.{Plan}
 use Rattle.ci_words.specs.Words.{Reading, ReadsAs, HasNoReading, number_at, word_at, name_set, number_set, word_set, words_set}
 use Rattle.ci_words.specs.declared.tables.CommandName.{CommandName}
-use Rattle.ci_words.specs.declared.tables.CommandName.TheVariants.{Best, Asm, Dis, Run, Blocks, Eval, Find, Check}
+use Rattle.ci_words.specs.declared.tables.CommandName.TheVariants.{Best, Asm, Dis, Run, Blocks, Eval, Find, Check, Load}
 use Rattle.ci_words.specs.declared.tables.OptionName.TheVariants as option
 use Rattle.ci_words.proofs.Readings.{one_reading}
 use Rattle.ci_calls.specs.declared.refusals.Refusal.{Refusal}
@@ -56,6 +56,7 @@ made_or_refused Find reading read success refusal made is =
 made_or_refused Check reading read success refusal made is =
     check_or_refused (settings_of reading made.0) read success refusal made.2
     (checked_by reading read refusal made.0 made.1 is)
+made_or_refused Load reading read success refusal made is = is
 
 -- it is refused with one status
 refused_once : (command : CommandName) (reading : Reading) (read : List (List ℕ)) (first second : Refusal)
@@ -76,6 +77,7 @@ refused_once Find reading read first second a b =
     find_refused_once (settings_of reading a.0) read first second a.2 (found_by reading read second a.0 a.1 b)
 refused_once Check reading read first second a b =
     check_refused_once (settings_of reading a.0) read first second a.2 (checked_by reading read second a.0 a.1 b)
+refused_once Load reading read first second a b = absurd a
 
 -- ---- one status is due
 

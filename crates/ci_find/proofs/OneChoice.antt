@@ -1,5 +1,5 @@
 -- Of what a choice is made, or accepted, nothing is refused; and files are refused with one status.
-use Rattle.std.proofs.Common.{◌≡◌, ◌∙◌, ℕ, ◌≤◌, List, [], ◌∷◌, refl, sym, subst}
+use Rattle.std.proofs.Common.{◌≡◌, ◌∙◌, ℕ, ◌≤◌, List, ◌∷◌, refl, sym, subst}
 use Rattle.std.proofs.Math.Bridge.{le_prop}
 use Rattle.std.proofs.Math.Path.{PathP, to_path_p}
 use Rattle.ci_block.proofs.BlockLaws.{blocks_in_order}
@@ -134,18 +134,25 @@ check_moved {settings} {read} {refusal} left right is =
     let same = same_parts right left in
     subst (λ T. T) (λ i. Unprofiled settings (same.0 i) (same.4 i) refusal) is
 
--- of files that are accepted nothing is refused
+-- of files that are acceptable nothing is refused
+pub acceptable_or_refused : (settings : Settings) (read : List (List ℕ)) (refusal : Refusal) (held : CheckFiles read)
+    (profiled : Profiled settings held.executable held.others)
+    → IsAcceptable (instance_by profiled) profiled.files.file held.book held.modules held.new_bytes
+    → IsCheckRefused settings read refusal → ⊥
+acceptable_or_refused settings read refusal held choice accepted (unprofiled files run is) =
+    profiled_or_not choice (check_moved held files (run, is))
+acceptable_or_refused settings read refusal held choice accepted (rejected {round} {leader} {item} {reason} files profiled wrong) =
+    let same = same_parts files held in
+    accepted_or_rejected choice held.book held.modules held.new_bytes round leader item reason accepted
+    (subst (λ T. T)
+    (λ i. Rejects settings (same.0 i) (same.4 i) (same_book files held i) (same_modules files held i) (same.1 i)
+    (place round leader item reason)) (profiled, wrong))
+
+-- so it is of files that are accepted
 pub check_or_refused : (settings : Settings) (read : List (List ℕ)) (success : Success) (refusal : Refusal)
     → IsCheckMade settings read success → IsCheckRefused settings read refusal → ⊥
-check_or_refused settings read success refusal made (unprofiled files run is) =
-    profiled_or_not made.profiled (check_moved made.files files (run, is))
-check_or_refused settings read success refusal made (rejected {round} {leader} {item} {reason} files profiled wrong) =
-    let same = same_parts files made.files in
-    accepted_or_rejected made.profiled made.files.book made.files.modules made.files.new_bytes round leader item reason
-    made.accepted
-    (subst (λ T. T)
-    (λ i. Rejects settings (same.0 i) (same.4 i) (same_book files made.files i) (same_modules files made.files i)
-    (same.1 i) (place round leader item reason)) (profiled, wrong))
+check_or_refused settings read success refusal made is =
+    acceptable_or_refused settings read refusal made.files made.profiled made.accepted is
 
 -- others are refused with one status
 pub check_refused_once : (settings : Settings) (read : List (List ℕ)) (first second : Refusal)

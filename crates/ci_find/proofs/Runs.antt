@@ -45,7 +45,7 @@ module _ (words : List (List ℕ)) (change : Change) where
 -- ---- what is due comes
 
 -- a success that is due ends with its own status, or as a write or a put that failed does
-finished-answers : (words : List (List ℕ)) (change : Change) (success : Success) (due status : ℕ) → due ≡ 0
+pub finished-answers : (words : List (List ℕ)) (change : Change) (success : Success) (due status : ℕ) → due ≡ 0
     → Finishes change success status → IsAnswered change due status
 finished-answers words change success due status zero (done written took) = inl (sym zero)
 finished-answers words change success due status zero (write_fault fault) = inr (inr (inr (refl, zero, inl fault.counted)))

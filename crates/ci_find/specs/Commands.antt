@@ -4,7 +4,7 @@ use Rattle.std.specs.Prelude.{◌≡◌, ℕ, List, [], ◌∷◌}
 use Rattle.ci_cut.specs.declared.graph.Limits.{Limits}
 use Rattle.ci_words.specs.Words.{Reading, name_at, number_at, word_at, name_set, number_set, word_set, words_set}
 use Rattle.ci_words.specs.declared.tables.CommandName.{CommandName}
-use Rattle.ci_words.specs.declared.tables.CommandName.TheVariants.{Best, Asm, Dis, Run, Blocks, Eval, Find, Check}
+use Rattle.ci_words.specs.declared.tables.CommandName.TheVariants.{Best, Asm, Dis, Run, Blocks, Eval, Find, Check, Load}
 use Rattle.ci_words.specs.declared.tables.OptionName.TheVariants as option
 use Rattle.ci_calls.specs.declared.refusals.Refusal.{Refusal}
 use Rattle.ci_calls.specs.declared.success.Success.{Success}
@@ -19,6 +19,7 @@ use Rattle.ci_commands.specs.EvalCommand.{eval_inputs, IsEvalMade, IsEvalRefused
 use Rattle.ci_select.specs.declared.plan.Plan.{Plan}
 use Rattle.ci_find.specs.Profiled.{Settings}
 use Rattle.ci_find.specs.FindCommand.{FindNames, find_inputs, IsFindMade, IsFindRefused}
+use Rattle.ci_find.specs.LoadCommand.{IsLoadMade}
 use Rattle.ci_find.specs.CheckCommand.{CheckNames, check_inputs, IsCheckMade, IsCheckRefused}
 
 -- what a call of a command is: the files that it reads, in order; what it makes of their bytes; and what it refuses of
@@ -118,6 +119,11 @@ call_by Check reading = record {
       (plan : Plan) × IsPlanOf reading plan × IsCheckMade (settings_of reading plan) read success;
   Refuses = λ read refusal.
       (plan : Plan) × IsPlanOf reading plan × IsCheckRefused (settings_of reading plan) read refusal;
+}
+call_by Load reading = record {
+  inputs = [];
+  Makes = IsLoadMade (number_at reading 0);
+  Refuses = RefusesNothing;
 }
 
 abbrev pub inputs_by : CommandName → Reading → List Input

@@ -7,6 +7,8 @@ use Rattle.ci_emu.specs.declared.profile.Profile.{Profile}
 use Rattle.ci_log.specs.declared.book.Entry.{Entry}
 use Rattle.ci_log.specs.declared.book.Entry.TheVariants.{Spent}
 use Rattle.ci_log.specs.Books.{Book, Spells}
+use Rattle.ci_machine.specs.Words.{AreBytes}
+use Rattle.ci_unit.specs.Tables.{IsTable}
 use Rattle.ci_unit.specs.Units.{Unit}
 use Rattle.ci_vemit.specs.Templates.{modules_of}
 use Rattle.ci_vemit.specs.Texts.{text_of}
@@ -15,6 +17,7 @@ use Rattle.ci_select.specs.Instances.{Instance}
 use Rattle.ci_select.specs.UnitNumbers.{AreUnits}
 use Rattle.ci_select.specs.Savings.{IsSaved}
 use Rattle.ci_select.specs.LegalBooks.{IsLegal}
+use Rattle.ci_select.specs.GivenUp.{GivesUpByNeed}
 use Rattle.ci_select.specs.NewFiles.{IsNewFile}
 use Rattle.ci_report.specs.Reports.{IsReport}
 use Rattle.ci_calls.specs.declared.refusals.Refusal.{Refusal}
@@ -40,17 +43,20 @@ is_spent (Spent leader budget) = true
 is_spent entry = false
 
 -- how many cuts were taken, how many units they have, how many searches were given up, and the cycles that are saved
+abbrev pub summary : List Entry → List Unit → ℕ → List ℕ
+summary entries units saved =
+    codes "cuts " ++ decimal (length (filter is_take entries)) ++ codes " units " ++ decimal (length units)
+    ++ codes " skipped " ++ decimal (length (filter is_spent entries)) ++ codes " gain " ++ decimal saved
+
 abbrev pub summary_line : List Entry → List Unit → ℕ → List ℕ
-summary_line entries units saved =
-    line (codes "cuts " ++ decimal (length (filter is_take entries)) ++ codes " units " ++ decimal (length units)
-    ++ codes " skipped " ++ decimal (length (filter is_spent entries)) ++ codes " gain " ++ decimal saved)
+summary_line entries units saved = line (summary entries units saved)
 
 -- a file that is written: its name and its bytes
 abbrev pub written : Written → List ℕ × List ℕ
 written file = (file.name.now, file.bytes.items)
 
--- There is a legal book of the instance. Its units, its text, its report and its new file are written, in this order,
--- and the line of its numbers is put.
+-- There is a legal book of the instance, in which each search was given up exactly by need. Its units, its text, its report and its new file are written, in this order,
+-- and the line of its numbers is put. The file and the new one are of bytes.
 pub record IsChoice (instance : Instance) (profile : Profile) (file : Executable) (names : FindNames)
     (success : Success) : Type 0 where
   pub book : Book
@@ -60,11 +66,15 @@ pub record IsChoice (instance : Instance) (profile : Profile) (file : Executable
   pub report_text : List ℕ
   pub new_bytes : List ℕ
   pub legal : IsLegal instance book
+  pub given_up : GivesUpByNeed instance (reverse book.entries)
   pub units_are : AreUnits instance (reverse book.entries) units
+  pub units_keep : IsTable units
   pub saved_is : IsSaved instance (reverse book.entries) saved
   pub logs_are : Spells logs_text book
   pub report_is : IsReport instance profile book report_text
   pub new_is : IsNewFile instance file (reverse book.entries) new_bytes
+  pub file_of_bytes : AreBytes file.bytes
+  pub new_of_bytes : AreBytes new_bytes
   pub writes_are :
       map written success.writes.items
       ≡ (names.units, text_of (modules_of units)) ∷ (names.logs, logs_text) ∷ (names.report, report_text)

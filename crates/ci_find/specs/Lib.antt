@@ -1,8 +1,11 @@
 pub mod Profiled
 pub mod FindCommand
 pub mod CheckCommand
+pub mod LoadCommand
 pub mod Commands
 pub mod Endings
+pub mod Headline
+pub mod Laws
 pub mod Explained
 pub mod Unprofiled
 pub mod Chosen

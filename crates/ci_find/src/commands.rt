@@ -1,5 +1,5 @@
 //! Which command the words mean, and what it makes of its files, or why it makes nothing.
-ghost use Rattle.std.specs.Prelude.{◌≡◌, IfOk, IfErr, map};
+ghost use Rattle.std.specs.Prelude.{◌≡◌, ℕ, Bool, List, Option, IfOk, IfErr, map};
 ghost use Rattle.std.specs.String.{string_bytes};
 ghost use Rattle.ci_words.specs.Ranges.{KeepsRanges, KeepsPlaces};
 ghost use Rattle.ci_words.specs.Read.{reading_of};
@@ -11,10 +11,12 @@ ghost use Rattle.ci_find.specs.Commands.{inputs_by, settings_of, IsPlanOf, Makes
 ghost use Rattle.ci_find.specs.Chosen.{settings_by, KeepsChoiceRanges};
 ghost use Rattle.ci_find.specs.Endings.{IsDone};
 ghost use Rattle.ci_find.specs.Explained.{Explains};
+ghost use Rattle.ci_io.specs.Outcomes.{Files, ShelfState};
 
 use crate::check::{self, CheckNames};
 use crate::choice::ChoiceSettings;
 use crate::find::{self, FindNames};
+use crate::load;
 use ci_calls::{Refusal, Success};
 use ci_commands::best::BestSettings;
 use ci_commands::run::RunSettings;
@@ -73,6 +75,7 @@ fn evaluate_command<'a, F: Shelf>(
         CommandName::Eval => evaluate_eval(alloc, words, shelf),
         CommandName::Find => evaluate_find(alloc, words, shelf),
         CommandName::Check => evaluate_check(alloc, words, shelf),
+        CommandName::Load => evaluate_load(alloc, words),
     }
 }
 
@@ -195,6 +198,19 @@ fn evaluate_check<'a, F: Shelf>(
     };
     let settings = choice_settings(words, leaders.as_slice());
     check::evaluate(alloc, words.name_at(0), &names, &settings, shelf)
+}
+
+/// What `load` makes of the seed that the words say.
+fn evaluate_load<'a>(alloc: Global, words: &Words<'a>) -> Result<Success<'a>, Refusal<'a>>
+    requires { KeepsPlaces CommandName.Load (reading_of words.now) }
+    ensures made { (told : Option Files) → IfOk result (Evaluates told
+        (inputs_by CommandName.Load (reading_of words.now)) (MakesBy CommandName.Load (reading_of words.now))) }
+    ensures refused { (may_fail : List ℕ → Bool) (before after : ShelfState)
+        → IfErr result (IsRefusedBy may_fail before after
+        (inputs_by CommandName.Load (reading_of words.now)) (RefusesBy CommandName.Load (reading_of words.now))) }
+{
+    let seed = words.number_at(0) as u32;
+    Ok(load::evaluate(alloc, seed)?)
 }
 
 /// The settings of a choice that the words of `find` or `check` say.

@@ -6,7 +6,7 @@ ghost use Rattle.ci_machine.specs.Words.{AreBytes};
 ghost use Rattle.ci_calls.specs.Evaluations.{Evaluates};
 ghost use Rattle.ci_calls.specs.Refused.{name_in, IsRefusedBy};
 ghost use Rattle.ci_find.specs.Profiled.{IsProfiled};
-ghost use Rattle.ci_find.specs.FindCommand.{find_inputs, is_spent, summary_line, IsChoice, IsFindMade, IsFindRefused};
+ghost use Rattle.ci_find.specs.FindCommand.{find_inputs, is_spent, summary, IsChoice, IsFindMade, IsFindRefused};
 ghost use Rattle.ci_find.specs.Chosen.{instance_from, names_of, settings_by};
 ghost use Rattle.ci_select.specs.Histories.{is_take};
 
@@ -82,10 +82,14 @@ fn success_of<'a>(
     let (blocks, live) = (&analysis.blocks, &analysis.live);
     bytes_are_small(image.bytes());
     let chosen = choose(alloc, image, profile, blocks, live, table, plan)?;
+    bytes_are_small(chosen.image.bytes());
     let report = report(alloc, profile, blocks, live, table, plan, &chosen)?;
+    // What a table of units keeps is known where they are read.
+    let _units = chosen.units.as_slice();
     let units = emit(alloc, &chosen.units)?;
     let logs = ci_log::write(alloc, &chosen.book)?;
-    let text = summary_line(alloc, &chosen)?;
+    let mut text = summary(alloc, &chosen)?;
+    text.push('\n')?;
     let mut writes = Vec::with_capacity(alloc, 4)?;
     writes.push(Written {
         name: names.units,
@@ -115,9 +119,9 @@ fn bytes_are_small(bytes: &[u8])
 {}
 
 /// How many cuts were taken, how many units they have, how many searches were given up, and the cycles that are saved.
-fn summary_line(alloc: Global, chosen: &Chosen) -> Result<String, AllocError>
+pub(crate) fn summary(alloc: Global, chosen: &Chosen) -> Result<String, AllocError>
     ensures { IfOk result (λ text. string_bytes text
-        ≡ summary_line chosen.now.book.entries chosen.now.units chosen.now.saved) }
+        ≡ summary chosen.now.book.entries chosen.now.units chosen.now.saved) }
 {
     let entries = chosen.book.entries();
     let (cuts, skipped) = (takes(entries), skips(entries));
@@ -126,7 +130,7 @@ fn summary_line(alloc: Global, chosen: &Chosen) -> Result<String, AllocError>
     let mut text = format!(in alloc; "cuts {cuts}")?;
     write!(text, " units {units}")?;
     write!(text, " skipped {skipped}")?;
-    writeln!(text, " gain {saved}")?;
+    write!(text, " gain {saved}")?;
     Ok(text)
 }
 

@@ -6,16 +6,20 @@ ghost use Rattle.std.specs.String.{string_bytes};
 ghost use Rattle.ci_calls.specs.Finishing.{changed};
 ghost use Rattle.ci_find.specs.Endings.{Ends, IsDue, IsAnswered};
 ghost use Rattle.ci_find.specs.Endings.{HasNoRefusal, HasNoFault, AreLeft, HasPrinted};
+ghost use Rattle.ci_find.specs.Headline.{AreChosen};
 
 use ci_calls::{finish, refuse};
 use ci_io::{Shelf, Sink};
 use commands::evaluate;
+pub use laws::{check_accepts_choices, choices_tell_the_best};
 use std::alloc::Global;
 
 mod check;
 mod choice;
 mod commands;
 mod find;
+mod laws;
+mod load;
 #[cfg(test)]
 mod tests;
 
@@ -34,13 +38,15 @@ mod tests;
 ///   do what the modules of UNITS compute, and take their cycles.
 /// - `asm TEXT OUT`: writes the words that TEXT assembles to, the lowest byte of each first, to OUT. It puts nothing.
 /// - `dis FILE`: puts a line for each whole word of FILE.
-///
+/// - `eval UNITS K A B C`: puts a line with the results y and z of module K of UNITS at the words A, B and C.
 /// - `find OLD NEW UNITS LOGS REPORT`, with the options `--in N`, `--out N`, `--count N`, `--budget N`, `--steps N`,
 ///   `--table FILE`, `--input FILE` and `--leader ADDR`: chooses cuts of the basic blocks of the executable OLD, by a run
 ///   of it. It writes the modules of their units to UNITS, the log book of the choice to LOGS, its report to REPORT and
 ///   the executable that uses the units to NEW, in this order, and then puts a line of numbers.
 /// - `check OLD NEW UNITS LOGS`, with the same options: puts `accepted` where NEW, UNITS and LOGS are those of such a
 ///   choice.
+/// - `load SEED`: makes the program of the seed, runs it, chooses cuts of its blocks by the default options, runs the
+///   program that uses their units, and puts a line of numbers and the output. It reads and writes no file.
 ///
 /// Files are read in the order that the words have them, then units, table, input, each with its limit and its form
 /// tested before the next; only what gives status 7, 8 or 11 is tested once all are read. Every refusal puts one fault
@@ -87,6 +93,12 @@ pub fn run<F: Shelf, O: Sink>(alloc: Global, words: &Vec<String>, shelf: &mut F,
         (changed F.read_may_fail F.write_may_fail
         (F.state shelf.old) (F.state shelf.new) (O.state out.old) (O.state out.new))
         result }
+    // Where `find` succeeds, the new executable with the modules of the units runs as the old one does, wherever that is
+    // tame, each unit computes the operations of its cut, and each cut that was taken is the best of its block as that
+    // stood then.
+    ensures headline { result ≡ 0
+        → AreChosen (map string_bytes words.now.items) (F.state shelf.old).files (F.state shelf.new).files
+        (O.state out.old) (O.state out.new) }
     // Where nothing is refused and nothing fails, the call succeeds, or memory runs out.
     ensures complete { HasNoRefusal (F.state shelf.old).files (map string_bytes words.now.items)
         → HasNoFault

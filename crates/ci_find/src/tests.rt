@@ -359,6 +359,8 @@ fn a_write_that_fails(rt: HostRuntime) -> Result<(), Fail> {
 }
 
 mod analyses;
+mod choices;
 mod extended;
+mod load;
 mod runs;
 mod units;

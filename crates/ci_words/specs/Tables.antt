@@ -2,7 +2,7 @@
 use Rattle.std.specs.Prelude.{ℕ, Bool, true, false, List, [], ◌∷◌, codes}
 use Rattle.ci_words.specs.declared.tables.Access.TheVariants.{Reads, Writes}
 use Rattle.ci_words.specs.declared.tables.CommandName.{CommandName}
-use Rattle.ci_words.specs.declared.tables.CommandName.TheVariants.{Best, Asm, Dis, Run, Blocks, Eval, Find, Check}
+use Rattle.ci_words.specs.declared.tables.CommandName.TheVariants.{Best, Asm, Dis, Run, Blocks, Eval, Find, Check, Load}
 use Rattle.ci_words.specs.declared.tables.DefaultValue.{DefaultValue}
 use Rattle.ci_words.specs.declared.tables.DefaultValue.TheVariants as default
 use Rattle.ci_words.specs.declared.tables.Kind.{Kind}
@@ -85,4 +85,5 @@ commands =
     ∷ command_of (codes "find") Find
     (File Reads ∷ File Writes ∷ File Writes ∷ File Writes ∷ File Writes ∷ []) choice
     ∷ command_of (codes "check") Check (File Reads ∷ File Reads ∷ File Reads ∷ File Reads ∷ []) choice
+    ∷ command_of (codes "load") Load (Number 0 4294967295 ∷ []) []
     ∷ []

@@ -19,6 +19,8 @@ pub enum CommandName {
     Find,
     /// `check`
     Check,
+    /// `load`
+    Load,
 }
 
 /// The options by name.
@@ -105,6 +107,12 @@ const WRITTEN: Kind = Kind::File(Access::Writes);
 const MODULE: Kind = Kind::Number {
     minimum: 0,
     maximum: 31,
+};
+
+/// The seed of a generated program.
+const SEED: Kind = Kind::Number {
+    minimum: 0,
+    maximum: 4_294_967_295,
 };
 
 const IN: NamedOption<'static> = (
@@ -276,4 +284,5 @@ pub const COMMANDS: &[CommandRow<'static>] = &[
         &[READ, READ, READ, READ],
         CHOICE,
     ),
+    ("load", CommandName::Load, &[SEED], &[]),
 ];

@@ -134,6 +134,10 @@ fn said_shown(alloc: Global, said: &Words) -> Result<String, AllocError> {
         CommandName::Eval => eval_shown(alloc, said),
         CommandName::Find => choice_shown(alloc, said, "find", 5),
         CommandName::Check => choice_shown(alloc, said, "check", 4),
+        CommandName::Load => {
+            let seed = said.number_at(0);
+            format!(in alloc; "load {seed}")
+        }
     }
 }
 
@@ -211,6 +215,8 @@ fn words_with_no_reading(rt: HostRuntime) -> Result<(), Fail> {
     expect(&rt, "best F --help", "none")?;
     expect(&rt, "best F -h", "none")?;
     expect(&rt, "best help", "best help 3 2 -")?;
+    expect(&rt, "load 007", "load 7")?;
+    expect(&rt, "load 4294967296", "none")?;
     Ok(())
 }
 

@@ -1,5 +1,5 @@
 -- The table and the input, or the first of them that is not read.
-use Rattle.std.proofs.Common.{◌≡◌, ◌++◌, List, [], Option, append-nil, subst}
+use Rattle.std.proofs.Common.{[], Option, append-nil, subst}
 use Rattle.std.proofs.lemmas.Result.{err_from_is_err_and}
 use Rattle.ci_io.specs.Outcomes.{Files}
 use Rattle.ci_calls.specs.Files.{table_input, program_input, optional_input, optional_bytes}
