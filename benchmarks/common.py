@@ -17,7 +17,8 @@ PATIENCE = 120
 HERE = os.path.dirname(os.path.abspath(__file__))
 TOP = os.path.join(HERE, "..")
 sys.path.insert(0, os.path.join(TOP, "checks"))
-import executable  # noqa: E402, F401  (it stands in another folder)
+import shared  # noqa: E402, F401  (these stand in other folders)
+import executable  # noqa: E402, F401
 
 # The compilers, each with the Debian package that has it.
 CROSS, HOST = "riscv64-unknown-elf-gcc", "gcc"

@@ -1,6 +1,6 @@
 """A naive reading of what leaders, blocks and live registers are, by sets of addresses and of registers. It shares
 nothing with the program, so that the checks can compare the two."""
-from instructions import ends_block, mnemonic, offset, reads, writes
+from instructions import ends_block, mnemonic, reads, ways, writes
 
 LONGEST = 256
 CUSTOM_OPCODES = (0x0B, 0x2B)
@@ -19,15 +19,7 @@ class Text:
 
     def ways(self, address):
         """Where the instruction at an address may lead, but for a JALR, which may lead to any leader."""
-        word = self.words[address]
-        name = mnemonic(word)
-        if name == "jal":
-            return {address + offset(word)}
-        if name in (None, "ebreak", "jalr"):
-            return set()
-        if word & 0x7F == 0x63:
-            return {address + offset(word), address + 4}
-        return {address + 4}
+        return ways(address, self.words[address])
 
     def data_words(self):
         """The values of the words that are loaded from the file and have no byte of the text."""

@@ -22,6 +22,7 @@ import subprocess
 import sys
 import tempfile
 
+import shared  # noqa: F401  (it lets the modules of views/ be imported)
 import executable
 from blocks import Text, live_sets
 from cuts import Graph, Search, Table, may_join

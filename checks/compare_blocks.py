@@ -19,6 +19,7 @@ import subprocess
 import sys
 import tempfile
 
+import shared  # noqa: F401  (it lets the modules of views/ be imported)
 import executable
 from blocks import LONGEST, Text, live_sets
 from instructions import ends_block

@@ -18,6 +18,7 @@ import subprocess
 import sys
 import tempfile
 
+import shared  # noqa: F401  (it lets the modules of views/ be imported)
 import executable
 
 HERE = os.path.dirname(os.path.abspath(__file__))

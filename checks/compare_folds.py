@@ -15,6 +15,7 @@ import subprocess
 import sys
 import tempfile
 
+import shared  # noqa: F401  (it lets the modules of views/ be imported)
 import compiled
 import executable
 from blocks import Text, live_sets

@@ -14,6 +14,7 @@ import subprocess
 import sys
 import tempfile
 
+import shared  # noqa: F401  (it lets the modules of views/ be imported)
 import compiled
 from made_units import HEADER
 

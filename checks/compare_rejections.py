@@ -14,6 +14,7 @@ import sys
 import tempfile
 from collections import Counter
 
+import shared  # noqa: F401  (it lets the modules of views/ be imported)
 import executable
 from choices import Choice, Plan, Profile, is_book, trees_of
 from cuts import Table

@@ -16,6 +16,7 @@ import subprocess
 import sys
 import tempfile
 
+import shared  # noqa: F401  (it lets the modules of views/ be imported)
 import units
 from made_units import Maker, some_unit, spell, unit_text
 from unit_rows import NAME, rows

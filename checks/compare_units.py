@@ -19,6 +19,7 @@ import subprocess
 import sys
 import tempfile
 
+import shared  # noqa: F401  (it lets the modules of views/ be imported)
 from cuts import Graph, Table, may_join
 from made_units import Maker, spell, unit_text
 from operations import ALU, IMMEDIATE, SHIFTS, WORDS, unit_of, with_registers

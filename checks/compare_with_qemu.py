@@ -22,6 +22,7 @@ import subprocess
 import sys
 import tempfile
 
+import shared  # noqa: F401  (it lets the modules of views/ be imported)
 import compiled
 import executable
 from instructions import ALL, mnemonic

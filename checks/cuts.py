@@ -4,16 +4,8 @@ checks can compare the two."""
 import itertools
 from collections import namedtuple
 
-from instructions import LOADS, STORES, ends_block, mnemonic, reads, writes
-
-# Of the instructions that may join: the key of the latency table, the names, the usual latency in cycles and the usual
-# delay in thousandths of a cycle.
-ROWS = (("add", "add sub addi", 1, 400), ("logic", "and or xor andi ori xori", 1, 100),
-        ("shift", "sll srl sra", 1, 300), ("shift_const", "slli srli srai", 1, 0),
-        ("compare", "slt sltu slti sltiu", 1, 400), ("lui", "lui", 1, 0), ("mul", "mul", 3, 2100),
-        ("mulh", "mulh mulhu mulhsu", 3, 2200))
-KEYS = {name: key for key, names, _, _ in ROWS for name in names.split()}
-MEMORY = {*LOADS.values(), *STORES.values()}
+from instructions import ends_block, mnemonic, reads, writes
+from latencies import KEYS, MEMORY, ROWS, may_join
 
 
 class Table:
@@ -21,8 +13,8 @@ class Table:
     folded block."""
 
     def __init__(self):
-        self.latencies = {key: latency for key, _, latency, _ in ROWS}
-        self.delays = {key: delay for key, _, _, delay in ROWS}
+        self.latencies = {row.key: row.latency for row in ROWS}
+        self.delays = {row.key: row.delay for row in ROWS}
         self.read, self.pad = 1, 0
 
     def text(self):
@@ -33,11 +25,6 @@ class Table:
 
     def is_usual(self):
         return vars(self) == vars(Table())
-
-
-def may_join(word):
-    """Whether an instruction may be a member of a cut."""
-    return mnemonic(word) in KEYS and writes(word) != set()
 
 
 # What is told of a set of nodes: whether it is convex; the sources that it reads from outside; the number of its

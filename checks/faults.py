@@ -15,13 +15,15 @@ import usage
 TOP = os.path.join(os.path.dirname(os.path.abspath(__file__)), "..")
 CHOICES = ["find", "check"]
 CALLS = ["best --at", *(command.name for command in usage.usage()[0])]
+# Those that read files.
+READERS = [call for call in CALLS if call != "load"]
 # What is printed behind `fault`, of which calls, with an example for each name that varies.
 LINES = {
     "1 usage": CALLS,
-    "2 read NAME": CALLS,
+    "2 read NAME": READERS,
     "3 write -": CALLS,
     "3 write NAME": ["asm", "find"],
-    "4 too large NAME": CALLS,
+    "4 too large NAME": READERS,
     **{f"5 elf {rule} A B": ["best --at", "blocks", "run", *CHOICES] for rule in range(1, 10)},
     **{f"6 table {rule}": ["best", "best --at", "run", *CHOICES] for rule in (1, 2)},
     **{f"6 table {rule} KEY": ["best", "best --at", "run", *CHOICES] for rule in (3, 4)},

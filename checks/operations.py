@@ -25,7 +25,7 @@ ALU = {
 IMMEDIATE = {"addi": "add", "slti": "slt", "sltiu": "sltu", "xori": "xor", "ori": "or", "andi": "and", "slli": "sll",
              "srli": "srl", "srai": "sra"}
 # The words of both forms by their names, with x0 and 0 in their fields.
-WORDS = {mnemonic(word): word for opcode in (0x13, 0x33) for funct7 in (0, 1, 0x20) for funct3 in range(8)
+WORDS = {mnemonic(word): word for opcode in (0x13, 0x33) for funct7 in (0x20, 1, 0) for funct3 in range(8)
          for word in [funct7 << 25 | funct3 << 12 | opcode] if mnemonic(word) in {*ALU, *IMMEDIATE}}
 SHIFTS = "slli", "srli", "srai"
 

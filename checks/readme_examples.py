@@ -1,5 +1,5 @@
 #!/usr/bin/env python3
-"""Runs the examples of README.md and docs/GUIDE.md, and compares what they print and how they end.
+"""Runs the examples of README.md, docs/GUIDE.md and docs/TUTORIAL.md, and compares what they print and how they end.
 
     readme_examples.py [PROGRAM]
 
@@ -9,8 +9,8 @@ repository, which builds the program if need be.
 An example is a fenced block marked `console`. Its lines that begin with `$ ` are commands, which go on behind a line
 that ends with a backslash, and the lines after each are what it prints on standard output. Every command has to end
 with status 0, unless the next command is `echo $?`. A block marked `c NAME` or `verilog NAME` is a file that later
-examples use. The blocks of a document are run in turn, each by one shell, in a folder that holds a copy of samples/ and
-what earlier blocks left. A block that needs a tool which is not there is skipped, with a line that says so, and so is
+examples use. The blocks of a document are run in turn, each by one shell, in a folder that holds a copy of samples/, a
+link to views/, and what earlier blocks left. A block that needs a tool which is not there is skipped, with a line that says so, and so is
 one that needs a file which a skipped block makes. Blocks in which GCC compiles take the version that the figures are
 of.
 """
@@ -23,13 +23,16 @@ import subprocess
 import sys
 import tempfile
 
+import viewing
 from compiled import compiler_lacks
 
 TOP = os.path.join(os.path.dirname(os.path.abspath(__file__)), "..")
-DOCUMENTS = ("README.md", "docs/GUIDE.md")
+DOCUMENTS = ("README.md", "docs/GUIDE.md", "docs/TUTORIAL.md")
 BUILT_IN = {"cd", "do", "done", "echo", "read", "while"}
 GCC, VERSION = "riscv64-unknown-elf-gcc", "12.2.0"
 LIMIT = 120
+# The views, and what some of them need.
+VIEWS, VIEW_TOOLS, VIEW_LIBRARIES = "views/", ("dot", "parallel"), ("jinja2", "matplotlib")
 
 
 class Command:
@@ -91,7 +94,8 @@ def made(commands):
 def missing(commands, lost):
     """What a block of examples needs that is not there: programs, GCC's version, and files that no block made."""
     names = set().union(*(tools(command.text) for command in commands)) - BUILT_IN
-    absent = sorted(name for name in names if not name.startswith("./") and not shutil.which(name))
+    absent = sorted(name for name in names if not name.startswith(("./", VIEWS)) and not shutil.which(name))
+    absent += viewing.absent(VIEW_TOOLS, VIEW_LIBRARIES) if any(name.startswith(VIEWS) for name in names) else []
     if GCC in names and GCC not in absent:
         version = subprocess.run([GCC, "-dumpfullversion"], check=True, capture_output=True, text=True).stdout.strip()
         absent += [] if version == VERSION else [f"version {VERSION} of {GCC}"]
@@ -106,8 +110,9 @@ def run(commands, folder):
     text = "status=0\n"
     for command in commands:
         text += f"(exit $status)\n{command.text}\nstatus=$?\nprintf '{mark} %d\\n' $status\n"
-    done = subprocess.run(["bash", "-c", text], cwd=folder, stdin=subprocess.DEVNULL, stdout=subprocess.PIPE,
-                          stderr=subprocess.DEVNULL, timeout=LIMIT, check=False)
+    environment = {**os.environ, "RUMTSAFI": os.path.join(folder, "rumtsafi")}
+    done = subprocess.run(["bash", "-c", text], cwd=folder, env=environment, stdin=subprocess.DEVNULL,
+                          stdout=subprocess.PIPE, stderr=subprocess.DEVNULL, timeout=LIMIT, check=False)
     output = done.stdout.decode("utf-8", errors="backslashreplace")
     return re.findall(rf"(.*?){mark} (\d+)\n", output, re.S)
 
@@ -158,6 +163,7 @@ def main():
         with tempfile.TemporaryDirectory() as folder:
             shutil.copytree(os.path.join(TOP, "samples"), os.path.join(folder, "samples"))
             os.symlink(program, os.path.join(folder, "rumtsafi"))
+            os.symlink(os.path.join(os.path.abspath(TOP), "views"), os.path.join(folder, "views"))
             count, faults = examples(document, folder)
             total, found = total + count, found + faults
     for fault in found:

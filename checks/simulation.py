@@ -4,6 +4,7 @@ import re
 import subprocess
 
 import units
+from corners import vectors  # noqa: F401  (the checks take it from here)
 from made_units import unit_text
 from operations import ALU, outputs
 
@@ -12,19 +13,10 @@ LIMIT = 120
 ICARUS, YOSYS, VERILATOR = "iverilog", "yosys", "verilator"
 # What Yosys does to all units, and to one of each operation, which it takes down to gates.
 ELABORATION, SYNTHESIS = "hierarchy -check; proc; opt_expr; opt_clean; check -assert", "synth -noabc; check -assert"
-BOUNDS = (0, 1, 31, 2 ** 31 - 1, 2 ** 31, 2 ** 32 - 1)
-RANDOM_VECTORS = 40
 # How many of the vectors `eval` is called with, for each module.
 CALLS = 2
 # What units ask for: several modules in one file, ports, wires and bits that nobody reads, and comparisons with 0.
 UNAVOIDABLE = "DECLFILENAME", "MULTITOP", "UNUSED", "UNSIGNED", "CMPCONST"
-
-
-def vectors(source):
-    """Words for a, b and c."""
-    some = [(a, b, source.choice(BOUNDS)) for a in BOUNDS for b in BOUNDS]
-    return some + [tuple(source.choice((source.choice(BOUNDS), source.getrandbits(5), source.getrandbits(32)))
-                         for _ in "abc") for _ in range(RANDOM_VECTORS)]
 
 
 class Texts:

@@ -36,7 +36,7 @@ rumtsafi area OLD --limit N [--in N]
   K             a number, 0 to 31
   A, B          words, as 0x and hex digits
 """
-COMMANDS = "there are: find check best blocks run eval asm dis"
+COMMANDS = "there are: find check best blocks run eval load asm dis"
 TOOLCHAIN = "kit of the tests"
 # What a call of the script asks of `rt`, with the folder that it does so in.
 BUILDS = ["a clone all check --jobs N", "ci_main run -- dis /dev/null"]

@@ -17,14 +17,14 @@ def header(entry, headers, sections):
         "<HHIIIIIHHHHHH", 2, 243, 1, entry, headers[0], sections[0], 0, 52, 32, headers[1], 40, sections[1], 0)
 
 
-def load(offset, address, file_size, size):
+def load(offset, address, file_size, size, flags=7):
     """The program header of a loadable segment."""
-    return struct.pack("<8I", LOAD, offset, address, address, file_size, size, 7, 1)
+    return struct.pack("<8I", LOAD, offset, address, address, file_size, size, flags, 4)
 
 
 def section(kind, flags, address, offset, size, entry_size=0):
     """A section header."""
-    return struct.pack("<10I", 0, kind, flags, address, offset, size, 0, 0, 4, entry_size)
+    return struct.pack("<10I", 0, kind, flags, address, offset, size, 0, 0, 0, entry_size)
 
 
 class Fault(Exception):
@@ -210,5 +210,5 @@ def frame(text, constants=(), values=()):
         parts.append(b"".join(struct.pack("<I", word) for word in words))
         offset += 4 * len(words)
     code = 116 + len(parts[0] + parts[1])
-    return (header(0x10074, (52, 2), (offset, 4)) + load(0, 0x10000, code, code)
-            + load(code, 0x20000, len(parts[2]), len(parts[2])) + b"".join(parts + sections))
+    return (header(0x10074, (52, 2), (offset, 4)) + load(0, 0x10000, code, code, 5)
+            + load(code, 0x20000, len(parts[2]), len(parts[2]), 6) + b"".join(parts + sections))

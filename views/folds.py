@@ -3,11 +3,10 @@ may be units and `cread`. It shares nothing with the program, so that the checks
 import itertools
 
 import instructions
-from cuts import MEMORY, may_join
 from instructions import mnemonic
+from latencies import MEMORY, NO_OPERATION, may_join
 
 UNIT, CREAD = 0x0B, 0x2B
-NO_OPERATION = 0x00000013
 
 
 def is_unit(word):

@@ -82,3 +82,15 @@ def offset(word):
 def with_offset(word, value):
     """A jump or branch without an offset, given one."""
     return word | sum((value >> place) % 2 ** (high - low + 1) << low for place, low, high in offset_fields(word))
+
+
+def ways(address, word):
+    """Where the instruction at an address may lead, but for a JALR, which may lead to any leader."""
+    name = mnemonic(word)
+    if name == "jal":
+        return {address + offset(word)}
+    if name in (None, "ebreak", "jalr"):
+        return set()
+    if name in BRANCHES.values():
+        return {address + offset(word), address + 4}
+    return {address + 4}

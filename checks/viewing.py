@@ -1,0 +1,135 @@
+"""What the checks of views/ share: calls of a view, the programs that views are tried on, and what is missing."""
+import hashlib
+import os
+import shutil
+import subprocess
+import sys
+import tempfile
+
+import compiled
+
+TOP = os.path.join(os.path.dirname(os.path.abspath(__file__)), "..")
+PYTHON, LIMIT = "/usr/bin/python3", 300
+# Programs with picolibc, and what the profiled runs read.
+PROGRAMS = "cipher", "matrix", "sort"
+INPUT = os.path.join(compiled.PROGRAMS, "count.c")
+NO_CUT = '#include "start.h"\nvoid run(void) { leave(0); }\n'
+FILES = "old.elf", "new.elf", "units.v", "logs.txt", "report.txt"
+
+
+def missing(tools, libraries=()):
+    """A line that says what is not there, or None: tools, each with the Debian package that has it, and libraries for
+    Debian's Python."""
+    if not os.path.exists(PYTHON):
+        return f"skipped: {PYTHON} not found (Debian's python3)"
+    lost = absent((), libraries)
+    packages = ", ".join(f"python3-{name}" for name in lost)
+    return compiled.missing(tools) or (f"skipped: {', '.join(lost)} not found (Debian's {packages})" if lost else None)
+
+
+def absent(tools, libraries):
+    """Those of the tools, and of the libraries for Debian's Python, that are not there."""
+    return [name for name in (*tools, PYTHON) if not shutil.which(name)] + [
+        name for name in (libraries if os.path.exists(PYTHON) else ()) if subprocess.run(
+            [PYTHON, "-c", f"import {name}"], stderr=subprocess.DEVNULL, check=False).returncode]
+
+
+class Views:
+    """Calls of the views with one program, in one folder; and what is found wrong."""
+
+    def __init__(self, program, folder):
+        self.program, self.folder, self.faults, self.count = os.path.abspath(program), folder, [], 0
+        self.environment = {**os.environ, "RUMTSAFI": self.program}
+
+    def path(self, *names):
+        """Where a file of the folder is."""
+        return os.path.join(self.folder, *names)
+
+    @staticmethod
+    def view(name):
+        """Where a view is."""
+        return os.path.join(TOP, "views", name)
+
+    def call(self, view, *words):
+        """A call of a view: its status, what it prints, and what it says on standard error."""
+        self.count += 1
+        done = subprocess.run([self.view(view), *words], cwd=self.folder, env=self.environment,
+                              stdout=subprocess.PIPE, stderr=subprocess.PIPE, text=True, timeout=LIMIT, check=False)
+        return done.returncode, done.stdout, done.stderr
+
+    def told(self, *words):
+        """What the program prints."""
+        return subprocess.run([self.program, *words], cwd=self.folder, stdout=subprocess.PIPE, text=True, timeout=LIMIT,
+                              check=False).stdout
+
+    def need(self, holds, what):
+        """Puts down what is wrong, unless this holds."""
+        if not holds:
+            self.faults.append(what)
+        return holds
+
+    def works(self, view, *words):
+        """What a call prints that has to end with status 0."""
+        status, printed, said = self.call(view, *words)
+        self.need(status == 0, f"{view} {' '.join(words)}: status {status}, {said.strip()[-400:]}")
+        return printed
+
+    def refuses(self, view, *words):
+        """A call that is refused ends with status 1, by one line that tells the fault in words."""
+        status, printed, said = self.call(view, *words)
+        self.need(status == 1 and not printed and said.count("\n") == 1 and "fault " in said,
+                  f"{view} {' '.join(words)}: status {status}, {printed!r} and {said!r}")
+
+    def wrong(self, view, *calls):
+        """Each of these calls ends with status 2, and tells the usage."""
+        for words in calls:
+            status, printed, said = self.call(view, *words)
+            self.need(status == 2 and not printed and said.startswith(f"usage: views/{view} "),
+                      f"{view} {' '.join(words)}: status {status}, {printed!r} and {said!r}")
+
+    def programs(self):
+        """The executables by their names: samples, programs with picolibc, one without a cut; each with its input."""
+        found = {name[:-4]: (path, INPUT) for name, path in compiled.samples()}
+        for name in PROGRAMS:
+            path = self.path(f"{name}.elf")
+            subprocess.run([compiled.GCC, *compiled.TARGET, "-O2", os.path.join(compiled.PROGRAMS, f"{name}.c"),
+                            compiled.SUPPORT, "-o", path], check=True)
+            found[name] = path, INPUT
+        with open(self.path("no_cut.c"), "w", encoding="ascii") as file:
+            file.write(NO_CUT)
+        subprocess.run([compiled.GCC, *compiled.TARGET[:3], "-O2", "-nostdlib", "-I", compiled.SAMPLES,
+                        self.path("no_cut.c"), "-lgcc", "-o", self.path("no_cut.elf")], check=True)
+        return {**found, "no_cut": (self.path("no_cut.elf"), INPUT)}
+
+    def choose(self, name, path, *words):
+        """A folder with the files of a choice."""
+        os.makedirs(self.path(name), exist_ok=True)
+        shutil.copy(path, self.path(name, FILES[0]))
+        return self.told("find", *(os.path.join(name, file) for file in FILES), *words)
+
+    def hashes(self, *paths):
+        """What tells whether files have changed."""
+        found = {}
+        for path in paths:
+            with open(os.path.join(self.folder, path), "rb") as file:
+                found[path] = hashlib.sha256(file.read()).hexdigest()
+        return found
+
+    def end(self, of):
+        """Tells what was found, and gives the status of the check."""
+        for fault in self.faults[:20]:
+            print(fault)
+        print(f"{self.count} calls of {of}: {len(self.faults)} faults")
+        return 1 if self.faults else 0
+
+
+def check(look, of, tools, libraries=()):
+    """Runs a check of views, where nothing is missing for it."""
+    line = missing(tools, libraries)
+    if line:
+        print(line)
+        sys.exit(0)
+    with tempfile.TemporaryDirectory() as folder:
+        views = Views(sys.argv[1], folder)
+        look(views)
+        sys.exit(views.end(of))

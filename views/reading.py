@@ -1,0 +1,186 @@
+"""The files of a choice of cuts, read back: executables with their blocks, reports, and the blocks round by round."""
+import re
+import struct
+from collections import namedtuple
+
+import executable
+import folds
+from folds import is_cread, is_unit
+from instructions import mnemonic, ways
+from program import fail, told
+
+# The type of a symbol that is a function.
+FUNCTION = 2
+NUMBERS = r"((?: \d+)*)"
+HEAD = re.compile(r"ci-report 1\nports (\d+) (\d+) count (\d+) budget (\d+) pad (\d+) read (\d+)\n"
+                  r"profile (.*) steps (\d+) cost (\d+)\n")
+BLOCK = re.compile(r"^block (\w{8}) length (\d+) entries (\d+)$", re.M)
+CUT = re.compile(rf"^cut (\d+) block (\w{{8}}) unit (\d+) gain (\d+) entries (\d+) nodes{NUMBERS} word (\w{{8}})$",
+                 re.M)
+SKIP = re.compile(r"^skip (\d+) block (\w{8}) budget (\d+)$", re.M)
+UNIT = re.compile(r"^unit (\d+) cycles (\d+) operations (\d+) uses (\d+)$", re.M)
+LISTED = re.compile(rf"^block (\w{{8}}) length (\d+) live{NUMBERS}$", re.M)
+
+Cut = namedtuple("Cut", "round leader unit gain entries nodes word")
+Skip = namedtuple("Skip", "round leader budget")
+Unit = namedtuple("Unit", "number cycles operations uses")
+# A block of the program's listing: its addresses, and the registers that are live where it begins and after it.
+Listed = namedtuple("Listed", "addresses live after")
+# A cut's block before it was taken, and its words behind that.
+Taken = namedtuple("Taken", "cut block folded")
+
+
+class Report:
+    """A report of `find`."""
+
+    def __init__(self, text):
+        head, total = HEAD.match(text), re.search(r"^total (\d+)\n\Z", text, re.M)
+        if not head or not total:
+            fail("REPORT is no report of find")
+        figures = head.groups()
+        self.inputs, self.outputs, self.count, self.budget, self.pad, self.read = map(int, figures[:6])
+        self.end, self.steps, self.cost = figures[6], int(figures[7]), int(figures[8])
+        # By leader: the number of the block's instructions, and how often it was entered.
+        self.blocks = {int(leader, 16): (int(length), int(entries)) for leader, length, entries in BLOCK.findall(text)}
+        self.cuts = [Cut(int(number), int(leader, 16), int(unit), int(gain), int(entries),
+                         [int(node) for node in nodes.split()], int(word, 16))
+                     for number, leader, unit, gain, entries, nodes, word in CUT.findall(text)]
+        self.skips = [Skip(int(number), int(leader, 16), int(budget)) for number, leader, budget in SKIP.findall(text)]
+        self.units = [Unit(*map(int, figures)) for figures in UNIT.findall(text)]
+        self.total = int(total[1])
+
+    def saved_by(self, count):
+        """The cycles that are saved with so many units: the rounds end before the cut that needs one more."""
+        saved = 0
+        for cut in self.cuts:
+            if cut.unit >= count:
+                break
+            saved += cut.gain * cut.entries
+        return saved
+
+
+def read(path):
+    """The bytes of a file."""
+    with open(path, "rb") as file:
+        return file.read()
+
+
+class Executable:
+    """An executable, and its blocks as the program lists them, with these leaders too."""
+
+    def __init__(self, path, leaders=()):
+        listing = told("blocks", path, *(word for leader in leaders for word in ("--leader", f"0x{leader:x}")))
+        self.image = executable.Image(read(path))
+        found = {int(leader, 16): (int(length), {int(number) for number in live.split()})
+                 for leader, length, live in LISTED.findall(listing)}
+        anywhere = set().union(*(live for _, live in found.values()))
+        self.blocks = {}
+        for leader, (length, live) in found.items():
+            last = leader + 4 * (length - 1)
+            word = self.image.word(last)
+            led = anywhere if mnemonic(word) == "jalr" else set().union(
+                *(found[way][1] for way in ways(last, word) if way in found))
+            self.blocks[leader] = Listed(range(leader, last + 4, 4), live, led)
+
+    def words(self, leader):
+        """The words of a block."""
+        return words_at(self.image, self.blocks[leader].addresses)
+
+    def graph(self, leader, words=None):
+        """A block with its data-flow graph; of other words where these are given."""
+        return folds.Block(words or self.words(leader), self.blocks[leader].after)
+
+
+def functions(data):
+    """The functions of an executable: their addresses, ascending, each with its name."""
+    _, _, sections = executable.read_header(data)
+    rows = [struct.unpack_from("<10I", data, sections[0] + 40 * number) for number in range(sections[1])]
+    found = {}
+    for _, kind, _, _, offset, size, link, _, _, _ in rows:
+        for at in range(offset, offset + size, 16) if kind == executable.SYMBOLS else ():
+            name, value, _, info = struct.unpack_from("<IIIB", data, at)
+            start = rows[link][4] + name
+            if info & 15 == FUNCTION:
+                found[value] = data[start:data.index(b"\0", start)].decode(errors="replace")
+    return sorted(found.items())
+
+
+def words_at(image, addresses):
+    """The words at addresses of an executable."""
+    return [image.word(address) for address in addresses]
+
+
+def cost(word, latencies, units):
+    """The cycles of an instruction, or of a word of a unit, of which the cycles are given."""
+    if is_unit(word):
+        return units[(word >> 25 & 3) * 8 + (word >> 12 & 7)]
+    return latencies.read if is_cread(word) else latencies.latency(word)
+
+
+def critical_path(block, cut, latencies):
+    """The members along the greatest sum of delays, and the sum in thousandths of a cycle."""
+    walks = {}
+    for node in sorted(cut):
+        inside = [walks[source] for source in block.sources[node] if source in walks]
+        total, path = max(inside, key=lambda walk: walk[0], default=(0, []))
+        walks[node] = (total + latencies.delay(block.words[node]), [*path, node])
+    total, path = max(walks.values(), key=lambda walk: walk[0])
+    return path, total
+
+
+Gain = namedtuple("Gain", "software hardware thousandths path reads pads total")
+
+
+def gain(block, cut, latencies):
+    """A cut's gain by its parts: software, hardware, what further outputs and what no-ops cost."""
+    path, thousandths = critical_path(block, cut, latencies)
+    software, outputs = sum(latencies.latency(block.words[node]) for node in cut), len(block.outputs(cut))
+    hardware = max(1, -(-thousandths // 1000))
+    reads, pads = (outputs - 1) * latencies.read, (len(cut) - outputs) * latencies.pad
+    return Gain(software, hardware, thousandths, path, reads, pads, software - hardware - reads - pads)
+
+
+class Choice:
+    """The files of a choice: its report, both executables, the texts of its units, and the cuts as they were taken."""
+
+    def __init__(self, files, latencies, leaders=()):
+        self.old_path, self.new_path, self.units_path, self.logs_path, report_path = files
+        self.report, self.latencies = Report(read(report_path).decode(errors="replace")), latencies
+        if (self.report.pad, self.report.read) != (latencies.pad, latencies.read):
+            fail(f"REPORT is of another table, with pad {self.report.pad} and read {self.report.read}")
+        listed = Executable(self.old_path).blocks
+        self.old = Executable(self.old_path, sorted({*self.report.blocks, *leaders} - listed.keys()))
+        self.new = executable.Image(read(self.new_path))
+        self.modules = modules(read(self.units_path).decode(errors="replace"))
+        self.taken, self.words = [], {leader: self.old.words(leader) for leader in self.report.blocks}
+        for cut in self.report.cuts:
+            block = self.old.graph(cut.leader, self.words[cut.leader])
+            self.words[cut.leader] = block.folded(set(cut.nodes), cut.unit)
+            self.taken.append(Taken(cut, block, self.words[cut.leader]))
+        self.compare()
+
+    def compare(self):
+        """Ends the view where the files don't belong together."""
+        cycles = {unit.number: unit.cycles for unit in self.report.units}
+        entries = [(cut.entries, self.report.blocks.get(cut.leader, (0, 0))[1]) for cut in self.report.cuts]
+        if any(one != other for one, other in entries) or self.report.saved_by(len(cycles)) != self.report.total:
+            fail("REPORT's entries, gains and total don't fit together")
+        for taken in self.taken:
+            found = gain(taken.block, set(taken.cut.nodes), self.latencies)
+            if (found.total, found.hardware) != (taken.cut.gain, cycles[taken.cut.unit]):
+                fail(f"cut {taken.cut.round} gains {found.total} by this table, and {taken.cut.gain} by REPORT")
+        for leader, words in self.words.items():
+            if words_at(self.new, self.old.blocks[leader].addresses) != words:
+                fail(f"NEW's block at {leader:08x} isn't OLD's with the cuts of REPORT folded")
+        if len(self.modules) != len(self.report.units):
+            fail("UNITS and REPORT have different numbers of units")
+
+    def cycles(self, leader, words):
+        """The cycles of one run of a block of these words."""
+        units = [unit.cycles for unit in self.report.units]
+        return sum(cost(word, self.latencies, units) for word in words)
+
+
+def modules(text):
+    """The modules of a text of units as `find` writes it, each with its line of cycles."""
+    return re.findall(r"^// cycles \d+\n.*?^endmodule\n", text, re.M | re.S)
