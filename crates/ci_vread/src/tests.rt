@@ -54,53 +54,59 @@ const PORTS: &str =
 /// Behind the assignment of y.
 const REST: &str = "assign z = a;\nendmodule\n";
 
+// Long tables are the answers of functions, so that the proof of a test looks at none of them.
+
 /// Texts, and the kind and the offset of their fault: twice 0 where a text has none.
-const TEXTS: [(&str, u8, u32); 11] = [
-    ("", 0, 0),
-    (" \t\n", 0, 0),
-    ("@", 1, 0),
-    ("// cycles 01\n", 1, 0),
-    ("// cycles 12345678\n", 1, 0),
-    ("x", 2, 0),
-    ("// cycles 0\n moduleci_0(", 2, 13),
-    ("// cycles 1\nmodule 0", 2, 19),
-    ("// cycles 1\nmodule ci_0(input [30:0] a", 2, 31),
-    ("// cycles 1\nmodule ci_1(", 9, 19),
-    ("// cycles 1\nmodule ci_0 x", 2, 24),
-];
+fn texts() -> &'static [(&'static str, u8, u32)] {
+    &[
+        ("", 0, 0),
+        (" \t\n", 0, 0),
+        ("@", 1, 0),
+        ("// cycles 01\n", 1, 0),
+        ("// cycles 12345678\n", 1, 0),
+        ("x", 2, 0),
+        ("// cycles 0\n moduleci_0(", 2, 13),
+        ("// cycles 1\nmodule 0", 2, 19),
+        ("// cycles 1\nmodule ci_0(input [30:0] a", 2, 31),
+        ("// cycles 1\nmodule ci_1(", 9, 19),
+        ("// cycles 1\nmodule ci_0 x", 2, 24),
+    ]
+}
 
 /// What stands behind the first two lines of a module, which are 107 bytes, and the kind and the offset of the fault.
-const BODIES: [(&str, u8, u32); 17] = [
-    (
-        "assign y = {a[31], a[30:1], b[3:3]};\nassign z = {1{a}};\nendmodule\n",
-        0,
-        0,
-    ),
-    ("assign\ty=b;assign z=32'hFFFFffff;endmodule", 0, 0),
-    ("assign y = 'h0;", 1, 118),
-    ("assign y = a + b + c;", 2, 124),
-    ("assign y = 31'h0", 2, 123),
-    ("assign y = d;", 3, 118),
-    ("wire [0:0] w;\nassign w = 1'h1;\nwire [0:0] w;", 4, 149),
-    ("wire [0:0] w;\nassign w = 1'h1;\nassign y = w;", 5, 149),
-    ("assign y = {a[15:0], b[14:0]};", 5, 135),
-    ("wire [6:0] w;\nassign w = {32'h0}@", 5, 138),
-    (
-        "wire [0:0] w;\nassign w = 1'h1;\nassign y = w ? a : b;\nassign z = a;\nendmodule\n",
-        0,
-        0,
-    ),
-    ("assign y = 65'h0;", 5, 118),
-    ("assign y = 65'h0", 6, 118),
-    ("wire [64:0] w;", 6, 113),
-    (
-        "wire [63:0] v;\nassign v = {a, b};\nassign y = a;\nassign z = a;\nendmodule\n",
-        0,
-        0,
-    ),
-    ("assign y = {a, b, c};", 6, 125),
-    ("wire [0:0] w;\nassign v = 1'h0;", 7, 128),
-];
+fn bodies() -> &'static [(&'static str, u8, u32)] {
+    &[
+        (
+            "assign y = {a[31], a[30:1], b[3:3]};\nassign z = {1{a}};\nendmodule\n",
+            0,
+            0,
+        ),
+        ("assign\ty=b;assign z=32'hFFFFffff;endmodule", 0, 0),
+        ("assign y = 'h0;", 1, 118),
+        ("assign y = a + b + c;", 2, 124),
+        ("assign y = 31'h0", 2, 123),
+        ("assign y = d;", 3, 118),
+        ("wire [0:0] w;\nassign w = 1'h1;\nwire [0:0] w;", 4, 149),
+        ("wire [0:0] w;\nassign w = 1'h1;\nassign y = w;", 5, 149),
+        ("assign y = {a[15:0], b[14:0]};", 5, 135),
+        ("wire [6:0] w;\nassign w = {32'h0}@", 5, 138),
+        (
+            "wire [0:0] w;\nassign w = 1'h1;\nassign y = w ? a : b;\nassign z = a;\nendmodule\n",
+            0,
+            0,
+        ),
+        ("assign y = 65'h0;", 5, 118),
+        ("assign y = 65'h0", 6, 118),
+        ("wire [64:0] w;", 6, 113),
+        (
+            "wire [63:0] v;\nassign v = {a, b};\nassign y = a;\nassign z = a;\nendmodule\n",
+            0,
+            0,
+        ),
+        ("assign y = {a, b, c};", 6, 125),
+        ("wire [0:0] w;\nassign v = 1'h0;", 7, 128),
+    ]
+}
 
 /// The first two lines of a module.
 fn head(rt: &impl AllocGlobal, number: u8) -> Result<String, AllocError> {
@@ -120,17 +126,17 @@ fn has_fault(rt: &(impl AllocGlobal + Abort), text: &str, due: (u8, u32)) {
 
 #[test]
 fn the_first_fault_of_texts(rt: HostRuntime) {
-    for (text, kind, offset) in TEXTS {
-        has_fault(&rt, text, (kind, offset));
+    for (text, kind, offset) in texts() {
+        has_fault(&rt, text, (*kind, *offset));
     }
 }
 
 #[test]
 fn the_first_fault_of_a_module(rt: HostRuntime) -> Result<(), Fail> {
-    for (body, kind, offset) in BODIES {
+    for (body, kind, offset) in bodies() {
         let mut text = head(&rt, 0)?;
         text.push_str(body)?;
-        has_fault(&rt, text.as_str(), (kind, offset));
+        has_fault(&rt, text.as_str(), (*kind, *offset));
     }
     Ok(())
 }
