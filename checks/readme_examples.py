@@ -10,9 +10,9 @@ An example is a fenced block marked `console`. Its lines that begin with `$ ` ar
 that ends with a backslash, and the lines after each are what it prints on standard output. Every command has to end
 with status 0, unless the next command is `echo $?`. A block marked `c NAME` or `verilog NAME` is a file that later
 examples use. The blocks of a document are run in turn, each by one shell, in a folder that holds a copy of samples/, a
-link to views/, and what earlier blocks left. A block that needs a tool which is not there is skipped, with a line that says so, and so is
-one that needs a file which a skipped block makes. Blocks in which GCC compiles take the version that the figures are
-of.
+link to views/, and what earlier blocks left. A block that needs a tool which is not there is skipped, with a line that
+says so, and so is one that needs a file which a skipped block makes. Blocks in which GCC compiles take the version that
+the figures are of.
 """
 import os
 import re
