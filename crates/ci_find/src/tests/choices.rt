@@ -242,3 +242,34 @@ fn a_summary_that_is_not_put(rt: HostRuntime) -> Result<(), Fail> {
     expect_file(&rt, shelf.files(), "U", both_sums());
     Ok(())
 }
+
+/// Asserts how a call ends where the call of this number of the shelf, a read, fails.
+fn expect_read(
+    rt: &(impl Abort + AllocGlobal),
+    text: &str,
+    failing: u64,
+    line: &str,
+) -> Result<(), AllocError> {
+    let alloc = rt.alloc();
+    let old = over_a_load(rt)?;
+    let mut files = files_of(alloc, Some(old.as_slice()), None, None)?;
+    hold(alloc, &mut files, "U", Some(b""))?;
+    hold(alloc, &mut files, "L", Some(book().as_bytes()))?;
+    let mut shelf = MemShelf::new(files, vec![in alloc; failing]?);
+    let mut out = SureSink::new(alloc);
+    let asked = words(alloc, text)?;
+    assert_eq!(rt; run(alloc, &asked, &mut shelf, &mut out), 2);
+    assert_eq!(rt; out.taken(), line.as_bytes());
+    Ok(())
+}
+
+// `F` stands for the new file too, so that all files are there.
+#[test]
+fn files_of_a_choice_that_are_not_read(rt: HostRuntime) -> Result<(), Fail> {
+    expect_read(&rt, "find F N U L R", 1, "fault 2 read F\n")?;
+    expect_read(&rt, "check F F U L", 1, "fault 2 read F\n")?;
+    expect_read(&rt, "check F F U L", 2, "fault 2 read F\n")?;
+    expect_read(&rt, "check F F U L", 3, "fault 2 read U\n")?;
+    expect_read(&rt, "check F F U L", 4, "fault 2 read L\n")?;
+    Ok(())
+}
