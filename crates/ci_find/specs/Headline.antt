@@ -1,12 +1,12 @@
--- For every reader, the headline. When `find` ends with status 0, the written executable with the written Verilog gives,
--- for every input and bound, the output, final memory and end of the original, and conversely, wherever the original run
--- is tame; every written unit computes its cut's operations on all inputs; and each chosen cut is convex, within its
--- ports, and no cut that fits its remaining block gains more.
+-- For every reader, the headline. When `find` ends with status 0, the written executable with the written Verilog
+-- gives, for every input and bound, the output, final memory and end of the original, and conversely, wherever the
+-- original run is tame; every written unit computes its cut's operations on all inputs; and each chosen cut is convex,
+-- within its ports, and no cut that fits its remaining block gains more.
 --
--- It holds over a shelf that tells its files. A bound is a number n of steps. Output: after n steps both are equal. End,
--- final memory: where one run has ended within n steps, the other ends within n + 256, by the same end, with equal memory
--- outside the text. Tame: for n + 256 steps, by the leaders that the file, the profiled run and `--leader` list. The
--- remaining block is the block as it stands in the program before the take.
+-- It holds over a shelf that tells its files. A bound is a number n of steps. Output: after n steps both are equal.
+-- End, final memory: where one run has ended within n steps, the other ends within n + 256, by the same end, with
+-- equal memory outside the text. Tame: for n + 256 steps, by the leaders that the file, the profiled run and
+-- `--leader` list. The remaining block is the block as it stands in the program before the take.
 use Rattle.std.specs.Prelude.{◌≡◌, ℕ, List, ◌∷◌, ◌++◌, Option, Some, IfSome, reverse}
 use Rattle.std.specs.FinMap as map
 use Rattle.std.specs.FinSet as finite
@@ -42,8 +42,8 @@ use Rattle.ci_find.specs.Profiled.{Profiled, instance_by}
 -- ---- the written executable, the written Verilog, and the book of the cuts
 
 -- What `find` reads was held before: the executable first. What it writes is left: the modules of the units of a legal
--- book for the run that the executable is chosen from, this book, its report, and the executable with the folded blocks.
--- The line that is put has what the cuts of the book save over that run.
+-- book for the run that the executable is chosen from, this book, its report, and the executable with the folded
+-- blocks. The line that is put has what the cuts of the book save over that run.
 pub record AreFiles (reading : Reading) (held left : Files) (sink_before sink_after : SinkState) : Type 0 where
   pub plan : Plan
   pub is_plan : IsPlanOf reading plan
@@ -69,8 +69,8 @@ pub record AreFiles (reading : Reading) (held left : Files) (sink_before sink_af
   pub saved_is : IsSaved (instance_by profiled) (reverse book.entries) saved
   pub put : Takes sink_before sink_after (summary_line book.entries acceptable.modules_are.0 saved)
 
--- ---- every written unit computes its cut's operations on all inputs; and each chosen cut is convex, within its ports, and
--- no cut that fits its remaining block gains more
+-- ---- every written unit computes its cut's operations on all inputs; and each chosen cut is convex, within its ports,
+-- and no cut that fits its remaining block gains more
 
 -- A take, behind these entries: its cut, of its block as that stands in the program before it. The module of its number
 -- has at all words the values of the cut's unit.
@@ -82,9 +82,9 @@ pub record IsChosenCut (instance : Instance) (modules : List Module) (history : 
   pub computes : ComputeUnit modules number (unit_of insns (graph_at instance leader insns) (finite.contains cut))
   pub is_best : IsBest (graph_at instance leader insns) instance.plan.limits (finite.contains cut)
 
--- So it is of each take of the book. And each entry of a search is true of its block, as that stands in the program before
--- it: its cut is the best, or there is none, or the search for one needs more than the budget. Just such searches are given
--- up.
+-- So it is of each take of the book. And each entry of a search is true of its block, as that stands in the program
+-- before it: its cut is the best, or there is none, or the search for one needs more than the budget. Just such
+-- searches are given up.
 pub record TellTheBest (instance : Instance) (modules : List Module) (book : Book) : Type 0 where
   pub takes :
       (before behind : List Entry) (leader number : ℕ) → book.entries ≡ before ++ Take leader number ∷ behind
