@@ -30,7 +30,7 @@ use Rattle.ci_search.specs.Searched.{Prunes, IsPruning, IsLater, IsPassed, IsLog
 -- ---- orders
 
 -- of two sets one comes first
-one_first : {first second : ℕ → Bool} → ComesBefore first second → ComesBefore second first → ⊥
+pub one_first : {first second : ℕ → Bool} → ComesBefore first second → ComesBefore second first → ⊥
 one_first {first = s} {second = t} a b = elim (cases_order a.place b.place) [
   | inl same ↦ true≢false (sym b.in_first ∙ ap t (sym same) ∙ a.not_in_second)
   | inr (inl below) ↦ true≢false (sym b.in_first ∙ sym (a.same_above b.place below) ∙ b.not_in_second)

@@ -1,5 +1,6 @@
 mod Rows
 pub mod HistoryLaws
+pub mod FreeLogs
 mod SearchDues
 mod SearchesDue
 mod BlockForms
@@ -10,7 +11,7 @@ mod PresentIsThere
 mod BlockSums
 pub mod WordIsOne
 mod PatchLaws
-mod NewFileLaws
+pub mod NewFileLaws
 mod NewImageLaws
 pub mod UnitLaws
 mod CandidateLaws
@@ -36,5 +37,6 @@ mod BookLaws
 mod SearchSlots
 mod DueBlocks
 pub mod AlikeLaws
+pub mod OneChoice
 mod JudgeLaws
 pub mod VerdictLaws

@@ -20,7 +20,7 @@ use Rattle.ci_select.specs.Laws.{EntriesAreTrue, TakesAreBest}
 use Rattle.ci_select.proofs.PresentLaws.{IsTakeDue, cut_is_best, present_flows, present_is_sound, right_cases, take_is_due}
 
 -- what stands in a legal history is right behind what stands before it
-legal_behind :
+pub legal_behind :
     (instance : Instance) (later before : List Entry) (entry : Entry) → IsLegalHistory instance (later ++ entry ∷ before)
     → IsRight instance before entry × IsLegalHistory instance before
 legal_behind instance [] before entry legal = legal
@@ -41,7 +41,7 @@ entry_is_right instance entries before behind entry legal split =
         ∙ append_assoc (reverse behind) (entry ∷ []) (reverse before)
 
 -- a search of a flow graph tells the truth of it
-search_is_true : (graph : FlowGraph) (plan : Plan) → IsFlowGraph graph → (entry : Entry) → IsSearched graph plan entry → IsTrueOf graph plan entry
+pub search_is_true : (graph : FlowGraph) (plan : Plan) → IsFlowGraph graph → (entry : Entry) → IsSearched graph plan entry → IsTrueOf graph plan entry
 search_is_true graph plan flows (Best leader cut log) is = accepted_is_best graph flows plan.limits (Some cut) log is
 search_is_true graph plan flows (Without leader log) is = accepted_is_best graph flows plan.limits None log is
 search_is_true graph plan flows (Spent leader budget) is = is

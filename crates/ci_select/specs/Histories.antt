@@ -1,5 +1,5 @@
 -- What the entries of a log book up to some place say by themselves.
-use Rattle.std.specs.Prelude.{◌≡◌, ℕ, ◌==◌, Bool, true, false, List, length, filter, find, Option, Some}
+use Rattle.std.specs.Prelude.{◌≡◌, ℕ, ◌==◌, Bool, true, false, List, [], length, map, filter, find, Option, Some}
 use Rattle.std.specs.FinSet as finite
 use Rattle.std.specs.Ordering.{nat_cmp}
 use Rattle.ci_log.specs.declared.book.Entry.{Entry}
@@ -41,3 +41,13 @@ last_search history leader = find (is_search_of leader) history
 pub record HasCut (history : History) (leader : ℕ) (cut : finite.FinSet nat_cmp) : Type 0 where
   pub log : List Item
   pub found : last_search history leader ≡ Some (Best leader cut log)
+
+-- all that the entry tells but its log
+abbrev pub without_log : Entry → Entry
+without_log (Best leader cut log) = Best leader cut []
+without_log (Without leader log) = Without leader []
+without_log entry = entry
+
+-- The entries of both are the same but for their logs.
+pub record AreOneButLogs (left right : List Entry) : Type 0 where
+  pub same : map without_log left ≡ map without_log right

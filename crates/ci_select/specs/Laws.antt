@@ -17,12 +17,13 @@ use Rattle.ci_unit.specs.Units.{Unit}
 use Rattle.ci_verilog.specs.Modules.{Module}
 use Rattle.ci_select.specs.declared.acceptance.Verdict.{Verdict}
 use Rattle.ci_select.specs.declared.rounds.Due.{Due}
-use Rattle.ci_select.specs.Histories.{History, is_search_of, leader_of}
+use Rattle.ci_select.specs.Histories.{AreOneButLogs, History, is_search_of, leader_of}
 use Rattle.ci_select.specs.Instances.{Instance, AreAlike, AreBlocksOf, AreOfSomeFile, entered}
 use Rattle.ci_select.specs.PresentBlocks.{HasPresentCut, IsPresent, graph_at}
 use Rattle.ci_select.specs.UnitNumbers.{AreUnits, IsUnitAt}
 use Rattle.ci_select.specs.Savings.{IsSaved}
 use Rattle.ci_select.specs.Dues.{IsDue}
+use Rattle.ci_select.specs.GivenUp.{GivesUpByNeed}
 use Rattle.ci_select.specs.LegalBooks.{HasShortLog, IsLegal, IsLegalHistory, IsTrueOf}
 use Rattle.ci_select.specs.NewFiles.{IsNewFile}
 use Rattle.ci_select.specs.WrongPlaces.{IsAcceptable, IsVerdict}
@@ -103,6 +104,15 @@ NewFileIsOne =
     → IsNewFile instance file history left → IsNewFile instance file history right
     → AreBytes left → AreBytes right → left ≡ right
 
+-- An instance has one legal book in which each search was given up exactly by need, but for the logs.
+abbrev pub ChoiceIsOne : Type 0
+ChoiceIsOne =
+    (instance : Instance) (left right : Book)
+    → AreOfSomeFile instance.blocks instance.live → IsLatencyTable instance.table
+    → IsLegal instance left → GivesUpByNeed instance (reverse left.entries)
+    → IsLegal instance right → GivesUpByNeed instance (reverse right.entries)
+    → AreOneButLogs left.entries right.entries × (left.finish ≡ right.finish)
+
 -- A book with modules and a new file has one verdict.
 abbrev pub VerdictIsOne : Type 0
 VerdictIsOne =
@@ -119,6 +129,24 @@ LegalBooksAreBooks =
     (instance : Instance) (book : Book)
     → AreOfSomeFile instance.blocks instance.live → AllByRecursion HasShortLog book.entries → IsLegal instance book
     → IsBook book
+
+-- ---- histories that are one but for their logs
+
+-- What is due behind one is due behind the other, with the same present blocks, units and cycles that are saved, and the
+-- same new files.
+pub record SayTheSame (instance : Instance) (left right : History) : Type 0 where
+  pub due : (what : Due) → IsDue instance left what → IsDue instance right what
+  pub present :
+      (leader : ℕ) (insns : List Insn) → IsPresent instance left leader insns → IsPresent instance right leader insns
+  pub units : (units : List Unit) → AreUnits instance left units → AreUnits instance right units
+  pub saved : (saved : ℕ) → IsSaved instance left saved → IsSaved instance right saved
+  pub new_file :
+      (file : Executable) (bytes : List ℕ) → IsNewFile instance file left bytes → IsNewFile instance file right bytes
+
+-- So logs alone make no difference.
+abbrev pub LogsDecideNothing : Type 0
+LogsDecideNothing =
+    (instance : Instance) (left right : History) → AreOneButLogs left right → SayTheSame instance left right
 
 -- ---- instances that say the same
 

@@ -1,7 +1,8 @@
 //! What holds of all log books. The functions do nothing; their contracts are the laws.
 ghost use Rattle.ci_select.specs.Laws.{EntriesAreTrue, TakesAreBest, TakesNameTheirUnits, EachBlockIsPresent};
 ghost use Rattle.ci_select.specs.Laws.{EachEnteredBlockIsSearched, PresentIsOne, UnitsAreOne, SavedIsOne, DueIsOne};
-ghost use Rattle.ci_select.specs.Laws.{NewFileIsOne, VerdictIsOne, LegalBooksAreBooks, AcceptableAlike};
+ghost use Rattle.ci_select.specs.Laws.{NewFileIsOne, ChoiceIsOne, VerdictIsOne, LegalBooksAreBooks, LogsDecideNothing};
+ghost use Rattle.ci_select.specs.Laws.{AcceptableAlike};
 
 /// The entries of a legal book tell what is best: a cut that no set that fits gains more than, that there is none, or
 /// that more than the budget is needed. And each take is of the best cut of its block.
@@ -31,6 +32,14 @@ pub fn book_is_judged_once()
     ensures due { DueIsOne }
     ensures file { NewFileIsOne }
     ensures verdict { VerdictIsOne }
+{}
+
+/// An instance has one legal book in which each search was given up exactly by need, but for the logs of its searches,
+/// and these make no difference: what is due, the present blocks, the units, what is saved and the new file are the same
+/// behind entries that are one but for their logs.
+pub fn choice_is_one()
+    ensures book { ChoiceIsOne }
+    ensures logs { LogsDecideNothing }
 {}
 
 /// The entries of a legal book of a file's blocks stand in the order of its grammar, and each has what it allows.

@@ -10,8 +10,8 @@
 pub use acceptance::{Verdict, accept};
 pub use choosing::{Chosen, choose};
 pub use laws::{
-    book_is_judged_once, book_keeps_each_block, book_tells_the_best, legal_books_are_in_order,
-    like_instances_have_the_same_books, takes_name_their_units,
+    book_is_judged_once, book_keeps_each_block, book_tells_the_best, choice_is_one,
+    legal_books_are_in_order, like_instances_have_the_same_books, takes_name_their_units,
 };
 pub use plan::Plan;
 pub use rounds::{Due, Rounds};
