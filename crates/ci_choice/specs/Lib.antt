@@ -1,1 +1,2 @@
 pub mod ChosenFiles
+pub mod ProfiledRuns

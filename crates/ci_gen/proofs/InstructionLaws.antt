@@ -68,33 +68,42 @@ plain_upper rd upper = λ word is. other_opcode word 0x37 is.1.0 (λ q. omega ar
 plain_store : (rs1 rs2 : ℕ) → IsPlain (Store Word rs1 rs2 (pos 0))
 plain_store rs1 rs2 = λ word is. other_opcode word 0x23 is.1.0 (λ q. omega arith) (λ q. omega arith)
 
--- so the ending has none,
+-- so the ending has none
 plain_ending : All IsPlain ending
 unfolding ending
 plain_ending = All-from_recursion IsPlain ending
     (plain_upper 28 0x20000, (plain_store 28 5, (plain_constant 11 28 0, (plain_constant 10 0 1, (plain_constant 12 0 4, (plain_constant 17 0 64, (plain_call, (plain_constant 10 0 0, (plain_constant 17 0 93, (plain_call, tt))))))))))
 
--- nor have operations,
-plain_operations : (seed : ℕ) (places : List ℕ) → All IsPlain (map (operation seed) places)
-plain_operations seed [] = All-nil IsPlain
-plain_operations seed (n ∷ places) =
-    All-cons IsPlain (operation seed n) (map (operation seed) places)
-    (plain_operation (draw seed (4 * n) % 8) (operand seed (4 * n + 1)) (operand seed (4 * n + 2)) (operand seed (4 * n + 3)))
-    (plain_operations seed places)
+-- ---- what is so of every group
 
--- a group,
-plain_group : (seed n : ℕ) → All IsPlain (group seed n)
-plain_group seed n =
-    subst (All IsPlain) (group-whole seed n)
-    (All-push IsPlain (operations seed n 8) next_word (plain_operations seed (range_with_len (8 * n) 8)) plain_jump)
+-- what is so of operations of all kinds, and of the jump, is so
+module _
+    (P : Insn → Type 0) (of_operation : (kind rd rs1 last : ℕ) → P (operation_of kind rd rs1 last)) (of_jump : P next_word)
+    (seed : ℕ) where
+  -- of the operations of a seed,
+  of_operations : (places : List ℕ) → All P (map (operation seed) places)
+  of_operations [] = All-nil P
+  of_operations (n ∷ places) =
+      All-cons P (operation seed n) (map (operation seed) places)
+      (of_operation (draw seed (4 * n) % 8) (operand seed (4 * n + 1)) (operand seed (4 * n + 2)) (operand seed (4 * n + 3)))
+      (of_operations places)
 
--- groups,
-plain_groups : (seed : ℕ) (places : List ℕ) → All IsPlain (flat_map (group seed) places)
-plain_groups seed [] = All-nil IsPlain
-plain_groups seed (n ∷ places) = All-append IsPlain (group seed n) (flat_map (group seed) places) (plain_group seed n) (plain_groups seed places)
+  -- a group,
+  of_group : (n : ℕ) → All P (group seed n)
+  of_group n =
+      subst (All P) (group-whole seed n)
+      (All-push P (operations seed n 8) next_word (of_operations (range_with_len (8 * n) 8)) of_jump)
 
--- and the whole text
+  of_each_group : (places : List ℕ) → All P (flat_map (group seed) places)
+  of_each_group [] = All-nil P
+  of_each_group (n ∷ places) = All-append P (group seed n) (flat_map (group seed) places) (of_group n) (of_each_group places)
+
+  -- and groups
+  pub of_groups : (count : ℕ) → All P (groups seed count)
+  unfolding groups
+  of_groups count = of_each_group (range_with_len 0 count)
+
+-- so the whole text has none
 pub plain_text : (seed : ℕ) → All IsPlain (text_of seed)
-unfolding groups
 plain_text seed =
-    All-append IsPlain (groups seed 1800) ending (plain_groups seed (range_with_len 0 1800)) plain_ending
+    All-append IsPlain (groups seed 1800) ending (of_groups IsPlain plain_operation plain_jump seed 1800) plain_ending

@@ -1,5 +1,6 @@
 mod StateLaws
 mod PushLaws
-mod OperationLaws
-mod InstructionLaws
+pub mod OperationLaws
+pub mod InstructionLaws
 pub mod ProgramLaws
+pub mod RunLaws

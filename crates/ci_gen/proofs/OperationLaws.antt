@@ -60,7 +60,7 @@ length-more seed count here =
     omega arith
 
 -- of the first groups
-length-groups : (seed count : ℕ) → length (groups seed count) ≡ 9 * count
+pub length-groups : (seed count : ℕ) → length (groups seed count) ≡ 9 * count
 length-groups seed zero = ap length (groups-none seed)
 length-groups seed (suc count) =
     let next : suc count ≡ count + 1 = omega arith in

@@ -2,3 +2,4 @@ pub mod Draws
 pub mod Texts
 pub mod Programs
 pub mod Pushed
+pub mod Runs

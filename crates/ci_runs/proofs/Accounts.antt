@@ -59,7 +59,7 @@ saved_more is_listed (saving ∷ savings) before later leader all more =
         (λ i. saving.gain *ℤ pos ((is ∙ (let none : before saving.leader + 0 ≡ before saving.leader = omega arith in none)) i) +ℤ rest i)
         ∙ sym (+ℤ_assoc (saving.gain *ℤ pos (before saving.leader)) first at)
 
-saved_same : (is_listed : ℕ → Bool) (savings : List Saving) (before later : ℕ → ℕ) → All (λ saving. is_listed saving.leader ≡ true) savings
+pub saved_same : (is_listed : ℕ → Bool) (savings : List Saving) (before later : ℕ → ℕ) → All (λ saving. is_listed saving.leader ≡ true) savings
     → ((a : ℕ) → is_listed a ≡ true → later a ≡ before a) → saved savings later ≡ saved savings before
 saved_same is_listed [] before later all same = refl
 saved_same is_listed (saving ∷ savings) before later all same =
