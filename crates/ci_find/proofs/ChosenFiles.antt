@@ -5,10 +5,12 @@ use Rattle.ci_io.specs.Outcomes.{Files, SinkState}
 use Rattle.ci_vemit.specs.Templates.{modules_of}
 use Rattle.ci_vemit.specs.Texts.{text_of}
 use Rattle.ci_choice.proofs.ChosenFileLaws.{chosen_files_run_alike}
+use Rattle.ci_choice.proofs.ProfiledRunLaws.{choices_save_in_profile}
 use Rattle.ci_words.specs.declared.tables.CommandName.TheVariants.{Find}
 use Rattle.ci_words.specs.Words.{Reading, ReadsAs}
 use Rattle.ci_calls.specs.declared.success.Success.{Success}
 use Rattle.ci_calls.specs.Evaluations.{Evaluates}
+use Rattle.ci_calls.specs.Files.{input_bytes}
 use Rattle.ci_calls.specs.Finishing.{Change, Takes, with_files}
 use Rattle.ci_calls.specs.Inputs.{AreRead}
 use Rattle.ci_find.specs.Commands.{find_names, inputs_by, settings_of, MakesBy}
@@ -48,6 +50,10 @@ module _ (held : Files) (words : List (List ℕ)) (success : Success) (is_done :
   chosen : IsChosen reading held (with_files success.writes.items held) sink_before sink_after
   chosen =
       let choice = made.choice in
+      let run = made.profiled.is_profiled in
+      let is_chosen =
+      chosen_file (find_names reading) (settings_of reading evaluated.made.0) evaluated.read success made
+      read_are.0.well_formed in
       let told =
       choices_tell (find_names reading) (settings_of reading evaluated.made.0) evaluated.read success made
       read_are.0.well_formed in
@@ -84,8 +90,13 @@ module _ (held : Files) (words : List (List ℕ)) (success : Success) (is_done :
         runs =
             chosen_files_run_alike (instance_by made.profiled) made.profiled.files.file choice.book choice.units
             choice.new_bytes
-            (chosen_file (find_names reading) (settings_of reading evaluated.made.0) evaluated.read success made
-            read_are.0.well_formed);
+            is_chosen;
+        profiled =
+            choices_save_in_profile made.profiled.files.file made.profiled.files.latencies
+            (settings_of reading evaluated.made.0).steps (input_bytes made.profiled.files.input)
+            (settings_of reading evaluated.made.0).named made.profiled.profile made.profiled.blocks made.profiled.live
+            run.meaning evaluated.made.0 choice.book choice.units choice.new_bytes choice.saved run.plain run.of_bytes
+            run.profile_is run.leaves_text run.analysis is_chosen choice.saved_is;
         best = told.1;
       }
 

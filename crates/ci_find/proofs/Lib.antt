@@ -18,3 +18,4 @@ mod CheckedFiles
 mod CheckAccepts
 mod ChecksEnd
 mod LoadLaws
+mod SavingLoads

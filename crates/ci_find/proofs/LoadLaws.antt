@@ -1,5 +1,5 @@
 -- The runs of a generated program and of the one that uses the units.
-use Rattle.std.proofs.Common.{◌≡◌, ◌∙◌, ℕ, suc, ◌/◌, ◌%◌, ◌<◌, List, [], ◌∷◌, ◌++◌, refl, subst, arith, length}
+use Rattle.std.proofs.Common.{◌≡◌, ◌∙◌, ℕ, suc, ◌/◌, ◌%◌, ◌<◌, List, [], ◌∷◌, ◌++◌, Ok, refl, subst, arith, length}
 use Rattle.std.specs.Prelude.{All}
 use Rattle.std.proofs.lemmas.List.Elements.{All-cons, All-head, All-nil, All-tail}
 use Rattle.std.proofs.lemmas.List.Concat.{flat_map-append}
@@ -11,6 +11,7 @@ use Rattle.ci_machine.specs.Extended.{IsExtended, latencies_with}
 use Rattle.ci_machine.specs.Programs.{Program, State, loaded_program, opening}
 use Rattle.ci_machine.specs.Runs.{after}
 use Rattle.ci_machine.specs.Steps.{Meaning}
+use Rattle.ci_machine.specs.Words.{AreBytes}
 use Rattle.ci_machine.proofs.ExtendedMeaning.{extended_exists}
 use Rattle.ci_emu.specs.declared.profile.Profile.{Profile}
 use Rattle.ci_emu.specs.Profiles.{IsProfileOf}
@@ -24,7 +25,7 @@ use Rattle.ci_find.proofs.ProfiledRuns.{opened}
 use Rattle.std.specs.Prelude.{reverse, Option}
 use Rattle.ci_io.specs.Outcomes.{Files}
 use Rattle.ci_calls.specs.Evaluations.{Evaluates}
-use Rattle.ci_elf.specs.Executables.{IsImageOf}
+use Rattle.ci_elf.specs.Rules.{IsReadAs}
 use Rattle.ci_gen.specs.Programs.{IsProgramOf}
 use Rattle.ci_lat.specs.Latencies.{usual}
 use Rattle.ci_block.specs.declared.blocks.Block.{Block}
@@ -88,21 +89,23 @@ cost_of_new file units table steps modules program start profile is same same_pr
 pub load_made :
     (seed : ℕ) (file new_file : Executable) (table : Latencies) (profile : Profile) (output : List ℕ)
     (blocks : List Block) (live : Sets) (plan : Plan) (book : Book) (units : List Unit) (saved new_cost : ℕ)
-    (success : Success) → table ≡ usual → IsProgramOf seed file.bytes → IsImageOf file.bytes file
-    → IsPlainRun file table steps_of_load profile output → IsAnalysis file (targets_in profile) [] blocks live
+    (success : Success) → table ≡ usual → IsProgramOf seed file.bytes → IsReadAs file.bytes (Ok file)
+    → AreBytes file.bytes → IsPlainRun file table steps_of_load profile output → IsAnalysis file (targets_in profile) [] blocks live
     → IsPlanOfLoad plan → IsLegal (instance_of profile blocks live table plan) book
     → GivesUpByNeed (instance_of profile blocks live table plan) (reverse book.entries)
-    → AreUnits (instance_of profile blocks live table plan) (reverse book.entries) units
+    → AreUnits (instance_of profile blocks live table plan) (reverse book.entries) units → IsTable units
     → IsNewFile (instance_of profile blocks live table plan) file (reverse book.entries) new_file.bytes
+    → AreBytes new_file.bytes
     → IsSaved (instance_of profile blocks live table plan) (reverse book.entries) saved
     → new_file ≡ with_bytes file new_file.bytes → IsExtendedCost new_file units table steps_of_load new_cost
     → success.text.items ≡ load_line seed (length blocks) book.entries units saved profile.cost new_cost output
     → success.writes.items ≡ [] → IsLoadMade seed [] success
-load_made seed file new_file table profile output blocks live plan book units saved new_cost success same program file_is run analysis plan_is legal given_up units_are new_is saved_is new_same new_run text_is writes_none = record {
+load_made seed file new_file table profile output blocks live plan book units saved new_cost success same program file_is file_of_bytes run analysis plan_is legal given_up units_are units_keep new_is new_of_bytes saved_is new_same new_run text_is writes_none = record {
   none_read = refl;
   file = file;
   program = program;
   file_is = file_is;
+  file_of_bytes = file_of_bytes;
   profile = profile;
   output = output;
   run = subst (λ (t : Latencies). IsPlainRun file t steps_of_load profile output) same run;
@@ -121,11 +124,13 @@ load_made seed file new_file table profile output blocks live plan book units sa
       subst (λ (t : Latencies). GivesUpByNeed (instance_of profile blocks live t plan) (reverse book.entries)) same given_up;
   units_are =
       subst (λ (t : Latencies). AreUnits (instance_of profile blocks live t plan) (reverse book.entries) units) same units_are;
+  units_keep = units_keep;
   saved_is =
       subst (λ (t : Latencies). IsSaved (instance_of profile blocks live t plan) (reverse book.entries) saved) same saved_is;
   new_is =
       subst (λ (t : Latencies). IsNewFile (instance_of profile blocks live t plan) file (reverse book.entries) new_file.bytes)
       same new_is;
+  new_of_bytes = new_of_bytes;
   new_run =
       subst (λ (t : Latencies). IsExtendedCost (with_bytes file new_file.bytes) units t steps_of_load new_cost) same
       (subst (λ (f : Executable). IsExtendedCost f units table steps_of_load new_cost) new_same new_run);

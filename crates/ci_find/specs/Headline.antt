@@ -29,10 +29,12 @@ use Rattle.ci_select.specs.LegalBooks.{IsTrueOf}
 use Rattle.ci_select.specs.Savings.{IsSaved}
 use Rattle.ci_select.specs.PresentBlocks.{HasPresentCut, IsPresent, graph_at}
 use Rattle.ci_select.specs.WrongPlaces.{IsAcceptable}
-use Rattle.ci_choice.specs.ChosenFiles.{RunsAlike}
+use Rattle.ci_choice.specs.ChosenFiles.{RunsAlike, rewriting_of}
+use Rattle.ci_choice.specs.ProfiledRuns.{SavesInProfile}
 use Rattle.ci_report.specs.Reports.{IsReport}
 use Rattle.ci_words.specs.declared.tables.CommandName.TheVariants.{Find}
 use Rattle.ci_words.specs.Words.{Reading, ReadsAs}
+use Rattle.ci_calls.specs.Files.{input_bytes}
 use Rattle.ci_calls.specs.Finishing.{Takes}
 use Rattle.ci_calls.specs.Inputs.{AreRead}
 use Rattle.ci_find.specs.Commands.{IsPlanOf, find_names, inputs_by, settings_of}
@@ -98,10 +100,15 @@ pub record TellTheBest (instance : Instance) (modules : List Module) (book : Boo
 -- ---- when `find` ends with status 0
 
 -- These are the files of a choice; the written executable runs as the original does, wherever that is tame, and costs
--- less by what its cuts save, where that ends otherwise than by a refused access; and each cut is the best.
+-- less by what its cuts save, where that ends otherwise than by a refused access; the profiled run is tame, and costs
+-- less by the number in the line, where it so ends; and each cut is the best.
 pub record IsChosen (reading : Reading) (held left : Files) (sink_before sink_after : SinkState) : Type 0 where
   pub files : AreFiles reading held left sink_before sink_after
   pub runs : RunsAlike (instance_by files.profiled) files.profiled.files.file files.book files.modules files.new_bytes
+  pub profiled :
+      SavesInProfile (rewriting_of (instance_by files.profiled) files.profiled.files.file files.modules files.new_bytes)
+      files.profiled.files.latencies (settings_of reading files.plan).steps (input_bytes files.profiled.files.input)
+      files.profiled.profile files.saved
   pub best : TellTheBest (instance_by files.profiled) files.modules files.book
 
 -- Where the words read as `find`, and the shelf tells its files, those after the call are told too, and are so chosen.

@@ -1,8 +1,9 @@
 -- What holds of all choices and their checks: laws, which the functions of `src/laws.rt` have as their contracts.
-use Rattle.std.specs.Prelude.{◌≡◌, ℕ, ◌<◌, ◌⊎◌, List, Option, Some, All, length}
+use Rattle.std.specs.Prelude.{◌≡◌, ℕ, ◌+◌, ◌<◌, ◌⊎◌, List, Option, Some, All, length}
 use Rattle.std.specs.FinMap as map
 use Rattle.ci_io.specs.Outcomes.{Files}
 use Rattle.ci_elf.specs.Rules.{rules, KeepsRules}
+use Rattle.ci_machine.specs.declared.ends.End.TheVariants.{Exit}
 use Rattle.ci_vemit.specs.Templates.{modules_of}
 use Rattle.ci_vemit.specs.Texts.{text_of}
 use Rattle.ci_vread.specs.Spelling.{Spell}
@@ -19,6 +20,7 @@ use Rattle.ci_find.specs.Commands.{inputs_by}
 use Rattle.ci_find.specs.Endings.{Ends, IsAnswered, IsDone, IsRefusal}
 use Rattle.ci_find.specs.FindCommand.{FindNames, IsFindMade}
 use Rattle.ci_find.specs.Headline.{TellTheBest}
+use Rattle.ci_find.specs.LoadCommand.{IsLoadMade}
 use Rattle.ci_find.specs.Profiled.{Settings, instance_by}
 
 -- ---- `find`
@@ -76,3 +78,12 @@ ChecksEnd =
     → IsAnswered checked 0 status
     ⊎ ((refusal : Refusal) × IsOfLongBook checked.shelf_before.files (name_at check 3) refusal
     × (status ≡ status_of refusal))
+
+-- ---- `load`
+
+-- The run of the program of a seed exits with code 0, and costs more than that of the program that uses the units by
+-- just what the cuts save: in the line of a load the first cost less the second is the gain.
+abbrev pub LoadsSave : Type 0
+LoadsSave =
+    (seed : ℕ) (read : List (List ℕ)) (success : Success) (made : IsLoadMade seed read success)
+    → (made.profile.end ≡ Some (Exit 0)) × (made.profile.cost ≡ made.new_cost + made.saved)

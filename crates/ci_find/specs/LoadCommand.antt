@@ -1,16 +1,18 @@
 -- For every reader: the command `load`, a choice of cuts for the program that a seed generates.
-use Rattle.std.specs.Prelude.{◌≡◌, ℕ, ◌++◌, ◌/◌, ◌%◌, List, [], ◌∷◌, codes, length, reverse}
+use Rattle.std.specs.Prelude.{◌≡◌, ℕ, ◌++◌, ◌/◌, ◌%◌, List, [], ◌∷◌, codes, length, reverse, Ok}
 use Rattle.std.specs.List.{flat_map}
 use Rattle.std.specs.Fmt.{decimal}
 use Rattle.ci_reading.specs.Hex.{hex_digit}
 use Rattle.ci_reading.specs.Lines.{line}
-use Rattle.ci_elf.specs.Executables.{Executable, IsImageOf}
+use Rattle.ci_elf.specs.Executables.{Executable}
+use Rattle.ci_elf.specs.Rules.{IsReadAs}
 use Rattle.ci_gen.specs.Programs.{IsProgramOf}
 use Rattle.ci_lat.specs.Latencies.{Latencies, usual}
 use Rattle.ci_machine.specs.Extended.{IsExtended, latencies_with}
 use Rattle.ci_machine.specs.Programs.{loaded_program, opening}
 use Rattle.ci_machine.specs.Runs.{after, cost}
 use Rattle.ci_machine.specs.Steps.{Meaning, IsPlain}
+use Rattle.ci_machine.specs.Words.{AreBytes}
 use Rattle.ci_block.specs.declared.blocks.Block.{Block}
 use Rattle.ci_live.specs.Analyses.{IsAnalysis}
 use Rattle.ci_live.specs.Sets.{Sets}
@@ -19,6 +21,7 @@ use Rattle.ci_emu.specs.Profiles.{IsProfileOf, targets_in}
 use Rattle.ci_emu.specs.TableLatencies.{latencies_of}
 use Rattle.ci_log.specs.declared.book.Entry.{Entry}
 use Rattle.ci_log.specs.Books.{Book}
+use Rattle.ci_unit.specs.Tables.{IsTable}
 use Rattle.ci_unit.specs.Units.{Unit}
 use Rattle.ci_vemit.specs.Templates.{modules_of}
 use Rattle.ci_select.specs.declared.plan.Plan.{Plan}
@@ -86,7 +89,8 @@ pub record IsLoadMade (seed : ℕ) (read : List (List ℕ)) (success : Success) 
   pub none_read : read ≡ []
   pub file : Executable
   pub program : IsProgramOf seed file.bytes
-  pub file_is : IsImageOf file.bytes file
+  pub file_is : IsReadAs file.bytes (Ok file)
+  pub file_of_bytes : AreBytes file.bytes
   pub profile : Profile
   pub output : List ℕ
   pub run : IsPlainRun file usual steps_of_load profile output
@@ -103,8 +107,10 @@ pub record IsLoadMade (seed : ℕ) (read : List (List ℕ)) (success : Success) 
   pub legal : IsLegal (instance_of profile blocks live usual plan) book
   pub given_up : GivesUpByNeed (instance_of profile blocks live usual plan) (reverse book.entries)
   pub units_are : AreUnits (instance_of profile blocks live usual plan) (reverse book.entries) units
+  pub units_keep : IsTable units
   pub saved_is : IsSaved (instance_of profile blocks live usual plan) (reverse book.entries) saved
   pub new_is : IsNewFile (instance_of profile blocks live usual plan) file (reverse book.entries) new_bytes
+  pub new_of_bytes : AreBytes new_bytes
   pub new_run : IsExtendedCost (with_bytes file new_bytes) units usual steps_of_load new_cost
   pub text_is :
       success.text.items

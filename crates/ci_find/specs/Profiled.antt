@@ -5,6 +5,7 @@ use Rattle.ci_lat.specs.Latencies.{Latencies}
 use Rattle.ci_machine.specs.Programs.{loaded_program, opening}
 use Rattle.ci_machine.specs.Steps.{Meaning, IsPlain}
 use Rattle.ci_machine.specs.Touches.{IsFirstTouch}
+use Rattle.ci_machine.specs.Words.{AreBytes}
 use Rattle.ci_block.specs.declared.blocks.Block.{Block}
 use Rattle.ci_block.specs.CustomWords.{HasNoCustomWord, IsFirstCustomWord}
 use Rattle.ci_live.specs.Analyses.{IsAnalysis}
@@ -45,12 +46,13 @@ pub record RunFiles (settings : Settings) (executable : List ℕ) (others : List
   pub file_is : IsImageOf executable file
   pub latencies_are : AreLatencies table latencies
 
--- The profile is that of the plain run of the file from its opening state on the input, to its end or for so many
--- steps. The text has no word of a custom opcode, and the run leaves it alone. The blocks begin at the leaders that the
--- file, this run and the call give.
+-- The profile is that of the plain run of the file from its opening state on the input, which is bytes, to its end or
+-- for so many steps. The text has no word of a custom opcode, and the run leaves it alone. The blocks begin at the
+-- leaders that the file, this run and the call give.
 pub record IsProfiled (file : Executable) (latencies : Latencies) (input : List ℕ) (steps : ℕ) (named : List ℕ)
     (profile : Profile) (blocks : List Block) (live : Sets) : Type 0 where
   pub no_custom : HasNoCustomWord file
+  pub of_bytes : AreBytes input
   pub meaning : Meaning
   pub plain : IsPlain meaning
   pub profile_is :

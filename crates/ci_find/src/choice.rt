@@ -1,6 +1,7 @@
 //! The run that a choice of cuts is made from, and the basic blocks that it enters.
 ghost use Rattle.std.specs.Prelude.{◌≡◌, ◌≤◌, ◌++◌, ℕ, List, Option, IfOk, IfErr};
 ghost use Rattle.ci_block.specs.CustomWords.{HasNoCustomWord};
+ghost use Rattle.ci_machine.specs.Words.{AreBytes};
 ghost use Rattle.ci_calls.specs.Files.{optional_bytes, AreGiven, AreLatencies, input_bytes};
 ghost use Rattle.ci_calls.specs.Inputs.{Input, AreRead};
 ghost use Rattle.ci_calls.specs.Refused.{name_in, AreUnread};
@@ -115,6 +116,7 @@ pub fn profiled_run<'a>(
     ensures cause { IfErr result (IsUnprofiledCause image.now input.items steps) }
 {
     refuse_custom_words(image)?;
+    bytes_are_small(input.as_slice());
     let mut state = State::start_on(alloc, image, input)?;
     let profile = ci_emu::run(alloc, &mut state, table, steps)?;
     if let Some((pc, address)) = profile.touched {
@@ -123,3 +125,8 @@ pub fn profiled_run<'a>(
     let analysis = analysis_of(alloc, image, profile.targets(), leaders)?;
     Ok(Profiled { profile, analysis })
 }
+
+/// The law of bytes: each is below 256. Nothing happens when it runs.
+pub fn bytes_are_small(bytes: &[u8])
+    ensures { AreBytes bytes.now }
+{}

@@ -2,7 +2,6 @@
 ghost use Rattle.std.specs.Prelude.{◌≡◌, ◌≤◌, ℕ, List, Ok, IfOk, IfErr, filter, length};
 ghost use Rattle.std.specs.String.{string_bytes};
 ghost use Rattle.ci_elf.specs.Rules.{IsReadAs};
-ghost use Rattle.ci_machine.specs.Words.{AreBytes};
 ghost use Rattle.ci_calls.specs.Evaluations.{Evaluates};
 ghost use Rattle.ci_calls.specs.Refused.{name_in, IsRefusedBy};
 ghost use Rattle.ci_find.specs.Profiled.{IsProfiled};
@@ -10,7 +9,9 @@ ghost use Rattle.ci_find.specs.FindCommand.{find_inputs, is_spent, summary, IsCh
 ghost use Rattle.ci_find.specs.Chosen.{instance_from, names_of, settings_by};
 ghost use Rattle.ci_select.specs.Histories.{is_take};
 
-use crate::choice::{ChoiceSettings, Profiled, RunFiles, profiled_run, read_run_files};
+use crate::choice::{
+    ChoiceSettings, Profiled, RunFiles, bytes_are_small, profiled_run, read_run_files,
+};
 use ci_calls::{Refusal, Success, Written, read_image};
 use ci_elf::Image;
 use ci_io::Shelf;
@@ -112,11 +113,6 @@ fn success_of<'a>(
         text: text.into_bytes(),
     })
 }
-
-/// The law of bytes: each is below 256. Nothing happens when it runs.
-fn bytes_are_small(bytes: &[u8])
-    ensures { AreBytes bytes.now }
-{}
 
 /// How many cuts were taken, how many units they have, how many searches were given up, and the cycles that are saved.
 pub(crate) fn summary(alloc: Global, chosen: &Chosen) -> Result<String, AllocError>

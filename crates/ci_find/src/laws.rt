@@ -1,5 +1,5 @@
 //! What holds of all choices and their checks. The functions do nothing; their contracts are the laws.
-ghost use Rattle.ci_find.specs.Laws.{ChoicesTellTheBest, CheckAcceptsChoices, ChecksEnd};
+ghost use Rattle.ci_find.specs.Laws.{ChoicesTellTheBest, CheckAcceptsChoices, ChecksEnd, LoadsSave};
 
 /// What `find` makes tells the best: each take of its log book is of the best cut of its block in the program before,
 /// and the module of the take's number computes the unit of this cut. And the text of its modules spells them.
@@ -12,4 +12,10 @@ pub fn choices_tell_the_best()
 pub fn check_accepts_choices()
     ensures refusals { CheckAcceptsChoices }
     ensures calls { ChecksEnd }
+{}
+
+/// In the line of a load the cost of the program, whose run exits with code 0, less that of the one that uses the units
+/// is the gain.
+pub fn loads_save()
+    ensures { LoadsSave }
 {}

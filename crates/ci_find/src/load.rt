@@ -6,6 +6,7 @@ ghost use Rattle.ci_gen.specs.Programs.{IsProgramOf};
 ghost use Rattle.ci_lat.specs.Latencies.{usual};
 ghost use Rattle.ci_find.specs.LoadCommand.{byte_digits, load_line, IsExtendedCost, IsLoadMade, IsPlainRun, IsPlanOfLoad};
 
+use crate::choice::bytes_are_small;
 use crate::find::summary;
 use ci_calls::Success;
 use ci_cut::Limits;
@@ -52,12 +53,16 @@ pub fn evaluate<'a>(alloc: Global, seed: u32) -> Result<Success<'a>, AllocError>
     ensures { IfOk result (IsLoadMade seed []) }
 {
     let image = generated(alloc, seed)?;
+    bytes_are_small(image.bytes());
     let table = Table::usual();
     let original = plain_run(alloc, &image, &table, STEPS)?;
     let profile = &original.profile;
     let analysis = analysis_of(alloc, &image, profile.targets(), &[])?;
     let (blocks, live) = (&analysis.blocks, &analysis.live);
     let chosen = choose(alloc, &image, profile, blocks, live, &table, &plan())?;
+    bytes_are_small(chosen.image.bytes());
+    // What a table of units keeps is known where its units are read.
+    let _units = chosen.units.as_slice();
     let figures = Figures {
         seed,
         blocks: blocks.all().len(),

@@ -1,6 +1,7 @@
 -- The plain machine runs from the opening state, and its profile tells whether the text is touched.
-use Rattle.std.proofs.Common.{inl}
+use Rattle.std.proofs.Common.{inl, subst}
 use Rattle.ci_machine.specs.States.{program_of, state_of}
+use Rattle.ci_machine.specs.Words.{AreBytes}
 use Rattle.ci_machine.proofs.PlainMeaning.{plain_exists}
 use Rattle.ci_emu.specs.TableLatencies.{latencies_of}
 use Rattle.ci_find.specs.Profiled.{touches}
@@ -26,6 +27,7 @@ returns-clause-done c =
     let start = c.in_ok-state.state in
     record {
       no_custom = c.in_ok-refuse_custom_words.ensures.none;
+      of_bytes = subst AreBytes c.as_slice.ensures.value c.bytes_are_small.ensures;
       meaning = plain.0;
       plain = plain.1;
       profile_is =
