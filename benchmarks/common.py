@@ -41,8 +41,8 @@ def build():
         subprocess.run([os.path.join(TOP, "rumtsafi"), "dis", os.devnull], check=True)
 
 
-def measure(*words):
-    """What a call prints, its status, its seconds of the clock, and its greatest resident memory in MiB.
+def call(*words):
+    """What a call prints, its status, its seconds of the clock, and what the system says that it used.
 
     The system counts the memory that this script holds at the call as the call's own, so it should be little.
     """
@@ -56,7 +56,36 @@ def measure(*words):
         seconds = time.perf_counter() - begin
         stop.cancel()
         output.seek(0)
-        return output.read(), os.waitstatus_to_exitcode(ended), seconds, usage.ru_maxrss / 1024
+        return output.read(), os.waitstatus_to_exitcode(ended), seconds, usage
+
+
+def measure(*words):
+    """What a call prints, its status, its seconds of the clock, and its greatest resident memory in MiB."""
+    output, status, seconds, usage = call(*words)
+    return output, status, seconds, usage.ru_maxrss / 1024
+
+
+def processor_time(*words):
+    """What a call prints, and its seconds of processor time. It has to end with status 0."""
+    output, status, _, usage = call(*words)
+    if status != 0:
+        sys.exit(f"{' '.join(words)}: status {status}, {output[-80:]!r}")
+    return output, usage.ru_utime + usage.ru_stime
+
+
+def least_times(rounds, *calls):
+    """Makes some calls in turn, so many times over: what each prints, which has to be the same each time, and its least
+    seconds of processor time."""
+    outputs, times = [set() for _ in calls], [float("inf")] * len(calls)
+    for _ in range(rounds):
+        for place, words in enumerate(calls):
+            output, seconds = processor_time(*words)
+            outputs[place].add(output)
+            times[place] = min(times[place], seconds)
+    for words, found in zip(calls, outputs):
+        if len(found) != 1:
+            sys.exit(f"{' '.join(words)}: not the same each time")
+    return [(found.pop(), seconds) for found, seconds in zip(outputs, times)]
 
 
 def faster(*words):
@@ -80,6 +109,11 @@ def missing(*compilers):
 def bare_executable(source, file, *options):
     """Compiles a source of this folder for RV32IM, without a library, with some options of the compiler."""
     subprocess.run([CROSS, *TARGET, *options, os.path.join(HERE, source), "-lgcc", "-o", file], check=True)
+
+
+def native(source, file):
+    """Compiles a source of this folder for this machine."""
+    subprocess.run([HOST, "-O2", os.path.join(HERE, source), "-o", file], check=True)
 
 
 def write(how, *words):

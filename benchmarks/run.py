@@ -1,32 +1,64 @@
 #!/usr/bin/env python3
-"""Times `rumtsafi run` and a plain interpreter in C on one long run.
+"""Times `rumtsafi run` and a plain interpreter in C on long runs.
 
     run.py [PROGRAM]
 
 PROGRAM is the built program; with none the script at the top of the repository builds it, if need be. Both run the
-executable that GCC makes of work.c, more than 200 million steps, in one go, each of them ROUNDS times in turn; the
-least time of each counts. What they print has to be the same. The last line is how many times longer `rumtsafi run`
-takes.
+executables that GCC makes of work.c and of the programs in guests/, tens of millions of steps each, in one go, the
+interpreter by decoding at each step and by decoding each word once. They run in turn, ROUNDS times; the least processor
+time of each counts. All have to print the same, with the line before the end that the programs are known to print.
 
-It ends with status 0 where both print the same, and where the tools are missing, with a line that says so.
+A line for each program has the millions of steps a second of the three, and the ratios of `rumtsafi run` to the other
+two; the last line has the geometric means of the ratios.
+
+It ends with status 0 where all print the same, and where the tools are missing, with a line that says so.
 """
+import math
 import os
 import re
-import subprocess
 import sys
 import tempfile
 
-from common import CROSS, HERE, HOST, bare_executable, build, measure, missing, program
+from common import CROSS, HOST, bare_executable, build, least_times, missing, native, program
 
-ROUNDS = 2
-LEAST_STEPS = 200_000_000
+ROUNDS = 3
+STEPS = ("--steps", "4294967296")
+# The checksums of the programs. That of crc.c is the CRC-32 by zlib; for the others qemu-riscv32 prints the same.
+GUESTS = {
+    "work.c": "a5a517ca", "guests/crc.c": "7c83c0b1", "guests/aes.c": "764c7d22", "guests/matrices.c": "8de9d288",
+    "guests/queens.c": "91b0c600", "guests/machine.c": "fe246956", "guests/sorting.c": "cd44bc68",
+    "guests/fixed_point.c": "c9adfe9a",
+}
 
 
-def compile_both(folder):
-    work, interpreter = os.path.join(folder, "work.elf"), os.path.join(folder, "interpreter")
-    bare_executable("work.c", work, "-O2")
-    subprocess.run([HOST, "-O2", os.path.join(HERE, "interpreter.c"), "-o", interpreter], check=True)
-    return work, interpreter
+def compare(name, checksum, folder, interpreter):
+    """The ratios of a program's speeds; prints its line."""
+    file = os.path.join(folder, "guest.elf")
+    bare_executable(name, file, "-O2")
+    words = ("run", file, *STEPS)
+    found = least_times(ROUNDS, (program(), *words), (interpreter, *words), (interpreter, *words, "--predecode"))
+    outputs = {output.decode() for output, _ in found}
+    due = re.compile(rf"{checksum}\nend exit 00000000 steps (\d+) cost \d+\n")
+    if len(outputs) != 1 or not due.fullmatch(min(outputs)):
+        sys.exit(f"{name}: {checksum} is due, not {sorted(outputs)}")
+    steps = int(due.fullmatch(min(outputs)).group(1))
+    ours, decoding, predecoding = (steps / seconds / 1e6 for _, seconds in found)
+    ratios = ours / decoding, ours / predecoding
+    print(f"{name:22} {steps / 1e6:7.1f} {ours:10.1f} {decoding:10.1f} {predecoding:10.1f} "
+          f"{ratios[0]:8.2f} {ratios[1]:8.2f}", flush=True)
+    return ratios
+
+
+def table():
+    """Prints the lines of all programs."""
+    with tempfile.TemporaryDirectory() as folder:
+        interpreter = os.path.join(folder, "interpreter")
+        native("interpreter.c", interpreter)
+        print(f"{'program':22} {'Msteps':>7} {'run, M/s':>10} {'decoding':>10} {'predecod.':>10} {'ratio':>8} "
+              f"{'ratio':>8}")
+        rows = [compare(name, checksum, folder, interpreter) for name, checksum in GUESTS.items()]
+    means = (math.prod(column) ** (1 / len(rows)) for column in zip(*rows))
+    print(f"{'mean ratios':62} {' '.join(f'{mean:8.2f}' for mean in means)}", flush=True)
 
 
 def main():
@@ -34,25 +66,10 @@ def main():
     if absent:
         print(absent)
         return 0
-    with tempfile.TemporaryDirectory() as folder:
-        work, interpreter = compile_both(folder)
-        build()
-        best, outputs = {}, set()
-        for _ in range(ROUNDS):
-            for name, called in (("interpreter", interpreter), ("rumtsafi run", program())):
-                output, status, seconds, memory = measure(called, "run", work, "--steps", "4294967296")
-                outputs.add((status, output))
-                best[name] = min(best.get(name, (seconds, memory)), (seconds, memory))
-    if len(outputs) != 1:
-        print("\n".join(f"status {status}: {output[-120:]!r}" for status, output in outputs))
-        return 1
-    output = outputs.pop()[1].decode()
-    steps = int(re.search(r"steps (\d+)", output).group(1))
-    print(output, end="")
-    for name, (seconds, memory) in best.items():
-        print(f"{name:12} {seconds:7.2f} s {steps / seconds / 1e6:8.1f} million steps/s {memory:6.1f} MiB")
-    print(f"ratio {best['rumtsafi run'][0] / best['interpreter'][0]:.2f}")
-    return 0 if steps >= LEAST_STEPS else 1
+    build()
+    table()
+    return 0
 
 
-sys.exit(main())
+if __name__ == "__main__":
+    sys.exit(main())

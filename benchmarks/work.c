@@ -1,21 +1,12 @@
 /* A long run of mixed work for the benchmark: hashes, sorting, a table walk, a product of matrices and divisions.
    It prints a checksum of it all. */
 #include "../samples/sha256.h"
-#include "../samples/start.h"
+#include "guest.h"
 
 enum { HASHES = 12000, SORTS = 60, LENGTH = 4096, WALKS = 60, SIZE = 48, PRODUCTS = 40, DIVISIONS = 600000 };
 
 static word numbers[LENGTH], matrices[3][SIZE][SIZE];
 static unsigned char bytes[65536];
-static word seed = 1;
-
-static word next(void)
-{
-    seed ^= seed << 13;
-    seed ^= seed >> 17;
-    seed ^= seed << 5;
-    return seed;
-}
 
 static word hash(void)
 {
@@ -89,8 +80,6 @@ static word divide(void)
 
 void run(void)
 {
-    static const char digits[] = "0123456789abcdef";
-    char line[9];
     word sum = hash();
     for (int i = 0; i < SORTS; i++)
         sum = sum * 31 + sort();
@@ -99,9 +88,5 @@ void run(void)
     for (int i = 0; i < PRODUCTS; i++)
         sum = sum * 31 + multiply();
     sum = sum * 31 + divide();
-    for (int i = 0; i < 8; i++)
-        line[i] = digits[sum >> (28 - 4 * i) & 15];
-    line[8] = '\n';
-    write_bytes(line, sizeof line);
-    leave(0);
+    finish(sum);
 }
