@@ -287,11 +287,11 @@ class Built(Repository):
 class Shipped(Repository):
     """A repository with a program in bin/."""
 
-    def test_a_shipped_program_runs_without_rt_and_writes_nothing(self):
+    def test_a_shipped_program_runs_without_rt_and_nothing_is_built(self):
         self.take_rt()
         self.ship('echo shipped "$@"')
         self.assertEqual(self.use("one", "two"), (0, "shipped one two\n", ""))
-        self.assertFalse(os.path.exists(os.path.join(self.root, "out")))
+        self.assertEqual(os.listdir(os.path.join(self.root, "out")), [])
 
     def test_a_shipped_program_of_other_sources_is_not_run(self):
         self.ship('echo shipped "$@"')
@@ -360,6 +360,87 @@ class Shipped(Repository):
         self.assertEqual(process.wait(timeout=10), 143)
         self.assertTrue(os.path.exists(mark))
         process.communicate()
+
+
+class Found(Repository):
+    """A repository with a program in bin/ and no `rt`, so that a stale program ends with 70, where it is seen whether a
+    use looks at the hash of the sources."""
+
+    def setUp(self):
+        super().setUp()
+        self.take_rt()
+        self.hashes = os.path.join(self.room, "hashes")
+        path = os.path.join(self.tools, "sha256sum")
+        with open(path, "w", encoding="utf-8") as file:
+            file.write(f'#!/bin/sh\necho >> "{self.hashes}"\nPATH={SYSTEM} exec sha256sum "$@"\n')
+        os.chmod(path, 0o755)
+        self.ship("echo shipped")
+        self.source = os.path.join(self.root, "crates/low/src/lib.rt")
+
+    def look(self, **more):
+        """The status of a use, and whether it looked at the hash of the sources."""
+        if os.path.exists(self.hashes):
+            os.remove(self.hashes)
+        return self.use("one", **more)[0], os.path.exists(self.hashes)
+
+    def settle(self):
+        """Waits until the files are old enough, so that one use keeps what it finds, and the next one goes by it."""
+        time.sleep(2.1)
+        self.assertEqual([self.look(), self.look()], [(0, True), (0, False)])
+
+    def test_a_hash_is_looked_at_until_the_files_are_old_enough_and_then_no_more(self):
+        self.assertEqual([self.look(), self.look()], [(0, True), (0, True)])
+        self.settle()
+        self.assertEqual(os.listdir(os.path.join(self.root, "out")), ["found"])
+
+    def test_another_source_of_the_same_size_and_time_is_seen(self):
+        self.settle()
+        times = os.stat(self.source)
+        for text, status in (("wol", 70), ("low", 0)):
+            self.write(self.source, text)
+            os.utime(self.source, ns=(times.st_atime_ns, times.st_mtime_ns))
+            self.assertEqual(self.look(), (status, True))
+
+    def test_a_source_that_another_one_replaces_is_seen(self):
+        other = os.path.join(self.root, "other")
+        self.write(other, "wol")
+        os.utime(other, ns=(1, 1))
+        self.settle()
+        os.rename(self.source, os.path.join(self.root, "kept"))
+        self.assertEqual(self.look(), (70, True))
+        os.rename(other, self.source)
+        self.assertEqual(self.look(), (70, True))
+        os.replace(os.path.join(self.root, "kept"), self.source)
+        self.assertEqual(self.look()[0], 0)
+
+    def test_new_files_and_another_program_are_seen(self):
+        self.settle()
+        self.write("crates/unused/src/new.rt", "")
+        self.assertEqual(self.look(), (0, True))
+        self.write("crates/low/src/new.rt", "")
+        self.assertEqual(self.look(), (70, True))
+        os.remove(os.path.join(self.root, "crates/low/src/new.rt"))
+        self.ship("exit 3")
+        self.assertEqual(self.look(), (3, True))
+        self.write("bin/rumtsafi.sources", "sources of another program\n")
+        self.assertEqual(self.look(), (70, True))
+
+    def test_a_copy_of_the_repository_looks_anew(self):
+        self.settle()
+        copy = os.path.join(self.room, "copy")
+        shutil.copytree(self.root, copy)
+        script, source = os.path.join(copy, "rumtsafi"), os.path.join(copy, "crates/low/src/lib.rt")
+        self.assertEqual(self.look(script=script), (0, True))
+        self.write(source, "wol")
+        shutil.copystat(self.source, source)
+        self.assertEqual(self.look(script=script), (70, True))
+        self.assertEqual(self.look(), (0, False))
+
+    def test_a_program_that_no_longer_runs_is_not_run(self):
+        self.settle()
+        self.assertEqual(self.look(), (0, False))
+        os.chmod(os.path.join(self.root, "bin/rumtsafi"), 0o644)
+        self.assertEqual(self.look(), (70, True))
 
 
 def has_terminals():

@@ -30,6 +30,12 @@ sources() {
         cut -d ' ' -f 1
 }
 
+# Runs `find` with the given words on the files that decide which program is current: what each crate uses, the sources
+# of all crates, and the programs with what they were built from. Those that aren't there are passed over.
+find_deciding() {
+    cd -- "$root" && exec find crates.txt crates/*/src {bin,out}/rumtsafi{,.sources} -type f "$@" 2> /dev/null
+}
+
 # What a program was built from, `sources` or `toolchain`, by the file that stands beside it.
 built_from() {
     [ ! -r "$1.sources" ] || sed -n "s/^$2 //p" "$1.sources"
