@@ -45,13 +45,11 @@ fn one(simple: Simple) -> Expr {
 /// Puts a wire of this width at the end.
 fn declare(
     rt: &impl Abort,
-    alloc: Global,
     wires: &mut Wires,
-    name: &[u8],
+    name: Name,
     width: u8,
     value: Expr,
 ) -> Result<(), AllocError> {
-    let name = Name::new(name.to_vec(alloc)?);
     let wire = Wire { name, width, value };
     assert!(rt; !wires.is_full());
     assert!(rt; wires.allows(&wire));
@@ -65,14 +63,13 @@ fn module(rt: &impl Abort, wires: Wires, y: Expr, z: Expr) -> Module {
     Module::new(0, 1, wires, y, z)
 }
 
-/// y and z, of which nothing is known.
-fn value(module: &Module, a: u32, b: u32, c: u32) -> (u32, u32) {
-    eval(module, a, b, c)
-}
+// Modules and expressions are let go by calls of `drop`, which a proof does not look into.
 
-/// Whether the two modules are equal.
-fn equal(left: &Module, right: &Module) -> bool {
-    left.is_equal(right)
+/// y and z, of which nothing is known.
+fn value(module: Module, a: u32, b: u32, c: u32) -> (u32, u32) {
+    let values = eval(&module, a, b, c);
+    drop(module);
+    values
 }
 
 /// The module without wires, y and with z of this value.
@@ -85,20 +82,49 @@ fn constant(rt: &impl Abort, alloc: Global, z: u64) -> Module {
     )
 }
 
-/// The width of a name.
-fn width(alloc: Global, wires: &Wires, name: &[u8]) -> Result<Option<u8>, AllocError> {
-    Ok(wires.width_of(&Name::new(name.to_vec(alloc)?)))
+/// Asserts the width of a name.
+fn expect_width(
+    rt: &impl Abort,
+    alloc: Global,
+    wires: &Wires,
+    name: &[u8],
+    width: Option<u8>,
+) -> Result<(), AllocError> {
+    let name = Name::new(name.to_vec(alloc)?);
+    assert_eq!(rt; wires.width_of(&name), width);
+    Ok(())
 }
 
-/// The width of an expression.
-fn expr_width(wires: &Wires, expr: &Expr) -> Option<u8> {
-    wires.expr_width(expr)
+/// Asserts that an expression has no width.
+fn expect_no_width(rt: &impl Abort, wires: &Wires, expr: Expr) {
+    assert_eq!(rt; wires.expr_width(&expr), None);
+    drop(expr);
 }
 
 /// A vector of 64 bits: the sign of a name of 32 bits above it.
 fn signed(alloc: Global, wires: &Wires, name: &[u8]) -> Result<Term, AllocError> {
     let sign = Item::Repeat(32, bits(alloc, wires, name, 31, 31)?);
     joined(alloc, sign, Item::Plain(whole(alloc, wires, name)?))
+}
+
+/// A vector of 64 bits: zeros above a name of 32 bits.
+fn unsigned(alloc: Global, wires: &Wires, name: &[u8]) -> Result<Term, AllocError> {
+    let low = Item::Plain(whole(alloc, wires, name)?);
+    joined(alloc, Item::Plain(number(32, 0)), low)
+}
+
+/// The product of a as a signed number and b as one that is not.
+fn product(alloc: Global, wires: &Wires) -> Result<Expr, AllocError> {
+    let left = signed(alloc, wires, b"a")?;
+    let right = unsigned(alloc, wires, b"b")?;
+    Ok(Expr::Two(Operator::Times, left, right))
+}
+
+/// An operator on a and b.
+fn on_both(alloc: Global, wires: &Wires, operator: Operator) -> Result<Expr, AllocError> {
+    let left = whole(alloc, wires, b"a")?;
+    let right = whole(alloc, wires, b"b")?;
+    Ok(two(operator, left, right))
 }
 
 /// y of one operator on a and b.
@@ -110,33 +136,32 @@ fn on(
     b: u32,
 ) -> Result<u32, AllocError> {
     let wires = Wires::new(alloc);
-    let left = whole(alloc, &wires, b"a")?;
-    let right = whole(alloc, &wires, b"b")?;
-    let module = module(rt, wires, two(operator, left, right), one(number(32, 0)));
-    Ok(value(&module, a, b, 0).0)
+    let y = on_both(alloc, &wires, operator)?;
+    let module = module(rt, wires, y, one(number(32, 0)));
+    Ok(value(module, a, b, 0).0)
 }
 
 #[test]
 fn mulhsu(rt: HostRuntime) -> Result<(), Fail> {
     let alloc = rt.alloc();
     let mut wires = Wires::new(alloc);
-    let left = signed(alloc, &wires, b"a")?;
-    let zeros = Item::Plain(number(32, 0));
-    let right = joined(alloc, zeros, Item::Plain(whole(alloc, &wires, b"b")?))?;
-    let product = Expr::Two(Operator::Times, left, right);
-    declare(&rt, alloc, &mut wires, b"w0", 64, product)?;
+    let name = Name::new(b"w0".to_vec(alloc)?);
+    let product = product(alloc, &wires)?;
+    declare(&rt, &mut wires, name, 64, product)?;
     let y = one(bits(alloc, &wires, b"w0", 63, 32)?);
     let module = module(&rt, wires, y, one(number(32, 0)));
     assert_eq!(rt;
-        value(&module, 0x8000_0000, 0xffff_ffff, 0),
+        value(module, 0x8000_0000, 0xffff_ffff, 0),
         (0x8000_0000, 0)
     );
     Ok(())
 }
 
-#[test]
-fn operators_at_corners(rt: HostRuntime) -> Result<(), Fail> {
-    for (operator, a, b, want) in [
+// A long table is the answer of a function, so that the proof of a test doesn't look at it.
+
+/// Operators, a, b and y.
+fn corners() -> &'static [(Operator, u32, u32, u32)] {
+    &[
         (Operator::Plus, 0xffff_ffff, 2, 1),
         (Operator::Minus, 1, 2, 0xffff_ffff),
         (Operator::Times, 0xffff_ffff, 0xffff_ffff, 1),
@@ -147,10 +172,15 @@ fn operators_at_corners(rt: HostRuntime) -> Result<(), Fail> {
         (Operator::Left, 1, 32, 0),
         (Operator::Right, 0x8000_0000, 31, 1),
         (Operator::Right, 0xffff_ffff, 32, 0),
-    ] {
+    ]
+}
+
+#[test]
+fn operators_at_corners(rt: HostRuntime) -> Result<(), Fail> {
+    for (operator, a, b, want) in corners() {
         assert_eq!(rt;
-            on(&rt, rt.alloc(), operator, a, b)?,
-            want,
+            on(&rt, rt.alloc(), *operator, *a, *b)?,
+            *want,
             "{operator:?} {a:x} {b:x}"
         );
     }
@@ -161,27 +191,27 @@ fn operators_at_corners(rt: HostRuntime) -> Result<(), Fail> {
 fn names_are_told(rt: HostRuntime) -> Result<(), Fail> {
     let alloc = rt.alloc();
     let mut wires = Wires::new(alloc);
-    declare(
-        &rt,
-        alloc,
-        &mut wires,
-        b"w",
-        1,
-        two(Operator::Less, number(7, 1), number(7, 2)),
-    )?;
-    assert_eq!(rt; width(alloc, &wires, b"w")?, Some(1));
-    assert_eq!(rt; width(alloc, &wires, b"c")?, Some(32));
-    assert_eq!(rt; width(alloc, &wires, b"y")?, None);
+    let name = Name::new(b"w".to_vec(alloc)?);
+    let less = two(Operator::Less, number(7, 1), number(7, 2));
+    declare(&rt, &mut wires, name, 1, less)?;
+    expect_width(&rt, alloc, &wires, b"w", Some(1))?;
+    expect_width(&rt, alloc, &wires, b"c", Some(32))?;
+    expect_width(&rt, alloc, &wires, b"y", None)?;
     let beyond = one(bits(alloc, &wires, b"a", 32, 0)?);
-    assert_eq!(rt; expr_width(&wires, &beyond), None);
+    expect_no_width(&rt, &wires, beyond);
     let unlike = two(Operator::Plus, number(7, 1), number(8, 2));
-    assert_eq!(rt; expr_width(&wires, &unlike), None);
+    expect_no_width(&rt, &wires, unlike);
     Ok(())
 }
 
 /// Whether two modules with these values of z are equal.
 fn equal_constants(rt: &impl Abort, alloc: Global, left: u64, right: u64) -> bool {
-    equal(&constant(rt, alloc, left), &constant(rt, alloc, right))
+    let left = constant(rt, alloc, left);
+    let right = constant(rt, alloc, right);
+    let are_equal = left.is_equal(&right);
+    drop(left);
+    drop(right);
+    are_equal
 }
 
 #[test]
