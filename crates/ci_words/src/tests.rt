@@ -6,7 +6,6 @@ use crate::tables::{
 use crate::{Value, Words, WordsErr, read_words};
 use std::alloc::{AllocError, Global};
 use std::process::Abort;
-use std::test::Fail;
 
 /// The words of a line, by blanks: `''` is the empty word.
 fn words(alloc: Global, line: &str) -> Result<Vec<String>, AllocError> {
@@ -151,205 +150,235 @@ fn shown(alloc: Global, line: &str) -> Result<String, AllocError> {
     }
 }
 
-/// Asserts what the line reads as, in short.
-fn expect(rt: &(impl Abort + AllocGlobal), line: &str, wanted: &str) -> Result<(), AllocError> {
-    let text = shown(rt.alloc(), line)?;
-    assert_eq!(rt; text.as_str(), wanted, "the reading of {line}");
+// A test hands its table on as a whole, so that the proof of the loop over it does not look at it.
+
+/// Asserts that what a line reads as is what is wanted.
+fn is_reading(rt: &impl Abort, line: &str, text: &str, wanted: &str) {
+    assert_eq!(rt; text, wanted, "the reading of {line}");
+}
+
+/// Asserts what each line reads as, in short.
+fn expect(rt: &(impl Abort + AllocGlobal), lines: &[(&str, &str)]) -> Result<(), AllocError> {
+    for (line, wanted) in lines {
+        let text = shown(rt.alloc(), line)?;
+        is_reading(rt, line, text.as_str(), wanted);
+    }
     Ok(())
 }
 
 #[test]
-fn options_stand_anywhere(rt: HostRuntime) -> Result<(), Fail> {
-    expect(&rt, "best F", "best F 3 2 -")?;
-    expect(&rt, "best F --in=3", "best F 3 2 -")?;
-    expect(&rt, "best --in 2 F", "best F 2 2 -")?;
-    expect(&rt, "best F --out 1 --in 3", "best F 3 1 -")?;
-    expect(&rt, "best --out=1 F --in 03", "best F 3 1 -")?;
-    expect(&rt, "best F --in 0000000002", "best F 2 2 -")?;
-    expect(&rt, "best -- F", "best F 3 2 -")?;
-    expect(&rt, "best --in 1 -- F", "best F 1 2 -")?;
-    expect(&rt, "best F --", "best F 3 2 -")?;
-    expect(&rt, "eval U 03 0x1 -- 0xFf 0x10", "eval U 3 1 255 16")?;
-    Ok(())
-}
-
-#[test]
-fn choices_and_their_options(rt: HostRuntime) -> Result<(), Fail> {
+fn options_stand_anywhere(rt: HostRuntime) -> Result<(), AllocError> {
     expect(
         &rt,
-        "find A B C D E",
-        "find A B C D E 3 2 32 65536 16777216 - -",
-    )?;
+        &[
+            ("best F", "best F 3 2 -"),
+            ("best F --in=3", "best F 3 2 -"),
+            ("best --in 2 F", "best F 2 2 -"),
+            ("best F --out 1 --in 3", "best F 3 1 -"),
+            ("best --out=1 F --in 03", "best F 3 1 -"),
+            ("best F --in 0000000002", "best F 2 2 -"),
+            ("best -- F", "best F 3 2 -"),
+            ("best --in 1 -- F", "best F 1 2 -"),
+            ("best F --", "best F 3 2 -"),
+            ("eval U 03 0x1 -- 0xFf 0x10", "eval U 3 1 255 16"),
+        ],
+    )
+}
+
+#[test]
+fn choices_and_their_options(rt: HostRuntime) -> Result<(), AllocError> {
     expect(
         &rt,
-        "find --count=8 A B C D E --steps 5 --leader 0x10 --table T --budget 7 --in 1 --input I --out 1",
-        "find A B C D E 1 1 8 7 5 T I leader 10",
-    )?;
-    expect(&rt, "find A A B C D", "none")?;
-    expect(&rt, "find A B C D C", "none")?;
-    expect(&rt, "find A B C D E --table C", "none")?;
-    expect(&rt, "find A B C D E --count 33", "none")?;
-    expect(&rt, "find A B C D", "none")?;
+        &[
+            ("find A B C D E", "find A B C D E 3 2 32 65536 16777216 - -"),
+            (
+                "find --count=8 A B C D E --steps 5 --leader 0x10 --table T --budget 7 --in 1 --input I --out 1",
+                "find A B C D E 1 1 8 7 5 T I leader 10",
+            ),
+            ("find A A B C D", "none"),
+            ("find A B C D C", "none"),
+            ("find A B C D E --table C", "none"),
+            ("find A B C D E --count 33", "none"),
+            ("find A B C D", "none"),
+            (
+                "check A A B B --count 1",
+                "check A A B B 3 2 1 65536 16777216 - -",
+            ),
+            ("check A B C D E", "none"),
+        ],
+    )
+}
+
+#[test]
+fn words_with_no_reading(rt: HostRuntime) -> Result<(), AllocError> {
     expect(
         &rt,
-        "check A A B B --count 1",
-        "check A A B B 3 2 1 65536 16777216 - -",
-    )?;
-    expect(&rt, "check A B C D E", "none")?;
-    Ok(())
+        &[
+            ("", "none"),
+            ("foo", "none"),
+            ("best", "none"),
+            ("best ''", "none"),
+            ("best -", "none"),
+            ("best -x", "none"),
+            ("best F G", "none"),
+            ("best F -- G", "none"),
+            ("best F -- --in", "none"),
+            ("best -- -F", "none"),
+            ("dis -- F --", "none"),
+            ("best F --help", "none"),
+            ("best F -h", "none"),
+            ("best help", "best help 3 2 -"),
+            ("load 007", "load 7"),
+            ("load 4294967296", "none"),
+        ],
+    )
 }
 
 #[test]
-fn words_with_no_reading(rt: HostRuntime) -> Result<(), Fail> {
-    expect(&rt, "", "none")?;
-    expect(&rt, "foo", "none")?;
-    expect(&rt, "best", "none")?;
-    expect(&rt, "best ''", "none")?;
-    expect(&rt, "best -", "none")?;
-    expect(&rt, "best -x", "none")?;
-    expect(&rt, "best F G", "none")?;
-    expect(&rt, "best F -- G", "none")?;
-    expect(&rt, "best F -- --in", "none")?;
-    expect(&rt, "best -- -F", "none")?;
-    expect(&rt, "dis -- F --", "none")?;
-    expect(&rt, "best F --help", "none")?;
-    expect(&rt, "best F -h", "none")?;
-    expect(&rt, "best help", "best help 3 2 -")?;
-    expect(&rt, "load 007", "load 7")?;
-    expect(&rt, "load 4294967296", "none")?;
-    Ok(())
-}
-
-#[test]
-fn options_with_no_reading(rt: HostRuntime) -> Result<(), Fail> {
-    expect(&rt, "best F --in", "none")?;
-    expect(&rt, "best F --in=", "none")?;
-    expect(&rt, "best F --in ''", "none")?;
-    expect(&rt, "best F --in --", "none")?;
-    expect(&rt, "best F --in -- 3", "none")?;
-    expect(&rt, "best F --in --out", "none")?;
-    expect(&rt, "best F --in --out 1", "none")?;
-    expect(&rt, "best F --in -1", "none")?;
-    expect(&rt, "best F --in=-1", "none")?;
-    expect(&rt, "best F --in 0", "none")?;
-    expect(&rt, "best F --in 4", "none")?;
-    expect(&rt, "best F --out 3", "none")?;
-    expect(&rt, "best F --in +3", "none")?;
-    expect(&rt, "best F --in 00000000003", "none")?;
-    expect(&rt, "best F --in 4294967299", "none")?;
-    expect(&rt, "best F --in 2 --in 2", "none")?;
-    expect(&rt, "best F --in=2 --in=2", "none")?;
-    expect(&rt, "best F --in 3 --in=3", "none")?;
-    expect(&rt, "best F --inn 2", "none")?;
-    expect(&rt, "best F --=2", "none")?;
-    Ok(())
-}
-
-#[test]
-fn names_of_asm_and_dis(rt: HostRuntime) -> Result<(), Fail> {
-    expect(&rt, "asm A B", "asm A B")?;
-    expect(&rt, "asm A -- B", "asm A B")?;
-    expect(&rt, "asm A ./A", "asm A ./A")?;
-    expect(&rt, "asm A A", "none")?;
-    expect(&rt, "asm A", "none")?;
-    expect(&rt, "asm A B C", "none")?;
-    expect(&rt, "asm A B --in 3", "none")?;
-    expect(&rt, "dis F", "dis F")?;
-    expect(&rt, "dis F G", "none")?;
-    expect(&rt, "dis", "none")?;
-    Ok(())
-}
-
-#[test]
-fn options_of_run(rt: HostRuntime) -> Result<(), Fail> {
-    expect(&rt, "run F", "run F 16777216 - -")?;
-    expect(&rt, "run F --steps 3", "run F 3 - -")?;
-    expect(&rt, "run F --input=I --table T", "run F 16777216 I T")?;
-    expect(&rt, "run --table T --steps=1 F", "run F 1 - T")?;
-    expect(&rt, "run F --steps 4294967296", "run F 4294967296 - -")?;
-    expect(&rt, "run F --steps 4294967297", "none")?;
-    expect(&rt, "run F --steps 0", "none")?;
-    expect(&rt, "run F --in 2", "none")?;
-    expect(&rt, "run", "none")?;
-    expect(&rt, "run A B", "none")?;
-    Ok(())
-}
-
-#[test]
-fn budget_of_best(rt: HostRuntime) -> Result<(), Fail> {
-    expect(&rt, "best F --budget 65536", "best F 3 2 -")?;
-    expect(&rt, "best F --budget=1", "best F 3 2 - budget 1")?;
+fn options_with_no_reading(rt: HostRuntime) -> Result<(), AllocError> {
     expect(
         &rt,
-        "best --budget 4194304 F",
-        "best F 3 2 - budget 4194304",
-    )?;
-    expect(&rt, "best F --budget 4194305", "none")?;
-    expect(&rt, "best F --budget 4294967297", "none")?;
-    expect(&rt, "best F --budget 0", "none")?;
-    expect(&rt, "best F --budget 2 --budget 2", "none")?;
-    expect(&rt, "blocks F --budget 2", "none")?;
-    expect(&rt, "run F --budget 2", "none")?;
-    Ok(())
+        &[
+            ("best F --in", "none"),
+            ("best F --in=", "none"),
+            ("best F --in ''", "none"),
+            ("best F --in --", "none"),
+            ("best F --in -- 3", "none"),
+            ("best F --in --out", "none"),
+            ("best F --in --out 1", "none"),
+            ("best F --in -1", "none"),
+            ("best F --in=-1", "none"),
+            ("best F --in 0", "none"),
+            ("best F --in 4", "none"),
+            ("best F --out 3", "none"),
+            ("best F --in +3", "none"),
+            ("best F --in 00000000003", "none"),
+            ("best F --in 4294967299", "none"),
+            ("best F --in 2 --in 2", "none"),
+            ("best F --in=2 --in=2", "none"),
+            ("best F --in 3 --in=3", "none"),
+            ("best F --inn 2", "none"),
+            ("best F --=2", "none"),
+        ],
+    )
 }
 
 #[test]
-fn files_of_options(rt: HostRuntime) -> Result<(), Fail> {
-    expect(&rt, "best F --table T", "best F 3 2 T")?;
-    expect(&rt, "run F --table F", "run F 16777216 - F")?;
-    expect(&rt, "run F --input I=J", "run F 16777216 I=J -")?;
-    expect(&rt, "run F --input ''", "none")?;
-    expect(&rt, "run F --input=", "none")?;
-    expect(&rt, "run F --input -", "none")?;
-    expect(&rt, "run F --input -x", "none")?;
-    expect(&rt, "run F --input=-x", "none")?;
-    expect(&rt, "run F --table T --table T", "none")?;
-    expect(&rt, "run F --units U", "run F 16777216 - - units U")?;
+fn names_of_asm_and_dis(rt: HostRuntime) -> Result<(), AllocError> {
     expect(
         &rt,
-        "run --units=F F --table T",
-        "run F 16777216 - T units F",
-    )?;
-    expect(&rt, "run F --units U --units U", "none")?;
-    expect(&rt, "run F --units", "none")?;
-    expect(&rt, "best F --units U", "none")?;
-    expect(&rt, "best F --input I", "none")?;
-    expect(&rt, "asm T O --table X", "none")?;
-    Ok(())
+        &[
+            ("asm A B", "asm A B"),
+            ("asm A -- B", "asm A B"),
+            ("asm A ./A", "asm A ./A"),
+            ("asm A A", "none"),
+            ("asm A", "none"),
+            ("asm A B C", "none"),
+            ("asm A B --in 3", "none"),
+            ("dis F", "dis F"),
+            ("dis F G", "none"),
+            ("dis", "none"),
+        ],
+    )
 }
 
 #[test]
-fn addresses_of_options(rt: HostRuntime) -> Result<(), Fail> {
-    expect(&rt, "best F --at 0x100c4", "best F 3 2 - at 100c4")?;
-    expect(&rt, "best --at=0x000100C4 F", "best F 3 2 - at 100c4")?;
-    expect(&rt, "best F --at 0X1", "none")?;
-    expect(&rt, "best F --at 100c4", "none")?;
-    expect(&rt, "best F --at 0x", "none")?;
-    expect(&rt, "best F --at 0x123456789", "none")?;
-    expect(&rt, "best F --at 0xG", "none")?;
-    expect(&rt, "best F --at 0x1 --at 0x1", "none")?;
-    expect(&rt, "blocks F --at 0x1", "none")?;
-    Ok(())
+fn options_of_run(rt: HostRuntime) -> Result<(), AllocError> {
+    expect(
+        &rt,
+        &[
+            ("run F", "run F 16777216 - -"),
+            ("run F --steps 3", "run F 3 - -"),
+            ("run F --input=I --table T", "run F 16777216 I T"),
+            ("run --table T --steps=1 F", "run F 1 - T"),
+            ("run F --steps 4294967296", "run F 4294967296 - -"),
+            ("run F --steps 4294967297", "none"),
+            ("run F --steps 0", "none"),
+            ("run F --in 2", "none"),
+            ("run", "none"),
+            ("run A B", "none"),
+        ],
+    )
 }
 
 #[test]
-fn leaders_stand_more_than_once(rt: HostRuntime) -> Result<(), Fail> {
-    expect(&rt, "blocks F", "blocks F")?;
+fn budget_of_best(rt: HostRuntime) -> Result<(), AllocError> {
     expect(
         &rt,
-        "blocks F --leader 0xFFFFFFFF",
-        "blocks F leader ffffffff",
-    )?;
+        &[
+            ("best F --budget 65536", "best F 3 2 -"),
+            ("best F --budget=1", "best F 3 2 - budget 1"),
+            ("best --budget 4194304 F", "best F 3 2 - budget 4194304"),
+            ("best F --budget 4194305", "none"),
+            ("best F --budget 4294967297", "none"),
+            ("best F --budget 0", "none"),
+            ("best F --budget 2 --budget 2", "none"),
+            ("blocks F --budget 2", "none"),
+            ("run F --budget 2", "none"),
+        ],
+    )
+}
+
+#[test]
+fn files_of_options(rt: HostRuntime) -> Result<(), AllocError> {
     expect(
         &rt,
-        "best --leader 0xab --at 0x4 F --leader=0x8 --leader 0xab",
-        "best F 3 2 - at 4 leader ab leader 8 leader ab",
-    )?;
-    expect(&rt, "blocks F --leader 0x4 --leader 4", "none")?;
-    expect(&rt, "blocks F --leader 0x4 --leader", "none")?;
-    expect(&rt, "blocks F --in 2", "none")?;
-    expect(&rt, "run F --leader 0x4", "none")?;
-    Ok(())
+        &[
+            ("best F --table T", "best F 3 2 T"),
+            ("run F --table F", "run F 16777216 - F"),
+            ("run F --input I=J", "run F 16777216 I=J -"),
+            ("run F --input ''", "none"),
+            ("run F --input=", "none"),
+            ("run F --input -", "none"),
+            ("run F --input -x", "none"),
+            ("run F --input=-x", "none"),
+            ("run F --table T --table T", "none"),
+            ("run F --units U", "run F 16777216 - - units U"),
+            ("run --units=F F --table T", "run F 16777216 - T units F"),
+            ("run F --units U --units U", "none"),
+            ("run F --units", "none"),
+            ("best F --units U", "none"),
+            ("best F --input I", "none"),
+            ("asm T O --table X", "none"),
+        ],
+    )
+}
+
+#[test]
+fn addresses_of_options(rt: HostRuntime) -> Result<(), AllocError> {
+    expect(
+        &rt,
+        &[
+            ("best F --at 0x100c4", "best F 3 2 - at 100c4"),
+            ("best --at=0x000100C4 F", "best F 3 2 - at 100c4"),
+            ("best F --at 0X1", "none"),
+            ("best F --at 100c4", "none"),
+            ("best F --at 0x", "none"),
+            ("best F --at 0x123456789", "none"),
+            ("best F --at 0xG", "none"),
+            ("best F --at 0x1 --at 0x1", "none"),
+            ("blocks F --at 0x1", "none"),
+        ],
+    )
+}
+
+#[test]
+fn leaders_stand_more_than_once(rt: HostRuntime) -> Result<(), AllocError> {
+    expect(
+        &rt,
+        &[
+            ("blocks F", "blocks F"),
+            ("blocks F --leader 0xFFFFFFFF", "blocks F leader ffffffff"),
+            (
+                "best --leader 0xab --at 0x4 F --leader=0x8 --leader 0xab",
+                "best F 3 2 - at 4 leader ab leader 8 leader ab",
+            ),
+            ("blocks F --leader 0x4 --leader 4", "none"),
+            ("blocks F --leader 0x4 --leader", "none"),
+            ("blocks F --in 2", "none"),
+            ("run F --leader 0x4", "none"),
+        ],
+    )
 }
 
 const READ: Kind = Kind::File(Access::Reads);
@@ -470,53 +499,66 @@ fn shown_by(alloc: Global, line: &str) -> Result<String, AllocError> {
     }
 }
 
-/// Asserts what the line reads as by these rows, in short.
-fn expect_by(rt: &(impl Abort + AllocGlobal), line: &str, wanted: &str) -> Result<(), AllocError> {
-    let text = shown_by(rt.alloc(), line)?;
-    assert_eq!(rt; text.as_str(), wanted, "the reading of {line}");
+/// Asserts what each line reads as by these rows, in short.
+fn expect_by(rt: &(impl Abort + AllocGlobal), lines: &[(&str, &str)]) -> Result<(), AllocError> {
+    for (line, wanted) in lines {
+        let text = shown_by(rt.alloc(), line)?;
+        is_reading(rt, line, text.as_str(), wanted);
+    }
     Ok(())
 }
 
 #[test]
-fn numbers_and_words_stand_by_themselves(rt: HostRuntime) -> Result<(), Fail> {
+fn numbers_and_words_stand_by_themselves(rt: HostRuntime) -> Result<(), AllocError> {
     expect_by(
         &rt,
-        "eval U 3 0x0 0xFFFFffff 0x00000010",
-        "0 0 U 3 0 ffffffff 10",
-    )?;
-    expect_by(&rt, "eval U 031 0x0 0x0 0x0", "0 0 U 31 0 0 0")?;
-    expect_by(&rt, "eval U 32 0x0 0x0 0x0", "none")?;
-    expect_by(&rt, "eval U 0x1 0x0 0x0 0x0", "none")?;
-    expect_by(&rt, "eval U 1 0x0 0x0 0", "none")?;
-    expect_by(&rt, "eval U 1 0x0 0x0", "none")?;
-    expect_by(&rt, "load 4294967295", "0 0 4294967295")?;
-    expect_by(&rt, "load 4294967296", "none")?;
-    expect_by(&rt, "load 00000000001", "none")?;
-    expect_by(&rt, "load F", "none")?;
-    Ok(())
+        &[
+            (
+                "eval U 3 0x0 0xFFFFffff 0x00000010",
+                "0 0 U 3 0 ffffffff 10",
+            ),
+            ("eval U 031 0x0 0x0 0x0", "0 0 U 31 0 0 0"),
+            ("eval U 32 0x0 0x0 0x0", "none"),
+            ("eval U 0x1 0x0 0x0 0x0", "none"),
+            ("eval U 1 0x0 0x0 0", "none"),
+            ("eval U 1 0x0 0x0", "none"),
+            ("load 4294967295", "0 0 4294967295"),
+            ("load 4294967296", "none"),
+            ("load 00000000001", "none"),
+            ("load F", "none"),
+        ],
+    )
 }
 
 #[test]
-fn written_files_are_apart_from_all(rt: HostRuntime) -> Result<(), Fail> {
-    expect_by(&rt, "find A B C D E", "1 0 A B C D E")?;
-    expect_by(&rt, "find A B C D E --table A", "1 0 A B C D E")?;
-    expect_by(&rt, "find A B C D E --table B", "none")?;
-    expect_by(&rt, "find A B C D E --table=E", "none")?;
-    expect_by(&rt, "find A B C D B", "none")?;
-    expect_by(&rt, "find A B C D A", "none")?;
-    expect_by(&rt, "relog A A", "none")?;
-    Ok(())
+fn written_files_are_apart_from_all(rt: HostRuntime) -> Result<(), AllocError> {
+    expect_by(
+        &rt,
+        &[
+            ("find A B C D E", "1 0 A B C D E"),
+            ("find A B C D E --table A", "1 0 A B C D E"),
+            ("find A B C D E --table B", "none"),
+            ("find A B C D E --table=E", "none"),
+            ("find A B C D B", "none"),
+            ("find A B C D A", "none"),
+            ("relog A A", "none"),
+        ],
+    )
 }
 
 #[test]
-fn defaults_are_the_commands(rt: HostRuntime) -> Result<(), Fail> {
-    expect_by(&rt, "relog A B", "2 0 A B")?;
-    expect_by(&rt, "relog A B --log 1", "1 0 A B")?;
-    expect_by(&rt, "find A B C D E --log 2", "2 0 A B C D E")?;
-    expect_by(&rt, "relog A B --log 3", "none")?;
-    expect_by(&rt, "area A --limit 0", "0 0 A")?;
-    expect_by(&rt, "area A --limit=671", "0 671 A")?;
-    expect_by(&rt, "area A", "none")?;
-    expect_by(&rt, "area A --limit", "none")?;
-    Ok(())
+fn defaults_are_the_commands(rt: HostRuntime) -> Result<(), AllocError> {
+    expect_by(
+        &rt,
+        &[
+            ("relog A B", "2 0 A B"),
+            ("relog A B --log 1", "1 0 A B"),
+            ("find A B C D E --log 2", "2 0 A B C D E"),
+            ("relog A B --log 3", "none"),
+            ("area A --limit 0", "0 0 A"),
+            ("area A --limit=671", "0 671 A"),
+            ("area A", "none"),
+            ("area A --limit", "none"),
+        ],
+    )
 }
