@@ -1,13 +1,13 @@
 -- The run that a choice is made from is tame, and costs less by what the choice saves.
-use Rattle.std.proofs.Common.{◌≡◌, ◌∙◌, ℕ, ◌+◌, ◌-◌, ◌%◌, pos, ◌+ℤ◌, inl, inr, List, reverse, Option, Some, None, refl, sym, ap, subst}
-use Rattle.std.proofs.Common.{arith}
-use Rattle.std.specs.Prelude.{Bool, true, false, ◌==◌, if◌then◌else◌, All}
+use Rattle.std.proofs.Common.{◌≡◌, ◌∙◌, ℕ, ◌+◌, ◌-◌, ◌%◌, pos, ◌+ℤ◌, inl, inr, List, reverse}
+use Rattle.std.proofs.Common.{Option, Some, None, refl, sym, ap, subst, arith}
+use Rattle.std.specs.Prelude.{Bool, true, false, ◌==◌, if◌then◌else◌}
 use Rattle.std.specs.List.{Contains}
 use Rattle.std.proofs.lemmas.Bool.{cases_lt, eqb-true}
 use Rattle.ci_isa.specs.declared.instruction.Insn.{Insn}
 use Rattle.ci_isa.specs.declared.instruction.Insn.TheVariants.{Jalr}
 use Rattle.ci_lat.specs.Latencies.{Latencies}
-use Rattle.ci_elf.specs.Executables.{Executable, IsTextWord}
+use Rattle.ci_elf.specs.Executables.{Executable}
 use Rattle.ci_block.specs.declared.blocks.Block.{Block}
 use Rattle.ci_block.specs.Leaders.{target_of_jalr}
 use Rattle.ci_live.specs.Analyses.{IsAnalysis}
@@ -17,7 +17,7 @@ use Rattle.ci_machine.specs.declared.ends.End.TheVariants as ends
 use Rattle.ci_machine.specs.Cores.{Core}
 use Rattle.ci_machine.specs.Extended.{IsExtended, latencies_with}
 use Rattle.ci_machine.specs.Outcomes.{Outcome, Next, Ended}
-use Rattle.ci_machine.specs.Programs.{Program, State, at_pc, in_text, loaded_program, opening}
+use Rattle.ci_machine.specs.Programs.{Program, State, at_pc, loaded_program, opening}
 use Rattle.ci_machine.specs.RunEvents.{IsTame, entries, jalr_target}
 use Rattle.ci_machine.specs.Runs.{before_step, cost}
 use Rattle.ci_machine.specs.Steps.{Meaning, IsPlain, directed, fetched, step, stepped}
@@ -35,7 +35,7 @@ use Rattle.ci_rewrite.specs.SameSteps.{is_access_fault}
 use Rattle.ci_select.specs.declared.plan.Plan.{Plan}
 use Rattle.ci_select.specs.Instances.{instance_of, Instance}
 use Rattle.ci_select.specs.Savings.{IsSaved}
-use Rattle.ci_runs.specs.WholeRuns.{IsTameFor, Rewriting, Saving, is_among, saved}
+use Rattle.ci_runs.specs.WholeRuns.{Rewriting, is_among, saved}
 use Rattle.ci_runs.proofs.Accounts.{saved_same}
 use Rattle.ci_runs.proofs.ListedLeaders.{is_listed, listed_there}
 use Rattle.ci_choice.specs.ChosenFiles.{IsChosenFile, RunsAlike, rewriting_of}
@@ -67,7 +67,8 @@ module _ (meaning : Meaning) (program : Program) where
       by_fetch None is = let none : None ≡ Some target = rw (jalr_target, is) at leads in absurd (cc)
       by_fetch (Some (Jalr rd rs1 offset)) is =
           let led : next_pc (step meaning program state) ≡ Some target = rw (jalr_target, is) at leads in
-          directed_aligned _ _ target (subst (λ o. next_pc o ≡ Some target) (ap (stepped meaning.units program state) is) led)
+          directed_aligned _ _ target
+          (subst (λ o. next_pc o ≡ Some target) (ap (stepped meaning.units program state) is) led)
       by_fetch (Some insn) is = let none : None ≡ Some target = rw (jalr_target, is) at leads in absurd (cc)
 
 -- ---- the run
@@ -103,7 +104,8 @@ module _
   -- on each plain machine
   tame_on_each : (meaning : Meaning) (n : ℕ) → IsPlain meaning → Tame plain n → Tame meaning n
   tame_on_each meaning n other by_one =
-      ((plain_is_one plain meaning is_plain other (loaded_program file) n (opening file input)).tame (is_among live.leaders)).0
+      let one = plain_is_one plain meaning is_plain other (loaded_program file) n (opening file input) in
+      (one.tame (is_among live.leaders)).0
       by_one
 
   -- for any number of steps, where it ended
@@ -141,13 +143,16 @@ module _
     alike : RunsAlike instance file book (modules_of units) new
     alike = chosen_files_run_alike instance file book units new chosen
 
-    -- what the cuts save over the run is the total
-    saved_in_run :
-        saved alike.savings (entries plain (loaded_program file) steps (opening file input)) ≡ pos total
+    -- how often each address is entered in the run
+    abbrev in_run : ℕ → ℕ
+    in_run = entries plain (loaded_program file) steps (opening file input)
+
+    -- what the cuts save over it is the total
+    saved_in_run : saved alike.savings in_run ≡ pos total
     saved_in_run =
         let listed = savings_are_listed analysis.live.leaders alike.savings_are in
-        sym (saved_same (is_among live.leaders) alike.savings (entries plain (loaded_program file) steps (opening file input))
-        (entries_in profile) (λ k d below. is_listed live.leaders _ (listed k d below)) entered)
+        sym (saved_same (is_among live.leaders) alike.savings in_run (entries_in profile)
+        (λ k d below. is_listed live.leaders _ (listed k d below)) entered)
         ∙ alike.sum total total_is
 
     abbrev new_cost : Meaning → ℕ
@@ -160,8 +165,8 @@ module _
         → is_access_fault end ≡ false → profile.cost ≡ new_cost extended + total
     costs_less extended end is_extended ended no_access =
         let accounts =
-        alike.accounts (latencies_of table) (record { of_class = λ c. refl; pad = refl; read = refl }) plain extended input
-        steps end (record { is_plain = is_plain; is_extended = is_extended; bytes = bytes }) tame
+        alike.accounts (latencies_of table) (record { of_class = λ c. refl; pad = refl; read = refl }) plain extended
+        input steps end (record { is_plain = is_plain; is_extended = is_extended; bytes = bytes }) tame
         (sym profile_is.end ∙ ended) no_access in
         let in_all = accounts ∙ ap (λ z. pos (new_cost extended) +ℤ z) saved_in_run in
         profile_is.cost ∙ one_number _ (new_cost extended + total) in_all

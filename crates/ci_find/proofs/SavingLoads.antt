@@ -68,6 +68,7 @@ module _ (seed : ℕ) (read : List (List ℕ)) (success : Success) (made : IsLoa
 pub loads_save : LoadsSave
 loads_save seed read success made = (
   exit seed read success made,
-  (saves seed read success made).costs made.new_run.meaning (Exit 0) made.new_run.extended (exit seed read success made) refl
+  (saves seed read success made).costs made.new_run.meaning (Exit 0) made.new_run.extended
+      (exit seed read success made) refl
       ∙ ap (λ cycles. cycles + made.saved) (sym made.new_run.cycles_are),
 )

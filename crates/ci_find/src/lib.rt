@@ -94,8 +94,8 @@ pub fn run<F: Shelf, O: Sink>(alloc: Global, words: &Vec<String>, shelf: &mut F,
         (F.state shelf.old) (F.state shelf.new) (O.state out.old) (O.state out.new))
         result }
     // Where `find` succeeds, the new executable with the modules of the units runs as the old one does, wherever that is
-    // tame, each unit computes the operations of its cut, and each cut that was taken is the best of its block as that
-    // stood then.
+    // tame, and over the profiled run, which is tame, costs less by the gain in the line; each unit computes the
+    // operations of its cut, and each cut that was taken is the best of its block as that stood then.
     ensures headline { result ≡ 0
         → AreChosen (map string_bytes words.now.items) (F.state shelf.old).files (F.state shelf.new).files
         (O.state out.old) (O.state out.new) }

@@ -1,7 +1,7 @@
 -- The run of a generated program on the plain machine leaves the text alone, and exits with code 0.
-use Rattle.std.proofs.Common.{◌≡◌, ◌∙◌, ℕ, zero, suc, ◌+◌, ◌-◌, ◌*◌, ◌%◌, ◌^◌, ◌<◌, ◌≤◌, pos, inl, inr, List, [], ◌∷◌, ◌++◌}
-use Rattle.std.proofs.Common.{length, Option, Some, None, Ok, refl, sym, ap, subst, arith, lit<, lit≤, find, true≢false}
-use Rattle.std.specs.Prelude.{Bool, true, false, ◌==◌, ◌&&◌, nat_le, nat_lt, if◌then◌else◌, slice_index, slice_index_or}
+use Rattle.std.proofs.Common.{◌≡◌, ◌∙◌, ℕ, zero, suc, ◌+◌, ◌-◌, ◌*◌, ◌%◌, ◌^◌, ◌<◌, ◌≤◌, pos, inl, inr, List, [], ◌∷◌}
+use Rattle.std.proofs.Common.{length, Option, Some, None, Ok, refl, sym, ap, subst, arith, lit<, lit≤, find}
+use Rattle.std.specs.Prelude.{Bool, true, false, nat_lt, if◌then◌else◌, slice_index, slice_index_or}
 use Rattle.std.proofs.lemmas.Bool.{cases_lt, cond_both, eq-eqb}
 use Rattle.std.proofs.lemmas.Bool.Decides.{nat_tests}
 use Rattle.std.proofs.lemmas.List.{get_or_append_left, get_or-append_right}
@@ -21,16 +21,17 @@ use Rattle.ci_elf.specs.FrameImages.{IsFramed, text_range, text_segment, values_
 use Rattle.ci_elf.specs.Frames.{text_address}
 use Rattle.ci_elf.specs.Rules.{IsReadAs}
 use Rattle.ci_elf.proofs.TextPlaceLaws.{formed}
-use Rattle.ci_machine.specs.declared.ends.End.{End}
 use Rattle.ci_machine.specs.declared.ends.End.TheVariants.{Exit, Misaligned}
 use Rattle.ci_machine.specs.Accesses.{addresses, bytes_at, bytes_of_number, joined, with_bytes}
-use Rattle.ci_machine.specs.Actions.{Units, act, stored}
+use Rattle.ci_machine.specs.Actions.{Units, stored}
 use Rattle.ci_machine.specs.Calls.{range_at, write_call}
 use Rattle.ci_machine.specs.Cores.{Core, register, with_register}
 use Rattle.ci_machine.specs.Outcomes.{Outcome, Next, Ended, reached, continued}
-use Rattle.ci_machine.specs.Programs.{Program, State, at_pc, in_text, lies_in, loaded_byte, loaded_memory, loaded_program, opening}
-use Rattle.ci_machine.specs.Runs.{after, before_step, is_made}
-use Rattle.ci_machine.specs.Steps.{Meaning, IsPlain, directed, execute, fetched, following, insn_in, onward, step, stepped, then_onward}
+use Rattle.ci_machine.specs.Programs.{Program, State, at_pc, in_text, lies_in, loaded_byte, loaded_memory}
+use Rattle.ci_machine.specs.Programs.{loaded_program, opening}
+use Rattle.ci_machine.specs.Runs.{after, before_step}
+use Rattle.ci_machine.specs.Steps.{Meaning, IsPlain, directed, execute, fetched, following, insn_in, onward, step}
+use Rattle.ci_machine.specs.Steps.{stepped, then_onward}
 use Rattle.ci_machine.specs.Touches.{LeavesTextFor, moved, moved_range, touched}
 use Rattle.ci_machine.proofs.JoinLaws.{counts_stay}
 use Rattle.ci_machine.proofs.OpeningLaws.{later_insn}
@@ -38,7 +39,8 @@ use Rattle.ci_machine.proofs.RunLaws.{ends_stay}
 use Rattle.ci_machine.proofs.TestLaws.{no_end}
 use Rattle.ci_gen.specs.Programs.{AreWordsOf, IsProgramOf}
 use Rattle.ci_gen.specs.Runs.{ProgramsExit, words_of_text}
-use Rattle.ci_gen.specs.Texts.{add_constant, constant_operations, ending, groups, next_word, operation_of, register_operations, text_of}
+use Rattle.ci_gen.specs.Texts.{add_constant, constant_operations, ending, groups, next_word, operation_of}
+use Rattle.ci_gen.specs.Texts.{register_operations, text_of}
 use Rattle.ci_gen.proofs.InstructionLaws.{of_groups}
 use Rattle.ci_gen.proofs.OperationLaws.{length-groups}
 use Rattle.ci_gen.proofs.ProgramLaws.{length-words, read_as_framed}
@@ -47,7 +49,9 @@ use Rattle.ci_gen.proofs.ProgramLaws.{length-words, read_as_framed}
 
 -- the next word is at the next multiple of four
 onward_low : (pc : ℕ) (core : Core) → pc + 4 < 2 ^ 32 → onward pc core ≡ Next (at_pc (pc + 4) core)
-onward_low pc core low = ap (λ (p : ℕ). Next (at_pc p core)) (let same : (pc + 4) % 2 ^ 32 ≡ pc + 4 = omega arith in same)
+onward_low pc core low =
+    let same : (pc + 4) % 2 ^ 32 ≡ pc + 4 = omega arith in
+    ap (λ (p : ℕ). Next (at_pc p core)) same
 
 -- The instruction moves no byte, keeps memory, and leads to the next word. A word that stands for it reads as it in the
 -- plain table.
@@ -172,12 +176,13 @@ module _
   insn_at k = slice_index_or (text_of seed) k Ecall
 
   -- which the machine reads there
-  reads : (k : ℕ) (insn : Insn) → k < words_of_text → insn_at k ≡ insn → ((word : ℕ) → IsWordOf word insn → IsInsnAt word insn)
-      → meaning.insn (text_word file (place k)) ≡ insn
+  reads : (k : ℕ) (insn : Insn) → k < words_of_text → insn_at k ≡ insn
+      → ((word : ℕ) → IsWordOf word insn → IsInsnAt word insn) → meaning.insn (text_word file (place k)) ≡ insn
   reads k insn below is stands =
       let word = slice_index program.words k in
       let of_insn : IsWordOf word insn =
-      subst (IsWordOf word) is (words_at program.words (text_of seed) program.words_are k Ecall (omega (arith, count))) in
+      subst (IsWordOf word) is
+      (words_at program.words (text_of seed) program.words_are k Ecall (omega (arith, count))) in
       ap meaning.insn (framed.text_words k (omega (arith, count)))
       ∙ one_insn word (meaning.insn word) insn (is_plain word) (stands word of_insn)
 
@@ -194,7 +199,8 @@ module _
     fetches : fetched meaning loaded (at_pc (place n) core) ≡ Some insn
     fetches =
         subst (λ run. insn_in meaning loaded run.state.core.memory (place n) ≡ Some insn) at.there
-        (later_insn file (formed file.bytes read.0 file read.1) meaning meaning input n at.clear (place n) (is_text_word n below)
+        (later_insn file (formed file.bytes read.0 file read.1) meaning meaning input n at.clear (place n)
+        (is_text_word n below)
         ∙ ap Some (reads n insn below is stands))
 
     -- and where that touches no text, no step has
@@ -335,8 +341,8 @@ module _
     at_pointed : IsAt 16201 pointed
     unfolding ending
     at_pointed =
-        goes_on 16200 core start (Lui 28 0x20000) (lit< tt) (of_ending 16200 (lit≤ tt)) (λ word reading. reading) pointed refl
-        (onward_low (place 16200) pointed (lit< tt))
+        goes_on 16200 core start (Lui 28 0x20000) (lit< tt) (of_ending 16200 (lit≤ tt)) (λ word reading. reading)
+        pointed refl (onward_low (place 16200) pointed (lit< tt))
 
     at_kept : IsAt 16202 kept
     unfolding ending
@@ -360,13 +366,15 @@ module _
     at_leaving =
         sum_on 16208 _ 17 0 93
         (sum_on 16207 (write_call asking) 10 0 0
-        (goes_on 16206 asking at_asking Ecall (lit< tt) (of_ending 16206 (lit≤ tt)) (λ word reading. reading) (write_call asking)
-        (moved_range_none (in_text loaded) asking 4 values_off_text)
+        (goes_on 16206 asking at_asking Ecall (lit< tt) (of_ending 16206 (lit≤ tt)) (λ word reading. reading)
+        (write_call asking) (moved_range_none (in_text loaded) asking 4 values_off_text)
         (onward_low (place 16206) (write_call asking) (lit< tt)))
         (lit< tt) (of_ending 16207 (lit≤ tt))) (lit< tt) (of_ending 16208 (lit≤ tt))
 
     -- the last step exits
-    exited : LeavesTextFor meaning loaded words_of_text opens × ((after meaning loaded words_of_text opens).end ≡ Some (Exit 0))
+    exited :
+        LeavesTextFor meaning loaded words_of_text opens
+        × ((after meaning loaded words_of_text opens).end ≡ Some (Exit 0))
     unfolding ending
     exited = (
       still_clear 16209 leaving at_leaving Ecall (lit< tt) (of_ending 16209 (lit≤ tt)) (λ word reading. reading) refl,
