@@ -78,7 +78,9 @@ static uint64_t *entries;
 static struct line *lines;
 static struct range *ranges;
 static uint32_t range_count, segment_bytes, heap_start, heap_end;
-static uint32_t x[32], entry;
+/* The registers, and a place that a decoded word writes to instead of x0. */
+enum { NOWHERE = 32 };
+static uint32_t x[33], entry;
 static uint64_t steps, cost;
 static const unsigned char *input;
 static uint32_t input_left;
@@ -288,6 +290,7 @@ static inline uint32_t of_jump(uint32_t word)
 static struct line decode(uint32_t word)
 {
     struct line line = { inner(word), operation_of(word), word >> 7 & 31, word >> 15 & 31, word >> 20 & 31 };
+    line.rd = line.rd ? line.rd : NOWHERE;
     switch (word & 127) {
     case 0x37: case 0x17: line.immediate = upper(word); break;
     case 0x6f: line.immediate = of_jump(word); break;
@@ -349,7 +352,8 @@ static inline __attribute__((always_inline)) void interpret(uint64_t limit, cons
         struct line line = { 0 };
         uint32_t word = 0, rd, a, b, target;
         enum operation operation;
-        x[0] = 0;
+        if (!predecodes)
+            x[0] = 0;
         if (left == 0) {
             end(LIMIT, 0);
             goto out;
@@ -405,7 +409,7 @@ static inline __attribute__((always_inline)) void interpret(uint64_t limit, cons
         case SH: STORES(2);
         case SW: STORES(4);
         /* The canonical no-op costs nothing. */
-        case ADDI: GIVES(rd || word_at(pc) != 0x00000013, a + IMMEDIATE(inner));
+        case ADDI: GIVES(rd % NOWHERE || word_at(pc) != 0x00000013, a + IMMEDIATE(inner));
         case SLLI: GIVES(ONE, a << (IMMEDIATE(inner) & 31));
         case SLTI: GIVES(ONE, (int32_t)a < (int32_t)IMMEDIATE(inner));
         case SLTIU: GIVES(ONE, a < IMMEDIATE(inner));
