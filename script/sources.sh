@@ -31,9 +31,14 @@ sources() {
 }
 
 # Runs `find` with the given words on the files that decide which program is current: what each crate uses, the sources
-# of all crates, and the programs with what they were built from. Those that aren't there are passed over.
+# of all crates, and the programs with what they were built from. It is called in a process of its own.
 find_deciding() {
-    cd -- "$root" && exec find crates.txt crates/*/src {bin,out}/rumtsafi{,.sources} -type f "$@" 2> /dev/null
+    local path paths=()
+    cd -- "$root" || return
+    for path in crates.txt crates/*/src {bin,out}/rumtsafi{,.sources}; do
+        [ ! -e "$path" ] || paths+=("$path")
+    done
+    exec find "${paths[@]}" -type f "$@" 2> /dev/null
 }
 
 # What a program was built from, `sources` or `toolchain`, by the file that stands beside it.
