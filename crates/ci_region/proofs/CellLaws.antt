@@ -1,234 +1,278 @@
--- How each call of a region changes its cells and its free numbers, and keeps what they are.
-use Rattle.std.proofs.Common.{◌≡◌, ◌≢◌, ℕ, ◌+◌, ◌<◌, ◌≤◌, List, [], ◌∷◌, ◌++◌, length, get_or, set, count_by}
-use Rattle.std.proofs.Common.{Option, Some, None, is_some, IsSome, cond, true≢false, refl, sym, ap, subst, ◌∙◌, inl, inr}
+-- How each call of a region changes its cells and the chain of the free ones, and keeps what they are.
+use Rattle.std.proofs.Common.{◌≡◌, ℕ, zero, suc, ◌+◌, ◌-◌, ◌<◌, ◌≤◌, List, [], ◌∷◌, length, get_or, set}
+use Rattle.std.proofs.Common.{count_by}
+use Rattle.std.proofs.Common.{Option, None, IsSome, cond, true≢false, refl, sym, ap, subst, ◌∙◌, inl}
+use Rattle.std.proofs.Common.{inr}
 use Rattle.std.proofs.Common.{arith}
-use Rattle.std.proofs.lemmas.Bool.{cases_eq}
-use Rattle.std.proofs.lemmas.List.{get_or_append_left, get_or_push, get_or_past, get_or_read_under, length_push}
+use Rattle.std.proofs.lemmas.Bool.{cases_eq, cases_lt}
+use Rattle.std.proofs.lemmas.List.{get_or_append_left, get_or_push, get_or_past, length_push}
 use Rattle.std.proofs.lemmas.List.{get_or-set_same, get_or-set_other, length-set}
-use Rattle.std.proofs.lemmas.List.Sums.{sum_by-set, sum_by_push}
+use Rattle.std.proofs.lemmas.List.Sums.{sum_by-set}
+use Rattle.std.specs.Ordering.{nat_cmp}
 use Rattle.std.specs.FinMap as map
+use Rattle.std.specs.FinMap.{len-empty}
 use Rattle.ci_region.specs.BoundedMap.{BoundedMap, IsLive, used, with_value, without}
-use Rattle.ci_region.specs.Cells.{values_in, AreCells, IsSound}
-use Rattle.ci_region.proofs.ValueLaws.{get-values_in, len-values_in, values-nothing, values-set, values-set_none, values-push}
+use Rattle.ci_region.specs.declared.block.Cell.{Cell}
+use Rattle.ci_region.specs.declared.block.Cell.TheVariants.{Live, Free}
+use Rattle.ci_region.specs.Cells.{values_in, value_of, is_live, chain, Avoids, IsChain, chain_end}
+use Rattle.ci_region.specs.Cells.{chain_link, AreCells, AreAsMade}
+use Rattle.ci_region.proofs.ValueLaws.{get-values_in, len-values_in, no_value, values-live, values-free}
 
-module _ {T : Type 0} (cells : List (Option T)) (number : ℕ) where
+module _ {T : Type 0} (cells : List (Cell T)) where
   -- the count of values after a write
-  count_set : (old new : Option T) → number < length cells → get_or cells number None ≡ old
-      → count_by is_some (set cells number new) + cond (is_some old) 1 0
-      ≡ count_by is_some cells + cond (is_some new) 1 0
-  count_set old new within found =
-      let count_with : Option T → ℕ = λ o. cond (is_some o) 1 0 in
-      let after = count_by is_some (set cells number new) in
-      subst (λ (o : Option T). after + count_with o ≡ count_by is_some cells + count_with new)
-      found (sum_by-set count_with cells number new None within)
+  count_set : (number : ℕ) (new : Cell T) → number < length cells
+      → count_by is_live (set cells number new) + cond (is_live (get_or cells number (Free 0))) 1 0
+      ≡ count_by is_live cells + cond (is_live new) 1 0
+  count_set number new within = sum_by-set (λ c. cond (is_live c) 1 0) cells number new (Free 0) within
 
-  one_of : (cell : Option T) → IsSome cell → ◌≡◌ {A = ℕ} (cond (is_some cell) 1 0) 1
-  one_of None live = absurd (true≢false (sym live))
-  one_of (Some value) live = refl
+  -- a cell with a value isn't in the chain
+  chain_avoids : {first : ℕ} {free : List ℕ} → IsChain cells first free → (number : ℕ)
+      → IsSome (value_of (get_or cells number (Free 0))) → Avoids number free
+  chain_avoids chain_end number live = tt
+  chain_avoids (chain_link {number = first} within is apart rest) number live = (
+    λ same. true≢false (sym live ∙ ap (λ k. is_live (get_or cells k (Free 0))) same ∙ ap is_live is),
+    chain_avoids rest number live,
+  )
 
--- ---- a number that is free gets a value
+  -- a write of a cell that isn't in the chain keeps it
+  chain_set : {first : ℕ} {free : List ℕ} → IsChain cells first free → (number : ℕ) (new : Cell T)
+      → Avoids number free → IsChain (set cells number new) first free
+  chain_set chain_end number new avoids = chain_end
+  chain_set (chain_link {number = first} within is apart rest) number new avoids =
+      chain_link (omega (arith, length-set cells number new))
+      (get_or-set_other cells number first new (Free 0) (λ same. avoids.0 (sym same)) ∙ is) apart
+      (chain_set rest number new avoids.1)
 
-module _ {T : Type 0} (cells : List (Option T)) (free : List ℕ) (number : ℕ)
-    (are : AreCells cells (free ++ number ∷ [])) where
-  last : get_or (free ++ number ∷ []) (length free) 0 ≡ number
-  last = get_or_push free number 0 (length free) refl
+  -- what the first of a chain of so many cells has
+  record HasFirst (first count : ℕ) : Type 0 where
+    next : ℕ
+    others : List ℕ
+    within : first < length cells
+    is : get_or cells first (Free 0) ≡ Free next
+    apart : Avoids first others
+    rest : IsChain cells next others
+    shorter : length others + 1 ≡ count
 
-  before_last : (place : ℕ) → place < length free → get_or (free ++ number ∷ []) place 0 ≡ get_or free place 0
-  before_last place below = get_or_append_left free (number ∷ []) 0 place below
+  has_first : {first : ℕ} {free : List ℕ} → IsChain cells first free → 0 < length free → HasFirst first (length free)
+  has_first chain_end some = absurd (omega arith)
+  has_first (chain_link {next = next} {others = others} within is apart rest) some = record {
+    next = next;
+    others = others;
+    within = within;
+    is = is;
+    apart = apart;
+    rest = rest;
+    shorter = omega arith;
+  }
 
-  -- a free number's cell has no value
-  pub last_is_free : (number < length cells) × (get_or cells number None ≡ None)
-  last_is_free =
-      let below : length free < length (free ++ number ∷ []) = omega (arith, length_push free number) in (
-        subst (λ (k : ℕ). k < length cells) last (are.within (length free) below),
-        subst (λ (k : ℕ). get_or cells k None ≡ None) last (are.vacant (length free) below),
-      )
+abbrev number_of : {T : Type 0} → Cell T → ℕ
+number_of (Free next) = next
+number_of (Live value) = 0
 
-  pub AreCells-fill : (value : T) → AreCells (set cells number (Some value)) free
-  AreCells-fill value =
-      let longer = length_push free number in
+-- ---- the first free cell gets a value
+
+module _ {T : Type 0} (cells : List (Cell T)) (first used reached capacity : ℕ)
+    (are : AreCells cells first used reached capacity) (room : used < capacity) where
+  in_front : HasFirst cells first (length are.free)
+  in_front = has_first cells are.chained (omega (arith, are.rest_free, are.all))
+
+  -- the first free cell is one of the cells, and has no value
+  pub first_is_free : (first < length cells) × (value_of (get_or cells first (Free 0)) ≡ None)
+  first_is_free = (in_front.within, ap value_of in_front.is)
+
+  pub AreCells-fill : (next : ℕ) → get_or cells first (Free 0) ≡ Free next → (value : T) (later : ℕ)
+      → reached ≤ later → first < later → later ≤ capacity
+      → AreCells (set cells first (Live value)) next (used + 1) later capacity
+  AreCells-fill next is value later no_less behind within =
+      let same : in_front.next ≡ next = ap number_of (sym in_front.is ∙ is) in
+      let counted = count_set cells first (Live value) in_front.within in
+      let none : ◌≡◌ {A = ℕ} (cond (is_live (get_or cells first (Free 0))) 1 0) 0 =
+      ap (λ c. cond (is_live c) 1 0) in_front.is in
+      let long = length-set cells first (Live value) in
       record {
-        within = λ place below.
-            let was = are.within place (omega arith) in
-            omega (arith, length-set cells number (Some value), before_last place below);
-        vacant = λ place below.
-            let apart : get_or free place 0 ≢ number =
-            λ same. are.differ place (length free) below (omega arith) (before_last place below ∙ same ∙ sym last) in
-            get_or-set_other cells number (get_or free place 0) (Some value) None apart
-            ∙ ap (λ k. get_or cells k None) (sym (before_last place below)) ∙ are.vacant place (omega arith);
-        differ = λ earlier later less below same.
-            are.differ earlier later less (omega arith)
-            (before_last earlier (omega arith) ∙ same ∙ sym (before_last later below));
-        counted = omega (
-          arith,
-          are.counted,
-          length-set cells number (Some value),
-          count_set cells number None (Some value) last_is_free.0 last_is_free.1,
-        );
+        free = in_front.others;
+        chained =
+            subst (λ (k : ℕ). IsChain (set cells first (Live value)) k in_front.others) same
+            (chain_set cells in_front.rest first (Live value) in_front.apart);
+        counted = omega (arith, counted, none, are.counted);
+        rest_free = omega (arith, long, are.rest_free, in_front.shorter);
+        all = long ∙ are.all;
+        reached_within = within;
+        as_made =
+            λ number from below. get_or-set_other cells first number (Live value) (Free 0)
+            (λ same. omega (arith, same)) ∙ are.as_made number (omega arith) (omega (arith, long));
       }
-
--- ---- a cell is added, with a value
-
-pub AreCells-push : {T : Type 0} (cells : List (Option T)) (free : List ℕ) (value : T) → AreCells cells free
-    → AreCells (cells ++ Some value ∷ []) free
-AreCells-push cells free value are =
-    let longer = length_push cells (Some value) in
-    record {
-      within = λ place below. omega (arith, are.within place below);
-      vacant = λ place below.
-          get_or_append_left cells (Some value ∷ []) None (get_or free place 0) (are.within place below)
-          ∙ are.vacant place below;
-      differ = are.differ;
-      counted = omega (arith, are.counted, sum_by_push (λ o. cond (is_some o) 1 0) cells (Some value));
-    }
 
 -- ---- a cell with a value is written, or gives its value away
 
-module _ {T : Type 0} (cells : List (Option T)) (free : List ℕ) (number : ℕ)
-    (live : IsSome (get_or cells number None)) (inside : number < length cells) (are : AreCells cells free) where
-  not_free : (place : ℕ) → place < length free → get_or free place 0 ≢ number
-  not_free place below same =
-      true≢false (sym live ∙ ap is_some (ap (λ k. get_or cells k None) (sym same) ∙ are.vacant place below))
+module _ {T : Type 0} (cells : List (Cell T)) (first used reached capacity number : ℕ)
+    (live : IsSome (value_of (get_or cells number (Free 0)))) (within : number < length cells)
+    (are : AreCells cells first used reached capacity) where
+  one : ◌≡◌ {A = ℕ} (cond (is_live (get_or cells number (Free 0))) 1 0) 1
+  one = ap (λ b. cond b 1 0) live
 
-  count_less : count_by is_some (set cells number None) + 1 ≡ count_by is_some cells
-  count_less =
-      omega (
-        arith,
-        one_of cells number (get_or cells number None) live,
-        count_set cells number (get_or cells number None) None inside refl,
-      )
+  avoids : Avoids number are.free
+  avoids = chain_avoids cells are.chained number live
 
-  -- there are fewer free numbers than cells
-  pub fewer_free : length free < length cells
-  fewer_free = omega (arith, are.counted, count_less)
+  -- the cell was reached
+  was_reached : number < reached
+  was_reached = elim (cases_lt number reached) [
+    | inl less ↦ less
+    | inr from ↦ absurd (true≢false (sym live ∙ ap is_live (are.as_made number from within)))
+  ]
 
-  pub AreCells-write : (value : T) → AreCells (set cells number (Some value)) free
+  others_as_made : (new : Cell T) → AreAsMade (set cells number new) reached
+  others_as_made new other from below =
+      let reached_before = was_reached in
+      get_or-set_other cells number other new (Free 0) (λ same. omega (arith, same))
+      ∙ are.as_made other from (omega (arith, length-set cells number new))
+
+  -- some cells have values
+  pub some_used : 0 < used
+  some_used = omega (arith, are.counted, count_set cells number (Free 0) within, one)
+
+  pub AreCells-write : (value : T) → AreCells (set cells number (Live value)) first used reached capacity
   AreCells-write value =
+      let long = length-set cells number (Live value) in
       record {
-        within = λ place below. omega (arith, length-set cells number (Some value), are.within place below);
-        vacant = λ place below.
-            get_or-set_other cells number (get_or free place 0) (Some value) None (not_free place below)
-            ∙ are.vacant place below;
-        differ = are.differ;
-        counted = omega (
-          arith,
-          are.counted,
-          length-set cells number (Some value),
-          one_of cells number (get_or cells number None) live,
-          count_set cells number (get_or cells number None) (Some value) inside refl,
-        );
+        free = are.free;
+        chained = chain_set cells are.chained number (Live value) avoids;
+        counted = omega (arith, count_set cells number (Live value) within, one, are.counted);
+        rest_free = omega (arith, long, are.rest_free);
+        all = long ∙ are.all;
+        reached_within = are.reached_within;
+        as_made = others_as_made (Live value);
       }
 
-  end_is : (place : ℕ) → place ≡ length free → get_or (free ++ number ∷ []) place 0 ≡ number
-  end_is place end = get_or_push free number 0 place (sym end)
-
-  before_end : (place : ℕ) → place < length free → get_or (free ++ number ∷ []) place 0 ≡ get_or free place 0
-  before_end place below = get_or_append_left free (number ∷ []) 0 place below
-
-  vacated : AreCells (set cells number None) (free ++ number ∷ [])
-  vacated =
-      let longer = length_push free number in
-      let same_length = length-set {A = Option T} cells number None in
+  pub AreCells-vacate : AreCells (set cells number (Free first)) number (used - 1) reached capacity
+  AreCells-vacate =
+      let long = length-set cells number (Free first) in
+      let some = some_used in
       record {
-        within = λ place below. elim (cases_eq place (length free)) [
-          | inl end ↦ omega (arith, end_is place end)
-          | inr apart ↦ let earlier : place < length free = omega arith in
-              omega (arith, before_end place earlier, are.within place earlier)
-        ];
-        vacant = λ place below. elim (cases_eq place (length free)) [
-          | inl end ↦ ap (λ k. get_or (set cells number None) k None) (end_is place end)
-              ∙ get_or-set_same cells number None None inside
-          | inr apart ↦ let earlier : place < length free = omega arith in
-              ap (λ k. get_or (set cells number None) k None) (before_end place earlier)
-              ∙ get_or-set_other cells number (get_or free place 0) None None (not_free place earlier)
-              ∙ are.vacant place earlier
-        ];
-        differ = λ earlier later less below same. elim (cases_eq later (length free)) [
-          | inl end ↦ not_free earlier (omega arith) (sym (before_end earlier (omega arith)) ∙ same ∙ end_is later end)
-          | inr apart ↦ are.differ earlier later less (omega arith)
-              (sym (before_end earlier (omega arith)) ∙ same ∙ before_end later (omega arith))
-        ];
-        counted = omega (arith, are.counted, count_less);
+        free = number ∷ are.free;
+        chained =
+            chain_link (omega (arith, long)) (get_or-set_same cells number (Free first) (Free 0) within) avoids
+            (chain_set cells are.chained number (Free first) avoids);
+        counted = omega (arith, count_set cells number (Free first) within, one, are.counted);
+        rest_free = omega (arith, long, are.rest_free);
+        all = long ∙ are.all;
+        reached_within = are.reached_within;
+        as_made = others_as_made (Free first);
       }
 
-  pub AreCells-vacate : (freed : ℕ) → freed ≡ number → AreCells (set cells number None) (free ++ freed ∷ [])
-  AreCells-vacate freed same =
-      subst (λ (n : ℕ). AreCells (set cells number None) (free ++ n ∷ [])) (sym same) vacated
+-- ---- all cells form one chain
 
--- a region keeps its cells where as many of them are there as before
-pub IsSound-changed : {T : Type 0} (cells after : List (Option T)) (free left : List ℕ)
-    (capacity room_for_cells room_for_free : ℕ)
-    → AreCells after left → length after ≡ length cells
-    → IsSound cells free capacity room_for_cells room_for_free
-    → IsSound after left capacity room_for_cells room_for_free
-IsSound-changed cells after free left capacity room_for_cells room_for_free are same_length sound =
-    record {
-      cells_are = are;
-      fits = omega (arith, sound.fits);
-      capacity_fits = sound.capacity_fits;
-      cells_have_room = sound.cells_have_room;
-      free_has_room = sound.free_has_room;
-    }
+module _ {T : Type 0} (cells : List (Cell T)) (as_made : AreAsMade cells 0) where
+  -- a chain of the cells from a number on
+  record ChainFrom (start count : ℕ) : Type 0 where
+    free : List ℕ
+    links : IsChain cells start free
+    long : length free ≡ count
+    behind : (number : ℕ) → number < start → Avoids number free
 
--- ---- the region that its cells and its capacity are
+  chain_from : (count start : ℕ) → start + count ≡ length cells → ChainFrom start count
+  chain_from zero start all = record { free = []; links = chain_end; long = refl; behind = λ number less. tt }
+  chain_from (suc count) start all =
+      let rest = chain_from count (start + 1) (omega arith) in
+      record {
+        free = start ∷ rest.free;
+        links = chain_link (omega arith) (as_made start (omega arith) (omega arith)) (rest.behind start (omega arith)) rest.links;
+        long = omega (arith, rest.long);
+        behind = λ number less. ((λ same. omega (arith, same)), rest.behind number (omega arith));
+      }
 
-abbrev pub region_of : {T : Type 0} → List (Option T) → ℕ → BoundedMap T
+  pub no_values : values_in cells ≡ map.empty
+  no_values = no_value cells (λ number below. ap value_of (as_made number (omega arith) below))
+
+  pub AreCells-vacated : (capacity : ℕ) → length cells ≡ capacity → AreCells cells 0 0 0 capacity
+  AreCells-vacated capacity all =
+      let whole = chain_from (length cells) 0 (omega arith) in
+      record {
+        free = whole.free;
+        chained = whole.links;
+        counted = sym (len-values_in cells) ∙ ap map.len no_values ∙ len-empty nat_cmp T;
+        rest_free = omega (arith, whole.long);
+        all = all;
+        reached_within = omega arith;
+        as_made = as_made;
+      }
+
+-- ---- a chain that was made
+
+module _ (T : Type 0) where
+  pub length-chain : (count : ℕ) → length (chain {T = T} count) ≡ count
+  unfolding chain
+  length-chain zero = refl
+  length-chain (suc count) = omega (arith, length_push (chain {T = T} count) (Free (count + 1)), length-chain count)
+
+  pub chain_read : (count number : ℕ) → number < count
+      → get_or (chain {T = T} count) number (Free 0) ≡ Free (number + 1)
+  unfolding chain
+  chain_read zero number below = absurd (omega arith)
+  chain_read (suc count) number below = elim (cases_eq number count) [
+    | inl last ↦ get_or_push (chain {T = T} count) (Free (count + 1)) (Free 0) number
+        (omega (arith, last, length-chain count)) ∙ ap (λ k. Free (k + 1)) (sym last)
+    | inr apart ↦ get_or_append_left (chain {T = T} count) (Free (count + 1) ∷ []) (Free 0) number
+        (omega (arith, length-chain count)) ∙ chain_read count number (omega arith)
+  ]
+
+module _ {T : Type 0} (cells : List (Cell T)) (count : ℕ) (is : cells ≡ chain count) where
+  long : length cells ≡ count
+  long = ap length is ∙ length-chain T count
+
+  links : AreAsMade cells 0
+  links number from below = ap (λ l. get_or l number (Free 0)) is ∙ chain_read T count number (omega (arith, long))
+
+  -- a chain is what a region without values has
+  pub AreCells-chain : AreCells cells 0 0 0 count
+  AreCells-chain = AreCells-vacated cells links count long
+
+  pub no_values-chain : values_in cells ≡ map.empty
+  no_values-chain = no_values cells links
+
+-- ---- what contracts see of the cells
+
+abbrev pub region_of : {T : Type 0} → List (Cell T) → ℕ → BoundedMap T
 region_of cells capacity = record { values = values_in cells; capacity = capacity }
 
--- without a cell it holds nothing
-pub emptied : {T : Type 0} (cells : List (Option T)) (capacity n : ℕ) → cells ≡ [] → capacity ≡ n
-    → region_of cells capacity ≡ record { values = map.empty; capacity = n }
-emptied cells capacity n none same =
-    λ i. record { values = (ap values_in none ∙ values-nothing) i; capacity = same i }
-
--- the cell of a live slot
-pub record IsLiveCell {T : Type 0} (cells : List (Option T)) (number : ℕ) (content : Option T) : Type 0 where
+-- a slot's number is that of a cell with a value
+pub record IsLiveCell {T : Type 0} (cells : List (Cell T)) (number : ℕ) (held : Option T) : Type 0 where
   pub within : number < length cells
-  pub live : IsSome (get_or cells number None)
-  pub read : (cell : Option T) → cell ≡ get_or cells number cell → content ≡ cell
+  pub live : IsSome (value_of (get_or cells number (Free 0)))
+  pub read : held ≡ value_of (get_or cells number (Free 0))
 
--- no more slots are live than there are
-pub used_at_most : {T : Type 0} (cells : List (Option T)) (free : List ℕ) (capacity room_for_cells room_for_free : ℕ)
-    (region : BoundedMap T) → region_of cells capacity ≡ region
-    → IsSound cells free capacity room_for_cells room_for_free → used region ≤ region.capacity
-used_at_most cells free capacity room_for_cells room_for_free region is sound =
-    subst (λ (m : BoundedMap _). used m ≤ m.capacity) is
-    (omega (arith, len-values_in cells, sound.cells_are.counted, sound.fits))
+module _ {T : Type 0} (cells : List (Cell T)) (first used_cells reached capacity : ℕ) (region : BoundedMap T)
+    (is : region_of cells capacity ≡ region) (are : AreCells cells first used_cells reached capacity) where
+  pub used_is : used region ≡ used_cells
+  used_is = sym (ap (λ (m : BoundedMap T). used m) is) ∙ len-values_in cells ∙ are.counted
 
-module _ {T : Type 0} (cells : List (Option T)) (capacity number slot : ℕ) (region : BoundedMap T)
+  pub capacity_is : region.capacity ≡ capacity
+  capacity_is = sym (ap (λ (m : BoundedMap T). m.capacity) is)
+
+  pub used_at_most : used region ≤ region.capacity
+  used_at_most = omega (arith, used_is, capacity_is, are.rest_free, are.all)
+
+module _ {T : Type 0} (cells : List (Cell T)) (capacity number slot : ℕ) (region : BoundedMap T)
     (is : region_of cells capacity ≡ region) (same : number ≡ slot) where
   pub live_cell : IsLive region slot → IsLiveCell cells number (map.get region.values slot)
   live_cell live =
-      let held : map.get region.values slot ≡ get_or cells number None =
+      let held : map.get region.values slot ≡ value_of (get_or cells number (Free 0)) =
       sym (ap (λ (m : BoundedMap T). map.get m.values slot) is) ∙ get-values_in cells slot
-      ∙ ap (λ k. get_or cells k None) (sym same) in
-      let filled : IsSome (get_or cells number None) = subst IsSome held live in
-      let inside : number < length cells = grind (arith, get_or_past) in
-      record {
-        within = inside;
-        live = filled;
-        read = λ cell is_read. held ∙ sym (get_or_read_under cells number (length cells) cell None is_read inside refl);
-      }
+      ∙ ap (λ k. value_of (get_or cells k (Free 0))) (sym same) in
+      let filled : IsSome (value_of (get_or cells number (Free 0))) = subst IsSome held live in
+      record { within = grind (arith, get_or_past); live = filled; read = held }
 
-  pub region-set : (value : T) → number < length cells
-      → region_of (set cells number (Some value)) capacity ≡ with_value region slot value
-  region-set value inside =
-      let written : region_of (set cells number (Some value)) capacity
+  pub region-live : (value : T) → number < length cells
+      → region_of (set cells number (Live value)) capacity ≡ with_value region slot value
+  region-live value inside =
+      let written : region_of (set cells number (Live value)) capacity
       ≡ with_value (region_of cells capacity) number value =
-      λ i. record { values = values-set cells number value inside i; capacity = capacity } in
+      λ i. record { values = values-live cells number inside value i; capacity = capacity } in
       written ∙ (λ i. with_value (is i) (same i) value)
 
-  pub region-set_none : number < length cells → region_of (set cells number None) capacity ≡ without region slot
-  region-set_none inside =
-      let removed : region_of (set cells number None) capacity ≡ without (region_of cells capacity) number =
-      λ i. record { values = values-set_none cells number inside i; capacity = capacity } in
+  pub region-free : (next : ℕ) → number < length cells
+      → region_of (set cells number (Free next)) capacity ≡ without region slot
+  region-free next inside =
+      let removed : region_of (set cells number (Free next)) capacity ≡ without (region_of cells capacity) number =
+      λ i. record { values = values-free cells number inside next i; capacity = capacity } in
       removed ∙ (λ i. without (is i) (same i))
-
-pub region-push : {T : Type 0} (cells : List (Option T)) (capacity number : ℕ) (region : BoundedMap T) (value : T)
-    → region_of cells capacity ≡ region → number ≡ length cells
-    → region_of (cells ++ Some value ∷ []) capacity ≡ with_value region number value
-region-push cells capacity number region value is at_end =
-    let added : region_of (cells ++ Some value ∷ []) capacity
-    ≡ with_value (region_of cells capacity) (length cells) value =
-    λ i. record { values = values-push cells value i; capacity = capacity } in
-    added ∙ sym (λ i. with_value (region_of cells capacity) (at_end i) value) ∙ (λ i. with_value (is i) number value)

@@ -1,33 +1,62 @@
 -- How a region keeps its slots. No public clause cites this file.
-use Rattle.std.specs.Prelude.{◌≡◌, ◌≢◌, ℕ, ◌+◌, ◌^◌, ◌<◌, ◌≤◌, Option, Some, None, is_some}
-use Rattle.std.specs.Prelude.{List, [], ◌∷◌, length, slice_index, slice_index_or, count_by}
+use Rattle.std.specs.Prelude.{◌≡◌, ◌≢◌, ℕ, zero, suc, ◌+◌, ◌<◌, ◌≤◌, Bool, Option, Some, None, is_some, ⊤}
+use Rattle.std.specs.Prelude.{List, [], ◌∷◌, ◌++◌, length, get_or, count_by}
 use Rattle.std.specs.Ordering.{nat_cmp}
 use Rattle.std.specs.FinMap as map
+use Rattle.ci_region.specs.declared.block.Cell.{Cell}
+use Rattle.ci_region.specs.declared.block.Cell.TheVariants.{Live, Free}
+
+-- the number isn't among these
+abbrev pub Avoids : ℕ → List ℕ → Type 0
+Avoids number [] = ⊤
+Avoids number (other ∷ others) = (number ≢ other) × Avoids number others
 
 module _ {T : Type 0} where
+  -- the value of a cell that has one
+  abbrev pub value_of : Cell T → Option T
+  value_of (Live value) = Some value
+  value_of (Free next) = None
+
+  abbrev pub is_live : Cell T → Bool
+  is_live cell = is_some (value_of cell)
+
   -- the values of these cells, each at the number of its cell, of which the first has this one
-  unfoldable pub values_from : ℕ → List (Option T) → map.FinMap nat_cmp T
+  unfoldable pub values_from : ℕ → List (Cell T) → map.FinMap nat_cmp T
   values_from number [] = map.empty
-  values_from number (None ∷ cells) = values_from (number + 1) cells
-  values_from number (Some value ∷ cells) = map.insert (values_from (number + 1) cells) number value
+  values_from number (Free next ∷ cells) = values_from (number + 1) cells
+  values_from number (Live value ∷ cells) = map.insert (values_from (number + 1) cells) number value
 
   -- the values of these cells, each at its number
-  unfoldable pub values_in : List (Option T) → map.FinMap nat_cmp T
+  unfoldable pub values_in : List (Cell T) → map.FinMap nat_cmp T
   values_in cells = values_from 0 cells
 
-  -- the free numbers are those of the cells without a value, each of them once
-  pub record AreCells (cells : List (Option T)) (free : List ℕ) : Type 0 where
-    pub within : (place : ℕ) → place < length free → slice_index free place < length cells
-    pub vacant : (place : ℕ) → place < length free → slice_index_or cells (slice_index free place) None ≡ None
-    pub differ : (earlier later : ℕ) → earlier < later → later < length free
-        → slice_index free earlier ≢ slice_index free later
-    pub counted : count_by is_some cells + length free ≡ length cells
+  -- the cells from this number on are free, and each has the number of the one behind it
+  abbrev pub AreAsMade : List (Cell T) → ℕ → Type 0
+  AreAsMade cells start =
+      (number : ℕ) → start ≤ number → number < length cells → get_or cells number (Free 0) ≡ Free (number + 1)
 
-  -- there are no more cells than slots, and memory for as many cells and free numbers as slots
-  pub record IsSound (cells : List (Option T)) (free : List ℕ) (capacity room_for_cells room_for_free : ℕ)
-      : Type 0 where
-    pub cells_are : AreCells cells free
-    pub fits : length cells ≤ capacity
-    pub capacity_fits : capacity < 2 ^ 32
-    pub cells_have_room : capacity ≤ room_for_cells
-    pub free_has_room : capacity ≤ room_for_free
+  -- no cell has a value
+  abbrev pub AreFree : List (Cell T) → Type 0
+  AreFree cells = (number : ℕ) → number < length cells → value_of (get_or cells number (Free 0)) ≡ None
+
+  -- so many free cells, each with the number of the one behind it
+  unfoldable pub chain : ℕ → List (Cell T)
+  chain zero = []
+  chain (suc count) = chain count ++ Free (count + 1) ∷ []
+
+  -- the cells of these numbers, which differ, are free, and each has the number of the next, of which the first is this
+  pub data IsChain (cells : List (Cell T)) : ℕ → List ℕ → Type 0 where
+    chain_end : {number : ℕ} → IsChain cells number []
+    chain_link : {number next : ℕ} {others : List ℕ} → number < length cells → get_or cells number (Free 0) ≡ Free next
+        → Avoids number others → IsChain cells next others → IsChain cells number (number ∷ others)
+
+  -- there are as many cells as slots; so many have a value, and all others form a chain that begins at this number; the
+  -- cells from the reached number on are as they were made
+  pub record AreCells (cells : List (Cell T)) (first_free used reached capacity : ℕ) : Type 0 where
+    pub free : List ℕ
+    pub chained : IsChain cells first_free free
+    pub counted : count_by is_live cells ≡ used
+    pub rest_free : used + length free ≡ length cells
+    pub all : length cells ≡ capacity
+    pub reached_within : reached ≤ capacity
+    pub as_made : AreAsMade cells reached

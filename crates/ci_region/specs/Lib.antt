@@ -1,5 +1,7 @@
+pub mod Blocks
 pub mod BoundedMap
 pub mod Cells
 pub mod Lending
-pub mod Trees
+pub mod Ownership
 pub mod TreeReading
+pub mod Trees

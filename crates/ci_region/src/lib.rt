@@ -9,11 +9,16 @@ ghost use Rattle.std.specs.Prelude.{◌≡◌, ◌<◌, ◌≤◌, ◌↔◌, �
 ghost use Rattle.std.specs.FinMap as map;
 ghost use Rattle.std.specs.Borrow.{sem};
 ghost use Rattle.ci_region.specs.BoundedMap.{IsLive, used, with_value, without};
-ghost use Rattle.std.specs.Option.Follows.{option_follows_value};
+ghost use Rattle.ci_region.specs.Cells.{value_of};
+ghost use Rattle.ci_region.specs.Blocks.{LendsLive};
 
+use block::{Block, Cell, Lease};
 use std::alloc::{AllocError, Global};
 use std::marker::Model;
+use std::mem;
+use std_alloc::room::may_hold;
 
+mod block;
 #[cfg(test)]
 mod tests;
 
@@ -34,44 +39,68 @@ impl Model for Slot {
 }
 
 /// A pool of slots, reserved once, each of which is live and holds a value or is free.
-#[derive(Drop)]
+///
+/// It holds a pointer, and so is neither `Send` nor `Sync`.
 pub struct Region<T> {
-    // The cells of the slots that were taken since the region was made or cleared, by number. A
-    // slot is live where its cell has a value.
-    cells: Vec<Option<T>>,
-    // The numbers of the cells without a value.
-    free: Vec<u32>,
+    // The cell of each slot, by number.
+    block: Block<T>,
+    lease: Lease<T, Global>,
+    alloc: Global,
     capacity: u32,
+    // The number of the first free cell, where there is one. Each free cell has the number of the
+    // next.
+    first_free: u32,
+    // The number of cells that have a value.
+    used: u32,
+    // No slot from this number on was taken since the region was made or cleared.
+    reached: u32,
 }
 
 impl<T> Model for Region<T> {
-    ghost use Rattle.std.specs.Prelude.{vec_capacity};
     ghost use Rattle.ci_region.specs.BoundedMap.{BoundedMap, bounded_map_code};
 
     ghost Value = { BoundedMap T };
 
     ghost coded = { bounded_map_code T.code };
 
-    ghost use Rattle.ci_region.specs.Cells.{values_in, IsSound};
+    ghost use Rattle.ci_region.specs.Cells.{values_in, AreCells};
+    ghost use Rattle.ci_region.specs.Blocks.{IsLeaseOf};
 
     ghost view = { λ r. record {
-      values = values_in r.cells.items;
+      values = values_in r.block.cells;
       capacity = r.capacity;
     } };
 
     ghost invariant = { λ r.
-        IsSound r.cells.items r.free.items r.capacity (vec_capacity r.cells) (vec_capacity r.free) };
+        AreCells r.block.cells r.first_free r.used r.reached r.capacity
+        × IsLeaseOf r.lease r.block r.capacity r.alloc };
 }
 
-// The value of a cell that has one, for writing.
-fn value_mut<T>(cell: &mut Option<T>) -> &mut T
-    requires { IsSome cell.old }
-    ensures* writes_back { sem 𝓛 (option_follows_value T.row cell.entry result) }
-    ensures value { cell.old ≡ Some result.now }
+// The value of a live cell, for writing.
+fn value_mut<T>(cell: &mut Cell<T>) -> &mut T
+    requires { IsSome (value_of cell.old) }
+    ensures* writes_back { sem 𝓛 (LendsLive T.row cell.entry result) }
+    ensures value { value_of cell.old ≡ Some result.now }
 {
     match cell {
-        Some(value) => value,
-        None => unreachable!(),
+        Cell::Live(value) => value,
+        Cell::Free(_) => unreachable!(),
+    }
+}
+
+impl<T: Drop> Drop for Region<T> {
+    fn drop(mut self) {
+        self.clear();
+        let Region {
+            block,
+            lease,
+            alloc,
+            capacity,
+            first_free: _,
+            used: _,
+            reached: _,
+        } = self;
+        block.free(lease, capacity, &alloc);
     }
 }
 
@@ -84,12 +113,18 @@ impl<T> Region<T> {
     pub fn with_capacity(alloc: Global, n: u32) -> Result<Region<T>, AllocError>
         ensures { IfOk result (λ region. region ≡ record { values = map.empty; capacity = n }) }
     {
-        let free = Vec::with_capacity(alloc, n as usize)?;
-        let cells = Vec::with_capacity(alloc, n as usize)?;
+        if !may_hold::<Cell<T>>(n as usize) {
+            return Err(AllocError);
+        }
+        let (block, lease) = Block::chained(&alloc, n)?;
         Ok(Region {
-            cells,
-            free,
+            block,
+            lease,
+            alloc,
             capacity: n,
+            first_free: 0,
+            used: 0,
+            reached: 0,
         })
     }
 
@@ -105,18 +140,20 @@ impl<T> Region<T> {
         ensures unchanged { OnErr result (self.new ≡ self.old) }
         ensures value_back { IfErr result (λ back. back ≡ value) }
     {
-        if let Some(number) = self.free.pop() {
-            return match self.cells[number as usize].replace(value) {
-                None => Ok(Slot { number }),
-                Some(_) => unreachable!(),
-            };
-        }
-        let number = self.cells.len() as u32;
-        if number == self.capacity {
+        if self.used == self.capacity {
             return Err(value);
         }
-        self.cells.push_reserved(Some(value));
-        Ok(Slot { number })
+        let number = self.first_free;
+        let cell = self.block.cell_mut(number as usize);
+        match mem::replace(cell, Cell::Live(value)) {
+            Cell::Free(next) => {
+                self.first_free = next;
+                self.used += 1;
+                self.reached = self.reached.max(number + 1);
+                Ok(Slot { number })
+            }
+            Cell::Live(_) => unreachable!(),
+        }
     }
 
     /// The value of a live slot.
@@ -124,9 +161,9 @@ impl<T> Region<T> {
         requires { IsLive self.now slot }
         ensures { map.get self.now.values slot ≡ Some result.now }
     {
-        match &self.cells[slot.number as usize] {
-            Some(value) => value,
-            None => unreachable!(),
+        match self.block.cell(slot.number as usize) {
+            Cell::Live(value) => value,
+            Cell::Free(_) => unreachable!(),
         }
     }
 
@@ -136,7 +173,7 @@ impl<T> Region<T> {
         ensures* writes_back { sem 𝓛 (LendsValue T.row self.entry slot result) }
         ensures value { map.get self.old.values slot ≡ Some result.now }
     {
-        value_mut(&mut self.cells[slot.number as usize])
+        value_mut(self.block.cell_mut(slot.number as usize))
     }
 
     /// Takes the value out of a live slot, which is free then.
@@ -145,10 +182,15 @@ impl<T> Region<T> {
         ensures value { map.get self.old.values slot ≡ Some result }
         ensures rest { self.new ≡ without self.old slot }
     {
-        self.free.push_reserved(slot.number);
-        match self.cells[slot.number as usize].take() {
-            Some(value) => value,
-            None => unreachable!(),
+        let next = self.first_free;
+        let cell = self.block.cell_mut(slot.number as usize);
+        match mem::replace(cell, Cell::Free(next)) {
+            Cell::Live(value) => {
+                self.first_free = slot.number;
+                self.used -= 1;
+                value
+            }
+            Cell::Free(_) => unreachable!(),
         }
     }
 
@@ -158,8 +200,10 @@ impl<T> Region<T> {
         T: Drop,
         ensures { self.new ≡ record self.old { values = map.empty } }
     {
-        self.cells.clear();
-        self.free.clear();
+        self.block.vacate(self.reached);
+        self.first_free = 0;
+        self.used = 0;
+        self.reached = 0;
     }
 
     /// The number of live slots.
@@ -167,7 +211,7 @@ impl<T> Region<T> {
         ensures value { result ≡ used self.now }
         ensures bounded { result ≤ self.now.capacity }
     {
-        (self.cells.len() - self.free.len()) as u32
+        self.used
     }
 
     /// The number of slots.

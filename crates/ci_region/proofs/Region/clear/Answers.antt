@@ -1,9 +1,23 @@
-use Rattle.std.proofs.Common.{ap, arith}
+use Rattle.std.proofs.Common.{sym, ap, ◌∙◌, arith}
 use Rattle.ci_region.specs.BoundedMap.{BoundedMap}
-use Rattle.ci_region.proofs.CellLaws.{emptied}
+use Rattle.ci_region.proofs.CellLaws.{AreCells-vacated, no_values}
 use Rattle.ci_region.proofs.Region.clear.Goals as goal
+
+pub vacate-requires-clause-within : goal.vacate-requires-clause-within
+vacate-requires-clause-within g c = omega (arith, c.self.invariant.0.all, c.self.invariant.0.reached_within)
+
+pub vacate-requires-clause-others : goal.vacate-requires-clause-others
+vacate-requires-clause-others g c = c.self.invariant.0.as_made
+
+pub invariant_of-self : goal.invariant_of-self
+invariant_of-self g c =
+    let place = c.vacate.ensures.in_place in
+    let lease = c.self.invariant.1 in (
+      AreCells-vacated _ c.vacate.ensures.as_made _ (place.1 ∙ c.self.invariant.0.all),
+      (lease.0 ∙ sym place.0, lease.1, lease.2),
+    )
 
 pub returns : goal.returns
 returns g c =
     let same = ap (λ (m : BoundedMap g.row.T.Denot). m.capacity) c.self.view_is in
-    emptied _ _ _ c.clear.ensures.items (omega (arith, same))
+    λ i. record { values = no_values _ c.vacate.ensures.as_made i; capacity = same i }

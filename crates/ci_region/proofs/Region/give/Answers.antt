@@ -1,39 +1,29 @@
 use Rattle.std.proofs.Common.{arith}
-use Rattle.std.proofs.lemmas.List.{length-set}
-use Rattle.ci_region.proofs.CellLaws.{live_cell, region-set_none}
-use Rattle.ci_region.proofs.CellLaws.{fewer_free, AreCells-vacate, IsSound-changed}
+use Rattle.ci_region.proofs.CellLaws.{live_cell, region-free, AreCells-vacate}
 use Rattle.ci_region.proofs.Region.give.Goals as goal
 
-pub push_reserved-requires : goal.push_reserved-requires
-push_reserved-requires g c =
-    let cell = live_cell _ _ _ _ _ c.self.view_is c.slot.view_is c.requires in
-    let fewer = fewer_free _ c.self.inside.free.items _ cell.live cell.within c.self.invariant.cells_are in
-    omega (arith, fewer, c.self.invariant.fits, c.self.invariant.free_has_room)
-
-pub index_mut-requires : goal.index_mut-requires
-index_mut-requires g c =
+pub cell_mut-cell-requires : goal.cell_mut-cell-requires
+cell_mut-cell-requires g c =
     let cell = live_cell _ _ _ _ _ c.self.view_is c.slot.view_is c.requires in omega (arith, cell.within)
 
 pub unreachable-requires : goal.unreachable-requires
 unreachable-requires g c =
     let cell = live_cell _ _ _ _ _ c.self.view_is c.slot.view_is c.requires in
-    grind (arith, c.requires, cell.read, c.index_mut.ensures.value, c.take.ensures.value, c.in-None.is)
+    grind (arith, cell.live, c.cell_mut-cell.ensures.value, c.replace.ensures.value, c.in-Free.is)
 
 pub invariant_of-self : goal.invariant_of-self
 invariant_of-self g c =
     let cell = live_cell _ _ _ _ _ c.self.view_is c.slot.view_is c.requires in
-    rw (c.take.ensures.after, c.push_reserved.ensures.items, c.push_reserved.ensures.capacity)
-    (IsSound-changed _ _ _ _ _ _ _
-    (AreCells-vacate _ _ _ cell.live cell.within c.self.invariant.cells_are _ (omega arith))
-    (length-set _ _ _) c.self.invariant)
+    rw c.replace.ensures.after
+    (AreCells-vacate _ _ _ _ _ _ cell.live cell.within c.self.invariant.0, c.self.invariant.1)
 
 pub returns-clause-value : goal.returns-clause-value
 returns-clause-value g c =
     let cell = live_cell _ _ _ _ _ c.self.view_is c.slot.view_is c.requires in
-    grind (arith, cell.read, c.index_mut.ensures.value, c.take.ensures.value, c.in-Some.is)
+    grind (arith, cell.read, c.cell_mut-cell.ensures.value, c.replace.ensures.value, c.in-Live.is)
 
 pub returns-clause-rest : goal.returns-clause-rest
 returns-clause-rest g c =
     let cell = live_cell _ _ _ _ _ c.self.view_is c.slot.view_is c.requires in
-    rw c.take.ensures.after
-    (region-set_none _ _ _ _ _ c.self.view_is (omega (arith, c.slot.view_is)) (omega (arith, cell.within)))
+    rw c.replace.ensures.after
+    (region-free _ _ _ _ _ c.self.view_is (omega (arith, c.slot.view_is)) _ (omega (arith, cell.within)))

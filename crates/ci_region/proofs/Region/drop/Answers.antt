@@ -1,0 +1,9 @@
+use Rattle.std.proofs.Common.{ap, ◌∙◌}
+use Rattle.ci_region.specs.BoundedMap.{BoundedMap}
+use Rattle.ci_region.proofs.ValueLaws.{free_where_empty}
+use Rattle.ci_region.proofs.Region.drop.Goals as goal
+
+pub free-requires : goal.free-requires
+free-requires g c =
+    let empty = ap (λ (m : BoundedMap g.row.T.Denot). m.values) (c.self.view_is ∙ c.clear.ensures) in
+    (c.self.invariant.1, c.self.invariant.0.all, free_where_empty _ empty)

@@ -1,0 +1,26 @@
+-- What a block and a cell end as, where a `&mut` into them is handed out, and whose memory a lease is of.
+use Rattle.std.specs.Prelude.{◌≡◌, ℕ, List, slice_set}
+use Rattle.std.specs.Borrow.{Fml, RattleType, MutBor, Lends}
+use Rattle.ci_region.specs.declared.block.Cell.{Cell}
+use Rattle.ci_region.specs.declared.block.Cell.TheVariants.{Live}
+use Rattle.ci_region.specs.declared.block.Block.{Block}
+use Rattle.ci_region.specs.declared.block.Lease.{Lease}
+use Rattle.ci_region.specs.contracts.block.Cell as cell
+use Rattle.ci_region.specs.contracts.block.Block as block
+
+-- the block with these cells in place of its own
+abbrev pub with_cells : {T : Type 0} → Block T → List (Cell T) → Block T
+with_cells b cells = record { start = b.start; cells = cells }
+
+-- once the borrow ends, the cell is the last one that was written through it
+abbrev pub LendsCell : (T : RattleType) → MutBor (Block T.Denot) → ℕ → MutBor (Cell T.Denot) → Fml
+LendsCell T b number r =
+    Lends (block.the_row T) (cell.the_row T) b r (λ new. with_cells b.now (slice_set b.now.cells number new))
+
+-- once the borrow ends, the cell has the last value that was written through it
+abbrev pub LendsLive : (T : RattleType) → MutBor (Cell T.Denot) → MutBor T.Denot → Fml
+LendsLive T c value = Lends (cell.the_row T) T c value (λ new. Live new)
+
+-- the lease is of the memory of this block, which this allocator gave for so many cells
+abbrev pub IsLeaseOf : {T A : Type 0} → Lease T A → Block T → ℕ → A → Type 0
+IsLeaseOf lease b count alloc = (lease.start ≡ b.start) × (lease.count ≡ count) × (lease.alloc ≡ alloc)
