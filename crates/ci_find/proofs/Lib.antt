@@ -19,3 +19,4 @@ mod CheckAccepts
 mod ChecksEnd
 mod LoadLaws
 mod SavingLoads
+mod OneLoad

@@ -1,10 +1,8 @@
 -- The runs of a generated program and of the one that uses the units.
-use Rattle.std.proofs.Common.{◌≡◌, ◌∙◌, ℕ, suc, ◌/◌, ◌%◌, ◌<◌, List, [], ◌∷◌, ◌++◌, Ok, refl, subst, arith, length}
-use Rattle.std.specs.Prelude.{All}
-use Rattle.std.proofs.lemmas.List.Elements.{All-cons, All-head, All-nil, All-tail}
+use Rattle.std.proofs.Common.{◌≡◌, ◌∙◌, ℕ, ◌/◌, ◌%◌, ◌<◌, List, [], ◌∷◌, ◌++◌, Ok, refl, subst, arith, length}
 use Rattle.std.proofs.lemmas.List.Concat.{flat_map-append}
 use Rattle.ci_reading.specs.Hex.{hex_digit}
-use Rattle.ci_vemit.proofs.UnitModules.{module_is}
+use Rattle.ci_choice.proofs.UnitModules.{table_of_modules}
 use Rattle.ci_elf.specs.Executables.{Executable}
 use Rattle.ci_lat.specs.Latencies.{Latencies}
 use Rattle.ci_machine.specs.Extended.{IsExtended, latencies_with}
@@ -17,9 +15,9 @@ use Rattle.ci_emu.specs.declared.profile.Profile.{Profile}
 use Rattle.ci_emu.specs.Profiles.{IsProfileOf}
 use Rattle.ci_emu.specs.TableLatencies.{latencies_of}
 use Rattle.ci_unit.specs.Tables.{IsTable}
-use Rattle.ci_unit.specs.Units.{Unit, IsUnit}
-use Rattle.ci_verilog.specs.Modules.{Module, IsModule}
-use Rattle.ci_vemit.specs.Templates.{module_of, modules_from, modules_of}
+use Rattle.ci_unit.specs.Units.{Unit}
+use Rattle.ci_verilog.specs.Modules.{Module}
+use Rattle.ci_vemit.specs.Templates.{modules_of}
 use Rattle.ci_find.specs.LoadCommand.{byte_digits, IsExtendedCost}
 use Rattle.ci_find.proofs.ProfiledRuns.{opened}
 use Rattle.std.specs.Prelude.{reverse, Option}
@@ -52,13 +50,6 @@ pub opened_output :
 opened_output meaning file steps program start last output same_program same_start last_is is =
     is ∙ ((λ i. (last_is i).core.output) ∙ (λ i. (after meaning (same_program i) steps (same_start i)).state.core.output))
 
--- the modules of units are modules
-units_have_modules : (k : ℕ) (units : List Unit) → All IsUnit units → All IsModule (modules_from k units)
-units_have_modules k [] are = All-nil IsModule
-units_have_modules k (unit ∷ units) are =
-    All-cons IsModule (module_of k unit) (modules_from (suc k) units) (module_is k unit (All-head IsUnit unit units are))
-    (units_have_modules (suc k) units (All-tail IsUnit unit units are))
-
 -- the digits of a byte are ASCII
 pub glyph_small : (d : ℕ) → d < 16 → hex_digit d < 128
 glyph_small d below = grind arith
@@ -78,7 +69,7 @@ pub cost_of_new :
     → IsProfileOf meaning program steps start (latencies_with (latencies_of table) modules) profile)
     → IsExtendedCost file units table steps profile.cost
 cost_of_new file units table steps modules program start profile is same same_program same_start counted =
-    let machine = extended_exists (modules_of units) (units_have_modules 0 units is.units_are) in
+    let machine = extended_exists (modules_of units) (table_of_modules is) in
     let by = subst (λ (ms : List Module). IsExtended ms machine.0
     → IsProfileOf machine.0 program steps start (latencies_with (latencies_of table) ms) profile) same (counted machine.0) in
     let profiled = opened machine.0 file [] steps (latencies_with (latencies_of table) (modules_of units)) program start profile

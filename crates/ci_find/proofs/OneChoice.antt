@@ -33,25 +33,27 @@ range_over least most same left right =
     let below : PathP (λ i. same i ≤ most) left.1 right.1 = to_path_p (λ i. same i ≤ most) (le_prop _ right.1) in
     λ i. (above i, below i)
 
--- a reading has one plan
+-- numbers are one plan,
+pub plan_is_one :
+    {left right : Plan} → left.limits.inputs ≡ right.limits.inputs → left.limits.outputs ≡ right.limits.outputs
+    → left.count ≡ right.count → left.budget ≡ right.budget → left ≡ right
+plan_is_one {left} {right} inputs outputs count budget = λ i. record {
+  limits = record {
+    inputs = inputs i;
+    outputs = outputs i;
+    inputs_in_range = range_over 1 3 inputs left.limits.inputs_in_range right.limits.inputs_in_range i;
+    outputs_in_range = range_over 1 2 outputs left.limits.outputs_in_range right.limits.outputs_in_range i;
+  };
+  count = count i;
+  budget = budget i;
+  count_in_range = range_over 1 32 count left.count_in_range right.count_in_range i;
+  budget_in_range = range_over 1 4194304 budget left.budget_in_range right.budget_in_range i;
+}
+
+-- so a reading has one
 pub one_plan : (reading : Reading) (left right : Plan) → IsPlanOf reading left → IsPlanOf reading right → left ≡ right
 one_plan reading left right l r =
-    let inputs = l.inputs ∙ sym r.inputs in
-    let outputs = l.outputs ∙ sym r.outputs in
-    let count = l.count ∙ sym r.count in
-    let budget = l.budget ∙ sym r.budget in
-    λ i. record {
-      limits = record {
-        inputs = inputs i;
-        outputs = outputs i;
-        inputs_in_range = range_over 1 3 inputs left.limits.inputs_in_range right.limits.inputs_in_range i;
-        outputs_in_range = range_over 1 2 outputs left.limits.outputs_in_range right.limits.outputs_in_range i;
-      };
-      count = count i;
-      budget = budget i;
-      count_in_range = range_over 1 32 count left.count_in_range right.count_in_range i;
-      budget_in_range = range_over 1 4194304 budget left.budget_in_range right.budget_in_range i;
-    }
+    plan_is_one (l.inputs ∙ sym r.inputs) (l.outputs ∙ sym r.outputs) (l.count ∙ sym r.count) (l.budget ∙ sym r.budget)
 
 -- ---- the command find
 

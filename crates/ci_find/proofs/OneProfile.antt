@@ -1,24 +1,26 @@
 -- Files have one profiled run, or one reason why they have none.
-use Rattle.std.proofs.Common.{◌≡◌, ℕ, ◌++◌, ◌∙◌, ◌⊎◌, inl, inr, true, List, Option, Some, None, refl, sym, ap, subst}
-use Rattle.std.specs.Prelude.{is_some, ◌==◌}
-use Rattle.std.specs.List.{Contains, list_any}
-use Rattle.std.proofs.lemmas.Bool.{eqb-true}
-use Rattle.std.proofs.lemmas.Cmp.{nat_eq_equiv}
-use Rattle.std.proofs.lemmas.Map.Views.{Contains-from_any, list_any-from_Contains}
+use Rattle.std.proofs.Common.{◌≡◌, ℕ, ◌++◌, ◌∙◌, List, Option, Some, None, refl, sym, ap, subst, arith}
+use Rattle.std.specs.Prelude.{is_none, is_some, ◌%◌, ◌==◌, ◌&&◌, if◌then◌else◌}
+use Rattle.std.specs.List.{Contains}
+use Rattle.std.specs.Option.{option_map}
 use Rattle.ci_elf.specs.Executables.{Executable, IsAscending, IsTextWord}
 use Rattle.ci_elf.proofs.OneImage.{image_is_one}
+use Rattle.ci_elf.proofs.OneOrder.{ascending_is_one}
+use Rattle.ci_isa.specs.declared.instruction.Insn.{Insn}
+use Rattle.ci_isa.specs.declared.instruction.Insn.TheVariants.{Jalr}
+use Rattle.ci_isa.proofs.RowCompleteness.{one_insn}
 use Rattle.ci_lat.specs.Latencies.{Latencies}
 use Rattle.ci_lat.specs.Faults.{table_of}
 use Rattle.ci_machine.specs.Meanings.{AreOneRun}
 use Rattle.ci_machine.specs.Programs.{Program, State, in_text, loaded_program, opening}
-use Rattle.ci_machine.specs.RunEvents.{IsTame}
-use Rattle.ci_machine.specs.Runs.{before_step}
-use Rattle.ci_machine.specs.Steps.{Meaning}
+use Rattle.ci_machine.specs.Outcomes.{Outcome, Next, Ended}
+use Rattle.ci_machine.specs.RunEvents.{jalr_target}
+use Rattle.ci_machine.specs.Runs.{before_step, cost}
+use Rattle.ci_machine.specs.Steps.{Meaning, IsPlain, fetched, stepped, word_at}
 use Rattle.ci_machine.specs.Touches.{LeavesTextFor, touched}
 use Rattle.ci_machine.proofs.SameRuns.{plain_is_one}
 use Rattle.ci_block.specs.declared.blocks.Block.{Block}
 use Rattle.ci_block.specs.Blocks.{AreBlocks}
-use Rattle.ci_block.specs.Leaders.{IsBehindFullBlock, IsMark, behind_terminator, data_word, entry, named_by_user, symbol, target_of_jalr, target_of_jump, where_ranges_meet}
 use Rattle.ci_block.proofs.OneBlock.{blocks_are_one}
 use Rattle.ci_block.proofs.OneListing.{listing_is_one}
 use Rattle.ci_live.specs.Analyses.{IsAnalysis}
@@ -26,7 +28,8 @@ use Rattle.ci_live.specs.Sets.{Sets}
 use Rattle.ci_live.proofs.NeededLaws.{has_sets}
 use Rattle.ci_live.proofs.OneAnalysis.{analysis_is_one}
 use Rattle.ci_emu.specs.declared.profile.Profile.{Profile}
-use Rattle.ci_emu.specs.Profiles.{IsTarget, IsTouch, targets_in}
+use Rattle.ci_emu.specs.Profiles.{IsProfileOf, IsTarget, IsTouch, targets_in}
+use Rattle.ci_emu.specs.TableLatencies.{latencies_of}
 use Rattle.ci_select.specs.declared.plan.Plan.{Plan}
 use Rattle.ci_select.specs.Instances.{AreAlike, instance_of}
 use Rattle.ci_calls.specs.declared.refusals.Refusal.{Refusal}
@@ -88,66 +91,102 @@ module _ {settings : Settings} {executable : List ℕ} {others : List (List ℕ)
 
 -- ---- the targets of JALR
 
-module _ (left right : Meaning) (program : Program) (n : ℕ) (state : State) (one : AreOneRun left right program n state)
-    (clear : LeavesTextFor left program n state) where
-  -- the text to which a JALR of one run leads is listed where all is to which those of the other lead
-  listed_there : (targets : List ℕ) → ((a : ℕ) → IsTarget right program n state a → Contains targets a)
-      → (address : ℕ) → in_text program address ≡ true → IsTarget left program n state address
-      → Contains targets address
-  listed_there targets all address text is =
-      Contains-from_any {eq = ◌==◌} eqb-true address targets (tame.listed is.place address is.within is.made is.leads text)
-    where
-      tame : IsTame left program (λ t. list_any (λ x. t == x) targets) n state
-      tame = (one.tame (λ t. list_any (λ x. t == x) targets)).1 (record {
-        leaves_text = one.leaves_text.0 clear;
-        listed = λ i target below made led there.
-            list_any-from_Contains nat_eq_equiv target targets
-            (all target (record { place = i; within = below; made = made; leads = led }));
-      })
+-- meanings that fetch the same lead to the same address
+led_alike :
+    (left right : Meaning) (program : Program) (state : State) (found : Option Insn) → fetched left program state ≡ found
+    → fetched right program state ≡ found → jalr_target left program state ≡ jalr_target right program state
+led_alike left right program state None p q = rw (jalr_target, p, q) refl
+led_alike left right program state (Some (Jalr rd rs1 offset)) p q =
+    rw (jalr_target, p, q)
+    (ap (λ (o : Outcome State). elim o as (λ _. Option ℕ) [ Next next ↦ Some next.pc | Ended end ↦ None ])
+    (ap (stepped left.units program state) p ∙ sym (ap (stepped right.units program state) q)))
+led_alike left right program state (Some insn) p q = rw (jalr_target, p, q) refl
 
--- ---- the analysis
+module _ (left right : Meaning) (plain : IsPlain left) (also : IsPlain right) (program : Program) where
+  -- plain machines do
+  leads_alike : (state : State) → jalr_target left program state ≡ jalr_target right program state
+  leads_alike state =
+      led_alike left right program state (fetched right program state)
+      (λ i. if (state.pc % 4 == 0) && in_text program state.pc
+      then option_map (λ word. one_insn word (left.insn word) (right.insn word) (plain word) (also word) i)
+      (word_at state.core.memory state.pc)
+      else None)
+      refl
 
--- the text among some targets is among others
-abbrev AreAmong : Executable → (targets others : List ℕ) → Type 0
-AreAmong file targets others = (a : ℕ) → IsTextWord file.ranges a → Contains targets a → Contains others a
+  -- so a target of the one run is one of the other
+  target_there :
+      (n : ℕ) (state : State) (address : ℕ) → IsTarget left program n state address
+      → IsTarget right program n state address
+  target_there n state address is =
+      let one = plain_is_one left right plain also program n state in
+      let same = one.runs is.place (omega (arith, is.within)) in
+      record {
+        place = is.place;
+        within = is.within;
+        made = ap (λ run. is_none run.end) (sym same) ∙ is.made;
+        leads =
+            ap (λ run. jalr_target right program run.state) (sym same)
+            ∙ sym (leads_alike (before_step left program state is.place))
+            ∙ is.leads;
+      }
 
-module _ (file : Executable) (named targets others : List ℕ) (among : AreAmong file targets others) where
-  -- what is a mark by the first is one by the others
-  mark_there : (address : ℕ) → IsTextWord file.ranges address → IsMark file targets named address
-      → IsMark file others named address
-  mark_there address text (entry is) = entry is
-  mark_there address text (target_of_jump from insn stands leads) = target_of_jump from insn stands leads
-  mark_there address text (behind_terminator last ends is) = behind_terminator last ends is
-  mark_there address text (where_ranges_meet before range first second meet is) =
-      where_ranges_meet before range first second meet is
-  mark_there address text (symbol is) = symbol is
-  mark_there address text (data_word place is) = data_word place is
-  mark_there address text (target_of_jalr is) = target_of_jalr (among address text is)
-  mark_there address text (named_by_user is) = named_by_user is
+-- ---- two profiles of a run
 
-  -- so is a leader
-  cause_there : (leaders : List ℕ) (address : ℕ)
-      → IsTextWord file.ranges address × (IsMark file targets named address ⊎ IsBehindFullBlock file leaders address)
-      → IsTextWord file.ranges address × (IsMark file others named address ⊎ IsBehindFullBlock file leaders address)
-  cause_there leaders address (text, inl mark) = (text, inl (mark_there address text mark))
-  cause_there leaders address (text, inr behind) = (text, inr behind)
+module _
+    (file : Executable) (input : List ℕ) (steps : ℕ) (latencies table : Latencies) {profile other : Profile}
+    (left right : Meaning) (plain : IsPlain left) (also : IsPlain right)
+    (l : IsProfileOf left (loaded_program file) steps (opening file input) (latencies_of latencies) profile)
+    (r : IsProfileOf right (loaded_program file) steps (opening file input) (latencies_of table) other) where
+  -- all plain machines make this run,
+  one_run : AreOneRun left right (loaded_program file) steps (opening file input)
+  one_run = plain_is_one left right plain also (loaded_program file) steps (opening file input)
 
--- targets with the same text make one analysis
-analysis_by : (file : Executable) (named targets others : List ℕ) {blocks : List Block} {live : Sets}
-    → AreAmong file targets others → AreAmong file others targets → IsAnalysis file targets named blocks live
-    → IsAnalysis file others named blocks live
-analysis_by file named targets others among back is = record {
-  leaders = is.leaders;
-  listing = record {
-    ascending = is.listing.ascending;
-    listed = λ address. (
-      λ listed. cause_there file named targets others among is.leaders address ((is.listing.listed address).0 listed),
-      λ cause. (is.listing.listed address).1 (cause_there file named others targets back is.leaders address cause),
-    );
-  };
-  blocks_are = is.blocks_are;
-  live = is.live;
-}
+  -- at one cost,
+  pub same_cost : latencies ≡ table → profile.cost ≡ other.cost
+  same_cost same =
+      l.cost ∙ one_run.costs (latencies_of latencies)
+      ∙ ap (λ t. cost right (loaded_program file) (latencies_of t) steps (opening file input)) same ∙ sym r.cost
+
+  -- and its JALRs lead to the same addresses
+  same_targets : targets_in profile ≡ targets_in other
+  same_targets =
+      ascending_is_one (λ a. a) (targets_in profile) (targets_in other) l.ascending r.ascending
+      (λ address listed. (r.targets address).1
+      (target_there left right plain also (loaded_program file) steps (opening file input) address
+      ((l.targets address).0 listed)))
+      (λ address listed. (l.targets address).1
+      (target_there right left also plain (loaded_program file) steps (opening file input) address
+      ((r.targets address).0 listed)))
+
+  -- so the profiles make instances that say the same
+  pub runs_alike :
+      {blocks more : List Block} {live sets : Sets} {named : List ℕ} (plan limits : Plan) → IsAscending file.ranges
+      → latencies ≡ table → plan ≡ limits → IsAnalysis file (targets_in profile) named blocks live
+      → IsAnalysis file (targets_in other) named more sets
+      → AreAlike (instance_of profile blocks live latencies plan) (instance_of other more sets table limits)
+  runs_alike {blocks} {more} {live} {sets} {named} plan limits ascending same same_plan first second =
+      let targets = targets_in profile in
+      let again : IsAnalysis file targets named more sets =
+      subst (λ ts. IsAnalysis file ts named more sets) (sym same_targets) second in
+      let leaders = listing_is_one file targets named first.leaders again.leaders first.listing again.listing in
+      let listed : (block : Block) → Contains blocks block → Contains live.leaders block.leader =
+      has_sets blocks live first.live in
+      let text : (block : Block) → Contains blocks block → IsTextWord file.ranges block.leader =
+      λ block there. ((first.listing.listed block.leader).0
+      (subst (λ (xs : List ℕ). Contains xs block.leader) (sym first.live.leaders ∙ first.blocks_are.by_leader)
+      (listed block there))).0 in
+      record {
+        blocks =
+            blocks_are_one file first.leaders blocks more ascending first.blocks_are
+            (subst (λ (xs : List ℕ). AreBlocks file xs more) (sym leaders) again.blocks_are);
+        live = λ block there.
+            (analysis_is_one file targets named blocks more live sets block.leader ascending first again (listed block there)).1;
+        entries = λ block there.
+            l.entries block.leader (text block there) ∙ one_run.entered block.leader
+            ∙ sym (r.entries block.leader (text block there));
+        table = same;
+        plan = same_plan;
+      }
 
 -- ---- the run of a file
 
@@ -179,49 +218,6 @@ module _ (file : Executable) (input : List ℕ) (steps : ℕ) (named : List ℕ)
   refused_once (touches no_custom plain one) (custom {position = position} other) =
       absurd ((rw other.there at (no_custom position other.text)) other.custom)
   refused_once (touches no_custom plain one) (touches none also other) = refl
-
-  module _ {profile other : Profile} {blocks more : List Block} {live sets : Sets} {latencies table : Latencies}
-      (l : IsProfiled file latencies input steps named profile blocks live)
-      (r : IsProfiled file table input steps named other more sets) where
-    -- all plain machines make this run
-    one_run : AreOneRun l.meaning r.meaning (loaded_program file) steps (opening file input)
-    one_run = plain_is_one l.meaning r.meaning l.plain r.plain (loaded_program file) steps (opening file input)
-
-    -- so its JALRs lead to the same text
-    targets_there : AreAmong file (targets_in profile) (targets_in other)
-    targets_there address text listed =
-        listed_there l.meaning r.meaning (loaded_program file) steps (opening file input) one_run (leaves l)
-        (targets_in other) (λ a. (r.profile_is.targets a).1) address text.1 ((l.profile_is.targets address).0 listed)
-
-  -- two profiles of it make instances that say the same
-  runs_alike : {profile other : Profile} {blocks more : List Block} {live sets : Sets} {latencies table : Latencies}
-      (plan : Plan) → IsAscending file.ranges → latencies ≡ table
-      → IsProfiled file latencies input steps named profile blocks live
-      → IsProfiled file table input steps named other more sets
-      → AreAlike (instance_of profile blocks live latencies plan) (instance_of other more sets table plan)
-  runs_alike {profile} {other} {blocks} {more} {live} {sets} plan ascending same l r =
-      let targets = targets_in profile in
-      let left = l.analysis in
-      let right : IsAnalysis file targets named more sets =
-      analysis_by file named (targets_in other) targets (targets_there r l) (targets_there l r) r.analysis in
-      let leaders = listing_is_one file targets named left.leaders right.leaders left.listing right.listing in
-      let listed : (block : Block) → Contains blocks block → Contains live.leaders block.leader =
-      has_sets blocks live left.live in
-      let text : (block : Block) → Contains blocks block → IsTextWord file.ranges block.leader =
-      λ block there. ((left.listing.listed block.leader).0
-      (subst (λ (xs : List ℕ). Contains xs block.leader) (sym left.live.leaders ∙ left.blocks_are.by_leader) (listed block there))).0 in
-      record {
-        blocks =
-            blocks_are_one file left.leaders blocks more ascending left.blocks_are
-            (subst (λ (xs : List ℕ). AreBlocks file xs more) (sym leaders) right.blocks_are);
-        live = λ block there.
-            (analysis_is_one file targets named blocks more live sets block.leader ascending left right (listed block there)).1;
-        entries = λ block there.
-            l.profile_is.entries block.leader (text block there) ∙ (one_run l r).entered block.leader
-            ∙ sym (r.profile_is.entries block.leader (text block there));
-        table = same;
-        plan = refl;
-      }
 
 -- ---- the run of files
 
@@ -255,9 +251,13 @@ module _ {settings : Settings} {executable : List ℕ} {others : List (List ℕ)
   -- two choices from them are about instances that say the same
   pub profiled_alike : (left right : Profiled settings executable others) → AreAlike (instance_by left) (instance_by right)
   profiled_alike left right =
-      runs_alike left.files.file (input_bytes left.files.input) settings.steps settings.named settings.plan
-      left.files.file_is.ascending (same_latencies left.files right.files) left.is_profiled
-      (subst (λ T. T)
+      let settled = left.is_profiled in
+      let again =
+      subst (λ T. T)
       (λ i. IsProfiled (sym (same_file left.files right.files) i) right.files.latencies
       (sym (same_input left.files right.files) i) settings.steps settings.named right.profile right.blocks right.live)
-      right.is_profiled)
+      right.is_profiled in
+      runs_alike left.files.file (input_bytes left.files.input) settings.steps left.files.latencies right.files.latencies
+      settled.meaning again.meaning settled.plain again.plain settled.profile_is again.profile_is settings.plan
+      settings.plan left.files.file_is.ascending (same_latencies left.files right.files) refl settled.analysis
+      again.analysis

@@ -87,3 +87,9 @@ abbrev pub LoadsSave : Type 0
 LoadsSave =
     (seed : ℕ) (read : List (List ℕ)) (success : Success) (made : IsLoadMade seed read success)
     → (made.profile.end ≡ Some (Exit 0)) × (made.profile.cost ≡ made.new_cost + made.saved)
+
+-- The line of a load is a function of the seed.
+abbrev pub LoadIsOne : Type 0
+LoadIsOne =
+    (seed : ℕ) (read : List (List ℕ)) (left right : Success) → IsLoadMade seed read left → IsLoadMade seed read right
+    → left.text.items ≡ right.text.items

@@ -1,5 +1,5 @@
 //! What holds of all choices and their checks. The functions do nothing; their contracts are the laws.
-ghost use Rattle.ci_find.specs.Laws.{ChoicesTellTheBest, CheckAcceptsChoices, ChecksEnd, LoadsSave};
+ghost use Rattle.ci_find.specs.Laws.{ChoicesTellTheBest, CheckAcceptsChoices, ChecksEnd, LoadIsOne, LoadsSave};
 
 /// What `find` makes tells the best: each take of its log book is of the best cut of its block in the program before,
 /// and the module of the take's number computes the unit of this cut. And the text of its modules spells them.
@@ -18,4 +18,9 @@ pub fn check_accepts_choices()
 /// is the gain.
 pub fn loads_save()
     ensures { LoadsSave }
+{}
+
+/// What `load` says of a seed is one line.
+pub fn load_is_one()
+    ensures { LoadIsOne }
 {}

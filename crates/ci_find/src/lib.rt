@@ -11,7 +11,7 @@ ghost use Rattle.ci_find.specs.Headline.{AreChosen};
 use ci_calls::{finish, refuse};
 use ci_io::{Shelf, Sink};
 use commands::evaluate;
-pub use laws::{check_accepts_choices, choices_tell_the_best, loads_save};
+pub use laws::{check_accepts_choices, choices_tell_the_best, load_is_one, loads_save};
 use std::alloc::Global;
 
 mod check;

@@ -17,8 +17,9 @@ returns c =
     (record { writes = c.new.result; text = c.into_bytes.result })
     c.usual-table.ensures c.in_ok-image.ensures.program c.in_ok-image.ensures.image
     (subst AreBytes c.bytes.ensures c.bytes_are_small.ensures) c.in_ok-original.ensures
-    (rw c.targets.ensures at c.in_ok-analysis.ensures) c.plan.ensures c.in_ok-chosen.ensures.book c.in_ok-chosen.ensures.given_up c.in_ok-chosen.ensures.units c.as_slice-units.ensures.kept
-    c.in_ok-chosen.ensures.bytes (subst AreBytes c.bytes-2.ensures c.bytes_are_small-2.ensures) c.in_ok-chosen.ensures.saved c.in_ok-chosen.ensures.same_else c.in_ok-cost_with_units.ensures
+    (rw c.targets.ensures at c.in_ok-analysis.ensures) c.plan.ensures c.in_ok-chosen.ensures.book c.in_ok-chosen.ensures.given_up c.in_ok-chosen.ensures.units
+    c.as_slice-units.ensures.kept c.in_ok-chosen.ensures.bytes
+    (subst AreBytes c.bytes-2.ensures c.bytes_are_small-2.ensures) c.in_ok-chosen.ensures.saved c.in_ok-chosen.ensures.same_else c.in_ok-cost_with_units.ensures
     ((λ i. (c.into_bytes.ensures.value i).items)
     ∙ (c.in_ok-text.ensures
     ∙ (λ i. load_line c.args.seed (length (c.all.ensures.value i)) chosen.book.entries chosen.units chosen.saved original.profile.cost cost
