@@ -11,8 +11,9 @@ opened and the items of the log are the same on both sides.
 
 `best` with a budget of one, of one less than the need and of the need differ by the time of the search and by that of
 the check. They run in turn, some times over, and the least processor time of each counts. search.c tells its own
-processor time, for as many searches as take some time. A line for each block has the need, the millions of prefixes opened a second by both, the millions of
-items of the log that both check, and the ratios; the last line has those of all blocks but SHORT ones together.
+processor time, for as many searches as take some time. A line for each block has the need, the millions of prefixes
+opened a second by both, the millions of items of the log that both check, and the ratios, or a dash where other work on
+the machine hides a difference; the last line has those of all blocks but SHORT ones together.
 
 It ends with status 0 where the answers are the same, and where the tools are missing, with a line that says so.
 """
@@ -61,7 +62,6 @@ class Comparison:
         """Prints a line by the prefixes opened, our seconds for them and those of search.c, and the same of items."""
         line = f"{name:24} {need:>8}"
         for count, ours, plain in (figures[:3], figures[3:]):
-            # A difference of two calls is lost where other work on the machine tells more.
             rates = (f"{count / ours / 1e6:9.2f}", f"{plain / ours:7.4f}") if ours > 0 else (f"{'-':>9}", f"{'-':>7}")
             line += f" {rates[0]} {count / max(plain, 1e-9) / 1e6:8.1f} {rates[1]}"
         print(line, flush=True)
