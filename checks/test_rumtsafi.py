@@ -1,7 +1,7 @@
 #!/usr/bin/env python3
 """Tests the script `rumtsafi` in repositories of three tiny crates, with a stand-in for `rt` that proves nothing.
 
-It takes some seconds, needs no toolchain, and leaves nothing behind.
+It takes about a minute, most of which it waits, needs no toolchain, and leaves nothing behind.
 """
 import errno
 import fcntl
@@ -389,6 +389,7 @@ class Found(Repository):
         self.assertEqual([self.look(), self.look()], [(0, True), (0, False)])
 
     def test_a_hash_is_looked_at_until_the_files_are_old_enough_and_then_no_more(self):
+        os.utime(self.source)
         self.assertEqual([self.look(), self.look()], [(0, True), (0, True)])
         self.settle()
         self.assertEqual(os.listdir(os.path.join(self.root, "out")), ["found"])
@@ -423,6 +424,15 @@ class Found(Repository):
         self.ship("exit 3")
         self.assertEqual(self.look(), (3, True))
         self.write("bin/rumtsafi.sources", "sources of another program\n")
+        self.assertEqual(self.look(), (70, True))
+
+    def test_another_way_to_make_the_hash_is_seen(self):
+        self.settle()
+        self.write("HANDLES", "")
+        path = os.path.join(self.root, "script/sources.sh")
+        with open(path, encoding="utf-8") as file:
+            text = file.read()
+        self.write("script/sources.sh", text.replace("find crates.txt", "find HANDLES crates.txt"))
         self.assertEqual(self.look(), (70, True))
 
     def test_a_copy_of_the_repository_looks_anew(self):

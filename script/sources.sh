@@ -30,12 +30,13 @@ sources() {
         cut -d ' ' -f 1
 }
 
-# Runs `find` with the given words on the files that decide which program is current: what each crate uses, the sources
-# of all crates, and the programs with what they were built from. It is called in a process of its own.
+# Runs `find` with the given words on the files that decide which program is current: this one, which says how the hash
+# is made; what each crate uses, and the sources of all crates; the programs, and what they were built from. It is
+# called in a process of its own.
 find_deciding() {
     local path paths=()
     cd -- "$root" || return
-    for path in crates.txt crates/*/src {bin,out}/rumtsafi{,.sources}; do
+    for path in script/sources.sh crates.txt crates/*/src {bin,out}/rumtsafi{,.sources}; do
         [ ! -e "$path" ] || paths+=("$path")
     done
     exec find "${paths[@]}" -type f "$@" 2> /dev/null
