@@ -25,9 +25,9 @@ use Rattle.ci_select.specs.Savings.{IsSaved}
 use Rattle.ci_runs.specs.WholeRuns.{Rewriting, IsTameFor, is_among}
 use Rattle.ci_choice.specs.ChosenFiles.{IsChosenFile, rewriting_of}
 
--- The profile is that of so many steps on the plain machine, with the input, and the total is what the cuts save by it.
--- This run is tame; where it ended, it is so for any number of steps. Where it ended otherwise than by a refused
--- access, it cost what the new executable costs on the machine with the modules, and the total.
+-- Of the profile of so many steps of the old executable on the plain machine, with the input, and what the cuts save by
+-- it, the total: this run is tame; where it ended, it is so for any number of steps; and where it ended otherwise than
+-- by a refused access, it cost what the new executable costs on the machine with the modules, and the total.
 pub record SavesInProfile
     (rewriting : Rewriting) (table : Latencies) (steps : ℕ) (input : List ℕ) (profile : Profile) (total : ℕ) :
     Type 0 where

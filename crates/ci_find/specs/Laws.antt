@@ -1,4 +1,4 @@
--- What holds of all choices and their checks: laws, which the functions of `src/laws.rt` have as their contracts.
+-- What holds of all choices, checks and loads: laws, which the functions of `src/laws.rt` have as their contracts.
 use Rattle.std.specs.Prelude.{◌≡◌, ℕ, ◌+◌, ◌<◌, ◌⊎◌, List, Option, Some, All, length}
 use Rattle.std.specs.FinMap as map
 use Rattle.ci_io.specs.Outcomes.{Files}

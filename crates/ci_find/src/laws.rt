@@ -1,4 +1,4 @@
-//! What holds of all choices and their checks. The functions do nothing; their contracts are the laws.
+//! What holds of all choices, checks and loads. The functions do nothing; their contracts are the laws.
 ghost use Rattle.ci_find.specs.Laws.{ChoicesTellTheBest, CheckAcceptsChoices, ChecksEnd, LoadIsOne, LoadsSave};
 
 /// What `find` makes tells the best: each take of its log book is of the best cut of its block in the program before,

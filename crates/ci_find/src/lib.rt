@@ -93,9 +93,9 @@ pub fn run<F: Shelf, O: Sink>(alloc: Global, words: &Vec<String>, shelf: &mut F,
         (changed F.read_may_fail F.write_may_fail
         (F.state shelf.old) (F.state shelf.new) (O.state out.old) (O.state out.new))
         result }
-    // Where `find` succeeds, the new executable with the modules of the units runs as the old one does, wherever that is
-    // tame, and over the profiled run, which is tame, costs less by the gain in the line; each unit computes the
-    // operations of its cut, and each cut that was taken is the best of its block as that stood then.
+    // Where `find` succeeds, the new executable with its units runs as the old one does, wherever that is tame; the
+    // profiled run is, and costs less by the gain in the line, where it ended otherwise than by a refused access; each
+    // unit computes the operations of its cut, and each cut that was taken is the best of its block as that stood then.
     ensures headline { result ≡ 0
         → AreChosen (map string_bytes words.now.items) (F.state shelf.old).files (F.state shelf.new).files
         (O.state out.old) (O.state out.new) }

@@ -9,11 +9,12 @@ use Rattle.ci_machine.specs.Steps.{Meaning, IsPlain}
 use Rattle.ci_machine.specs.Touches.{LeavesTextFor}
 use Rattle.ci_gen.specs.Programs.{IsProgramOf}
 
--- how many words the text has, each of which is stepped through once
+-- how many words the text has
 abbrev pub words_of_text : ℕ
 words_of_text = 16210
 
--- On the plain machine it leaves the text alone, whatever the input is, and exits with code 0 at its last word.
+-- On the plain machine it leaves the text alone, whatever the input is, and has exited with code 0 after as many steps
+-- as the text has words.
 abbrev pub ProgramsExit : Type 0
 ProgramsExit =
     (seed : ℕ) (file : Executable) (input : List ℕ) (meaning : Meaning) (steps : ℕ) → IsProgramOf seed file.bytes
