@@ -63,7 +63,7 @@ fn effects(insns: &[Insn]) -> (Row, Row)
         let insn = &insns[place];
         let operands = reads(insn);
         let results = writes(insn);
-        uses = operands.union(&uses.difference(&results));
+        uses = operands.union(&uses.minus(&results));
         defs = results.union(&defs);
     }
     (uses, defs)

@@ -52,8 +52,8 @@ impl Found {
         ensures { result ≡ missing_at flows.now self.now number }
     {
         let flow = &flows[number];
-        let passed = self.after(flow.successors).difference(&flow.defs);
-        flow.uses.union(&passed).difference(&self.live[number])
+        let passed = self.after(flow.successors).minus(&flow.defs);
+        flow.uses.union(&passed).minus(&self.live[number])
     }
 
     /// Puts in what is missing at one block, and says whether something was.

@@ -72,7 +72,7 @@ fn early_nodes(graph: &Graph, cut: &Row) -> Row
             reaching = reaching.union(&nodes[k].before);
         }
     }
-    reaching.difference(cut)
+    reaching.minus(cut)
 }
 
 /// Puts the instructions of these numbers at the end, in their order.

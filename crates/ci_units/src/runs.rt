@@ -159,7 +159,7 @@ fn actions(insns: &[Insn]) -> usize
 fn needed(insns: &[Insn], live: &Row) -> Row {
     let mut needed = *live;
     for insn in insns.iter().rev() {
-        needed = needed.difference(&writes(insn)).union(&reads(insn));
+        needed = needed.minus(&writes(insn)).union(&reads(insn));
     }
     needed
 }

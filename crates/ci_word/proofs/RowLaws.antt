@@ -8,17 +8,18 @@ use Rattle.std.specs.Cmp.{nat_cmp_total}
 use Rattle.std.specs.FinSet as set
 use Rattle.std.specs.Int.{bit_at, bit_not, trailing_zeros}
 use Rattle.std.specs.Int.Count.{ones-ones}
+use lib.Count.{count_leading_zeros}
 use Rattle.std.proofs.lemmas.Bool.{lt-ltb, le-ltb, ltb-true, and_parts, cases_eq, cases_lt, eq-eqb, ne_eqb, eqb-true, eqb-false, not-true, false_from_ne_true}
 use Rattle.std.proofs.lemmas.Bool.Decides.{nat_tests}
 use Rattle.std.proofs.lemmas.Grind.{get_or-set_at}
 use Rattle.std.proofs.lemmas.List.{get_or-set_other}
-use Rattle.std.proofs.lemmas.Nat.{and_le_l, or_lt, le_or_l, le_or_r, mod_below, div_below, shr_split, ones_cat, ones-le}
+use Rattle.std.proofs.lemmas.Nat.{and_le_l, or_lt, le_or_l, le_or_r, mod_below, div_below, le-div, shr_split, ones_cat, ones-le, leading_top}
 use Rattle.std.proofs.lemmas.Nat.Bits.{shr_and_one, bit_at-zero, bit_at-lt, bit_at_and, bit_at_or, bit_at_not}
 use Rattle.std.proofs.lemmas.Nat.Bits.{bit_at_cat_low, bit_at_set_same, bit_at_set_other, bit_at_clear_same}
-use Rattle.std.proofs.lemmas.Nat.Bits.{bit_at_clear_other, bit_at-trailing_zeros}
+use Rattle.std.proofs.lemmas.Nat.Bits.{bit_at_clear_other, bit_at-trailing_zeros, bit_at_above}
 use Rattle.std.specs.Cmp.Lexicographic.{pointwise}
 use Rattle.std.proofs.lemmas.Slice.Eq.{bytes_eq-Decides}
-use Rattle.ci_word.specs.Numbers.{count_below, Meets}
+use Rattle.ci_word.specs.Numbers.{count_below, Meets, IsGreatest}
 use Rattle.ci_word.proofs.NumberLaws.{same_numbers, contains-insert_nat, contains-remove_nat, count_below-same, count_below-add}
 use Rattle.ci_word.specs.Words.{is_in, numbers_in, number_of, AreRowWords, four_words, words_of}
 use Rattle.ci_word.specs.WordLaws.{contains-numbers_in, is_in-at, bit_at-number_of}
@@ -297,6 +298,49 @@ meets_iff a b s t is_s is_t words = (
       (λ none. word_of_meets a b s t is_s is_t n in_s in_t
       (each_of_none (shared a b) none (n / 64) (div_below n 64 4 (lit< tt) (numbers_in-below a s is_s n in_s))))),
 )
+
+-- ---- the greatest number
+
+-- the highest bit of a word
+top_bit : (word j : ℕ) → 2 ^ j ≤ word → word < 2 ^ suc j → bit_at word j ≡ 1
+top_bit word j least below =
+    let double = pow-suc 2 j in
+    let one = le-div 1 word (2 ^ j) (pow_pos j) (omega arith) in
+    let two = div_below word (2 ^ j) 2 (pow_pos j) (omega arith) in
+    omega arith
+
+module _ (words : List ℕ) (s : set.FinSet nat_cmp) (is : numbers_in words ≡ s) (fit : AreRowWords words) where
+  -- a number that is in is a bit of its word
+  bit_of_number : (k : ℕ) → IsTrue (set.contains s k) → bit_at (slice_index words (k / 64)) (k % 64) ≡ 1
+  bit_of_number k in_s = eqb-true _ 1 (sym (contains_is_in words s is k (numbers_in-below words s is k in_s)) ∙ in_s)
+
+  pub no_number : ((k : ℕ) → slice_index words k ≡ 0) → s ≡ set.empty
+  no_number none = same_numbers s set.empty
+      (λ k. false_from_ne_true (set.contains s k)
+      (λ in_s. omega (arith, bit_of_number k in_s, ap (λ w. bit_at w (k % 64)) (none (k / 64)), bit_at-zero (k % 64)))
+      ∙ sym (set.contains-empty nat_cmp k))
+
+  -- it is the highest bit of the last word that has one
+  pub greatest_in_word : (i n : ℕ) → i < 4 → ((k : ℕ) → i < k → slice_index words k ≡ 0) → slice_index words i ≢ 0
+      → n ≡ i * 64 + 63 - count_leading_zeros 64 (slice_index words i) → IsGreatest s n
+  greatest_in_word i n within none some place =
+      let word : ℕ = slice_index words i in
+      let top = leading_top 64 word (omega arith) (fit.1 i) in
+      let j : ℕ = top.0 in
+      let at : n ≡ i * 64 + j = omega (arith, top.1) in
+      let low : j < 64 = omega (arith, top.1) in (
+        ap (set.contains s) at ∙ contains_is_in words s is (i * 64 + j) (omega arith) ∙ is_in-at words i j low
+            ∙ eq-eqb (bit_at word j) 1 (top_bit word j top.2 top.3),
+        λ k in_s. elim (cases_lt n k) [
+          | inr most ↦ most
+          | inl more ↦
+              let bit = bit_of_number k in_s in
+              elim (cases_eq (k / 64) i) [
+                | inl same ↦ absurd (omega (arith, bit, ap (λ m. bit_at (slice_index words m) (k % 64)) same, bit_at_above word (suc j) (k % 64) top.3 (omega arith)))
+                | inr other ↦ absurd (omega (arith, bit, ap (λ w. bit_at w (k % 64)) (none (k / 64) (omega arith)), bit_at-zero (k % 64)))
+              ]
+        ],
+      )
 
 -- ---- how many numbers
 

@@ -1,5 +1,5 @@
 -- Sets of numbers, as finite sets and as tests, and what is counted over the numbers below a bound.
-use Rattle.std.specs.Prelude.{ℕ, suc, zero, ◌+◌, Bool, false, ◌||◌, if◌then◌else◌, List, [], ◌∷◌, ◌++◌, IsTrue}
+use Rattle.std.specs.Prelude.{ℕ, suc, zero, ◌+◌, ◌≤◌, Bool, false, ◌||◌, if◌then◌else◌, List, [], ◌∷◌, ◌++◌, IsTrue}
 use Rattle.std.specs.Ordering.{nat_cmp}
 use Rattle.std.specs.FinSet as set
 
@@ -30,3 +30,7 @@ set_below n p = set.from_list (numbers_below n p)
 -- a number is in both sets
 abbrev pub Meets : set.FinSet nat_cmp → set.FinSet nat_cmp → Type 0
 Meets s t = (n : ℕ) × IsTrue (set.contains s n) × IsTrue (set.contains t n)
+
+-- the number is in the set, and no greater one is
+abbrev pub IsGreatest : set.FinSet nat_cmp → ℕ → Type 0
+IsGreatest s n = IsTrue (set.contains s n) × ((k : ℕ) → IsTrue (set.contains s k) → k ≤ n)

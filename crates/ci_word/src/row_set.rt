@@ -1,7 +1,7 @@
 //! A set of numbers below 256.
-ghost use Rattle.std.specs.Prelude.{◌≡◌, ℕ, ◌<◌, IsTrue, ◌↔◌};
+ghost use Rattle.std.specs.Prelude.{◌≡◌, ℕ, ◌<◌, IsTrue, MatchOption, ◌↔◌};
 ghost use Rattle.std.specs.FinSet as set;
-ghost use Rattle.ci_word.specs.Numbers.{Meets, count_below};
+ghost use Rattle.ci_word.specs.Numbers.{Meets, IsGreatest, count_below};
 
 use std::marker::Model;
 
@@ -87,7 +87,7 @@ impl Row {
     }
 
     /// The numbers of this set that are not in the other one.
-    pub fn difference(&self, other: &Row) -> Row
+    pub fn minus(&self, other: &Row) -> Row
         ensures value { result ≡ set.difference self.now other.now }
     {
         Row {
@@ -109,6 +109,21 @@ impl Row {
             | (self.words[2] & other.words[2])
             | (self.words[3] & other.words[3]);
         shared != 0
+    }
+
+    /// The greatest number, or `None` where there is no number.
+    pub fn greatest(&self) -> Option<u8>
+        ensures { MatchOption result (self.now ≡ set.empty) (IsGreatest self.now) }
+    {
+        let mut index = 4;
+        while index > 0 {
+            index -= 1;
+            let word = self.words[index];
+            if word != 0 {
+                return Some((index * 64 + 63 - word.leading_zeros() as usize) as u8);
+            }
+        }
+        None
     }
 
     /// How many numbers are in.

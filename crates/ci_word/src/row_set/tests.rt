@@ -46,8 +46,18 @@ fn joins_and_meets(rt: HostRuntime) {
     other.insert(255);
     assert!(rt; row.meets(&other));
     assert_eq!(rt; row.union(&other).count(), 8);
-    assert_eq!(rt; row.difference(&other).count(), 5);
-    assert_eq!(rt; other.difference(&row).count(), 2);
+    assert_eq!(rt; row.minus(&other).count(), 5);
+    assert_eq!(rt; other.minus(&row).count(), 2);
     assert!(rt; row.union(&row) == row);
     assert!(rt; row != other);
+}
+
+#[test]
+fn greatest_number(rt: HostRuntime) {
+    let mut row = at_the_ends();
+    for n in [255, 128, 127, 64, 63, 0] {
+        assert_eq!(rt; row.greatest(), Some(n));
+        row.remove(n);
+    }
+    assert_eq!(rt; row.greatest(), None);
 }

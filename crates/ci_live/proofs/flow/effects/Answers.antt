@@ -34,7 +34,7 @@ loop-place-preserved c =
       uses =
           λ r.
           subst (λ s. Has s r ↔ ReadFirst (drop k insns) r)
-          (sym (c.union-uses.ensures.value ∙ (λ i. set.union (c.reads-operands.ensures i) (c.difference.ensures.value i))
+          (sym (c.union-uses.ensures.value ∙ (λ i. set.union (c.reads-operands.ensures i) (c.minus.ensures.value i))
           ∙ ap (λ t. set.union (registers_read insn) (set.difference c.loop-place.uses t)) c.writes-results.ensures))
           (read_before insns k insn (omega arith) c.index-insns-place.is r c.loop-place.uses
           (subst (λ n. Has c.loop-place.uses r ↔ ReadFirst (drop n insns) r) (sym next) (c.loop-place.invariant.uses r)));

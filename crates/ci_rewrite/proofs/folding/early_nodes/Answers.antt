@@ -38,6 +38,6 @@ returns c =
     let graph = c.args.graph.now in
     let cut = c.args.cut.now in
     let all : c.loop-k.k ≡ 0 = omega arith in
-    let early : c.difference.result ≡ set.difference c.loop-k.reaching cut = cc in
+    let early : c.minus.result ≡ set.difference c.loop-k.reaching cut = cc in
     λ k. subst (λ numbers. IsTrue (set.contains numbers k) ↔ ((¬ IsTrue (set.contains cut k)) × LeadsToMember graph (set.contains cut) k)) (sym early)
     (early_are graph cut c.nodes-nodes.ensures.kept c.loop-k.reaching (subst (AreReaching graph cut c.loop-k.reaching) all c.loop-k.invariant) k)
