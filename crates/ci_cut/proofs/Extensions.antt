@@ -33,7 +33,7 @@ module _ (graph : FlowGraph) (flows : IsFlowGraph graph) (small big : ℕ → Bo
       (extends.within c last)
 
   -- an output stays one, since all that reads it is later
-  output_stays : (k : ℕ) → IsTrue (is_output graph small k) → IsTrue (is_output graph big k)
+  pub output_stays : (k : ℕ) → IsTrue (is_output graph small k) → IsTrue (is_output graph big k)
   output_stays k output =
       let parts = and_parts (small k) _ output in
       and_from (big k) _ (extends.within k parts.0) (elim (or_cases (node_at graph k).live _ parts.1) [

@@ -17,3 +17,10 @@ pub mod SetLaws
 pub mod SourceSetLaws
 pub mod BestOfTries
 pub mod WalkLaws
+pub mod FilledRows
+pub mod WholeRows
+pub mod OneMore
+pub mod ChainsTo
+pub mod WayBack
+pub mod Decisions
+pub mod Represented

@@ -14,7 +14,7 @@ use Rattle.ci_cut.specs.ChainDelays.{IsMaximumAt}
 use Rattle.ci_cut.proofs.CriticalPath.{chain_onward, chain_parts, chain_first, delay_along-le, critical_path_delay-reached}
 
 -- the delay of a chain's first node, and of the rest
-delay_along-cons : (graph : FlowGraph) (k : ℕ) (rest : List ℕ) → delay_along graph (k ∷ rest) ≡ (node_at graph k).delay + delay_along graph rest
+pub delay_along-cons : (graph : FlowGraph) (k : ℕ) (rest : List ℕ) → delay_along graph (k ∷ rest) ≡ (node_at graph k).delay + delay_along graph rest
 delay_along-cons graph k rest = sum_by-cons (λ j. (node_at graph j).delay) k rest
 
 -- some chain that begins at node k has this delay, and none that begins there has more

@@ -1,5 +1,5 @@
 -- Sums and counts over the members of a set of nodes, one node more, and how great they are.
-use Rattle.std.proofs.Common.{◌≡◌, ℕ, ◌+◌, ◌≤◌, Bool, true, false, cond, nat_lt, ap, ◌∙◌, add-one, arith, IsTrue}
+use Rattle.std.proofs.Common.{◌≡◌, ℕ, ◌+◌, ◌≤◌, Bool, true, false, cond, nat_lt, ap, ◌∙◌, add-one, arith, subst, IsTrue}
 use Rattle.ci_word.specs.Numbers.{sum_below}
 use Rattle.ci_word.proofs.NumberLaws.{sum_below-suc}
 use Rattle.ci_cut.specs.declared.graph.Limits.{Limits}
@@ -42,6 +42,11 @@ saved_from_parts graph members core read pad saved time ins outs further size_of
 -- no more inputs and outputs than the limits, an output, and a place for each word of a use
 abbrev pub AreWithin : Limits → ℕ → ℕ → ℕ → Type 0
 AreWithin limits ins outs members = (ins ≤ limits.inputs) × (1 ≤ outs) × (outs ≤ limits.outputs) × (1 + further_words_of ins outs ≤ members)
+
+pub within_same : (limits : Limits) (ins outs ins' outs' members : ℕ) → ins ≡ ins' → outs ≡ outs'
+    → AreWithin limits ins outs members → AreWithin limits ins' outs' members
+within_same limits ins outs ins' outs' members a b within =
+    subst (λ (n : ℕ). AreWithin limits ins' n members) b (subst (λ (n : ℕ). AreWithin limits n outs members) a within)
 
 -- a set's ports and size are within the limits, as numbers that are theirs
 module _ (graph : FlowGraph) (limits : Limits) (cut : ℕ → Bool) (ins outs members : ℕ) (a : ins ≡ inputs graph cut)

@@ -1,5 +1,7 @@
 -- Sets of numbers after a change.
-use Rattle.std.proofs.Common.{◌≡◌, ℕ, ◌<◌, ◌⊎◌, inl, inr, IsTrue, arith}
+use Rattle.std.proofs.Common.{◌≡◌, ℕ, ◌-◌, ◌<◌, ◌⊎◌, inl, inr, cond, IsTrue, sym, ap, ◌∙◌, arith, true≢false}
+use Rattle.std.proofs.lemmas.Bool.{cases_eq}
+use Rattle.std.specs.Cmp.{nat_cmp_total}
 use Rattle.std.proofs.lemmas.Bool.Decides.{nat_tests}
 use Rattle.std.specs.Ordering.{nat_cmp}
 use Rattle.std.specs.FinSet as set
@@ -22,3 +24,10 @@ below_empty n j h = let none = set.contains-empty nat_cmp j in cc
 pub below_insert : (s : set.FinSet nat_cmp) (k n : ℕ) → ((j : ℕ) → IsTrue (set.contains s j) → j < n) → k < n
     → (j : ℕ) → IsTrue (set.contains (set.insert s k) j) → j < n
 below_insert s k n old new j h = elim (from_more s k j h) [ inl same ↦ omega arith | inr before ↦ old j before ]
+
+-- with a number less there are fewer
+pub fewer_left : (s : set.FinSet nat_cmp) (k : ℕ) → IsTrue (set.contains s k) → set.len (set.remove s k) < set.len s
+fewer_left s k in_ = elim (cases_eq (set.len s) 0) [
+  | inl none ↦ absurd (true≢false (sym in_ ∙ ap (λ t. set.contains t k) (set.empty_of_len s none) ∙ set.contains-empty nat_cmp k))
+  | inr some ↦ omega (arith, set.len-remove nat_cmp_total s k ∙ ap (λ b. cond b (set.len s - 1) (set.len s)) in_)
+]

@@ -14,7 +14,7 @@ walk_on first (arc last) = onward first last
 walk_on first (onward rest last) = onward (walk_on first rest) last
 
 -- the last arc of a walk, and the walk before it
-last_arc : {graph : FlowGraph} {a c : ℕ} → Walk graph a c → HasArc graph a c ⊎ ((b : ℕ) × Walk graph a b × HasArc graph b c)
+pub last_arc : {graph : FlowGraph} {a c : ℕ} → Walk graph a c → HasArc graph a c ⊎ ((b : ℕ) × Walk graph a b × HasArc graph b c)
 last_arc (arc last) = inl last
 last_arc (onward {b = b} rest last) = inr (b, rest, last)
 

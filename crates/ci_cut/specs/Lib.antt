@@ -14,3 +14,4 @@ pub mod ChainDelays
 pub mod Incumbents
 pub mod Tried
 pub mod Reached
+pub mod Representation

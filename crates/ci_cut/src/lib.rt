@@ -1,22 +1,27 @@
 //! Graphs of basic blocks, convex cuts of them, and the best cut.
 //!
 //! What a search has decided, and what bounds the cuts that go on from there, is defined here too
-//! (`specs/Prefixes.antt`), and how many branches a search needs (`specs/Need.antt`). Their code is in crates above.
+//! (`specs/Prefixes.antt`), and how many branches a search needs (`specs/Need.antt`). `PrefixTerms` keeps what a search or
+//! a checker asks of it, from one decision to the next; their walks are in crates above.
 #![tactic(auto)]
 
 pub use choice::best_of_all;
 pub use convexity::is_convex;
 pub use graph::{Graph, Limits, Node, Source, Sources};
+pub use graph_rows::GraphRows;
 pub use incumbent::Incumbent;
-pub use ports::{inputs, inputs_from_outside, outputs};
+pub use ports::{SourceSet, inputs, inputs_from_outside, outputs};
+pub use prefix::{Delays, PrefixTerms};
 pub use timing::{hardware, hardware_is_the_critical_path};
 pub use value::{fits, fitting_gain, gain, gain_above, saved_by};
 
 mod choice;
 mod convexity;
 mod graph;
+mod graph_rows;
 mod incumbent;
 mod ports;
+mod prefix;
 #[cfg(test)]
 mod tests;
 mod timing;

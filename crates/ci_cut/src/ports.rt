@@ -1,13 +1,15 @@
 //! The inputs and outputs of a set of nodes.
-ghost use Rattle.std.specs.Prelude.{◌≡◌, ◌↔◌, ◌+◌, ◌≤◌, ◌||◌, false, length, IsTrue};
+ghost use Rattle.std.specs.Prelude.{◌≡◌, ◌↔◌, ℕ, ◌+◌, ◌<◌, ◌≤◌, ◌||◌, Bool, false, if◌then◌else◌, length, IsTrue};
 ghost use Rattle.std.specs.FinSet as set;
 ghost use Rattle.std.specs.List.{list_any};
 ghost use Rattle.ci_cut.specs.declared.graph.Source.{Source};
+ghost use Rattle.ci_cut.specs.declared.graph.Source.TheVariants.{Made};
 ghost use Rattle.ci_cut.specs.Ports as terms;
 ghost use Rattle.ci_cut.specs.FlowGraph.{is_source};
 ghost use Rattle.ci_cut.specs.GraphRules.{AreNodes};
 ghost use Rattle.ci_cut.specs.Gain.{further_words_of};
-ghost use Rattle.ci_cut.specs.SourceSets.{holds, is_reader, is_read_below};
+ghost use Rattle.ci_cut.specs.Prefixes.{is_eligible};
+ghost use Rattle.ci_cut.specs.SourceSets.{holds, is_reader, is_read_below, AreSettledBy, count_held};
 
 use crate::graph::{Graph, Limits, Source};
 use ci_word::Row;
@@ -56,8 +58,8 @@ pub fn ports_of(graph: &Graph, cut: &Row) -> Ports
 }
 
 /// A set of sources.
-#[derive(Drop)]
-struct SourceSet {
+#[derive(Clone, Copy, Drop)]
+pub struct SourceSet {
     /// Registers at entry.
     registers: Row,
     /// Nodes.
@@ -66,7 +68,7 @@ struct SourceSet {
 
 impl SourceSet {
     /// The set without a source.
-    fn empty() -> SourceSet
+    pub(crate) fn empty() -> SourceSet
         ensures { (source : Source) → holds result source ≡ false }
     {
         SourceSet {
@@ -85,6 +87,51 @@ impl SourceSet {
         }
     }
 
+    /// Whether a source is in.
+    pub(crate) fn has(&self, source: &Source) -> bool
+        ensures { result ≡ holds self.now source.now }
+    {
+        match source {
+            Source::Entry(register) => self.registers.has(*register),
+            Source::Made(node) => self.nodes.has(*node),
+        }
+    }
+
+    /// Puts a source in, and tells whether it is new and no node that may be a member.
+    ///
+    /// A node has to be one of the graph.
+    fn insert_settled(&mut self, graph: &Graph, source: Source) -> bool
+        requires { (k : ℕ) → source ≡ Made k → k < length graph.now.nodes }
+        ensures holds { (other : Source) → holds self.new other ≡ (is_source other source || holds self.old other) }
+        ensures counted { (outside : Source → Bool) → outside source ≡ terms.is_outside (is_eligible graph.now) source
+            → count_held graph.now outside self.new
+            ≡ count_held graph.now outside self.old + (if result then 1 else 0) }
+    {
+        let settled = !self.has(&source) && is_settled(graph, &source);
+        self.insert(source);
+        self.registers.numbers_are_below_256();
+        settled
+    }
+
+    /// Puts sources in, and tells how many of them are new and no node that may be a member.
+    ///
+    /// The nodes among them have to be nodes of the graph.
+    pub(crate) fn extend_settled(&mut self, graph: &Graph, sources: &[Source]) -> u32
+        requires few { length graph.now.nodes ≤ 256 }
+        requires nodes { (k : ℕ) → IsTrue (list_any (is_source (Made k)) sources.now) → k < length graph.now.nodes }
+        ensures holds { (other : Source) →
+            holds self.new other ≡ (holds self.old other || list_any (is_source other) sources.now) }
+        ensures counted { (outside : Source → Bool) → AreSettledBy graph.now outside sources.now
+            → count_held graph.now outside self.new ≡ count_held graph.now outside self.old + result }
+        ensures few { result ≤ 512 }
+    {
+        let mut settled = 0;
+        for source in sources {
+            settled += u32::from(self.insert_settled(graph, *source));
+        }
+        settled
+    }
+
     /// Puts sources in.
     fn extend(&mut self, sources: &[Source])
         ensures { (other : Source) →
@@ -93,6 +140,17 @@ impl SourceSet {
         for source in sources {
             self.insert(*source);
         }
+    }
+}
+
+/// Whether the source is no node that may be a member.
+fn is_settled(graph: &Graph, source: &Source) -> bool
+    requires { (k : ℕ) → source.now ≡ Made k → k < length graph.now.nodes }
+    ensures { result ≡ terms.is_outside (is_eligible graph.now) source.now }
+{
+    match source {
+        Source::Entry(_) => true,
+        Source::Made(node) => !graph.nodes()[*node as usize].eligible,
     }
 }
 

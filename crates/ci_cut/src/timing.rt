@@ -1,5 +1,5 @@
 //! The hardware time of a set of nodes.
-ghost use Rattle.std.specs.Prelude.{◌≡◌, ℕ, ◌<◌, ◌≤◌, Bool, List, IsTrue, length};
+ghost use Rattle.std.specs.Prelude.{◌≡◌, ℕ, ◌+◌, ◌/◌, max, ◌<◌, ◌≤◌, Bool, List, IsTrue, length};
 ghost use Rattle.std.specs.FinSet as set;
 ghost use Rattle.ci_cut.specs.ChainDelays.{IsMaximumAt};
 ghost use Rattle.ci_cut.specs.Hardware as terms;
@@ -17,7 +17,14 @@ pub fn hardware(graph: &Graph, cut: &Row) -> u32
     requires { AreNodes graph.now cut.now }
     ensures { result ≡ terms.hardware graph.now (set.contains cut.now) }
 {
-    critical_path_delay(graph, cut).div_ceil(1000).max(1)
+    in_cycles(critical_path_delay(graph, cut))
+}
+
+/// A delay in cycles, rounded up, and at least 1.
+pub(crate) fn in_cycles(delay: u32) -> u32
+    ensures { result ≡ max 1 ((delay + 999) / 1000) }
+{
+    delay.div_ceil(1000).max(1)
 }
 
 /// The law of the critical path: no chain of members has more than its delay, and some chain has it. Nothing happens

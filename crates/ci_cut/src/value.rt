@@ -49,10 +49,31 @@ fn saved_by_ports(graph: &Graph, members: &Row, core: &Row, ports: &Ports) -> i6
     requires outputs { ports.now.outputs ≡ counts.outputs graph.now (set.contains core.now) }
     ensures { result ≡ terms.saved_by graph.now (set.contains members.now) (set.contains core.now) }
 {
-    let saved = software(graph.nodes(), members) as i64 - hardware(graph, core) as i64;
-    let further = ports.further_words() as i64;
-    let places = members.count() as i64 - 1 - further;
-    saved - further * graph.read() as i64 - places * graph.pad() as i64
+    saved_cycles(
+        graph,
+        software(graph.nodes(), members),
+        hardware(graph, core),
+        ports.further_words(),
+        members.count(),
+    )
+}
+
+/// The saved cycles by a software latency, a hardware time, further words and a size.
+pub(crate) fn saved_cycles(
+    graph: &Graph,
+    software: u32,
+    hardware: u32,
+    further: u32,
+    size: u32,
+) -> i64
+    requires software { software ≤ 256000 }
+    requires further { further ≤ 256 }
+    requires size { size ≤ 256 }
+    ensures { result ≡ terms.saved_cycles graph.now.read graph.now.pad software hardware further size }
+{
+    let saved = software as i64 - hardware as i64;
+    let places = size as i64 - 1 - further as i64;
+    saved - further as i64 * graph.read() as i64 - places * graph.pad() as i64
 }
 
 /// Whether the set may become an instruction under the limits: its members are eligible, it is convex, it has at most
@@ -112,7 +133,7 @@ pub fn gain_above(graph: &Graph, limits: &Limits, cut: &Row, floor: i64) -> Opti
 }
 
 /// The software latencies of the members together, in cycles.
-fn software(nodes: &[Node], cut: &Row) -> u32
+pub(crate) fn software(nodes: &[Node], cut: &Row) -> u32
     requires few { length nodes.now ≤ 256 }
     requires latency_most { (k : ℕ) → (node_in nodes.now k).latency ≤ 1000 }
     ensures value { result ≡ sum_below (length nodes.now) (set.contains cut.now) (λ k. (node_in nodes.now k).latency) }
