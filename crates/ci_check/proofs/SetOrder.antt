@@ -1,7 +1,6 @@
 -- The order of sets of nodes.
-use Rattle.std.proofs.Common.{◌≡◌, ℕ, zero, suc, ◌<◌, ◌≤◌, Bool, true, false, not, ◌⊎◌, inl, inr, IsTrue, refl, sym, ap, ◌∙◌, arith, ◌↔◌, true≢false}
-use Rattle.std.proofs.Math.Bool.{beq}
-use Rattle.std.proofs.lemmas.Bool.{cases_eq, cases_order, cases_Bool}
+use Rattle.std.proofs.Common.{◌≡◌, ℕ, zero, suc, ◌<◌, ◌≤◌, Bool, true, false, ◌⊎◌, inl, inr, IsTrue, sym, ap, ◌∙◌, arith, true≢false}
+use Rattle.std.proofs.lemmas.Bool.{cases_eq, cases_order, cases_Bool, false_from_ne_true}
 use Rattle.ci_cut.specs.Best.{ComesBefore, IsSameSet}
 use Rattle.ci_check.specs.Representation.{ComesBeforeFrom}
 
@@ -22,22 +21,41 @@ compare_sets (suc n) s t same = elim (cases_Bool (s n)) [
     one_more : s n ≡ t n → (k : ℕ) → n ≤ k → s k ≡ t k
     one_more here k from = elim (cases_eq k n) [ inl last ↦ ap s last ∙ here ∙ sym (ap t last) | inr other ↦ same k (omega arith) ]
 
--- ---- the greatest number in which two sets differ, looked for from the top
+-- ---- the greatest number that only the first set has
 
-module _ (first second : ℕ → Bool) (from k : ℕ) (same : (j : ℕ) → k < j → first j ≡ second j) where
-  in_first : first k ≡ true → second k ≡ false → from ≤ k → ComesBeforeFrom from first second
-  in_first in_ out down = (record { place = k; in_first = in_; not_in_second = out; same_above = same }, down)
+module _ (first second : ℕ → Bool) (from : ℕ) where
+  pub none_before : ((k : ℕ) → IsTrue (first k) → ¬ IsTrue (second k) → ⊥) → ComesBeforeFrom from first second → ⊥
+  none_before none (before, down) = none before.place before.in_first (λ in_. true≢false (sym in_ ∙ before.not_in_second))
 
-  in_second : first k ≡ false → second k ≡ true → ComesBeforeFrom from first second → ⊥
-  in_second out in_ (before, down) = elim (cases_order k before.place) [
-    | inl here ↦ true≢false (sym before.in_first ∙ ap first (sym here) ∙ out)
-    | inr (inl higher) ↦ true≢false (sym before.in_first ∙ same before.place higher ∙ before.not_in_second)
-    | inr (inr lower) ↦ true≢false (sym in_ ∙ sym (before.same_above k lower) ∙ out)
-  ]
+  module _ (place : ℕ) (in_ : IsTrue (first place)) (out : ¬ IsTrue (second place))
+      (most : (k : ℕ) → IsTrue (first k) → ¬ IsTrue (second k) → k ≤ place) where
+    most_before : (before : ComesBefore first second) → before.place ≤ place
+    most_before before = most before.place before.in_first (λ also. true≢false (sym also ∙ before.not_in_second))
 
-  pub at_difference : (has other : Bool) → has ≡ first k → other ≡ second k → not (beq has other) ≡ true → from ≤ k
-      → IsTrue has ↔ ComesBeforeFrom from first second
-  at_difference true true is is_other differ down = absurd (true≢false (sym differ))
-  at_difference true false is is_other differ down = (λ _. in_first (sym is) (sym is_other) down, λ _. refl)
-  at_difference false true is is_other differ down = (λ e. absurd (true≢false (sym e)), λ before. absurd (in_second (sym is) (sym is_other) before))
-  at_difference false false is is_other differ down = absurd (true≢false (sym differ))
+    pub too_low : place < from → ComesBeforeFrom from first second → ⊥
+    too_low below (before, down) = omega (arith, most_before before)
+
+    -- it comes before if what only the second set has lies below
+    pub before_if_below : from ≤ place → ((k : ℕ) → IsTrue (second k) → ¬ IsTrue (first k) → k < place) → ComesBeforeFrom from first second
+    before_if_below down below = (
+      record {
+        place = place;
+        in_first = in_;
+        not_in_second = false_from_ne_true (second place) out;
+        same_above = λ k above. by_cases k above (cases_Bool (first k)) (cases_Bool (second k));
+      },
+      down,
+    )
+      where
+        by_cases : (k : ℕ) → place < k → (first k ≡ true) ⊎ (first k ≡ false) → (second k ≡ true) ⊎ (second k ≡ false) → first k ≡ second k
+        by_cases k above (inl yes_) (inl also) = yes_ ∙ sym also
+        by_cases k above (inl yes_) (inr no_) = absurd (omega (arith, most k yes_ (λ also. true≢false (sym also ∙ no_))))
+        by_cases k above (inr no_) (inl also) = absurd (omega (arith, below k also (λ yes_. true≢false (sym yes_ ∙ no_))))
+        by_cases k above (inr no_) (inr neither) = no_ ∙ sym neither
+
+    pub below_if_before : (other : ℕ) → IsTrue (second other) → ¬ IsTrue (first other) → ComesBeforeFrom from first second → other < place
+    below_if_before other also not_first (before, down) = elim (cases_order other before.place) [
+      | inl same ↦ absurd (true≢false (sym also ∙ ap second same ∙ before.not_in_second))
+      | inr (inl lower) ↦ omega (arith, most_before before)
+      | inr (inr higher) ↦ absurd (not_first (before.same_above other higher ∙ also))
+    ]

@@ -1,39 +1,19 @@
--- For the contracts of checker and search: what the code holds of a prefix, and of the best cut and a log.
-use Rattle.std.specs.Prelude.{◌≡◌, ℕ, suc, ◌+◌, ◌<◌, ◌≤◌, Bool, ◌⊎◌, List, ◌++◌, drop, length, IsTrue, Option, None}
+-- For the contracts of checker and search: what the code holds of the best cut and of a log.
+use Rattle.std.specs.Prelude.{◌≡◌, ℕ, ◌+◌, ◌≤◌, Bool, ◌⊎◌, List, ◌++◌, drop, length, Option, None}
 use Rattle.std.specs.Prelude.{Some, Result, Ok, Err}
 use Rattle.std.specs.List.{AllByRecursion}
-use Rattle.std.specs.FinSet as set
 use Rattle.ci_word.specs.Numbers.{count_below}
 use Rattle.ci_cut.specs.FlowGraph.{FlowGraph}
-use Rattle.ci_cut.specs.GraphRules.{IsFlowGraph}
 use Rattle.ci_cut.specs.declared.graph.Limits.{Limits}
 use Rattle.ci_cut.specs.Best.{ComesBefore}
 use Rattle.ci_log.specs.declared.log.Item.{Item}
 use Rattle.ci_log.specs.declared.log.Item.TheVariants.{B}
 use Rattle.ci_log.specs.Trees.{IsLeaf, IsTree}
-use Rattle.ci_check.specs.declared.choices.Choices.{Choices}
 use Rattle.ci_cut.specs.declared.incumbent.Incumbent.{Incumbent}
 use Rattle.ci_check.specs.declared.checking.Wrong.{Wrong}
 use Rattle.ci_check.specs.Rules.{Given, best_gain, IsGood, Station, IsRightAt, IsFirstWrongIn}
-use Rattle.ci_cut.specs.Prefixes.{Prefix, is_eligible, eligible_nodes, taken, possible}
-
--- the choices represent the prefix, which decides the eligible nodes from their place on
-pub record Represents (graph : FlowGraph) (prefix : Prefix) (choices : Choices) : Type 0 where
-  pub kept : IsFlowGraph graph
-  pub within : choices.place ≤ length graph.nodes
-  pub decided : count_below choices.place (is_eligible graph) + length prefix ≡ eligible_nodes graph
-  pub is_included : (k : ℕ) → set.contains choices.included k ≡ taken graph prefix k
-  pub is_possible : (k : ℕ) → set.contains choices.possible k ≡ possible graph prefix k
-
--- the choices represent some prefix
-abbrev pub RepresentsSome : FlowGraph → Choices → Type 0
-RepresentsSome graph choices = (prefix : Prefix) × Represents graph prefix choices
-
--- node k is the last eligible one below a place
-pub record IsNextBelow (graph : FlowGraph) (place k : ℕ) : Type 0 where
-  pub below : k < place
-  pub eligible : IsTrue (is_eligible graph k)
-  pub none_between : suc (count_below k (is_eligible graph)) ≡ count_below place (is_eligible graph)
+use Rattle.ci_cut.specs.Prefixes.{is_eligible}
+use Rattle.ci_cut.specs.Representation.{IsNextBelow}
 
 -- sets compared from the last number down to one: at the greatest number in which they differ, the first has it
 abbrev pub ComesBeforeFrom : ℕ → (ℕ → Bool) → (ℕ → Bool) → Type 0

@@ -6,11 +6,11 @@ ghost use Rattle.ci_log.specs.declared.log.Item.{Item};
 ghost use Rattle.ci_log.specs.Trees.{IsTree};
 ghost use Rattle.ci_cut.specs.Prefixes.{Prefix};
 ghost use Rattle.ci_check.specs.Rules.{stations, IsAccepted, IsFirstWrong};
-ghost use Rattle.ci_check.specs.Representation.{Represents, RepresentsSome, IsMeasured, IsTreeAt, IsJudged, IsBranchOn};
+ghost use Rattle.ci_cut.specs.Representation.{AreRowsOf, Represents, AreKeptFrom};
+ghost use Rattle.ci_check.specs.Representation.{IsMeasured, IsTreeAt, IsJudged, IsBranchOn};
 
-use crate::choices::Choices;
 use crate::rules::{checked, is_right, reason_of};
-use ci_cut::{Graph, Incumbent, Limits};
+use ci_cut::{Delays, Graph, GraphRows, Incumbent, Limits, PrefixTerms};
 use ci_log::{Item, Log};
 use ci_word::Row;
 
@@ -42,48 +42,76 @@ pub fn check(graph: &Graph, limits: &Limits, best: Option<Row>, log: &Log) -> Re
     let Some(best) = checked(graph, limits, best) else {
         return Err(Wrong { item: 0, reason: 7 });
     };
-    check_tree(graph, limits, &best, log.items(), 0, &Choices::none(graph))?;
+    let rows = GraphRows::of(graph);
+    let mut delays = [0; 256];
+    let none = PrefixTerms::none(graph);
+    check_tree(
+        graph,
+        &rows,
+        limits,
+        &best,
+        log.items(),
+        0,
+        &none,
+        &mut delays,
+    )?;
     Ok(())
 }
 
-/// Checks the items of the tree that begins at `place`, at these choices, and answers where the tree ends.
+/// Checks the items of the tree that begins at `place`, at the prefix with these terms. It answers where the tree ends.
 fn check_tree(
     graph: &Graph,
+    rows: &GraphRows,
     limits: &Limits,
     best: &Incumbent,
     items: &[Item],
     place: usize,
-    choices: &Choices,
+    terms: &PrefixTerms,
+    delays: &mut Delays,
 ) -> Result<usize, Wrong>
-    requires represents { RepresentsSome graph.now choices.now }
+    requires rows { AreRowsOf graph.now rows.now }
+    requires represents { (prefix : Prefix) × Represents graph.now prefix terms.now delays.old }
     requires measured { IsMeasured graph.now limits.now best.now }
     requires few { length items.now < 2 ^ 32 }
     requires tree { IsTreeAt items.now place }
-    ensures { (prefix : Prefix) (one rest : List Item) (tree : IsTree one) → Represents graph.now prefix choices.now
-        → drop place items.now ≡ one ++ rest
+    ensures kept { AreKeptFrom terms.now.place delays.old delays.new }
+    ensures judged { (prefix : Prefix) (one rest : List Item) (tree : IsTree one)
+        → Represents graph.now prefix terms.now delays.old → drop place items.now ≡ one ++ rest
         → IsJudged graph.now limits.now best.now.cut (stations tree prefix) place result }
 {
     let item = items[place];
-    if !is_right(graph, limits, best, choices, item) {
+    if !is_right(graph, rows, limits, best, terms, item) {
         return Err(Wrong {
             item: place as u32,
             reason: reason_of(item),
         });
     }
-    let Some(node) = branch_on(graph, choices, item) else {
+    let Some(node) = branch_on(graph, rows, terms, item) else {
         return Ok(place + 1);
     };
-    let end = check_tree(graph, limits, best, items, place + 1, &choices.with(node))?;
-    check_tree(graph, limits, best, items, end, &choices.without(node))
+    let with_node = terms.take_in(graph, rows, delays, node);
+    let end = check_tree(
+        graph,
+        rows,
+        limits,
+        best,
+        items,
+        place + 1,
+        &with_node,
+        delays,
+    )?;
+    let without_node = terms.leave_out(graph, node);
+    check_tree(graph, rows, limits, best, items, end, &without_node, delays)
 }
 
 /// The node that the item branches on, or `None` where it is a leaf or all nodes are decided.
-fn branch_on(graph: &Graph, choices: &Choices, item: Item) -> Option<u8>
-    requires { choices.now.place ≤ length graph.now.nodes }
-    ensures { IsBranchOn graph.now choices.now.place item result }
+fn branch_on(graph: &Graph, rows: &GraphRows, terms: &PrefixTerms, item: Item) -> Option<u8>
+    requires rows { AreRowsOf graph.now rows.now }
+    requires within { terms.now.place ≤ length graph.now.nodes }
+    ensures { IsBranchOn graph.now terms.now.place item result }
 {
     match item {
-        Item::B => choices.next(graph),
+        Item::B => terms.next(graph, rows),
         Item::O | Item::C | Item::I | Item::G | Item::F => None,
     }
 }

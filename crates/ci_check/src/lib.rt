@@ -5,20 +5,18 @@
 //! node. `check` looks at each item of a log by itself, and `needs_more` tells whether a search needs more branches
 //! than a budget.
 //!
-//! What a search keeps of a prefix is told as the checker tells it: `Choices` and `is_right` serve both.
+//! What rules out the sets that go on from a prefix is told as the checker tells it: `is_right` serves both.
 //!
 //! The definitions of `ci_cut` say what a prefix is and what bounds the sets that go on from it (`Prefixes`), and how
 //! many prefixes are open (`Need`); those in `specs` say when a log is accepted (`Rules`).
 #![tactic(auto)]
 
 pub use checking::{Wrong, check};
-pub use choices::Choices;
 pub use laws::each_item_has_one_prefix;
 pub use need::needs_more;
 pub use rules::is_right;
 
 mod checking;
-mod choices;
 mod laws;
 mod need;
 mod order;

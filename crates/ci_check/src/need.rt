@@ -1,17 +1,14 @@
 //! How many branches a log needs.
-ghost use Rattle.std.specs.Prelude.{◌≡◌, ◌↔◌, ℕ, ◌+◌, ◌^◌, ◌<◌, ◌≤◌, length, IsTrue};
+ghost use Rattle.std.specs.Prelude.{◌≡◌, ◌↔◌, ℕ, ◌+◌, ◌^◌, ◌<◌, ◌≤◌, List, length, IsTrue};
 ghost use Rattle.std.specs.FinSet as set;
-ghost use Rattle.ci_cut.specs.GraphRules.{AreNodes};
+ghost use Rattle.ci_cut.specs.FlowGraph.{FlowGraph};
 ghost use Rattle.ci_cut.specs.Prefixes.{Prefix, eligible_nodes};
 ghost use Rattle.ci_cut.specs.Need.{IsOpen, NeedExceeds};
-ghost use Rattle.ci_check.specs.Representation.{Represents, RepresentsSome};
+ghost use Rattle.ci_cut.specs.Representation.{AreRowsOf, Represents, RepresentsSome, RepresentsWhole, AreKeptFrom};
 ghost use Rattle.ci_cut.specs.Reached.{IsBounded, IsReachedBefore, IsReachedWith};
 ghost use Rattle.ci_check.specs.Walked.{IsWalked};
 
-use crate::choices::Choices;
-use crate::rules::{bound, settled_inputs};
-use ci_cut::{Graph, Limits, gain_above, is_convex, outputs};
-use ci_word::Row;
+use ci_cut::{Delays, Graph, GraphRows, Limits, PrefixTerms};
 
 /// What a walk over the prefixes has found so far.
 #[derive(Clone, Copy)]
@@ -30,33 +27,48 @@ pub fn needs_more(graph: &Graph, limits: &Limits, budget: u32) -> bool
         open: 0,
         reached: 0,
     };
+    let rows = GraphRows::of(graph);
+    let mut delays = [0; 256];
+    let first = PrefixTerms::none(graph);
     let all = walk(
         graph,
+        &rows,
         limits,
         u64::from(budget),
-        &Choices::none(graph),
+        &first,
+        &mut delays,
         none,
     );
     all.open > u64::from(budget)
 }
 
-/// Walks over the prefixes that go on from the choices, and stops where more are open than the budget.
-fn walk(graph: &Graph, limits: &Limits, budget: u64, choices: &Choices, before: Walked) -> Walked
-    requires represents { RepresentsSome graph.now choices.now }
+/// Walks over the prefixes that go on from the one with these terms, and stops where more are open than the budget.
+fn walk(
+    graph: &Graph,
+    rows: &GraphRows,
+    limits: &Limits,
+    budget: u64,
+    terms: &PrefixTerms,
+    delays: &mut Delays,
+    before: Walked,
+) -> Walked
+    requires rows { AreRowsOf graph.now rows.now }
+    requires represents { (prefix : Prefix) × Represents graph.now prefix terms.now delays.old }
     requires few { budget < 2 ^ 32 }
     requires within { before.open ≤ budget }
-    ensures { (prefix : Prefix) (undecided : ℕ) → Represents graph.now prefix choices.now
+    ensures kept { AreKeptFrom terms.now.place delays.old delays.new }
+    ensures walked { (prefix : Prefix) (undecided : ℕ) → Represents graph.now prefix terms.now delays.old
         → undecided + length prefix ≡ eligible_nodes graph.now
         → IsReachedBefore graph.now limits.now prefix before.reached
         → IsWalked graph.now limits.now budget undecided prefix before result }
 {
-    let Some(node) = choices.next(graph) else {
+    let Some(node) = terms.next(graph, rows) else {
         return Walked {
             open: before.open,
-            reached: reached_with(graph, limits, &choices.included, before.reached),
+            reached: reached_with(graph, limits, terms, before.reached),
         };
     };
-    if !is_open(graph, limits, choices, before.reached) {
+    if !is_open(graph, limits, terms, before.reached) {
         return before;
     }
     let here = Walked {
@@ -66,42 +78,44 @@ fn walk(graph: &Graph, limits: &Limits, budget: u64, choices: &Choices, before: 
     if here.open > budget {
         return here;
     }
-    let with_node = walk(graph, limits, budget, &choices.with(node), here);
-    if with_node.open > budget {
-        return with_node;
+    let with_node = terms.take_in(graph, rows, delays, node);
+    let between = walk(graph, rows, limits, budget, &with_node, delays, here);
+    if between.open > budget {
+        return between;
     }
-    walk(graph, limits, budget, &choices.without(node), with_node)
+    let without_node = terms.leave_out(graph, node);
+    walk(graph, rows, limits, budget, &without_node, delays, between)
 }
 
-/// The reached gain, with one set more.
-fn reached_with(graph: &Graph, limits: &Limits, cut: &Row, reached: i64) -> i64
-    requires { AreNodes graph.now cut.now }
-    ensures { IsReachedWith graph.now limits.now (set.contains cut.now) reached result }
+/// The reached gain, with the set that is taken in.
+///
+/// All nodes have to be decided.
+fn reached_with(graph: &Graph, limits: &Limits, terms: &PrefixTerms, reached: i64) -> i64
+    requires { RepresentsWhole graph.now terms.now }
+    ensures { IsReachedWith graph.now limits.now (set.contains terms.now.taken) reached result }
 {
-    gain_above(graph, limits, cut, reached).unwrap_or(reached)
+    let Some(gained) = terms.fitting_gain(graph, limits) else {
+        return reached;
+    };
+    if gained > reached { gained } else { reached }
 }
 
 /// Whether the prefix is open, where the sets before it reached this gain.
-fn is_open(graph: &Graph, limits: &Limits, choices: &Choices, reached: i64) -> bool
-    requires { RepresentsSome graph.now choices.now }
-    ensures { (prefix : Prefix) → Represents graph.now prefix choices.now
+fn is_open(graph: &Graph, limits: &Limits, terms: &PrefixTerms, reached: i64) -> bool
+    requires { RepresentsSome graph.now terms.now }
+    ensures { (prefix : Prefix) (delays : List ℕ) → Represents graph.now prefix terms.now delays
         → IsReachedBefore graph.now limits.now prefix reached
         → IsTrue result ↔ IsOpen graph.now limits.now prefix }
 {
-    is_bounded(graph, limits, choices) && bound(graph, choices) > reached
+    is_bounded(limits, terms) && terms.bound(graph) > reached
 }
 
 /// Whether the set that is taken in is convex, and its outputs and settled inputs are within the limits.
-fn is_bounded(graph: &Graph, limits: &Limits, choices: &Choices) -> bool
-    requires { RepresentsSome graph.now choices.now }
-    ensures { (prefix : Prefix) → Represents graph.now prefix choices.now
-        → IsTrue result ↔ IsBounded graph.now limits.now prefix }
+fn is_bounded(limits: &Limits, terms: &PrefixTerms) -> bool
+    ensures { (graph : FlowGraph) (prefix : Prefix) (delays : List ℕ) → Represents graph prefix terms.now delays
+        → IsTrue result ↔ IsBounded graph limits.now prefix }
 {
-    if !is_convex(graph, &choices.included) {
-        return false;
-    }
-    if outputs(graph, &choices.included) > u32::from(limits.outputs) {
-        return false;
-    }
-    settled_inputs(graph, choices) <= u32::from(limits.inputs)
+    terms.convex
+        && terms.outputs <= u32::from(limits.outputs)
+        && terms.settled <= u32::from(limits.inputs)
 }

@@ -1,17 +1,14 @@
 //! The rules of the items of a log.
-ghost use Rattle.std.specs.Prelude.{◌≡◌, ◌↔◌, MatchOption, IsTrue};
+ghost use Rattle.std.specs.Prelude.{◌≡◌, ◌↔◌, ℕ, List, MatchOption, IsTrue};
 ghost use Rattle.std.specs.FinSet as set;
 ghost use Rattle.ci_cut.specs.GraphRules.{AreNodes};
-ghost use Rattle.ci_cut.specs.Prefixes as terms;
+ghost use Rattle.ci_cut.specs.Prefixes.{Prefix};
+ghost use Rattle.ci_cut.specs.Representation.{AreRowsOf, Represents, RepresentsSome, RepresentsWhole};
 ghost use Rattle.ci_check.specs.Rules.{IsGood, IsAfterBest, IsBeforeBest, IsBetter, IsRight, GainsTooLittle, reason_of};
-ghost use Rattle.ci_check.specs.Representation.{Represents, RepresentsSome, IsMeasured};
+ghost use Rattle.ci_check.specs.Representation.{IsMeasured};
 
-use crate::choices::Choices;
 use crate::order::comes_before;
-use ci_cut::{
-    Graph, Incumbent, Limits, fitting_gain, gain_above, inputs_from_outside, is_convex, outputs,
-    saved_by,
-};
+use ci_cut::{Graph, GraphRows, Incumbent, Limits, PrefixTerms, gain_above};
 use ci_log::Item;
 use ci_word::Row;
 
@@ -43,93 +40,76 @@ fn are_nodes(graph: &Graph, cut: &Row) -> bool
     true
 }
 
-/// How many inputs are settled.
-pub fn settled_inputs(graph: &Graph, choices: &Choices) -> u32
-    ensures { (prefix : terms.Prefix) → Represents graph.now prefix choices.now
-        → result ≡ terms.settled_inputs graph.now prefix }
-{
-    inputs_from_outside(graph, &choices.possible, &choices.included)
-}
-
-/// What a set that goes on from the choices gains at most.
-pub fn bound(graph: &Graph, choices: &Choices) -> i64
-    requires { RepresentsSome graph.now choices.now }
-    ensures { (prefix : terms.Prefix) → Represents graph.now prefix choices.now
-        → result ≡ terms.bound graph.now prefix }
-{
-    saved_by(graph, &choices.possible, &choices.included)
-}
-
-/// Whether the set that the choices take in is a better cut than the best.
-fn is_better(graph: &Graph, limits: &Limits, best: &Incumbent, cut: &Row) -> bool
-    requires nodes { AreNodes graph.now cut.now }
+/// Whether the set that is taken in is a better cut than the best.
+///
+/// All nodes have to be decided.
+fn is_better(graph: &Graph, limits: &Limits, best: &Incumbent, terms: &PrefixTerms) -> bool
+    requires whole { RepresentsWhole graph.now terms.now }
     requires measured { IsMeasured graph.now limits.now best.now }
-    ensures { IsTrue result ↔ IsBetter graph.now limits.now best.now.cut (set.contains cut.now) }
+    ensures { IsTrue result ↔ IsBetter graph.now limits.now best.now.cut (set.contains terms.now.taken) }
 {
-    let Some(gained) = fitting_gain(graph, limits, cut) else {
+    let Some(gained) = terms.fitting_gain(graph, limits) else {
         return false;
     };
-    gained > best.gain || gained == best.gain && is_before_best(graph, limits, best, cut)
+    gained > best.gain || gained == best.gain && is_before_best(best, &terms.taken)
 }
 
 /// Whether the set comes before the best cut; without one none does.
-fn is_before_best(graph: &Graph, limits: &Limits, best: &Incumbent, cut: &Row) -> bool
-    requires nodes { AreNodes graph.now cut.now }
-    requires measured { IsMeasured graph.now limits.now best.now }
+fn is_before_best(best: &Incumbent, cut: &Row) -> bool
     ensures { IsTrue result ↔ IsBeforeBest best.now.cut (set.contains cut.now) }
 {
     match &best.cut {
-        Some(best) => comes_before(cut, best, 0, graph.nodes().len()),
+        Some(best) => comes_before(cut, best, 0),
         None => false,
     }
 }
 
-/// Whether the choices come after the best cut; without one all do.
-fn is_after_best(graph: &Graph, limits: &Limits, best: &Incumbent, choices: &Choices) -> bool
-    requires represents { RepresentsSome graph.now choices.now }
+/// Whether the prefix comes after the best cut; without one each does.
+fn is_after_best(graph: &Graph, limits: &Limits, best: &Incumbent, terms: &PrefixTerms) -> bool
+    requires represents { RepresentsSome graph.now terms.now }
     requires measured { IsMeasured graph.now limits.now best.now }
-    ensures { (prefix : terms.Prefix) → Represents graph.now prefix choices.now
+    ensures { (prefix : Prefix) (delays : List ℕ) → Represents graph.now prefix terms.now delays
         → IsTrue result ↔ IsAfterBest graph.now best.now.cut prefix }
 {
     match &best.cut {
-        Some(best) => comes_before(best, &choices.included, choices.place, graph.nodes().len()),
+        Some(best) => comes_before(best, &terms.taken, terms.place),
         None => true,
     }
 }
 
 /// Whether the bound is too small for a better cut.
-fn gains_too_little(graph: &Graph, limits: &Limits, best: &Incumbent, choices: &Choices) -> bool
-    requires represents { RepresentsSome graph.now choices.now }
+fn gains_too_little(graph: &Graph, limits: &Limits, best: &Incumbent, terms: &PrefixTerms) -> bool
+    requires represents { RepresentsSome graph.now terms.now }
     requires measured { IsMeasured graph.now limits.now best.now }
-    ensures { (prefix : terms.Prefix) → Represents graph.now prefix choices.now
+    ensures { (prefix : Prefix) (delays : List ℕ) → Represents graph.now prefix terms.now delays
         → IsTrue result ↔ GainsTooLittle graph.now best.now.cut prefix }
 {
-    let bound = bound(graph, choices);
-    bound < best.gain || bound == best.gain && is_after_best(graph, limits, best, choices)
+    let bound = terms.bound(graph);
+    bound < best.gain || bound == best.gain && is_after_best(graph, limits, best, terms)
 }
 
-/// Whether the item is right at the choices.
+/// Whether the item is right at the prefix.
 pub fn is_right(
     graph: &Graph,
+    rows: &GraphRows,
     limits: &Limits,
     best: &Incumbent,
-    choices: &Choices,
+    terms: &PrefixTerms,
     item: Item,
 ) -> bool
-    requires represents { RepresentsSome graph.now choices.now }
+    requires rows { AreRowsOf graph.now rows.now }
+    requires represents { RepresentsSome graph.now terms.now }
     requires measured { IsMeasured graph.now limits.now best.now }
-    ensures { (prefix : terms.Prefix) → Represents graph.now prefix choices.now
+    ensures { (prefix : Prefix) (delays : List ℕ) → Represents graph.now prefix terms.now delays
         → IsTrue result ↔ IsRight graph.now limits.now best.now.cut prefix item }
 {
     match item {
-        Item::O => outputs(graph, &choices.included) > u32::from(limits.outputs),
-        Item::C => !is_convex(graph, &choices.included),
-        Item::I => settled_inputs(graph, choices) > u32::from(limits.inputs),
-        Item::G => gains_too_little(graph, limits, best, choices),
-        Item::F => {
-            choices.next(graph).is_none() && !is_better(graph, limits, best, &choices.included)
-        }
-        Item::B => choices.next(graph).is_some(),
+        Item::O => terms.outputs > u32::from(limits.outputs),
+        Item::C => !terms.convex,
+        Item::I => terms.settled > u32::from(limits.inputs),
+        Item::G => gains_too_little(graph, limits, best, terms),
+        Item::F => terms.next(graph, rows).is_none() && !is_better(graph, limits, best, terms),
+        Item::B => terms.next(graph, rows).is_some(),
     }
 }
 

@@ -1,4 +1,4 @@
-use Rattle.std.proofs.Common.{◌≡◌, ℕ, ◌+◌, List, ◌∷◌, ◌++◌, drop, get_or, true, false, IsTrue, arith, subst}
+use Rattle.std.proofs.Common.{◌≡◌, ℕ, ◌+◌, List, ◌∷◌, ◌++◌, drop, get_or, true, false, IsTrue, ◌∙◌, arith, subst}
 use Rattle.std.proofs.lemmas.Bool.Decides.{not_from_Decides}
 use Rattle.std.proofs.lemmas.Result.{err_from_is_err_and}
 use Rattle.ci_log.specs.declared.log.Item.{Item}
@@ -6,11 +6,11 @@ use Rattle.ci_log.specs.declared.log.Item.TheVariants.{B}
 use Rattle.ci_log.specs.Trees.{IsTree}
 use Rattle.ci_cut.specs.Prefixes.{Prefix, is_next}
 use Rattle.ci_check.specs.Rules.{IsRight}
-use Rattle.ci_check.specs.Representation.{Represents}
-use Rattle.ci_check.proofs.ChoiceLaws.{next_from_below, all_decided}
+use Rattle.ci_cut.specs.Representation.{Represents, AreKeptFrom}
+use Rattle.ci_cut.proofs.Represented.{next_from_below, all_decided, represents_kept}
 use Rattle.ci_check.proofs.TreeWalk.{tree_within, first_item, wrong_here, right_alone, SubTrees, sub_trees, behind_first, judged_by_first, judged_by_second}
 use Rattle.ci_check.proofs.checking.+check_tree.Goals as goal
-use Rattle.ci_check.proofs.checking.+check_tree.Goals.{In-Some}
+use Rattle.ci_check.proofs.checking.+check_tree.Goals.{In-Some, In_ok-end}
 
 pub bounds-items-place : goal.bounds-items-place
 bounds-items-place t c = tree_within c.args.items.now c.args.place c.requires.tree
@@ -21,28 +21,31 @@ overflow_cast-result t c = omega (arith, tree_within c.args.items.now c.args.pla
 pub overflow_add-place : goal.overflow_add-place
 overflow_add-place t c = omega (arith, tree_within c.args.items.now c.args.place c.requires.tree)
 
-pub returns-then-not-is_right : goal.returns-then-not-is_right
-returns-then-not-is_right t c prefix one rest tree represents splits =
+pub overflow_add-result : goal.overflow_add-result
+overflow_add-result t c = omega (arith, tree_within c.args.items.now c.args.place c.requires.tree)
+
+pub returns-then-not-is_right-clause-judged : goal.returns-then-not-is_right-clause-judged
+returns-then-not-is_right-clause-judged t c prefix one rest tree represents splits =
     let items = c.args.items.now in
     let place = c.args.place in
     let within = tree_within items place c.requires.tree in
-    let wrong = not_from_Decides _ (c.is_right.ensures prefix represents) c.if-not-is_right.true in (
+    let wrong = not_from_Decides _ (c.is_right.ensures prefix c.args.delays.now represents) c.if-not-is_right.true in (
       0,
       rw c.reason_of.ensures (wrong_here c.args.graph.now c.args.limits.now c.args.best.now.cut tree prefix
           (get_or items place B) (drop (place + 1) items) rest (first_item items one rest place within splits) wrong),
       omega arith,
     )
 
-pub returns-in_default : goal.returns-in_default
-returns-in_default t c prefix one rest tree represents splits =
+pub returns-in_default-clause-judged : goal.returns-in_default-clause-judged
+returns-in_default-clause-judged t c prefix one rest tree represents splits =
     let items = c.args.items.now in
     let place = c.args.place in
     let within = tree_within items place c.requires.tree in
-    let right = (c.is_right.ensures prefix represents).0 c.if-not-is_right.false in
+    let right = (c.is_right.ensures prefix c.args.delays.now represents).0 c.if-not-is_right.false in
     let judged = right_alone c.args.graph.now c.args.limits.now c.args.best.now.cut tree prefix
-    (get_or items place B) (drop (place + 1) items) rest c.args.choices.now.place
+    (get_or items place B) (drop (place + 1) items) rest c.args.terms.now.place
     (first_item items one rest place within splits) right
-    c.in_default.ensures (all_decided c.args.graph.now prefix c.args.choices.now represents) in
+    c.in_default.ensures (all_decided c.args.graph.now prefix c.args.terms.now c.args.delays.now represents) in
     (judged.0, omega (arith, judged.1))
 
 -- what is known at a branch: the next node, the trees below, and that the item is right
@@ -52,14 +55,14 @@ record Branch (t : ℕ) (c : In-Some t) (prefix : Prefix) {one : List Item} (tre
   right : IsRight c.args.graph.now c.args.limits.now c.args.best.now.cut prefix B
 
 branch_at : (t : ℕ) (c : In-Some t) (prefix : Prefix) (one rest : List Item) (tree : IsTree one)
-    → Represents c.args.graph.now prefix c.args.choices.now → drop c.args.place c.args.items.now ≡ one ++ rest
+    → Represents c.args.graph.now prefix c.args.terms.now c.args.delays.now → drop c.args.place c.args.items.now ≡ one ++ rest
     → Branch t c prefix tree rest
 branch_at t c prefix one rest tree represents splits = record {
-  next = next_from_below c.args.graph.now prefix c.args.choices.now represents c.in-Some.node c.in-Some.ensures.1;
+  next = next_from_below c.args.graph.now prefix c.args.terms.now c.args.delays.now represents c.in-Some.node c.in-Some.ensures.1;
   parts = sub_trees tree prefix (get_or c.args.items.now c.args.place B) (drop (c.args.place + 1) c.args.items.now) rest
       (first_item c.args.items.now one rest c.args.place (tree_within c.args.items.now c.args.place c.requires.tree) splits) c.in-Some.ensures.0;
   right = subst (λ (item : Item). IsRight c.args.graph.now c.args.limits.now c.args.best.now.cut prefix item)
-      c.in-Some.ensures.0 ((c.is_right.ensures prefix represents).0 c.if-not-is_right.false);
+      c.in-Some.ensures.0 ((c.is_right.ensures prefix c.args.delays.now represents).0 c.if-not-is_right.false);
 }
 
 pub check_tree-requires : goal.check_tree-requires
@@ -68,21 +71,30 @@ check_tree-requires t c =
     let represents = c.requires.represents.1 in
     let here = c.requires.tree in
     let b = branch_at t (goal.at.check_tree-requires t c).In-Some prefix here.one here.rest here.tree represents here.is_split in (
-      omega (arith, c.in-Some.ensures.1.below, c.with.ensures.place),
+      omega (arith, c.in-Some.ensures.1.below, c.take_in-with_node.ensures.place),
       (
-        (true ∷ prefix, c.with.ensures.represents c.args.graph.now prefix represents b.next),
+        c.requires.rows,
         (
-          c.requires.measured,
-          (c.requires.few, record { one = b.parts.first; rest = b.parts.second ++ here.rest; is_split = b.parts.is_tail; tree = b.parts.first_tree }),
+          (true ∷ prefix, c.take_in-with_node.ensures.represents prefix represents b.next),
+          (
+            c.requires.measured,
+            (c.requires.few, record { one = b.parts.first; rest = b.parts.second ++ here.rest; is_split = b.parts.is_tail; tree = b.parts.first_tree }),
+          ),
         ),
       ),
     )
 
-pub returns-in_err-end : goal.returns-in_err-end
-returns-in_err-end t c prefix one rest tree represents splits =
-    let b = branch_at t (goal.at.returns-in_err-end t c).In-Some prefix one rest tree represents splits in
-    let first = c.in_err-end.ensures (true ∷ prefix) b.parts.first (b.parts.second ++ rest) b.parts.first_tree
-    (c.with.ensures.represents c.args.graph.now prefix represents b.next) b.parts.is_tail in
+-- the delays of the nodes taken in are the same behind the first tree
+between : (t : ℕ) (c : In_ok-end t) → AreKeptFrom c.args.terms.now.place c.args.delays.now c.check_tree.new.delays
+between t c k from =
+    c.in_ok-end.ensures.kept k (omega (arith, from, c.in-Some.ensures.1.below, c.take_in-with_node.ensures.place))
+    ∙ c.take_in-with_node.ensures.kept k (omega (arith, from, c.in-Some.ensures.1.below))
+
+pub returns-in_err-end-clause-judged : goal.returns-in_err-end-clause-judged
+returns-in_err-end-clause-judged t c prefix one rest tree represents splits =
+    let b = branch_at t (goal.at.returns-in_err-end-clause-judged t c).In-Some prefix one rest tree represents splits in
+    let first = c.in_err-end.ensures.judged (true ∷ prefix) b.parts.first (b.parts.second ++ rest) b.parts.first_tree
+    (c.take_in-with_node.ensures.represents prefix represents b.next) b.parts.is_tail in
     let p = err_from_is_err_and c.from_residual.result c.from_residual.ensures.1 in
     rw (p.1, p.2)
     (judged_by_first c.args.graph.now c.args.limits.now c.args.best.now.cut tree prefix _ rest b.parts b.right
@@ -94,23 +106,28 @@ check_tree-requires-2 t c =
     let represents = c.requires.represents.1 in
     let here = c.requires.tree in
     let b = branch_at t (goal.at.check_tree-requires-2 t c).In-Some prefix here.one here.rest here.tree represents here.is_split in
-    let first = c.in_ok-end.ensures (true ∷ prefix) b.parts.first (b.parts.second ++ here.rest) b.parts.first_tree
-    (c.with.ensures.represents c.args.graph.now prefix represents b.next) b.parts.is_tail in
+    let first = c.in_ok-end.ensures.judged (true ∷ prefix) b.parts.first (b.parts.second ++ here.rest) b.parts.first_tree
+    (c.take_in-with_node.ensures.represents prefix represents b.next) b.parts.is_tail in
+    let later = represents_kept c.args.graph.now prefix c.args.terms.now c.args.delays.now represents c.check_tree.new.delays (between t (goal.at.check_tree-requires-2 t c).In_ok-end) in
     let behind = behind_first c.args.items.now here.rest (c.args.place + 1) c.in_ok-end.end b.parts first.1 in (
-      omega (arith, c.in-Some.ensures.1.below, c.without.ensures.place),
+      omega (arith, c.in-Some.ensures.1.below, c.leave_out-without_node.ensures.place),
       (
-        (false ∷ prefix, c.without.ensures.represents c.args.graph.now prefix represents b.next),
-        (c.requires.measured, (c.requires.few, record { one = b.parts.second; rest = here.rest; is_split = behind; tree = b.parts.second_tree })),
+        c.requires.rows,
+        (
+          (false ∷ prefix, c.leave_out-without_node.ensures.represents prefix c.check_tree.new.delays later b.next),
+          (c.requires.measured, (c.requires.few, record { one = b.parts.second; rest = here.rest; is_split = behind; tree = b.parts.second_tree })),
+        ),
       ),
     )
 
-pub returns : goal.returns
-returns t c prefix one rest tree represents splits =
-    let b = branch_at t (goal.at.returns t c).In-Some prefix one rest tree represents splits in
-    let first = c.in_ok-end.ensures (true ∷ prefix) b.parts.first (b.parts.second ++ rest) b.parts.first_tree
-    (c.with.ensures.represents c.args.graph.now prefix represents b.next) b.parts.is_tail in
-    let second = c.check_tree-2.ensures (false ∷ prefix) b.parts.second rest b.parts.second_tree
-    (c.without.ensures.represents c.args.graph.now prefix represents b.next)
+pub returns-clause-judged : goal.returns-clause-judged
+returns-clause-judged t c prefix one rest tree represents splits =
+    let b = branch_at t (goal.at.returns-clause-judged t c).In-Some prefix one rest tree represents splits in
+    let first = c.in_ok-end.ensures.judged (true ∷ prefix) b.parts.first (b.parts.second ++ rest) b.parts.first_tree
+    (c.take_in-with_node.ensures.represents prefix represents b.next) b.parts.is_tail in
+    let later = represents_kept c.args.graph.now prefix c.args.terms.now c.args.delays.now represents c.check_tree.new.delays (between t (goal.at.returns-clause-judged t c).In_ok-end) in
+    let second = c.check_tree-2.ensures.judged (false ∷ prefix) b.parts.second rest b.parts.second_tree
+    (c.leave_out-without_node.ensures.represents prefix c.check_tree.new.delays later b.next)
     (behind_first c.args.items.now rest (c.args.place + 1) c.in_ok-end.end b.parts first.1) in
     judged_by_second c.args.graph.now c.args.limits.now c.args.best.now.cut tree prefix _ rest b.parts b.right
     c.args.place c.in_ok-end.end c.check_tree-2.result first second

@@ -7,12 +7,15 @@ use Rattle.ci_check.proofs.Acceptance.{accepted_is_best}
 use Rattle.ci_check.proofs.TreeWalk.{not_all}
 use Rattle.ci_check.proofs.checking.check.Goals as goal
 
+pub check_tree-requires-clause-represents : goal.check_tree-requires-clause-represents
+check_tree-requires-clause-represents c = ([], c.none-none.ensures _)
+
 -- the first wrong item of the whole log
 wrong_of : (c : goal.After-from_residual) (tree : IsTree c.args.log.now)
     → IsFirstWrongIn c.args.graph.now c.args.limits.now c.args.best
     (stations tree []) c.in_err-check_tree.field-0.0.item c.in_err-check_tree.field-0.0.reason
 wrong_of c tree =
-    let judged = c.in_err-check_tree.ensures [] c.args.log.now [] tree c.none.ensures (c.items.ensures.items ∙ sym (append-nil c.args.log.now)) in
+    let judged = c.in_err-check_tree.ensures.judged [] c.args.log.now [] tree (c.none-none.ensures _) (c.items.ensures.items ∙ sym (append-nil c.args.log.now)) in
     let number : judged.0 ≡ c.in_err-check_tree.field-0.0.item = omega (arith, judged.2) in
     subst (λ (best : Given). IsFirstWrongIn c.args.graph.now c.args.limits.now best
     (stations tree []) c.in_err-check_tree.field-0.0.item c.in_err-check_tree.field-0.0.reason)
@@ -39,7 +42,7 @@ returns-in_err-check_tree-clause-wrong c =
 accepted_of : (c : goal.In_ok-check_tree) → IsAccepted c.args.graph.now c.args.limits.now c.args.best c.args.log.now
 accepted_of c =
     let tree = c.items.ensures.log.is_tree in
-    let judged = c.in_ok-check_tree.ensures [] c.args.log.now [] tree c.none.ensures (c.items.ensures.items ∙ sym (append-nil c.args.log.now)) in
+    let judged = c.in_ok-check_tree.ensures.judged [] c.args.log.now [] tree (c.none-none.ensures _) (c.items.ensures.items ∙ sym (append-nil c.args.log.now)) in
     record {
       good = subst (IsGood c.args.graph.now c.args.limits.now) c.in-Some.ensures.0 c.in-Some.ensures.1.good;
       tree = tree;
@@ -50,4 +53,4 @@ pub returns-clause-accepted : goal.returns-clause-accepted
 returns-clause-accepted c = (λ _. accepted_of c, λ _. refl)
 
 pub returns-clause-best : goal.returns-clause-best
-returns-clause-best c = accepted_is_best c.args.graph.now c.none.ensures.kept c.args.limits.now c.args.best c.args.log.now (accepted_of c)
+returns-clause-best c = accepted_is_best c.args.graph.now (c.none-none.ensures []).kept c.args.limits.now c.args.best c.args.log.now (accepted_of c)

@@ -1,25 +1,12 @@
 use Rattle.std.proofs.Common.{◌≡◌, ℕ, Bool, true, false, Option, None, Some, MatchOption, is_some, not, IsTrue, ◌↔◌}
-use Rattle.std.proofs.Common.{refl, sym, ap, ◌∙◌, subst, arith, true≢false}
-use Rattle.std.proofs.lemmas.Bool.{ltb-true, lt-ltb}
-use Rattle.ci_cut.specs.Ports.{outputs}
+use Rattle.std.proofs.Common.{refl, sym, subst, true≢false}
 use Rattle.ci_cut.specs.Prefixes.{taken}
 use Rattle.ci_check.specs.Rules.{IsBetter}
-use Rattle.ci_check.proofs.ChoiceLaws.{represented_nodes, same_included, all_decided}
+use Rattle.ci_cut.proofs.Represented.{same_taken, all_decided}
 use Rattle.ci_check.proofs.rules.is_right.Goals as goal
 
-pub outputs-requires : goal.outputs-requires
-outputs-requires c = represented_nodes c.args.graph.now c.args.choices.now c.requires.represents
-
-pub is_convex-requires : goal.is_convex-requires
-is_convex-requires c = represented_nodes c.args.graph.now c.args.choices.now c.requires.represents
-
-pub is_better-requires-clause-nodes : goal.is_better-requires-clause-nodes
-is_better-requires-clause-nodes c = represented_nodes c.args.graph.now c.args.choices.now c.requires.represents
-
-pub returns-in-O : goal.returns-in-O
-returns-in-O c prefix represents =
-    let same = c.outputs.ensures ∙ ap (outputs c.args.graph.now) (same_included c.args.graph.now prefix c.args.choices.now represents) in
-    rw c.in-O.is (λ e. omega (arith, ltb-true _ _ e, c.from.ensures, same), λ h. lt-ltb _ _ (omega (arith, h, c.from.ensures, same)))
+pub returns-in-G : goal.returns-in-G
+returns-in-G c prefix delays represents = rw c.in-G.is (c.gains_too_little.ensures prefix delays represents)
 
 none_there : (o : Option ℕ) (P : Type 0) (Q : ℕ → Type 0) → MatchOption o P Q → is_some o ≡ false → P
 none_there None P Q here none = here
@@ -31,9 +18,17 @@ decides_not : (result : Bool) (Better : (ℕ → Bool) → Type 0) (cut taken : 
 decides_not true Better cut taken Whole same decides whole = (λ e. absurd (true≢false (sym e)), λ h. absurd (h.1 (subst Better same (decides.0 refl))))
 decides_not false Better cut taken Whole same decides whole = (λ _. (whole, λ better. true≢false (sym (decides.1 (subst Better (sym same) better)))), λ _. refl)
 
+pub is_better-requires-clause-whole : goal.is_better-requires-clause-whole
+is_better-requires-clause-whole c =
+    let some = c.requires.represents in (
+      some.0,
+      some.1,
+      some.2,
+      all_decided c.args.graph.now some.0 c.args.terms.now some.1 some.2 (none_there _ _ _ c.next.ensures c.if-is_none.ensures),
+    )
+
 pub returns-then-is_none : goal.returns-then-is_none
-returns-then-is_none c prefix represents =
-    let same = same_included c.args.graph.now prefix c.args.choices.now represents in
-    let whole = all_decided c.args.graph.now prefix c.args.choices.now represents (none_there _ _ _ c.next.ensures c.if-is_none.ensures) in
+returns-then-is_none c prefix delays represents =
+    let whole = all_decided c.args.graph.now prefix c.args.terms.now delays represents (none_there _ _ _ c.next.ensures c.if-is_none.ensures) in
     rw c.in-F.is (decides_not _ (IsBetter c.args.graph.now c.args.limits.now c.args.best.now.cut) _
-    (taken c.args.graph.now prefix) _ same c.is_better.ensures whole)
+    (taken c.args.graph.now prefix) _ (same_taken c.args.graph.now prefix c.args.terms.now delays represents) c.is_better.ensures whole)

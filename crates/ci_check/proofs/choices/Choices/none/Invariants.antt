@@ -1,7 +1,0 @@
-use Rattle.std.proofs.Common.{◌≡◌, ℕ, ◌&&◌, nat_lt}
-use Rattle.std.specs.FinSet as set
-use Rattle.ci_cut.specs.Prefixes.{is_eligible}
-use Rattle.ci_check.proofs.choices.Choices.none.Given as goal
-
-abbrev pub invariant-loop-k : goal.invariant-loop-k
-invariant-loop-k l = (j : ℕ) → set.contains l.possible j ≡ (nat_lt j l.k && is_eligible l.graph j)
