@@ -1,5 +1,5 @@
 -- What a search answers once it has passed all sets.
-use Rattle.std.proofs.Common.{◌≡◌, ℕ, suc, ◌-◌, ◌↔◌, inl, [], Option, Some, None, MatchOption, refl, sym, ap, subst, arith, pos}
+use Rattle.std.proofs.Common.{◌≡◌, ℕ, suc, ◌-◌, ◌↔◌, inl, List, [], Option, Some, None, MatchOption, refl, sym, ap, subst, arith, pos}
 use Rattle.std.specs.FinMap as map
 use Rattle.std.specs.FinSet as set
 use Rattle.ci_region.specs.BoundedMap.{BoundedMap, used}
@@ -10,12 +10,13 @@ use Rattle.ci_cut.specs.Best.{IsBest, HasNoCut}
 use Rattle.ci_log.specs.declared.flattening.Child.{Child}
 use Rattle.ci_log.specs.declared.flattening.LogNode.{LogNode}
 use Rattle.ci_region.proofs.TreeLaws.{rest_is_kept}
-use Rattle.ci_check.specs.declared.choices.Choices.{Choices}
+use Rattle.ci_cut.specs.declared.prefix.PrefixTerms.{PrefixTerms}
 use Rattle.ci_cut.specs.Prefixes.{eligible_nodes}
 use Rattle.ci_cut.specs.ListCounts.{AtLeast}
 use Rattle.ci_cut.specs.Need.{IsOpen, IsNeed, NeedExceeds, continuations}
 use Rattle.ci_check.specs.Rules.{Given}
-use Rattle.ci_check.specs.Representation.{Represents, IsMeasured}
+use Rattle.ci_cut.specs.Representation.{Represents}
+use Rattle.ci_check.specs.Representation.{IsMeasured}
 use Rattle.ci_check.proofs.Acceptance.{accepted_is_best}
 use Rattle.ci_cut.proofs.NeedLaws.{reached_none}
 use Rattle.ci_search.specs.declared.searching.Searched.{Searched}
@@ -27,8 +28,9 @@ module _ (graph : FlowGraph) (flows : IsFlowGraph graph) (limits : Limits) where
   pub none_measured : IsMeasured graph limits (record { cut = None; gain = pos 0 })
   none_measured = record { good = tt; gain_is = refl }
 
-  pub none_ready : (choices : Choices) → Represents graph [] choices → IsReady graph limits choices (record { cut = None; gain = pos 0 }) []
-  none_ready choices represents = record { represents = represents; after_best = tt; reached = reached_none graph limits }
+  pub none_ready : (terms : PrefixTerms) (delays : List ℕ) → Represents graph [] terms delays
+      → IsReady graph limits terms delays (record { cut = None; gain = pos 0 }) []
+  none_ready terms delays represents = record { represents = represents; after_best = tt; reached = reached_none graph limits }
 
   module _ (before after : BoundedMap LogNode) where
     log_of : (searched : Searched) → IsSearched graph limits []

@@ -1,5 +1,5 @@
 -- What a search has found at a prefix, from what it has found behind it.
-use Rattle.std.proofs.Common.{◌≡◌, ℕ, suc, ◌+◌, ◌<◌, ◌≤◌, true, false, IsTrue, [], ◌∷◌, ◌++◌, length, refl, sym, ◌∙◌, subst, arith, ℤ}
+use Rattle.std.proofs.Common.{◌≡◌, ℕ, suc, ◌+◌, ◌<◌, ◌≤◌, true, false, IsTrue, List, [], ◌∷◌, ◌++◌, length, refl, sym, ◌∙◌, subst, arith, ℤ}
 use Rattle.ci_region.specs.BoundedMap.{BoundedMap, used}
 use Rattle.ci_cut.specs.declared.graph.Limits.{Limits}
 use Rattle.ci_cut.specs.FlowGraph.{FlowGraph}
@@ -10,15 +10,16 @@ use Rattle.ci_log.specs.declared.flattening.Child.{Child}
 use Rattle.ci_log.specs.declared.flattening.Child.TheVariants.{Leaf}
 use Rattle.ci_log.specs.declared.flattening.LogNode.{LogNode}
 use Rattle.ci_log.proofs.RegionTreeLaws.{at_leaf}
-use Rattle.ci_check.specs.declared.choices.Choices.{Choices}
+use Rattle.ci_cut.specs.declared.prefix.PrefixTerms.{PrefixTerms}
 use Rattle.ci_cut.specs.declared.incumbent.Incumbent.{Incumbent}
 use Rattle.ci_cut.specs.Prefixes.{Prefix, eligible_nodes, is_next}
 use Rattle.ci_cut.specs.ListCounts.{AtLeast, counted, passed}
 use Rattle.ci_cut.specs.Need.{IsOpen, continuations}
 use Rattle.ci_check.specs.Rules.{IsRight}
-use Rattle.ci_check.specs.Representation.{Represents, IsMeasured}
+use Rattle.ci_cut.specs.Representation.{Represents}
+use Rattle.ci_check.specs.Representation.{IsMeasured}
 use Rattle.ci_check.specs.Walked.{IsWalked}
-use Rattle.ci_check.proofs.ChoiceLaws.{same_included}
+use Rattle.ci_cut.proofs.Represented.{same_taken}
 use Rattle.ci_cut.proofs.ListCountLaws.{AtLeast-left, AtLeast-both, AtLeast-fewer}
 use Rattle.ci_cut.proofs.NeedLaws.{reached_whole, reached_in, reached_between, continuations-more}
 use Rattle.ci_check.proofs.WalkedLaws.{walked_whole, walked_closed, walked_both}
@@ -43,8 +44,8 @@ one_later prefix left budget start end before after walked within other last is 
   reached = λ _. walked.reached within;
 }
 
-module _ (graph : FlowGraph) (limits : Limits) (prefix : Prefix) (choices : Choices) (best : Incumbent)
-    (ready : IsReady graph limits choices best prefix) (is : IsMeasured graph limits best)
+module _ (graph : FlowGraph) (limits : Limits) (prefix : Prefix) (terms : PrefixTerms) (delays : List ℕ) (best : Incumbent)
+    (ready : IsReady graph limits terms delays best prefix) (is : IsMeasured graph limits best)
     (region : BoundedMap LogNode) where
   flows : IsFlowGraph graph
   flows = ready.represents.kept
@@ -52,19 +53,19 @@ module _ (graph : FlowGraph) (limits : Limits) (prefix : Prefix) (choices : Choi
   -- ---- leaves
 
   pub searched_whole : used region ≤ region.capacity → eligible_nodes graph ≤ length prefix → (after : Incumbent)
-      → IsImproved graph limits best choices.included after
+      → IsImproved graph limits best terms.taken after
       → IsSearched graph limits prefix best region region (record { best = after; root = Leaf F })
   searched_whole within whole after better = record {
     items = F ∷ [];
     tree = at_leaf tt;
     same_capacity = refl;
     within = within;
-    logged = logged_whole graph flows limits best after is choices.included prefix
-        (same_included graph prefix choices ready.represents) ready.after_best whole better;
+    logged = logged_whole graph flows limits best after is terms.taken prefix
+        (same_taken graph prefix terms delays ready.represents) ready.after_best whole better;
     walked = walked_whole graph flows limits region.capacity prefix (undecided graph prefix) (omega arith) _ _ refl
         (reached_whole graph flows limits prefix best.gain whole after.gain ready.reached
-        (reached_with_whole graph flows limits best after is choices.included prefix
-        (same_included graph prefix choices ready.represents) ready.after_best better));
+        (reached_with_whole graph flows limits best after is terms.taken prefix
+        (same_taken graph prefix terms delays ready.represents) ready.after_best better));
   }
 
   pub searched_bar : used region ≤ region.capacity → (item : Item) → Prunes item → IsRight graph limits best.cut prefix item
@@ -82,8 +83,9 @@ module _ (graph : FlowGraph) (limits : Limits) (prefix : Prefix) (choices : Choi
   -- ---- a branch
 
   module _ (node : ℕ) (next : IsTrue (is_next graph prefix node)) (some : length prefix < eligible_nodes graph) where
-    pub ready_in : (with_node : Choices) → Represents graph (true ∷ prefix) with_node → IsReady graph limits with_node best (true ∷ prefix)
-    ready_in with_node represents = record {
+    pub ready_in : (with_node : PrefixTerms) (later : List ℕ) → Represents graph (true ∷ prefix) with_node later
+        → IsReady graph limits with_node later best (true ∷ prefix)
+    ready_in with_node later represents = record {
       represents = represents;
       after_best = after_in graph flows limits prefix node next best.cut ready.after_best;
       reached = reached_in graph flows limits prefix best.gain ready.reached;
@@ -107,9 +109,9 @@ module _ (graph : FlowGraph) (limits : Limits) (prefix : Prefix) (choices : Choi
     )
 
     module _ (between : BoundedMap LogNode) (in_found : Searched) (first : IsSearched graph limits (true ∷ prefix) best region between in_found) where
-      pub ready_out : (without_node : Choices) → Represents graph (false ∷ prefix) without_node
-          → IsReady graph limits without_node in_found.best (false ∷ prefix)
-      ready_out without_node represents = record {
+      pub ready_out : (without_node : PrefixTerms) (later : List ℕ) → Represents graph (false ∷ prefix) without_node later
+          → IsReady graph limits without_node later in_found.best (false ∷ prefix)
+      ready_out without_node later represents = record {
         represents = represents;
         after_best = after_between graph flows limits prefix node next in_found.best.cut first.logged.passed;
         reached = reached_between graph flows limits prefix in_found.best.gain node next

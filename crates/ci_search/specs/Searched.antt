@@ -9,13 +9,14 @@ use Rattle.ci_log.specs.declared.log.Item.{Item}
 use Rattle.ci_log.specs.declared.log.Item.TheVariants.{B, O, C, I, G, F}
 use Rattle.ci_log.specs.declared.flattening.LogNode.{LogNode}
 use Rattle.ci_log.specs.Trees.{IsTree}
-use Rattle.ci_check.specs.declared.choices.Choices.{Choices}
+use Rattle.ci_cut.specs.declared.prefix.PrefixTerms.{PrefixTerms}
 use Rattle.ci_cut.specs.declared.incumbent.Incumbent.{Incumbent}
 use Rattle.ci_cut.specs.Prefixes.{Prefix, eligible_nodes, IsBefore}
 use Rattle.ci_cut.specs.ListCounts.{AtLeast}
 use Rattle.ci_cut.specs.Need.{IsOpen, continuations}
 use Rattle.ci_check.specs.Rules.{Given, best_gain, IsAfterBest, IsRight, stations, IsRightAt}
-use Rattle.ci_check.specs.Representation.{Represents, IsMeasured}
+use Rattle.ci_cut.specs.Representation.{Represents}
+use Rattle.ci_check.specs.Representation.{IsMeasured}
 use Rattle.ci_cut.specs.Reached.{Completes, IsReachedBefore}
 use Rattle.ci_search.specs.Answered.{free}
 
@@ -23,10 +24,10 @@ use Rattle.ci_search.specs.Answered.{free}
 abbrev pub undecided : FlowGraph → Prefix → ℕ
 undecided graph prefix = eligible_nodes graph - length prefix
 
--- the choices represent the prefix, and the best cut so far is that of the sets before it
-pub record IsReady (graph : FlowGraph) (limits : Limits) (choices : Choices) (best : Incumbent)
+-- the terms and delays represent the prefix, and the best cut so far is that of the sets before it
+pub record IsReady (graph : FlowGraph) (limits : Limits) (terms : PrefixTerms) (delays : List ℕ) (best : Incumbent)
     (prefix : Prefix) : Type 0 where
-  pub represents : Represents graph prefix choices
+  pub represents : Represents graph prefix terms delays
   pub after_best : IsAfterBest graph best.cut prefix
   pub reached : IsReachedBefore graph limits prefix best.gain
 

@@ -4,16 +4,16 @@ ghost use Rattle.std.specs.FinMap as map;
 ghost use Rattle.ci_region.specs.BoundedMap.{used};
 ghost use Rattle.ci_cut.specs.Prefixes.{Prefix, eligible_nodes};
 ghost use Rattle.ci_cut.specs.Need.{IsNeed, NeedExceeds};
+ghost use Rattle.ci_cut.specs.Representation.{AreRowsOf, AreKeptFrom};
 ghost use Rattle.ci_check.specs.Representation.{IsMeasured};
 ghost use Rattle.ci_log.specs.declared.flattening.LogNode.{LogNode};
 ghost use Rattle.ci_search.specs.Answered.{free, IsAnswer, IsSpent, IsOptimal};
 ghost use Rattle.ci_search.specs.Searched.{IsReady, IsSpentAt};
 ghost use Rattle.ci_search.specs.Trees.{IsSearched, answer_of};
 
-use crate::leaves::pruning_item;
+use crate::leaves::{improved, pruning_item};
 use crate::trees::{branch, give_back};
-use ci_check::Choices;
-use ci_cut::{Graph, Incumbent, Limits};
+use ci_cut::{Delays, Graph, GraphRows, Incumbent, Limits, PrefixTerms};
 use ci_log::{Child, Item, LogNode};
 use ci_region::Region;
 use ci_word::Row;
@@ -57,7 +57,10 @@ pub fn search(graph: &Graph, limits: &Limits, region: &mut Region<LogNode>) -> F
 {
     let budget = region.capacity() - region.used();
     let none = Incumbent { cut: None, gain: 0 };
-    let searched = search_from(graph, limits, region, &Choices::none(graph), &none);
+    let rows = GraphRows::of(graph);
+    let mut delays = [0; 256];
+    let first = PrefixTerms::none(graph);
+    let searched = search_from(graph, &rows, limits, region, &first, &mut delays, &none);
     answer_of(searched, budget)
 }
 
@@ -83,36 +86,50 @@ struct Searched {
     root: Child,
 }
 
-/// Searches among the sets that go on from the choices, with this best cut so far. `None` where slots are wanting.
+/// Searches among the sets that go on from the prefix with these terms, with this best cut so far. `None` where slots
+/// are wanting.
 fn search_from(
     graph: &Graph,
+    rows: &GraphRows,
     limits: &Limits,
     region: &mut Region<LogNode>,
-    choices: &Choices,
+    terms: &PrefixTerms,
+    delays: &mut Delays,
     best: &Incumbent,
 ) -> Option<Searched>
+    requires rows { AreRowsOf graph.now rows.now }
     requires measured { IsMeasured graph.now limits.now best.now }
-    requires ready { (prefix : Prefix) × IsReady graph.now limits.now choices.now best.now prefix }
+    requires ready { (prefix : Prefix) × IsReady graph.now limits.now terms.now delays.old best.now prefix }
     requires within { used region.old ≤ region.old.capacity }
-    ensures { (prefix : Prefix) → IsReady graph.now limits.now choices.now best.now prefix
+    ensures kept { AreKeptFrom terms.now.place delays.old delays.new }
+    ensures searched { (prefix : Prefix) → IsReady graph.now limits.now terms.now delays.old best.now prefix
         → MatchOption result (IsSpentAt graph.now limits.now prefix region.old region.new)
         (IsSearched graph.now limits.now prefix best.now region.old region.new) }
 {
-    let Some(node) = choices.next(graph) else {
+    let Some(node) = terms.next(graph, rows) else {
         return Some(Searched {
-            best: best.improved(graph, limits, &choices.included),
+            best: improved(graph, limits, best, terms),
             root: Child::Leaf(Item::F),
         });
     };
-    if let Some(item) = pruning_item(graph, limits, best, choices) {
+    if let Some(item) = pruning_item(graph, rows, limits, best, terms) {
         return Some(Searched {
             best: *best,
             root: Child::Leaf(item),
         });
     }
-    let taken = search_from(graph, limits, region, &choices.with(node), best)?;
-    let Some(left_out) = search_from(graph, limits, region, &choices.without(node), &taken.best)
-    else {
+    let with_node = terms.take_in(graph, rows, delays, node);
+    let taken = search_from(graph, rows, limits, region, &with_node, delays, best)?;
+    let without_node = terms.leave_out(graph, node);
+    let Some(left_out) = search_from(
+        graph,
+        rows,
+        limits,
+        region,
+        &without_node,
+        delays,
+        &taken.best,
+    ) else {
         give_back(region, taken.root);
         return None;
     };

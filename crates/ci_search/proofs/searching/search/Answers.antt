@@ -9,24 +9,24 @@ use Rattle.ci_search.proofs.AnswerLaws.{none_ready, answer_is, spent_is, optimal
 use Rattle.ci_search.proofs.searching.search.Goals as goal
 
 pub search_from-searched-requires-clause-ready : goal.search_from-searched-requires-clause-ready
-search_from-searched-requires-clause-ready c = ([], none_ready c.args.graph.now c.none.ensures.kept c.args.limits.now c.none.result c.none.ensures)
+search_from-searched-requires-clause-ready c = ([], none_ready c.args.graph.now (c.none-first.ensures []).kept c.args.limits.now c.none-first.result _ (c.none-first.ensures _))
 
 ended : (c : goal.After-answer_of) → MatchOption c.search_from-searched.result
     (IsSpentAt c.args.graph.now c.args.limits.now [] c.args.region.now c.search_from-searched.new.region)
     (IsSearched c.args.graph.now c.args.limits.now [] (record { cut = None; gain = pos 0 }) c.args.region.now c.search_from-searched.new.region)
-ended c = c.search_from-searched.ensures [] (none_ready c.args.graph.now c.none.ensures.kept c.args.limits.now c.none.result c.none.ensures)
+ended c = c.search_from-searched.ensures.searched [] (none_ready c.args.graph.now (c.none-first.ensures []).kept c.args.limits.now c.none-first.result _ (c.none-first.ensures _))
 
 pub returns-clause-answer : goal.returns-clause-answer
 returns-clause-answer c =
     subst (IsAnswer c.args.graph.now c.args.limits.now c.args.region.now c.search_from-searched.new.region) (sym c.answer_of.ensures)
-    (answer_is c.args.graph.now c.none.ensures.kept c.args.limits.now c.args.region.now
+    (answer_is c.args.graph.now (c.none-first.ensures []).kept c.args.limits.now c.args.region.now
     c.search_from-searched.new.region c.search_from-searched.result _
     (omega (arith, c.capacity.ensures.value, c.used.ensures.value)) (ended c))
 
 pub returns-clause-spent : goal.returns-clause-spent
 returns-clause-spent c =
     subst (λ (found : Found). IsSpent found ↔ NeedExceeds c.args.graph.now c.args.limits.now (free c.args.region.now)) (sym c.answer_of.ensures)
-    (spent_is c.args.graph.now c.none.ensures.kept c.args.limits.now c.args.region.now
+    (spent_is c.args.graph.now (c.none-first.ensures []).kept c.args.limits.now c.args.region.now
     c.search_from-searched.new.region c.search_from-searched.result _ (ended c))
 
 pub returns-clause-enough : goal.returns-clause-enough
@@ -36,19 +36,19 @@ returns-clause-enough c = λ fits spent.
 pub returns-clause-best : goal.returns-clause-best
 returns-clause-best c =
     subst (IsOptimal c.args.graph.now c.args.limits.now) (sym c.answer_of.ensures)
-    (optimal_is c.args.graph.now c.none.ensures.kept c.args.limits.now c.args.region.now
+    (optimal_is c.args.graph.now (c.none-first.ensures []).kept c.args.limits.now c.args.region.now
     c.search_from-searched.new.region c.search_from-searched.result _ (ended c))
 
 pub returns-clause-kept : goal.returns-clause-kept
-returns-clause-kept c = kept_is c.args.graph.now c.none.ensures.kept c.args.limits.now c.args.region.now
+returns-clause-kept c = kept_is c.args.graph.now (c.none-first.ensures []).kept c.args.limits.now c.args.region.now
     c.search_from-searched.new.region c.search_from-searched.result (ended c)
 
 pub returns-clause-capacity : goal.returns-clause-capacity
-returns-clause-capacity c = capacity_is c.args.graph.now c.none.ensures.kept c.args.limits.now c.args.region.now
+returns-clause-capacity c = capacity_is c.args.graph.now (c.none-first.ensures []).kept c.args.limits.now c.args.region.now
     c.search_from-searched.new.region c.search_from-searched.result (ended c)
 
 pub returns-clause-slots : goal.returns-clause-slots
 returns-clause-slots c not_spent =
-    slots_are c.args.graph.now c.none.ensures.kept c.args.limits.now c.args.region.now
+    slots_are c.args.graph.now (c.none-first.ensures []).kept c.args.limits.now c.args.region.now
     c.search_from-searched.new.region c.search_from-searched.result _ (ended c)
     (subst (λ (found : Found). ¬ IsSpent found) c.answer_of.ensures not_spent)
