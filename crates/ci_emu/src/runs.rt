@@ -51,7 +51,7 @@ pub fn run_on<M: Machine>(
         (IsReached (M.meanings machine.now) (program_of state.old) (state_of state.old) n (state_of state.new)) }
     ensures program { program_of state.new ≡ program_of state.old }
 {
-    let mut tally = Tally::new(alloc, state.text())?;
+    let mut tally = Tally::new(alloc, machine, table, state.text())?;
     for i in 0..n {
         if let Outcome::Ended(end) = counted_step(alloc, machine, state, table, &mut tally)? {
             return tally.profile(alloc, i + 1, Some(end));

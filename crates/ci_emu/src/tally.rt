@@ -1,6 +1,6 @@
 //! What is counted while a run is made.
 ghost use Rattle.std.specs.Prelude.{◌≡◌, ◌+◌, ◌-◌, ◌<◌, ◌≤◌, ◌^◌, ◌==◌, ◌⊎◌, ◌↔◌, ℕ, Some, find};
-ghost use Rattle.std.specs.Prelude.{if◌then◌else◌, IfOk, OnOk, OnErr, false, []};
+ghost use Rattle.std.specs.Prelude.{if◌then◌else◌, IfOk, IfSome, OnOk, OnErr, false, []};
 ghost use Rattle.std.specs.BTreeSet.{IsOrdered};
 ghost use Rattle.std.specs.Option.{option_map};
 ghost use Rattle.std.specs.Ordering.{nat_cmp};
@@ -8,16 +8,15 @@ ghost use Rattle.ci_isa.specs.declared.instruction.Insn.{Insn};
 ghost use Rattle.ci_isa.specs.Effects.{class_of};
 ghost use Rattle.ci_machine.specs.Cores.{Core};
 ghost use Rattle.ci_machine.specs.Programs.{in_text};
-ghost use Rattle.ci_machine.specs.Runs.{after, latency};
+ghost use Rattle.ci_machine.specs.Runs.{after};
 ghost use Rattle.ci_machine.specs.States.{program_of, state_of};
 ghost use Rattle.ci_machine.specs.Steps.{Meaning, fetched};
 ghost use Rattle.ci_machine.specs.Touches.{moved};
 ghost use Rattle.ci_emu.specs.Counting.{first_touch, target_of, IsStepCounted, Led};
 ghost use Rattle.ci_elf.specs.Executables.{IsTextWord};
 ghost use Rattle.ci_emu.specs.Profiles.{count_at};
-ghost use Rattle.ci_word.specs.declared.arithmetic.Class.TheVariants.{Free};
-ghost use Rattle.ci_emu.specs.TableLatencies.{latencies_on};
-ghost use Rattle.ci_emu.specs.Machines.{standing};
+ghost use Rattle.ci_emu.specs.TableLatencies.{cycles_on, latencies_on};
+ghost use Rattle.ci_emu.specs.Lines.{AreTimed, IsTimed};
 ghost use Rattle.ci_emu.specs.Steps.{IsStep, IsReached};
 
 use crate::counts::Counts;
@@ -42,7 +41,7 @@ pub(crate) struct Tally {
     pub(crate) touched: Option<(u32, u32)>,
     pub(crate) targets: BTreeSet<u32>,
     /// The words that were decoded before.
-    cache: DecodeCache,
+    pub(crate) cache: DecodeCache,
     /// The number of the range of text from which the last step was fetched.
     last: usize,
 }
@@ -50,15 +49,23 @@ pub(crate) struct Tally {
 impl Tally {
     ghost use Rattle.ci_elf.specs.Executables.{IsAscending};
     ghost use Rattle.ci_emu.specs.Counting.{IsFresh, IsToldBy};
+    ghost use Rattle.ci_emu.specs.Lines.{AreTimed};
 
     /// Nothing yet.
-    pub(crate) fn new(alloc: Global, text: &[Range]) -> Result<Tally, AllocError>
+    pub(crate) fn new<M: Machine>(
+        alloc: Global,
+        machine: &M,
+        table: &Table,
+        text: &[Range],
+    ) -> Result<Tally, AllocError>
         requires { IsAscending text.now }
         ensures text { IfOk result (λ tally. tally.counts.places ≡ text.now) }
         ensures fresh { IfOk result IsFresh }
+        ensures timed { IfOk result (λ tally. AreTimed (cycles_on (M.has_unit machine.now) (M.has_cread machine.now)
+            (M.unit_cycles machine.now) table.now) tally.cache.words.items) }
     {
         let counts = Counts::new(alloc, text)?;
-        let cache = DecodeCache::new(alloc, counts.len())?;
+        let cache = DecodeCache::new(alloc, machine, table, counts.len())?;
         Ok(Tally {
             counts,
             cost: 0,
@@ -88,41 +95,6 @@ impl Tally {
             targets,
         })
     }
-}
-
-/// How long the instruction at the word takes on the machine, in cycles. A word that is none takes no time.
-#[inline(always)]
-fn latency<M: Machine>(machine: &M, table: &Table, decoded: &Decoded) -> u32
-    ensures { result ≡ latency (latencies_on table.now (M.unit_cycles machine.now))
-        (standing (M.has_unit machine.now) (M.has_cread machine.now) decoded.now.word decoded.now.insn) }
-{
-    match decoded.class {
-        Class::Free => free_latency(machine, table, decoded),
-        class => table.latency(class),
-    }
-}
-
-/// The same of an instruction whose class has no latency in the table.
-#[inline(always)]
-fn free_latency<M: Machine>(machine: &M, table: &Table, decoded: &Decoded) -> u32
-    requires { decoded.now.class ≡ Free }
-    ensures { result ≡ latency (latencies_on table.now (M.unit_cycles machine.now))
-        (standing (M.has_unit machine.now) (M.has_cread machine.now) decoded.now.word decoded.now.insn) }
-{
-    match decoded.insn {
-        Insn::Illegal { .. } => 0,
-        Insn::AluImm { .. } => table.pad(),
-        Insn::Unit { number, .. } => machine.cycles(number),
-        Insn::Cread { .. } => read_latency(machine, table),
-        _ => table.latency(decoded.class),
-    }
-}
-
-/// How long `cread` takes on the machine, in cycles: no time where it is not there.
-fn read_latency<M: Machine>(machine: &M, table: &Table) -> u32
-    ensures { result ≡ (if M.has_cread machine.now then table.now.read else 0) }
-{
-    if machine.has_cread() { table.read() } else { 0 }
 }
 
 /// Whether instructions of the class may move bytes of memory.
@@ -198,7 +170,9 @@ fn note(targets: &mut BTreeSet<u32>, target: Option<u32>) -> Result<(), AllocErr
 
 /// Counts the step that begins at the pc, and gives the word that it fetches, decoded, if it fetches one.
 #[inline(always)]
-fn enter(
+fn enter<M: Machine>(
+    machine: &M,
+    table: &Table,
     counts: &mut Counts,
     cache: &mut DecodeCache,
     last: &mut usize,
@@ -207,8 +181,14 @@ fn enter(
     requires text { counts.old.places ≡ (program_of state.now).text }
     requires room { IsTextWord (program_of state.now).text (state_of state.now).pc
         → count_at counts.old (state_of state.now).pc < 2 ^ 32 }
+    requires timed { AreTimed (cycles_on (M.has_unit machine.now) (M.has_cread machine.now)
+        (M.unit_cycles machine.now) table.now) cache.old.words.items }
     ensures fetched { (meaning : Meaning) → fetched meaning (program_of state.now) (state_of state.now)
         ≡ option_map (λ decoded. meaning.insn decoded.word) result }
+    ensures cycles { IfSome result (IsTimed (cycles_on (M.has_unit machine.now) (M.has_cread machine.now)
+        (M.unit_cycles machine.now) table.now)) }
+    ensures timed { AreTimed (cycles_on (M.has_unit machine.now) (M.has_cread machine.now)
+        (M.unit_cycles machine.now) table.now) cache.new.words.items }
     ensures text { counts.new.places ≡ counts.old.places }
     ensures counted { (address : ℕ) → IsTextWord (program_of state.now).text address → count_at counts.new address
         ≡ count_at counts.old address + (if (state_of state.now).pc == address then 1 else 0) }
@@ -217,7 +197,7 @@ fn enter(
         Some(place) => {
             counts.add(place);
             let word = fetch_word(state)?;
-            Some(cache.get(place, word))
+            Some(cache.get(machine, table, place, word))
         }
         None => None,
     }
@@ -238,6 +218,8 @@ pub(crate) fn counted_step<M: Machine>(
     requires room { IsTextWord (program_of state.old).text (state_of state.old).pc
         → count_at tally.old.counts (state_of state.old).pc < 2 ^ 32 }
     requires cheap { tally.old.cost ≤ 2 ^ 64 - 2 ^ 32 }
+    requires timed { AreTimed (cycles_on (M.has_unit machine.now) (M.has_cread machine.now)
+        (M.unit_cycles machine.now) table.now) tally.old.cache.words.items }
     ensures stepped { IfOk result
         (IsStep (M.meanings machine.now) (program_of state.old) (state_of state.old) (state_of state.new)) }
     ensures counted { OnOk result ((meaning : Meaning) → M.meanings machine.now meaning
@@ -250,12 +232,14 @@ pub(crate) fn counted_step<M: Machine>(
         (IsReached (M.meanings machine.now) (program_of state.old) (state_of state.old) 1 (state_of state.new)) }
     ensures program { program_of state.new ≡ program_of state.old }
     ensures text { tally.new.counts.places ≡ tally.old.counts.places }
+    ensures timed { AreTimed (cycles_on (M.has_unit machine.now) (M.has_cread machine.now)
+        (M.unit_cycles machine.now) table.now) tally.new.cache.words.items }
 {
     // Two machines share these functions: without the hints at them each would be called out of line in every step.
-    let Some(decoded) = enter(&mut tally.counts, &mut tally.cache, &mut tally.last, state) else {
+    let Some(decoded) = enter(machine, table, &mut tally.counts, &mut tally.cache, &mut tally.last, state) else {
         return Ok(Outcome::Ended(End::Fetch(state.pc())));
     };
-    tally.cost += u64::from(latency(machine, table, &decoded));
+    tally.cost += u64::from(decoded.latency);
     tally.touched = first_touch(tally.touched, state, &decoded);
     let outcome = execute(alloc, machine, state, decoded.word, &decoded.insn)?;
     note(&mut tally.targets, target(state, &decoded.insn, outcome))?;

@@ -11,6 +11,7 @@ loop-i-init g c = let fresh = c.in_ok-tally.ensures.fresh in record {
   program = refl;
   text = c.in_ok-tally.ensures.text ∙ c.text.ensures.value;
   cost = subst (λ (n : ℕ). n ≤ 0) (sym fresh.cost) (omega arith);
+  timed = c.in_ok-tally.ensures.timed;
   few = λ address word. subst (λ (n : ℕ). n ≤ 0) (sym (fresh.entries address)) (omega arith);
   reached = λ meaning means. refl;
   counted = λ meaning means.
@@ -27,6 +28,7 @@ loop-i-preserved g c = record {
   program = c.in_ok-end.ensures.program ∙ c.loop-i.invariant.program;
   text = c.in_ok-end.ensures.text ∙ c.loop-i.invariant.text;
   cost = let more = c.in_ok-end.ensures.cost in let so_far = c.loop-i.invariant.cost in omega arith;
+  timed = c.in_ok-end.ensures.timed;
   few = few_more (program_of c.args.state.now) (program_of c.loop-i.state) c.loop-i.invariant.program c.loop-i.i _ c.loop-i.invariant.few _ _
       c.in_ok-end.ensures.entered;
   reached = λ meaning means.

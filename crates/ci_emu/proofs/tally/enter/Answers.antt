@@ -8,40 +8,41 @@ use Rattle.ci_emu.proofs.CountLaws.{place_at, entered, not_entered, count_here}
 use Rattle.ci_emu.proofs.Fetching.{fetched_is, nothing_fetched}
 use Rattle.ci_emu.proofs.tally.enter.Goals as goal
 use Rattle.ci_emu.proofs.tally.enter.Goals.{In-Some, In-None}
+use Rattle.ci_emu.proofs.tally.enter.Given.{Over}
 
-here : (c : In-Some) → word_place (program_of c.args.state.now).text (state_of c.args.state.now).pc ≡ Some c.in-Some.place
-here c = place_at (program_of c.args.state.now) c.args.counts.now c.requires.text _ _ _ c.pc.ensures c.in-Some.ensures.value
+here : (g : Over) (c : In-Some g) → word_place (program_of c.args.state.now).text (state_of c.args.state.now).pc ≡ Some c.in-Some.place
+here g c = place_at (program_of c.args.state.now) c.args.counts.now c.requires.text _ _ _ c.pc.ensures c.in-Some.ensures.value
 
-word : (c : In-Some) → IsTextWord (program_of c.args.state.now).text (state_of c.args.state.now).pc
-word c = text_word _ _ _ (here c)
+word : (g : Over) (c : In-Some g) → IsTextWord (program_of c.args.state.now).text (state_of c.args.state.now).pc
+word g c = text_word _ _ _ (here g c)
 
-nowhere : (c : In-None) → word_place (program_of c.args.state.now).text (state_of c.args.state.now).pc ≡ None
-nowhere c = place_at (program_of c.args.state.now) c.args.counts.now c.requires.text _ _ _ c.pc.ensures c.in-None.ensures.value
+nowhere : (g : Over) (c : In-None g) → word_place (program_of c.args.state.now).text (state_of c.args.state.now).pc ≡ None
+nowhere g c = place_at (program_of c.args.state.now) c.args.counts.now c.requires.text _ _ _ c.pc.ensures c.in-None.ensures.value
 
 pub add-requires-clause-room : goal.add-requires-clause-room
-add-requires-clause-room c =
-    let same = count_here (program_of c.args.state.now) c.args.counts.now c.requires.text _ _ (here (goal.at.add-requires-clause-room c).In-Some) in
-    subst (λ (n : ℕ). n < 2 ^ 32) same (c.requires.room (word (goal.at.add-requires-clause-room c).In-Some))
+add-requires-clause-room g c =
+    let same = count_here (program_of c.args.state.now) c.args.counts.now c.requires.text _ _ (here g (goal.at.add-requires-clause-room g c).In-Some) in
+    subst (λ (n : ℕ). n < 2 ^ 32) same (c.requires.room (word g (goal.at.add-requires-clause-room g c).In-Some))
 
 pub returns-in_ok-word-in-Some-clause-fetched : goal.returns-in_ok-word-in-Some-clause-fetched
-returns-in_ok-word-in-Some-clause-fetched c meaning =
+returns-in_ok-word-in-Some-clause-fetched g c meaning =
     let state = state_of c.args.state.now in
-    let at = word (goal.at.returns-in_ok-word-in-Some-clause-fetched c).In-Some in
+    let at = word g (goal.at.returns-in_ok-word-in-Some-clause-fetched g c).In-Some in
     fetched_is (program_of c.args.state.now) state meaning c.get.result.word (eq-eqb (state.pc % 4) 0 at.0) at.1
-    (sym c.fetch_word.ensures ∙ c.in_ok-word-in-Some.was ∙ ap Some (sym c.get.ensures))
+    (sym c.fetch_word.ensures ∙ c.in_ok-word-in-Some.was ∙ ap Some (sym c.get.ensures.word))
 
 pub returns-in_ok-word-in-Some-clause-counted : goal.returns-in_ok-word-in-Some-clause-counted
-returns-in_ok-word-in-Some-clause-counted c =
+returns-in_ok-word-in-Some-clause-counted g c =
     entered (program_of c.args.state.now) c.args.counts.now c.requires.text _ _ _
-    (here (goal.at.returns-in_ok-word-in-Some-clause-counted c).In-Some) c.in-Some.ensures.within c.add.ensures.places c.add.ensures.counted
+    (here g (goal.at.returns-in_ok-word-in-Some-clause-counted g c).In-Some) c.in-Some.ensures.within c.add.ensures.places c.add.ensures.counted
 
 pub returns-in_err-word-in-Some-clause-counted : goal.returns-in_err-word-in-Some-clause-counted
-returns-in_err-word-in-Some-clause-counted c =
+returns-in_err-word-in-Some-clause-counted g c =
     entered (program_of c.args.state.now) c.args.counts.now c.requires.text _ _ _
-    (here (goal.at.returns-in_err-word-in-Some-clause-counted c).In-Some) c.in-Some.ensures.within c.add.ensures.places c.add.ensures.counted
+    (here g (goal.at.returns-in_err-word-in-Some-clause-counted g c).In-Some) c.in-Some.ensures.within c.add.ensures.places c.add.ensures.counted
 
 pub returns-in-None-clause-fetched : goal.returns-in-None-clause-fetched
-returns-in-None-clause-fetched c meaning = nothing_fetched (program_of c.args.state.now) (state_of c.args.state.now) meaning (nowhere c)
+returns-in-None-clause-fetched g c meaning = nothing_fetched (program_of c.args.state.now) (state_of c.args.state.now) meaning (nowhere g c)
 
 pub returns-in-None-clause-counted : goal.returns-in-None-clause-counted
-returns-in-None-clause-counted c = not_entered (program_of c.args.state.now) c.args.counts.now c.requires.text _ (nowhere c)
+returns-in-None-clause-counted g c = not_entered (program_of c.args.state.now) c.args.counts.now c.requires.text _ (nowhere g c)
