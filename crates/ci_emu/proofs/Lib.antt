@@ -1,3 +1,4 @@
+pub mod Touched
 pub mod Fetching
 pub mod CountLaws
 pub mod RunCounts

@@ -24,20 +24,17 @@ pub(crate) fn reading(word: u32) -> Insn
 pub(crate) struct Decoded {
     pub(crate) word: u32,
     pub(crate) insn: Insn,
-    pub(crate) class: Class,
     /// In cycles.
     pub(crate) latency: u32,
     ghost decoded: { IsOnlyAt word insn },
-    ghost classed: { class ≡ class_of insn },
 }
 
 /// How long the instruction takes on the machine, in cycles. A word that is none takes no time.
-fn latency<M: Machine>(machine: &M, table: &Table, insn: &Insn, class: Class) -> u32
-    requires { class ≡ class_of insn.now }
+fn latency<M: Machine>(machine: &M, table: &Table, insn: &Insn) -> u32
     ensures { (word : ℕ) → result ≡ cycles_on (M.has_unit machine.now) (M.has_cread machine.now)
         (M.unit_cycles machine.now) table.now word insn.now }
 {
-    match class {
+    match class(insn) {
         Class::Free => free_latency(machine, table, insn),
         class => table.latency(class),
     }
@@ -75,12 +72,10 @@ impl Decoded {
             (M.unit_cycles machine.now) table.now) result }
     {
         let insn = reading(word);
-        let class = class(&insn);
         Decoded {
             word,
             insn,
-            class,
-            latency: latency(machine, table, &insn, class),
+            latency: latency(machine, table, &insn),
         }
     }
 

@@ -1,5 +1,5 @@
 //! What each instruction does.
-ghost use Rattle.std.specs.Prelude.{◌≡◌, ◌*◌, ◌<◌, ◌^◌, IfOk, OnErr, nat_lt, if◌then◌else◌, pos, ◌-ℤ◌};
+ghost use Rattle.std.specs.Prelude.{◌≡◌, ◌*◌, ◌<◌, ◌^◌, None, IfOk, OnErr, nat_lt, if◌then◌else◌, pos, ◌-ℤ◌, find};
 ghost use Rattle.ci_word.specs.Arithmetic.{word_of};
 ghost use Rattle.ci_isa.specs.declared.instruction.Insn.TheVariants.{Branch, Load, Store};
 ghost use Rattle.ci_isa.specs.Effects.{width_bytes};
@@ -11,7 +11,10 @@ ghost use Rattle.ci_machine.specs.States.{bytes_of, program_of, state_of};
 ghost use Rattle.ci_machine.specs.Steps.{control, directed, even, execute, following, is_taken, onward, then_onward};
 ghost use Rattle.ci_machine.specs.Steps.{Meaning};
 ghost use Rattle.ci_emu.specs.Machines.{standing};
+ghost use Rattle.ci_machine.specs.Programs.{in_text};
+ghost use Rattle.ci_machine.specs.Touches.{moved, moved_by_call};
 ghost use Rattle.ci_emu.specs.Steps.{LeadsTo};
+ghost use Rattle.ci_emu.specs.Counting.{first_touch};
 
 use crate::machine::Machine;
 use crate::steps::Outcome;
@@ -20,16 +23,19 @@ use ci_machine::{Call, End, State};
 use ci_word::alu;
 use std::alloc::{AllocError, Global};
 
-/// Does what the word's instruction does on the machine, for which the extended table has this reading.
+/// Does what the word's instruction does on the machine, for which the extended table has this reading, and notes the
+/// first byte of the text that it moves. Loads, stores and calls alone move some.
 ///
 /// The state stays as it is where that ends the run, and where memory runs out.
 #[inline(always)]
+#[tactic(auto, using(crate::proofs::Touched::laws))]
 pub(crate) fn execute<M: Machine>(
     alloc: Global,
     machine: &M,
     state: &mut State,
     word: u32,
     reading: &Insn,
+    touched: &mut Option<(u32, u32)>,
 ) -> Result<Outcome, AllocError>
     ensures executed { IfOk result (λ outcome. (meaning : Meaning) → M.meanings machine.now meaning
         → LeadsTo (state_of state.old) (execute meaning.units (program_of state.old)
@@ -37,6 +43,8 @@ pub(crate) fn execute<M: Machine>(
         (state_of state.new) outcome) }
     ensures refused { OnErr result (state_of state.new ≡ state_of state.old) }
     ensures program { program_of state.new ≡ program_of state.old }
+    ensures touched { touched.new ≡ first_touch touched.old (state_of state.old).pc
+        (find (in_text (program_of state.old)) (moved reading.now (state_of state.old).core)) }
 {
     match *reading {
         Insn::Alu { op, rd, rs1, rs2 } => {
@@ -73,6 +81,7 @@ pub(crate) fn execute<M: Machine>(
             offset,
         } => {
             let from = address(state, rs1, offset);
+            note_access(touched, state, from, width_of(kind));
             Ok(load(state, kind, rd, from))
         }
         Insn::Store {
@@ -82,10 +91,14 @@ pub(crate) fn execute<M: Machine>(
             offset,
         } => {
             let to = address(state, rs1, offset);
+            note_access(touched, state, to, width);
             Ok(store(state, width, rs2, to))
         }
         Insn::Fence { .. } => Ok(advance(state)),
-        Insn::Ecall => call(alloc, state),
+        Insn::Ecall => {
+            note_call(touched, state);
+            call(alloc, state)
+        }
         Insn::Ebreak => Ok(Outcome::Ended(End::Break)),
         Insn::Illegal { word } => Ok(Outcome::Ended(End::Illegal(word))),
         Insn::Unit {
@@ -115,15 +128,45 @@ pub(crate) fn execute<M: Machine>(
     }
 }
 
+/// Notes the touch of an access by the instruction at the pc, where it is the first of a run.
+#[inline(always)]
+#[tactic(auto, using(crate::proofs::Touched::laws))]
+fn note_access(touched: &mut Option<(u32, u32)>, state: &State, address: u32, width: Width)
+    ensures { touched.new ≡ first_touch touched.old (state_of state.now).pc
+        (find (in_text (program_of state.now)) (addresses (width_bytes width) address)) }
+{
+    if touched.is_none() {
+        *touched = touch(state, state.touched_by_access(address, width));
+    }
+}
+
+/// Notes the touch of the environment call that the registers ask for, where it is the first of a run.
+#[tactic(auto, using(crate::proofs::Touched::laws))]
+fn note_call(touched: &mut Option<(u32, u32)>, state: &State)
+    ensures { touched.new ≡ first_touch touched.old (state_of state.now).pc
+        (find (in_text (program_of state.now)) (moved_by_call (state_of state.now).core)) }
+{
+    if touched.is_none() {
+        *touched = touch(state, state.touched_by_call());
+    }
+}
+
+/// The touch of the instruction at the pc, where it moves this byte of the text first.
+fn touch(state: &State, address: Option<u32>) -> Option<(u32, u32)>
+    ensures { result ≡ first_touch None (state_of state.now).pc address }
+{
+    Some((state.pc(), address?))
+}
+
 /// The word of a constant or an offset.
-pub(crate) fn word_of(constant: i32) -> u32
+fn word_of(constant: i32) -> u32
     ensures { result ≡ word_of constant }
 {
     constant.cast_unsigned()
 }
 
 /// The address that is this offset from the one in the register.
-pub(crate) fn address(state: &State, rs1: Reg, offset: i32) -> u32
+fn address(state: &State, rs1: Reg, offset: i32) -> u32
     ensures { result ≡ address_from (state_of state.now).core rs1 offset }
 {
     state.register(rs1).wrapping_add(word_of(offset))
@@ -241,7 +284,7 @@ fn extend(kind: LoadKind, n: u32) -> u32
 }
 
 /// How many bytes a load reads.
-pub(crate) fn width_of(kind: LoadKind) -> Width
+fn width_of(kind: LoadKind) -> Width
     ensures { result ≡ load_width kind }
 {
     match kind {

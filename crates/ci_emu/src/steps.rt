@@ -44,7 +44,10 @@ pub fn step_on<M: Machine>(
     ensures program { program_of state.new ≡ program_of state.old }
 {
     match fetch(state) {
-        Some(word) => execute(alloc, machine, state, word, &reading(word)),
+        Some(word) => {
+            let mut touched = None;
+            execute(alloc, machine, state, word, &reading(word), &mut touched)
+        }
         None => Ok(Outcome::Ended(End::Fetch(state.pc()))),
     }
 }

@@ -5,14 +5,10 @@ ghost use Rattle.std.specs.BTreeSet.{IsOrdered};
 ghost use Rattle.std.specs.Option.{option_map};
 ghost use Rattle.std.specs.Ordering.{nat_cmp};
 ghost use Rattle.ci_isa.specs.declared.instruction.Insn.{Insn};
-ghost use Rattle.ci_isa.specs.Effects.{class_of};
-ghost use Rattle.ci_machine.specs.Cores.{Core};
-ghost use Rattle.ci_machine.specs.Programs.{in_text};
 ghost use Rattle.ci_machine.specs.Runs.{after};
 ghost use Rattle.ci_machine.specs.States.{program_of, state_of};
 ghost use Rattle.ci_machine.specs.Steps.{Meaning, fetched};
-ghost use Rattle.ci_machine.specs.Touches.{moved};
-ghost use Rattle.ci_emu.specs.Counting.{first_touch, target_of, IsStepCounted, Led};
+ghost use Rattle.ci_emu.specs.Counting.{target_of, IsStepCounted, Led};
 ghost use Rattle.ci_elf.specs.Executables.{IsTextWord};
 ghost use Rattle.ci_emu.specs.Profiles.{count_at};
 ghost use Rattle.ci_emu.specs.TableLatencies.{cycles_on, latencies_on};
@@ -21,7 +17,7 @@ ghost use Rattle.ci_emu.specs.Steps.{IsStep, IsReached};
 
 use crate::counts::Counts;
 use crate::decode_cache::{DecodeCache, Decoded};
-use crate::execution::{address, execute, width_of};
+use crate::execution::execute;
 use crate::machine::Machine;
 use crate::profile::Profile;
 use crate::steps::{Outcome, fetch_word};
@@ -29,7 +25,6 @@ use ci_elf::Range;
 use ci_isa::Insn;
 use ci_lat::Table;
 use ci_machine::{End, State};
-use ci_word::Class;
 use std::alloc::{AllocError, Global};
 use std::collections::BTreeSet;
 
@@ -95,54 +90,6 @@ impl Tally {
             targets,
         })
     }
-}
-
-/// Whether instructions of the class may move bytes of memory.
-fn moves_bytes(class: Class) -> bool
-    ensures { (insn : Insn) (core : Core) → class_of insn ≡ class → result ≡ false → moved insn core ≡ [] }
-{
-    matches!(class, Class::Load | Class::Store | Class::System)
-}
-
-/// The first byte of the text that the instruction moves.
-///
-/// Most instructions move none, which their class tells at once.
-#[inline(always)]
-fn touched(state: &State, decoded: &Decoded) -> Option<u32>
-    ensures { result ≡ find (in_text (program_of state.now)) (moved decoded.now.insn (state_of state.now).core) }
-{
-    if !moves_bytes(decoded.class) {
-        return None;
-    }
-    match decoded.insn {
-        Insn::Load {
-            kind,
-            rs1,
-            offset,
-            ..
-        } => state.touched_by_access(address(state, rs1, offset), width_of(kind)),
-        Insn::Store {
-            width,
-            rs1,
-            offset,
-            ..
-        } => state.touched_by_access(address(state, rs1, offset), width),
-        Insn::Ecall => state.touched_by_call(),
-        _ => None,
-    }
-}
-
-/// The touch that is told after a step more: an earlier one, or that of this instruction.
-#[inline(always)]
-fn first_touch(earlier: Option<(u32, u32)>, state: &State, decoded: &Decoded) -> Option<(u32, u32)>
-    ensures { result ≡ first_touch earlier (state_of state.now).pc
-        (find (in_text (program_of state.now)) (moved decoded.now.insn (state_of state.now).core)) }
-{
-    if earlier.is_some() {
-        return earlier;
-    }
-    let address = touched(state, decoded)?;
-    Some((state.pc(), address))
 }
 
 /// Where the instruction led, if it is a JALR and did not end.
@@ -236,12 +183,25 @@ pub(crate) fn counted_step<M: Machine>(
         (M.unit_cycles machine.now) table.now) tally.new.cache.words.items }
 {
     // Two machines share these functions: without the hints at them each would be called out of line in every step.
-    let Some(decoded) = enter(machine, table, &mut tally.counts, &mut tally.cache, &mut tally.last, state) else {
+    let Some(decoded) = enter(
+        machine,
+        table,
+        &mut tally.counts,
+        &mut tally.cache,
+        &mut tally.last,
+        state,
+    ) else {
         return Ok(Outcome::Ended(End::Fetch(state.pc())));
     };
     tally.cost += u64::from(decoded.latency);
-    tally.touched = first_touch(tally.touched, state, &decoded);
-    let outcome = execute(alloc, machine, state, decoded.word, &decoded.insn)?;
+    let outcome = execute(
+        alloc,
+        machine,
+        state,
+        decoded.word,
+        &decoded.insn,
+        &mut tally.touched,
+    )?;
     note(&mut tally.targets, target(state, &decoded.insn, outcome))?;
     Ok(outcome)
 }
