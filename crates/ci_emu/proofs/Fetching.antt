@@ -14,7 +14,7 @@ use Rattle.ci_machine.specs.Programs.{Program, State, in_text}
 use Rattle.ci_machine.specs.Steps.{Meaning, word_at, execute, fetched}
 use Rattle.ci_machine.specs.Touches.{moved}
 use Rattle.ci_emu.specs.declared.steps.Outcome.{Outcome}
-use Rattle.ci_emu.specs.Fetched.{IsOnlyAt}
+use Rattle.ci_emu.specs.Fetched.{IsOnlyAt, may_change}
 use Rattle.ci_emu.specs.Machines.{standing, StandAs}
 use Rattle.ci_emu.specs.Counting.{target_of}
 use Rattle.ci_emu.specs.Steps.{LeadsTo, IsStep, IsReached}
@@ -52,6 +52,13 @@ module _ (has_unit : ℕ → Bool) (has_cread : Bool) (word : ℕ) where
   same_moved core (Cread rd) = chosen (λ insn. moved insn core) [] has_cread (Cread rd) (Illegal word) refl refl
   same_moved core insn = refl
 
+  pub same_change : (text : ℕ → Bool) (core : Core) (reading : Insn)
+      → may_change text (standing has_unit has_cread word reading) core ≡ may_change text reading core
+  same_change text core (Unit number rd rs1 rs2 rs3) =
+      chosen (λ insn. may_change text insn core) false (has_unit number) (Unit number rd rs1 rs2 rs3) (Illegal word) refl refl
+  same_change text core (Cread rd) = chosen (λ insn. may_change text insn core) false has_cread (Cread rd) (Illegal word) refl refl
+  same_change text core insn = refl
+
   pub same_target : (outcome : Outcome) (pc : ℕ) (reading : Insn)
       → target_of (standing has_unit has_cread word reading) outcome pc ≡ target_of reading outcome pc
   same_target outcome pc (Unit number rd rs1 rs2 rs3) =
@@ -64,10 +71,10 @@ module _ (has_unit : ℕ → Bool) (has_cread : Bool) (word : ℕ) where
 -- what a machine fetches of a word, by what the extended table has for it
 pub fetched_as : (Means : Meaning → Type 0) (has_unit : ℕ → Bool) (has_cread : Bool) → StandAs Means has_unit has_cread
     → (program : Program) (state : State) (word : ℕ) (reading : Insn) → IsInsnAtX word reading
-    → ((meaning : Meaning) → fetched meaning program state ≡ Some (meaning.insn word))
+    → ((meaning : Meaning) → Means meaning → fetched meaning program state ≡ Some (meaning.insn word))
     → (meaning : Meaning) → Means meaning → fetched meaning program state ≡ Some (standing has_unit has_cread word reading)
 fetched_as Means has_unit has_cread stand program state word reading stands is meaning means =
-    is meaning ∙ ap Some (stand meaning means word reading stands)
+    is meaning means ∙ ap Some (stand meaning means word reading stands)
 
 module _ (program : Program) (state : State) where
   -- a word of the text is fetched

@@ -3,3 +3,4 @@ pub mod Fetching
 pub mod CountLaws
 pub mod RunCounts
 pub mod RunSteps
+pub mod KnownLines

@@ -1,6 +1,7 @@
 //! Counts of steps by the address at which they began.
 ghost use Rattle.std.specs.Prelude.{◌≡◌, ◌+◌, ◌<◌, ◌^◌, length, IfOk, IfSome, slice_index, slice_set};
 ghost use Rattle.ci_elf.specs.WordPlaces.{word_count, word_place};
+ghost use Rattle.ci_emu.specs.Fetched.{are_aligned};
 
 use ci_elf::{Places, Range};
 use std::alloc::{AllocError, Global};
@@ -11,7 +12,17 @@ pub(crate) struct Counts {
     places: Places,
     /// One number for each word, one range behind the other.
     by_place: Vec<u64>,
+    /// Whether each range begins at a multiple of four, so that the bytes of a word are text.
+    aligned: bool,
     ghost whole: { length by_place.items ≡ word_count places },
+    ghost lie: { aligned ≡ are_aligned places },
+}
+
+/// Whether each range begins at a multiple of four.
+fn are_aligned(text: &[Range]) -> bool
+    ensures { result ≡ are_aligned text.now }
+{
+    text.iter().all(|range| range.start % 4 == 0)
 }
 
 impl Counts {
@@ -27,7 +38,12 @@ impl Counts {
     {
         let places = Places::new(alloc, text)?;
         let by_place = vec![in alloc; 0; places.len()]?;
-        Ok(Counts { places, by_place })
+        let aligned = are_aligned(text);
+        Ok(Counts {
+            places,
+            by_place,
+            aligned,
+        })
     }
 
     /// How many places there are.
@@ -35,6 +51,13 @@ impl Counts {
         ensures { result ≡ length self.now.by_place.items }
     {
         self.by_place.len()
+    }
+
+    /// Whether each range of the text begins at a multiple of four.
+    pub(crate) fn are_aligned(&self) -> bool
+        ensures { result ≡ are_aligned self.now.places }
+    {
+        self.aligned
     }
 
     /// The place of the word at the address, where that is a multiple of four in the text. Range `last` is tried first.

@@ -1,14 +1,20 @@
 //! Decoded words.
-ghost use Rattle.std.specs.Prelude.{◌≡◌, ℕ, IfOk, if◌then◌else◌};
+ghost use Rattle.std.specs.Prelude.{◌≡◌, ◌<◌, ◌^◌, ℕ, Some, IfOk, IfSome, if◌then◌else◌, length, slice_index_or, slice_set};
+ghost use Rattle.std.specs.Option.{option_map};
+ghost use Rattle.ci_elf.specs.WordPlaces.{word_place};
 ghost use Rattle.ci_isa.specs.Effects.{class_of};
 ghost use Rattle.ci_isa.specs.Laws.{IsInsnAtX};
 ghost use Rattle.ci_word.specs.declared.arithmetic.Class.TheVariants.{Free};
-ghost use Rattle.ci_emu.specs.Fetched.{IsOnlyAt};
+ghost use Rattle.ci_machine.specs.States.{program_of, state_of};
+ghost use Rattle.ci_machine.specs.Steps.{Meaning, fetched};
+ghost use Rattle.ci_emu.specs.Fetched.{IsOnlyAt, are_aligned};
 ghost use Rattle.ci_emu.specs.TableLatencies.{cycles_on};
 
 use crate::machine::Machine;
+use crate::steps::fetch_word;
 use ci_isa::{Insn, class, decode_x};
 use ci_lat::Table;
+use ci_machine::State;
 use ci_word::Class;
 use std::alloc::{AllocError, Global};
 
@@ -26,6 +32,8 @@ pub(crate) struct Decoded {
     pub(crate) insn: Insn,
     /// In cycles.
     pub(crate) latency: u32,
+    /// How often the text may have changed when the word was last found in memory; 0 where it never was.
+    pub(crate) seen: u64,
     ghost decoded: { IsOnlyAt word insn },
 }
 
@@ -70,30 +78,40 @@ impl Decoded {
         ensures word { result.word ≡ word }
         ensures timed { IsTimed (cycles_on (M.has_unit machine.now) (M.has_cread machine.now)
             (M.unit_cycles machine.now) table.now) result }
+        ensures seen { result.seen ≡ 0 }
     {
         let insn = reading(word);
         Decoded {
             word,
             insn,
             latency: latency(machine, table, &insn),
+            seen: 0,
         }
     }
 
-    /// What was decoded of the word, anew where it was of another word.
-    #[inline(always)]
-    fn refreshed<M: Machine>(&mut self, machine: &M, table: &Table, word: u32) -> Decoded
+    /// What was decoded of the word, anew where it was of another word, and seen now.
+    fn refreshed<M: Machine>(&mut self, machine: &M, table: &Table, word: u32, seen: u64) -> Decoded
         requires { IsTimed (cycles_on (M.has_unit machine.now) (M.has_cread machine.now)
             (M.unit_cycles machine.now) table.now) self.old }
         ensures word { result.word ≡ word }
         ensures timed { IsTimed (cycles_on (M.has_unit machine.now) (M.has_cread machine.now)
             (M.unit_cycles machine.now) table.now) result }
+        ensures seen { result.seen ≡ seen }
         ensures kept { self.new ≡ result }
     {
         if self.word != word {
             *self = Decoded::of(machine, table, word);
         }
+        self.seen = seen;
         *self
     }
+}
+
+/// When a word of a text is seen that may have changed so often: never, where its bytes may lie beside the text.
+fn seen_at(changes: u64, aligned: bool) -> u64
+    ensures { result ≡ (if aligned then changes else 0) }
+{
+    if aligned { changes } else { 0 }
 }
 
 /// What was decoded of the words of a text, by their places, for one machine and one table. It may be of another word
@@ -104,7 +122,7 @@ pub(crate) struct DecodeCache {
 }
 
 impl DecodeCache {
-    ghost use Rattle.ci_emu.specs.Lines.{AreTimed, IsTimed};
+    ghost use Rattle.ci_emu.specs.Lines.{AreKept, AreKnown, IsTimed};
 
     /// For so many places.
     pub(crate) fn new<M: Machine>(
@@ -113,34 +131,84 @@ impl DecodeCache {
         table: &Table,
         count: usize,
     ) -> Result<DecodeCache, AllocError>
-        ensures { IfOk result (λ cache. AreTimed (cycles_on (M.has_unit machine.now) (M.has_cread machine.now)
-            (M.unit_cycles machine.now) table.now) cache.words.items) }
+        ensures { IfOk result (λ cache. AreKept (cycles_on (M.has_unit machine.now) (M.has_cread machine.now)
+            (M.unit_cycles machine.now) table.now) 0 cache.words.items) }
     {
         let mut words = Vec::new(alloc);
         words.resize(count, Decoded::of(machine, table, 0))?;
         Ok(DecodeCache { words })
     }
 
-    /// The instruction of the word that stands at a place, decoded anew where the cache has that of another word.
+    /// The line of a place, where it was seen since the text may have changed so often.
     #[inline(always)]
-    pub(crate) fn get<M: Machine>(
+    fn known(&self, place: usize, changes: u64) -> Option<Decoded>
+        ensures { IfSome result (λ line. (place < length self.now.words.items) × (line.seen ≡ changes)
+            × ((d : Decoded) → slice_index_or self.now.words.items place d ≡ line)) }
+    {
+        match self.words.get(place) {
+            Some(line) if line.seen == changes => Some(*line),
+            _ => None,
+        }
+    }
+
+    /// The instruction of the word that stands at a place, decoded anew where the cache has that of another word.
+    fn get<M: Machine>(
         &mut self,
         machine: &M,
         table: &Table,
         place: usize,
         word: u32,
+        seen: u64,
     ) -> Decoded
-        requires { AreTimed (cycles_on (M.has_unit machine.now) (M.has_cread machine.now)
-            (M.unit_cycles machine.now) table.now) self.old.words.items }
+        requires { (d : Decoded) → place < length self.old.words.items
+            → IsTimed (cycles_on (M.has_unit machine.now) (M.has_cread machine.now)
+            (M.unit_cycles machine.now) table.now) (slice_index_or self.old.words.items place d) }
         ensures word { result.word ≡ word }
+        ensures seen { place < length self.old.words.items → result.seen ≡ seen }
         ensures timed { IsTimed (cycles_on (M.has_unit machine.now) (M.has_cread machine.now)
             (M.unit_cycles machine.now) table.now) result }
-        ensures kept { AreTimed (cycles_on (M.has_unit machine.now) (M.has_cread machine.now)
-            (M.unit_cycles machine.now) table.now) self.new.words.items }
+        ensures words { self.new.words.items ≡ slice_set self.old.words.items place result }
     {
         match self.words.get_mut(place) {
-            Some(decoded) => decoded.refreshed(machine, table, word),
+            Some(decoded) => decoded.refreshed(machine, table, word, seen),
             None => Decoded::of(machine, table, word),
         }
+    }
+
+    /// The line of the word at the pc, which has this place, where one is mapped there. Where the cache has none that
+    /// was seen since the text changed, the word is fetched.
+    #[inline(always)]
+    pub(crate) fn at<M: Machine>(
+        &mut self,
+        machine: &M,
+        table: &Table,
+        state: &State,
+        place: usize,
+        changes: u64,
+        aligned: bool,
+    ) -> Option<Decoded>
+        requires place { word_place (program_of state.now).text (state_of state.now).pc ≡ Some place }
+        requires small { (state_of state.now).pc < 2 ^ 32 }
+        requires aligned { aligned ≡ are_aligned (program_of state.now).text }
+        requires begun { 0 < changes }
+        requires kept { AreKept (cycles_on (M.has_unit machine.now) (M.has_cread machine.now)
+            (M.unit_cycles machine.now) table.now) changes self.old.words.items }
+        ensures fetched { (meaning : Meaning)
+            → AreKnown meaning (program_of state.now) (state_of state.now).core.memory changes self.old.words.items
+            → fetched meaning (program_of state.now) (state_of state.now)
+            ≡ option_map (λ decoded. meaning.insn decoded.word) result }
+        ensures cycles { IfSome result (IsTimed (cycles_on (M.has_unit machine.now) (M.has_cread machine.now)
+            (M.unit_cycles machine.now) table.now)) }
+        ensures kept { AreKept (cycles_on (M.has_unit machine.now) (M.has_cread machine.now)
+            (M.unit_cycles machine.now) table.now) changes self.new.words.items }
+        ensures known { (meaning : Meaning)
+            → AreKnown meaning (program_of state.now) (state_of state.now).core.memory changes self.old.words.items
+            → AreKnown meaning (program_of state.now) (state_of state.now).core.memory changes self.new.words.items }
+    {
+        if let Some(line) = self.known(place, changes) {
+            return Some(line);
+        }
+        let word = fetch_word(state)?;
+        Some(self.get(machine, table, place, word, seen_at(changes, aligned)))
     }
 }

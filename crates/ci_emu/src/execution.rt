@@ -1,5 +1,5 @@
 //! What each instruction does.
-ghost use Rattle.std.specs.Prelude.{◌≡◌, ◌*◌, ◌<◌, ◌^◌, None, IfOk, OnErr, nat_lt, if◌then◌else◌, pos, ◌-ℤ◌, find};
+ghost use Rattle.std.specs.Prelude.{◌≡◌, ◌+◌, ◌*◌, ◌<◌, ◌≤◌, ◌^◌, None, is_some, IfOk, OnErr, nat_lt, if◌then◌else◌, pos, ◌-ℤ◌, find};
 ghost use Rattle.ci_word.specs.Arithmetic.{word_of};
 ghost use Rattle.ci_isa.specs.declared.instruction.Insn.TheVariants.{Branch, Load, Store};
 ghost use Rattle.ci_isa.specs.Effects.{width_bytes};
@@ -15,6 +15,7 @@ ghost use Rattle.ci_machine.specs.Programs.{in_text};
 ghost use Rattle.ci_machine.specs.Touches.{moved, moved_by_call};
 ghost use Rattle.ci_emu.specs.Steps.{LeadsTo};
 ghost use Rattle.ci_emu.specs.Counting.{first_touch};
+ghost use Rattle.ci_emu.specs.Fetched.{may_change};
 
 use crate::machine::Machine;
 use crate::steps::Outcome;
@@ -24,7 +25,7 @@ use ci_word::alu;
 use std::alloc::{AllocError, Global};
 
 /// Does what the word's instruction does on the machine, for which the extended table has this reading, and notes the
-/// first byte of the text that it moves. Loads, stores and calls alone move some.
+/// first byte of the text that it moves, and that it may change the text. Loads, stores and calls alone move bytes.
 ///
 /// The state stays as it is where that ends the run, and where memory runs out.
 #[inline(always)]
@@ -36,7 +37,9 @@ pub(crate) fn execute<M: Machine>(
     word: u32,
     reading: &Insn,
     touched: &mut Option<(u32, u32)>,
+    changes: &mut u64,
 ) -> Result<Outcome, AllocError>
+    requires { changes.old ≤ 2 ^ 33 }
     ensures executed { IfOk result (λ outcome. (meaning : Meaning) → M.meanings machine.now meaning
         → LeadsTo (state_of state.old) (execute meaning.units (program_of state.old)
         (standing (M.has_unit machine.now) (M.has_cread machine.now) word reading.now) (state_of state.old))
@@ -45,6 +48,8 @@ pub(crate) fn execute<M: Machine>(
     ensures program { program_of state.new ≡ program_of state.old }
     ensures touched { touched.new ≡ first_touch touched.old (state_of state.old).pc
         (find (in_text (program_of state.old)) (moved reading.now (state_of state.old).core)) }
+    ensures changes { changes.new ≡ changes.old
+        + (if may_change (in_text (program_of state.old)) reading.now (state_of state.old).core then 1 else 0) }
 {
     match *reading {
         Insn::Alu { op, rd, rs1, rs2 } => {
@@ -81,7 +86,7 @@ pub(crate) fn execute<M: Machine>(
             offset,
         } => {
             let from = address(state, rs1, offset);
-            note_access(touched, state, from, width_of(kind));
+            note_load(touched, state, from, width_of(kind));
             Ok(load(state, kind, rd, from))
         }
         Insn::Store {
@@ -91,12 +96,13 @@ pub(crate) fn execute<M: Machine>(
             offset,
         } => {
             let to = address(state, rs1, offset);
-            note_access(touched, state, to, width);
+            note_store(touched, changes, state, to, width);
             Ok(store(state, width, rs2, to))
         }
         Insn::Fence { .. } => Ok(advance(state)),
         Insn::Ecall => {
             note_call(touched, state);
+            *changes += 1;
             call(alloc, state)
         }
         Insn::Ebreak => Ok(Outcome::Ended(End::Break)),
@@ -128,15 +134,40 @@ pub(crate) fn execute<M: Machine>(
     }
 }
 
-/// Notes the touch of an access by the instruction at the pc, where it is the first of a run.
+/// Notes the touch of a load by the instruction at the pc, where it is the first of a run.
 #[inline(always)]
 #[tactic(auto, using(crate::proofs::Touched::laws))]
-fn note_access(touched: &mut Option<(u32, u32)>, state: &State, address: u32, width: Width)
+fn note_load(touched: &mut Option<(u32, u32)>, state: &State, address: u32, width: Width)
     ensures { touched.new ≡ first_touch touched.old (state_of state.now).pc
         (find (in_text (program_of state.now)) (addresses (width_bytes width) address)) }
 {
     if touched.is_none() {
         *touched = touch(state, state.touched_by_access(address, width));
+    }
+}
+
+/// Notes the touch of a store by the instruction at the pc, where it is the first of a run, and that it changes the
+/// text, where it does.
+#[inline(always)]
+#[tactic(auto, using(crate::proofs::Touched::laws))]
+fn note_store(
+    touched: &mut Option<(u32, u32)>,
+    changes: &mut u64,
+    state: &State,
+    address: u32,
+    width: Width,
+)
+    requires { changes.old ≤ 2 ^ 33 }
+    ensures touched { touched.new ≡ first_touch touched.old (state_of state.now).pc
+        (find (in_text (program_of state.now)) (addresses (width_bytes width) address)) }
+    ensures changes { changes.new ≡ changes.old
+        + (if is_some (find (in_text (program_of state.now)) (addresses (width_bytes width) address)) then 1 else 0) }
+{
+    if let Some(first) = state.touched_by_access(address, width) {
+        *changes += 1;
+        if touched.is_none() {
+            *touched = Some((state.pc(), first));
+        }
     }
 }
 

@@ -46,7 +46,17 @@ pub fn step_on<M: Machine>(
     match fetch(state) {
         Some(word) => {
             let mut touched = None;
-            execute(alloc, machine, state, word, &reading(word), &mut touched)
+            let mut changes = 0;
+            let insn = reading(word);
+            execute(
+                alloc,
+                machine,
+                state,
+                word,
+                &insn,
+                &mut touched,
+                &mut changes,
+            )
         }
         None => Ok(Outcome::Ended(End::Fetch(state.pc()))),
     }

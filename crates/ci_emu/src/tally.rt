@@ -12,7 +12,7 @@ ghost use Rattle.ci_emu.specs.Counting.{target_of, IsStepCounted, Led};
 ghost use Rattle.ci_elf.specs.Executables.{IsTextWord};
 ghost use Rattle.ci_emu.specs.Profiles.{count_at};
 ghost use Rattle.ci_emu.specs.TableLatencies.{cycles_on, latencies_on};
-ghost use Rattle.ci_emu.specs.Lines.{AreTimed, IsTimed};
+ghost use Rattle.ci_emu.specs.Lines.{AreKept, AreKnown, IsTimed};
 ghost use Rattle.ci_emu.specs.Steps.{IsStep, IsReached};
 
 use crate::counts::Counts;
@@ -20,7 +20,7 @@ use crate::decode_cache::{DecodeCache, Decoded};
 use crate::execution::execute;
 use crate::machine::Machine;
 use crate::profile::Profile;
-use crate::steps::{Outcome, fetch_word};
+use crate::steps::Outcome;
 use ci_elf::Range;
 use ci_isa::Insn;
 use ci_lat::Table;
@@ -35,6 +35,8 @@ pub(crate) struct Tally {
     pub(crate) cost: u64,
     pub(crate) touched: Option<(u32, u32)>,
     pub(crate) targets: BTreeSet<u32>,
+    /// How often the text may have changed, from 1.
+    pub(crate) changes: u64,
     /// The words that were decoded before.
     pub(crate) cache: DecodeCache,
     /// The number of the range of text from which the last step was fetched.
@@ -44,7 +46,7 @@ pub(crate) struct Tally {
 impl Tally {
     ghost use Rattle.ci_elf.specs.Executables.{IsAscending};
     ghost use Rattle.ci_emu.specs.Counting.{IsFresh, IsToldBy};
-    ghost use Rattle.ci_emu.specs.Lines.{AreTimed};
+    ghost use Rattle.ci_emu.specs.Lines.{AreKept};
 
     /// Nothing yet.
     pub(crate) fn new<M: Machine>(
@@ -56,8 +58,9 @@ impl Tally {
         requires { IsAscending text.now }
         ensures text { IfOk result (λ tally. tally.counts.places ≡ text.now) }
         ensures fresh { IfOk result IsFresh }
-        ensures timed { IfOk result (λ tally. AreTimed (cycles_on (M.has_unit machine.now) (M.has_cread machine.now)
-            (M.unit_cycles machine.now) table.now) tally.cache.words.items) }
+        ensures kept { IfOk result (λ tally. AreKept (cycles_on (M.has_unit machine.now) (M.has_cread machine.now)
+            (M.unit_cycles machine.now) table.now) 0 tally.cache.words.items) }
+        ensures changes { IfOk result (λ tally. tally.changes ≡ 1) }
     {
         let counts = Counts::new(alloc, text)?;
         let cache = DecodeCache::new(alloc, machine, table, counts.len())?;
@@ -66,6 +69,7 @@ impl Tally {
             cost: 0,
             touched: None,
             targets: BTreeSet::new(alloc),
+            changes: 1,
             cache,
             last: 0,
         })
@@ -123,19 +127,26 @@ fn enter<M: Machine>(
     counts: &mut Counts,
     cache: &mut DecodeCache,
     last: &mut usize,
+    changes: u64,
     state: &State,
 ) -> Option<Decoded>
     requires text { counts.old.places ≡ (program_of state.now).text }
     requires room { IsTextWord (program_of state.now).text (state_of state.now).pc
         → count_at counts.old (state_of state.now).pc < 2 ^ 32 }
-    requires timed { AreTimed (cycles_on (M.has_unit machine.now) (M.has_cread machine.now)
-        (M.unit_cycles machine.now) table.now) cache.old.words.items }
-    ensures fetched { (meaning : Meaning) → fetched meaning (program_of state.now) (state_of state.now)
+    requires begun { 0 < changes }
+    requires kept { AreKept (cycles_on (M.has_unit machine.now) (M.has_cread machine.now)
+        (M.unit_cycles machine.now) table.now) changes cache.old.words.items }
+    ensures fetched { (meaning : Meaning)
+        → AreKnown meaning (program_of state.now) (state_of state.now).core.memory changes cache.old.words.items
+        → fetched meaning (program_of state.now) (state_of state.now)
         ≡ option_map (λ decoded. meaning.insn decoded.word) result }
     ensures cycles { IfSome result (IsTimed (cycles_on (M.has_unit machine.now) (M.has_cread machine.now)
         (M.unit_cycles machine.now) table.now)) }
-    ensures timed { AreTimed (cycles_on (M.has_unit machine.now) (M.has_cread machine.now)
-        (M.unit_cycles machine.now) table.now) cache.new.words.items }
+    ensures kept { AreKept (cycles_on (M.has_unit machine.now) (M.has_cread machine.now)
+        (M.unit_cycles machine.now) table.now) changes cache.new.words.items }
+    ensures known { (meaning : Meaning)
+        → AreKnown meaning (program_of state.now) (state_of state.now).core.memory changes cache.old.words.items
+        → AreKnown meaning (program_of state.now) (state_of state.now).core.memory changes cache.new.words.items }
     ensures text { counts.new.places ≡ counts.old.places }
     ensures counted { (address : ℕ) → IsTextWord (program_of state.now).text address → count_at counts.new address
         ≡ count_at counts.old address + (if (state_of state.now).pc == address then 1 else 0) }
@@ -143,8 +154,7 @@ fn enter<M: Machine>(
     match counts.place(last, state.pc()) {
         Some(place) => {
             counts.add(place);
-            let word = fetch_word(state)?;
-            Some(cache.get(machine, table, place, word))
+            cache.at(machine, table, state, place, changes, counts.are_aligned())
         }
         None => None,
     }
@@ -165,8 +175,13 @@ pub(crate) fn counted_step<M: Machine>(
     requires room { IsTextWord (program_of state.old).text (state_of state.old).pc
         → count_at tally.old.counts (state_of state.old).pc < 2 ^ 32 }
     requires cheap { tally.old.cost ≤ 2 ^ 64 - 2 ^ 32 }
-    requires timed { AreTimed (cycles_on (M.has_unit machine.now) (M.has_cread machine.now)
-        (M.unit_cycles machine.now) table.now) tally.old.cache.words.items }
+    requires begun { 0 < tally.old.changes }
+    requires few { tally.old.changes ≤ 2 ^ 33 }
+    requires kept { AreKept (cycles_on (M.has_unit machine.now) (M.has_cread machine.now)
+        (M.unit_cycles machine.now) table.now) tally.old.changes tally.old.cache.words.items }
+    requires known { (meaning : Meaning) → M.meanings machine.now meaning
+        → AreKnown meaning (program_of state.old) (state_of state.old).core.memory
+        tally.old.changes tally.old.cache.words.items }
     ensures stepped { IfOk result
         (IsStep (M.meanings machine.now) (program_of state.old) (state_of state.old) (state_of state.new)) }
     ensures counted { OnOk result ((meaning : Meaning) → M.meanings machine.now meaning
@@ -179,8 +194,13 @@ pub(crate) fn counted_step<M: Machine>(
         (IsReached (M.meanings machine.now) (program_of state.old) (state_of state.old) 1 (state_of state.new)) }
     ensures program { program_of state.new ≡ program_of state.old }
     ensures text { tally.new.counts.places ≡ tally.old.counts.places }
-    ensures timed { AreTimed (cycles_on (M.has_unit machine.now) (M.has_cread machine.now)
-        (M.unit_cycles machine.now) table.now) tally.new.cache.words.items }
+    ensures later { tally.old.changes ≤ tally.new.changes }
+    ensures few { tally.new.changes ≤ tally.old.changes + 1 }
+    ensures kept { AreKept (cycles_on (M.has_unit machine.now) (M.has_cread machine.now)
+        (M.unit_cycles machine.now) table.now) tally.new.changes tally.new.cache.words.items }
+    ensures known { OnOk result ((meaning : Meaning) → M.meanings machine.now meaning
+        → AreKnown meaning (program_of state.old) (state_of state.new).core.memory
+        tally.new.changes tally.new.cache.words.items) }
 {
     // Two machines share these functions: without the hints at them each would be called out of line in every step.
     let Some(decoded) = enter(
@@ -189,6 +209,7 @@ pub(crate) fn counted_step<M: Machine>(
         &mut tally.counts,
         &mut tally.cache,
         &mut tally.last,
+        tally.changes,
         state,
     ) else {
         return Ok(Outcome::Ended(End::Fetch(state.pc())));
@@ -201,6 +222,7 @@ pub(crate) fn counted_step<M: Machine>(
         decoded.word,
         &decoded.insn,
         &mut tally.touched,
+        &mut tally.changes,
     )?;
     note(&mut tally.targets, target(state, &decoded.insn, outcome))?;
     Ok(outcome)

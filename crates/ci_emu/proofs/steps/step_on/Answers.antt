@@ -7,5 +7,5 @@ returns-in-Some-clause-stepped g c =
     executed_is (program_of c.args.state.now) (state_of c.args.state.now) (g.M.Machine.meanings c.args.machine.now) _ _
     (fetched_as (g.M.Machine.meanings c.args.machine.now) (g.M.Machine.has_unit c.args.machine.now) (g.M.Machine.has_cread c.args.machine.now)
     (g.met.M.Machine.stands c.args.machine.now) (program_of c.args.state.now) (state_of c.args.state.now)
-    c.in-Some.word c.reading.result c.reading.ensures c.in-Some.ensures)
+    c.in-Some.word c.reading-insn.result c.reading-insn.ensures (λ meaning means. c.in-Some.ensures meaning))
     _ c.execute.ensures.executed

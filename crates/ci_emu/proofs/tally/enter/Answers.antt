@@ -1,11 +1,11 @@
 -- The pc has a place where it is a word of the text.
-use Rattle.std.proofs.Common.{◌≡◌, ◌<◌, ◌^◌, ◌%◌, ℕ, None, Some, eq-eqb, ap, sym, subst, ◌∙◌}
+use Rattle.std.proofs.Common.{arith, ◌≡◌, ◌<◌, ◌^◌, ℕ, None, Some, subst}
 use Rattle.ci_machine.specs.States.{program_of, state_of}
 use Rattle.ci_elf.specs.Executables.{IsTextWord}
 use Rattle.ci_elf.specs.WordPlaces.{word_place}
 use Rattle.ci_elf.proofs.WordPlaceLaws.{text_word}
 use Rattle.ci_emu.proofs.CountLaws.{place_at, entered, not_entered, count_here}
-use Rattle.ci_emu.proofs.Fetching.{fetched_is, nothing_fetched}
+use Rattle.ci_emu.proofs.Fetching.{nothing_fetched}
 use Rattle.ci_emu.proofs.tally.enter.Goals as goal
 use Rattle.ci_emu.proofs.tally.enter.Goals.{In-Some, In-None}
 use Rattle.ci_emu.proofs.tally.enter.Given.{Over}
@@ -24,25 +24,19 @@ add-requires-clause-room g c =
     let same = count_here (program_of c.args.state.now) c.args.counts.now c.requires.text _ _ (here g (goal.at.add-requires-clause-room g c).In-Some) in
     subst (λ (n : ℕ). n < 2 ^ 32) same (c.requires.room (word g (goal.at.add-requires-clause-room g c).In-Some))
 
-pub returns-in_ok-word-in-Some-clause-fetched : goal.returns-in_ok-word-in-Some-clause-fetched
-returns-in_ok-word-in-Some-clause-fetched g c meaning =
-    let state = state_of c.args.state.now in
-    let at = word g (goal.at.returns-in_ok-word-in-Some-clause-fetched g c).In-Some in
-    fetched_is (program_of c.args.state.now) state meaning c.get.result.word (eq-eqb (state.pc % 4) 0 at.0) at.1
-    (sym c.fetch_word.ensures ∙ c.in_ok-word-in-Some.was ∙ ap Some (sym c.get.ensures.word))
+pub at-requires-clause-place : goal.at-requires-clause-place
+at-requires-clause-place g c = here g (goal.at.at-requires-clause-place g c).In-Some
 
-pub returns-in_ok-word-in-Some-clause-counted : goal.returns-in_ok-word-in-Some-clause-counted
-returns-in_ok-word-in-Some-clause-counted g c =
-    entered (program_of c.args.state.now) c.args.counts.now c.requires.text _ _ _
-    (here g (goal.at.returns-in_ok-word-in-Some-clause-counted g c).In-Some) c.in-Some.ensures.within c.add.ensures.places c.add.ensures.counted
+pub at-requires-clause-small : goal.at-requires-clause-small
+at-requires-clause-small g c = subst (λ (n : ℕ). n < 2 ^ 32) c.pc.ensures (omega arith)
 
-pub returns-in_err-word-in-Some-clause-counted : goal.returns-in_err-word-in-Some-clause-counted
-returns-in_err-word-in-Some-clause-counted g c =
+pub returns-in-Some-clause-counted : goal.returns-in-Some-clause-counted
+returns-in-Some-clause-counted g c =
     entered (program_of c.args.state.now) c.args.counts.now c.requires.text _ _ _
-    (here g (goal.at.returns-in_err-word-in-Some-clause-counted g c).In-Some) c.in-Some.ensures.within c.add.ensures.places c.add.ensures.counted
+    (here g (goal.at.returns-in-Some-clause-counted g c).In-Some) c.in-Some.ensures.within c.add.ensures.places c.add.ensures.counted
 
 pub returns-in-None-clause-fetched : goal.returns-in-None-clause-fetched
-returns-in-None-clause-fetched g c meaning = nothing_fetched (program_of c.args.state.now) (state_of c.args.state.now) meaning (nowhere g c)
+returns-in-None-clause-fetched g c meaning known = nothing_fetched (program_of c.args.state.now) (state_of c.args.state.now) meaning (nowhere g c)
 
 pub returns-in-None-clause-counted : goal.returns-in-None-clause-counted
 returns-in-None-clause-counted g c = not_entered (program_of c.args.state.now) c.args.counts.now c.requires.text _ (nowhere g c)
