@@ -20,25 +20,26 @@ const CALLS: [u32; 30] = [
 /// The table of addresses, and the place of the result.
 const TABLE: [u32; 5] = [0x100c4, 0x100d4, 0x100c4, 0x100d4, 0];
 
-/// The opening state of a program of these words, with these constants behind its text and these values.
+/// The opening state of a program of these words on an input, with these constants behind its text and these values.
 fn opening(
     rt: &impl Abort,
     alloc: Global,
     text: &[u32],
     constants: &[u32],
     values: &[u32],
+    input: &[u8],
 ) -> Result<State, Fail> {
     assert!(rt; !text.is_empty() && text.len() <= 100 && constants.len() <= 1 && values.len() <= 5);
     let bytes = frame(alloc, text, constants, values)?;
     assert!(rt; bytes.len() <= 1000);
     let image = read(alloc, &bytes)?;
-    Ok(State::start(alloc, &image, b"")?)
+    Ok(State::start(alloc, &image, input)?)
 }
 
 /// The profile of a run of these words, of at most `n` steps.
 fn profile(rt: &impl Abort, alloc: Global, text: &[u32], n: u64) -> Result<Profile, Fail> {
     assert!(rt; n <= 100);
-    let mut state = opening(rt, alloc, text, &[], &[])?;
+    let mut state = opening(rt, alloc, text, &[], &[], b"")?;
     Ok(run(alloc, &mut state, &Table::usual(), n)?)
 }
 
@@ -52,7 +53,7 @@ fn check(rt: &impl Abort, profile: &Profile, end: Option<End>, steps: u64, cost:
 #[test]
 fn calls_write_and_exit(rt: HostRuntime) -> Result<(), Fail> {
     let alloc = rt.alloc();
-    let mut state = opening(&rt, alloc, &CALLS, &[1000], &TABLE)?;
+    let mut state = opening(&rt, alloc, &CALLS, &[1000], &TABLE, b"")?;
     let profile = run(alloc, &mut state, &Table::usual(), 4294967296)?;
     check(&rt, &profile, Some(End::Exit(0)), 61, 75);
     assert_eq!(&rt; state.output(), [0xe8, 0x1d, 0, 0].as_slice());
@@ -102,7 +103,7 @@ fn tells_the_first_touch(rt: HostRuntime) -> Result<(), Fail> {
 #[test]
 fn makes_one_step(rt: HostRuntime) -> Result<(), Fail> {
     let alloc = rt.alloc();
-    let mut state = opening(&rt, alloc, &[0x00000013], &[], &[])?;
+    let mut state = opening(&rt, alloc, &[0x00000013], &[], &[], b"")?;
     assert_eq!(&rt; step(alloc, &mut state)?, Outcome::Next);
     assert_eq!(&rt; state.pc(), 0x10078);
     assert_eq!(&rt;
@@ -125,5 +126,21 @@ fn decodes_a_word_that_was_written(rt: HostRuntime) -> Result<(), Fail> {
     check(&rt, &profile, Some(End::Break), 13, 15);
     assert_eq!(&rt; profile.entries(0x1007c), 3);
     assert_eq!(&rt; profile.touched, Some((0x10088, 0x10098)));
+    Ok(())
+}
+
+/// A read of a word over one that was executed, to which it then jumps.
+const READ_OVER: [u32; 7] = [
+    0x00000297, 0x01028593, 0x00400613, 0x03f00893, 0x00000513, 0x00000073, 0xff9ff06f,
+];
+
+#[test]
+fn decodes_a_word_that_was_read(rt: HostRuntime) -> Result<(), Fail> {
+    let alloc = rt.alloc();
+    let mut state = opening(&rt, alloc, &READ_OVER, &[], &[], &[0x73, 0x00, 0x10, 0x00])?;
+    let profile = run(alloc, &mut state, &Table::usual(), 99)?;
+    check(&rt, &profile, Some(End::Break), 8, 9);
+    assert_eq!(&rt; profile.entries(0x10084), 2);
+    assert_eq!(&rt; profile.touched, Some((0x10088, 0x10084)));
     Ok(())
 }
