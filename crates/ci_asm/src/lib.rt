@@ -49,5 +49,3 @@ mod registers;
 mod scanner;
 mod slots;
 mod statements;
-#[cfg(test)]
-mod tests;

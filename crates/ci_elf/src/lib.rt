@@ -33,5 +33,3 @@ mod sections;
 mod segments;
 mod sharing;
 mod symbols;
-#[cfg(test)]
-mod tests;

@@ -14,5 +14,3 @@ mod shelves;
 mod sinks;
 mod sure;
 mod system;
-#[cfg(test)]
-mod tests;

@@ -30,5 +30,3 @@ mod kinds;
 mod laws;
 mod opcodes;
 mod register;
-#[cfg(test)]
-mod tests;

@@ -41,5 +41,3 @@ mod faults;
 mod keys;
 mod reader;
 mod table;
-#[cfg(test)]
-mod tests;

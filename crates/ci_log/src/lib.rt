@@ -41,7 +41,5 @@ mod flattening;
 mod laws;
 mod log;
 mod reading;
-#[cfg(test)]
-mod tests;
 mod trees;
 mod writing;

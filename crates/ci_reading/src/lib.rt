@@ -11,5 +11,3 @@ mod bytes;
 mod digits;
 mod fields;
 mod hex;
-#[cfg(test)]
-mod tests;

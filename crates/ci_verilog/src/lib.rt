@@ -12,8 +12,6 @@ mod expressions;
 pub mod laws;
 mod lookup;
 mod modules;
-#[cfg(test)]
-mod tests;
 mod vectors;
 mod widths;
 mod wires;

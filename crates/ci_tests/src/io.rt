@@ -1,7 +1,10 @@
-use super::*;
+use ci_io::{
+    FileShelf, MemShelf, MemSink, Shelf, ShelfErr, Sink, SinkErr, StdSink, SureShelf, SureSink,
+};
 use std::alloc::{AllocError, Global};
 use std::collections::BTreeMap;
 use std::fmt::Display;
+use std::process::Abort;
 use std::test::Fail;
 use std::{fs, io};
 
@@ -30,21 +33,52 @@ impl Print for Shut {
     }
 }
 
+// Asserts what a read gives.
+fn expect_read(
+    rt: &impl Abort,
+    alloc: Global,
+    shelf: &mut impl Shelf,
+    name: &str,
+    limit: u64,
+    wanted: &[u8],
+) -> Result<(), ShelfErr> {
+    let bytes = shelf.read(alloc, name, limit)?;
+    assert_eq!(rt; bytes.as_slice(), wanted);
+    Ok(())
+}
+
+// Asserts how a read fails.
+fn expect_no_read(
+    rt: &impl Abort,
+    alloc: Global,
+    shelf: &mut impl Shelf,
+    name: &str,
+    limit: u64,
+    wanted: ShelfErr,
+) {
+    assert_eq!(rt; shelf.read(alloc, name, limit).err(), Some(wanted));
+}
+
+// Reads and writes on the map with one file.
+fn reads_and_writes(rt: &impl Abort, alloc: Global, shelf: &mut SureShelf) -> Result<(), ShelfErr> {
+    expect_read(rt, alloc, shelf, "a", 4, b"four")?;
+    expect_no_read(rt, alloc, shelf, "a", 3, ShelfErr::TooLarge);
+    expect_no_read(rt, alloc, shelf, "b", 4, ShelfErr::Absent);
+    shelf.write(alloc, "b", b"")?;
+    shelf.write(alloc, "a", b"other")?;
+    expect_read(rt, alloc, shelf, "a", u64::MAX, b"other")?;
+    expect_read(rt, alloc, shelf, "b", 0, b"")?;
+    assert_eq!(rt; shelf.files().len(), 2);
+    Ok(())
+}
+
 #[test]
 fn sure_shelf_reads_and_writes(rt: HostRuntime) -> Result<(), Fail> {
     let alloc = rt.alloc();
     let mut shelf = SureShelf::new(one_file(alloc)?);
-    assert_eq!(rt; shelf.read(alloc, "a", 4)?.as_slice(), b"four".as_slice());
-    assert_eq!(rt; shelf.read(alloc, "a", 3).err(), Some(ShelfErr::TooLarge));
-    assert_eq!(rt; shelf.read(alloc, "b", 4).err(), Some(ShelfErr::Absent));
-    shelf.write(alloc, "b", b"")?;
-    shelf.write(alloc, "a", b"other")?;
-    assert_eq!(rt;
-        shelf.read(alloc, "a", u64::MAX)?.as_slice(),
-        b"other".as_slice()
-    );
-    assert_eq!(rt; shelf.read(alloc, "b", 0)?.len(), 0);
-    assert_eq!(rt; shelf.files().len(), 2);
+    let outcome = reads_and_writes(&rt, alloc, &mut shelf);
+    drop(shelf);
+    outcome?;
     Ok(())
 }
 
@@ -58,18 +92,23 @@ fn sure_sink_takes_all(rt: HostRuntime) -> Result<(), Fail> {
     Ok(())
 }
 
+// Calls of which the second fails.
+fn second_fails(rt: &impl Abort, alloc: Global, shelf: &mut MemShelf) -> Result<(), ShelfErr> {
+    expect_read(rt, alloc, shelf, "a", 4, b"four")?;
+    let failed = shelf.write(alloc, "a", b"two");
+    assert_eq!(rt; failed, Err(ShelfErr::Fault));
+    expect_read(rt, alloc, shelf, "a", 4, b"four")?;
+    shelf.write(alloc, "a", b"two")?;
+    expect_read(rt, alloc, shelf, "a", 4, b"two")
+}
+
 #[test]
 fn mem_shelf_fails_at_the_second_call(rt: HostRuntime) -> Result<(), Fail> {
     let alloc = rt.alloc();
     let mut shelf = MemShelf::new(one_file(alloc)?, vec![in alloc; 2]?);
-    assert_eq!(rt; shelf.read(alloc, "a", 4)?.as_slice(), b"four".as_slice());
-    assert_eq!(rt;
-        shelf.write(alloc, "a", b"two").err(),
-        Some(ShelfErr::Fault)
-    );
-    assert_eq!(rt; shelf.read(alloc, "a", 4)?.as_slice(), b"four".as_slice());
-    shelf.write(alloc, "a", b"two")?;
-    assert_eq!(rt; shelf.read(alloc, "a", 4)?.as_slice(), b"two".as_slice());
+    let outcome = second_fails(&rt, alloc, &mut shelf);
+    drop(shelf);
+    outcome?;
     Ok(())
 }
 
@@ -91,19 +130,14 @@ fn file_shelf_reads_and_writes_files(rt: HostRuntime) -> Result<(), Fail> {
     let mut shelf = FileShelf::new(&rt);
     shelf.write(alloc, name, b"longer")?;
     shelf.write(alloc, name, b"four")?;
-    assert_eq!(rt; shelf.read(alloc, name, 4)?.as_slice(), b"four".as_slice());
-    assert_eq!(rt;
-        shelf.read(alloc, name, u64::MAX)?.as_slice(),
-        b"four".as_slice()
-    );
-    assert_eq!(rt; shelf.read(alloc, name, 3).err(), Some(ShelfErr::TooLarge));
+    expect_read(&rt, alloc, &mut shelf, name, 4, b"four")?;
+    expect_read(&rt, alloc, &mut shelf, name, u64::MAX, b"four")?;
+    expect_no_read(&rt, alloc, &mut shelf, name, 3, ShelfErr::TooLarge);
     fs::remove_file(&rt, name)?;
-    assert_eq!(rt; shelf.read(alloc, name, 4).err(), Some(ShelfErr::Fault));
-    assert_eq!(rt; shelf.read(alloc, ".", 4).err(), Some(ShelfErr::Fault));
-    assert_eq!(rt;
-        shelf.write(alloc, ".", b"four").err(),
-        Some(ShelfErr::Fault)
-    );
+    expect_no_read(&rt, alloc, &mut shelf, name, 4, ShelfErr::Fault);
+    expect_no_read(&rt, alloc, &mut shelf, ".", 4, ShelfErr::Fault);
+    let failed = shelf.write(alloc, ".", b"four");
+    assert_eq!(rt; failed, Err(ShelfErr::Fault));
     Ok(())
 }
 

@@ -1,97 +1,137 @@
 //! A book of two searches and a take, a longer book, faults of texts, and a tree in a region.
-use crate::book::{Entry, Finish};
-use crate::faults::LogFault;
-use crate::flattening::{Child, LogNode, flatten};
-use crate::log::Item;
-use crate::reading::read;
-use crate::writing::write;
+use ci_log::{Child, Entry, Finish, Item, LogBook, LogFault, LogNode, flatten, read, write};
 use ci_region::Region;
+use std::process::Abort;
 use std::test::Fail;
 
-const TEXT: &[u8] =
-    b"ci-log 1\nblock 00010074 best 0 2\nBBOBOFBBFFG\ntake 00010074 unit 0\nblock 00010074 none\nG\nend none\n";
+// Long texts are the answers of functions, so that the proof of a test looks at none of them.
+
+/// Two searches and a take.
+fn text() -> &'static [u8] {
+    b"ci-log 1\nblock 00010074 best 0 2\nBBOBOFBBFFG\ntake 00010074 unit 0\nblock 00010074 none\nG\nend none\n"
+}
 
 /// Three searches, two takes, each with its search, and the other finish.
-const ROUNDS: &[u8] =
+fn rounds() -> &'static [u8] {
     b"ci-log 1\nblock 00010074 spent 9999999\nblock 0001009c best 0 255\nF\nblock 000100c4 none\nBCI\n\
 take 0001009c unit 0\nblock 0001009c best 10 11 200\nBFG\ntake 0001009c unit 31\nblock 0001009c none\nO\n\
-end count\n";
+end count\n"
+}
 
-#[test]
-fn a_text_both_ways(rt: HostRuntime) -> Result<(), Fail> {
-    assert_eq!(rt; TEXT.len(), 97);
-    let book = read(rt.alloc(), TEXT)?;
-    assert_eq!(rt; book.entries().len(), 3);
-    assert_eq!(rt; book.finish(), Finish::Empty);
-    assert!(rt;
-        matches!(
-            &book.entries()[1],
-            Entry::Take {
-                leader: 0x0001_0074,
-                unit: 0
-            }
-        )
-    );
-    assert_eq!(rt; write(rt.alloc(), &book)?.as_slice(), TEXT);
-    Ok(())
+/// The book of a short text.
+fn book_of(rt: &(impl AllocGlobal + Abort), text: &[u8]) -> Result<LogBook, LogFault> {
+    assert!(rt; text.len() <= 1000);
+    read(rt.alloc(), text)
+}
+
+/// Whether a text's fault is the one that is due.
+fn has_fault(rt: &(impl AllocGlobal + Abort), text: &[u8], due: &LogFault) -> bool {
+    match (book_of(rt, text), due) {
+        (Err(LogFault::BadItem(offset)), LogFault::BadItem(place)) => offset == *place,
+        (Err(LogFault::Trailing(offset)), LogFault::Trailing(place)) => offset == *place,
+        (Err(LogFault::Unfinished), LogFault::Unfinished) => true,
+        (Err(LogFault::BadHeader), LogFault::BadHeader) => true,
+        _ => false,
+    }
+}
+
+/// Whether an entry is this take.
+fn is_take(entry: &Entry, due_leader: u32, due_unit: u8) -> bool {
+    match entry {
+        Entry::Take { leader, unit } => *leader == due_leader && *unit == due_unit,
+        _ => false,
+    }
 }
 
 #[test]
-fn the_first_entry(rt: HostRuntime) -> Result<(), Fail> {
-    let book = read(rt.alloc(), TEXT)?;
+fn a_text_both_ways(rt: HostRuntime) -> Result<(), Fail> {
+    assert_eq!(rt; text().len(), 97);
+    let book = book_of(&rt, text())?;
     assert_eq!(rt; book.entries().len(), 3);
-    match &book.entries()[0] {
+    assert_eq!(rt; book.finish(), Finish::Empty);
+    assert!(rt; is_take(&book.entries()[1], 0x0001_0074, 0));
+    assert_eq!(rt; write(rt.alloc(), &book)?.as_slice(), text());
+    Ok(())
+}
+
+/// The log of the first search of a text.
+fn items() -> &'static [Item] {
+    &[
+        Item::B,
+        Item::B,
+        Item::O,
+        Item::B,
+        Item::O,
+        Item::F,
+        Item::B,
+        Item::B,
+        Item::F,
+        Item::F,
+        Item::G,
+    ]
+}
+
+/// Asserts that an entry is the first search.
+fn expect_first(rt: &impl Abort, entry: &Entry) {
+    match entry {
         Entry::Best { leader, cut, log } => {
             assert_eq!(rt; *leader, 0x0001_0074);
             assert_eq!(rt; cut.count(), 2);
             assert!(rt; cut.has(0));
             assert!(rt; cut.has(2));
-            let items = [
-                Item::B,
-                Item::B,
-                Item::O,
-                Item::B,
-                Item::O,
-                Item::F,
-                Item::B,
-                Item::B,
-                Item::F,
-                Item::F,
-                Item::G,
-            ];
-            assert_eq!(rt; log.items(), items.as_slice());
+            assert_eq!(rt; log.items(), items());
         }
         _ => assert!(rt; false),
     }
+}
+
+#[test]
+fn the_first_entry(rt: HostRuntime) -> Result<(), Fail> {
+    let book = book_of(&rt, text())?;
+    assert_eq!(rt; book.entries().len(), 3);
+    expect_first(&rt, &book.entries()[0]);
     Ok(())
 }
 
 #[test]
 fn another_last_letter(rt: HostRuntime) -> Result<(), Fail> {
-    let mut text = Vec::from_slice(rt.alloc(), TEXT)?;
+    let mut text = Vec::from_slice(rt.alloc(), text())?;
+    assert!(rt; text.len() == 97);
     assert_eq!(rt; text[43], b'G');
     text[43] = b'F';
-    let book = read(rt.alloc(), &text)?;
+    let book = book_of(&rt, &text)?;
     assert_eq!(rt; write(rt.alloc(), &book)?.as_slice(), text.as_slice());
     Ok(())
 }
 
 #[test]
 fn a_byte_behind_the_end(rt: HostRuntime) -> Result<(), Fail> {
-    let mut text = Vec::from_slice(rt.alloc(), TEXT)?;
+    let mut text = Vec::from_slice(rt.alloc(), text())?;
     text.push(b'x')?;
-    assert!(rt; matches!(read(rt.alloc(), &text), Err(LogFault::Trailing(97))));
+    assert!(rt; has_fault(&rt, &text, &LogFault::Trailing(97)));
     Ok(())
+}
+
+/// Whether the fault of the front of a text is the one that is due.
+fn has_fault_in_front(
+    rt: &(impl AllocGlobal + Abort),
+    text: &[u8],
+    len: usize,
+    due: &LogFault,
+) -> bool {
+    assert!(rt; len <= text.len());
+    has_fault(rt, &text[..len], due)
 }
 
 #[test]
 fn the_last_newline_missing(rt: HostRuntime) {
-    assert!(rt; matches!(read(rt.alloc(), &TEXT[..96]), Err(LogFault::Unfinished)));
+    assert_eq!(rt; text().len(), 97);
+    assert!(rt; has_fault_in_front(&rt, text(), 96, &LogFault::Unfinished));
 }
 
 #[test]
 fn several_rounds_both_ways(rt: HostRuntime) -> Result<(), Fail> {
-    let book = read(rt.alloc(), ROUNDS)?;
+    let book = book_of(&rt, rounds())?;
     assert_eq!(rt; book.entries().len(), 7);
     assert_eq!(rt; book.finish(), Finish::Count);
     assert!(rt;
@@ -103,22 +143,14 @@ fn several_rounds_both_ways(rt: HostRuntime) -> Result<(), Fail> {
             }
         )
     );
-    assert!(rt;
-        matches!(
-            &book.entries()[5],
-            Entry::Take {
-                leader: 0x0001_009c,
-                unit: 31
-            }
-        )
-    );
-    assert_eq!(rt; write(rt.alloc(), &book)?.as_slice(), ROUNDS);
+    assert!(rt; is_take(&book.entries()[5], 0x0001_009c, 31));
+    assert_eq!(rt; write(rt.alloc(), &book)?.as_slice(), rounds());
     Ok(())
 }
 
-#[test]
-fn the_first_fault(rt: HostRuntime) {
-    for (text, due) in [
+/// Texts, and their faults.
+fn faults() -> &'static [(&'static str, LogFault)] {
+    &[
         ("", LogFault::Unfinished),
         ("ci-log 1", LogFault::Unfinished),
         ("ci-log 1x", LogFault::BadHeader),
@@ -181,19 +213,13 @@ fn the_first_fault(rt: HostRuntime) {
         ),
         ("ci-log 1\nend nine\n", LogFault::BadItem(14)),
         ("ci-log 1\nend none\n\n", LogFault::Trailing(18)),
-    ] {
-        assert!(rt; text.len() <= 1000);
-        match (read(rt.alloc(), text.as_bytes()), due) {
-            (Err(LogFault::BadItem(offset)), LogFault::BadItem(place)) => {
-                assert_eq!(rt; offset, place, "{text}");
-            }
-            (Err(LogFault::Trailing(offset)), LogFault::Trailing(place)) => {
-                assert_eq!(rt; offset, place, "{text}");
-            }
-            (Err(LogFault::Unfinished), LogFault::Unfinished) => {}
-            (Err(LogFault::BadHeader), LogFault::BadHeader) => {}
-            _ => assert!(rt; false, "{text}"),
-        }
+    ]
+}
+
+#[test]
+fn the_first_fault(rt: HostRuntime) {
+    for (text, due) in faults() {
+        assert!(rt; has_fault(&rt, text.as_bytes(), due), "{text}");
     }
 }
 

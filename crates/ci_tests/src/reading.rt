@@ -1,8 +1,8 @@
 //! `add x5, x10, x11`, whose word is 00B502B3.
-use crate::bytes::{bytes_of_words, word_at};
-use crate::digits::number_of_digits;
-use crate::fields::{Numbers, Stop, address, begins_with, number, word};
-use crate::hex::{hex_text, push_hex};
+use ci_reading::{
+    Numbers, Stop, address, begins_with, bytes_of_words, hex_text, number, number_of_digits,
+    push_hex, word, word_at,
+};
 use std::test::Fail;
 
 const WORD: u32 = 0x00B5_02B3;

@@ -1,12 +1,12 @@
 //! Words and their instructions as the tables have them. The words of RV32IM are from the assemblers of LLVM and GNU.
 ghost use Rattle.std.specs.Prelude.{◌≡◌, ◌<◌};
 
-use crate::{
+use ci_isa::{
     Cond, Insn, LoadKind, Reg, Width, class, decode, decode_x, destination, encode, insn_at,
     is_access, is_cread, is_eligible, is_terminator, is_unit, operands, reads, reads_register,
     writes, writes_register,
 };
-use ci_word::{Class, Op};
+use ci_word::{Class, Op, Row};
 use std::process::Abort;
 
 /// The register of this number.
@@ -24,6 +24,12 @@ fn is_row(rt: &impl Abort, word: u32, insn: Insn) {
     is_extended_row(rt, word, insn);
 }
 
+/// The extended table has no row for this word.
+fn is_no_row(rt: &impl Abort, word: u32) {
+    assert_eq!(rt; decode_x(word), None, "{word:08x}");
+    assert_eq!(rt; insn_at(word), Insn::Illegal { word }, "{word:08x}");
+}
+
 /// The extended table has this row.
 fn is_extended_row(rt: &impl Abort, word: u32, insn: Insn) {
     let found = decode_x(word);
@@ -33,9 +39,11 @@ fn is_extended_row(rt: &impl Abort, word: u32, insn: Insn) {
     }
 }
 
-#[test]
-fn reads_operations_on_registers(rt: HostRuntime) {
-    for (op, word) in [
+// Long tables are the answers of functions, so that the proof of a test looks at none of them.
+
+/// Operations, and their words on registers 5, 6 and 7.
+fn operations() -> &'static [(Op, u32)] {
+    &[
         (Op::Add, 0x0073_02b3),
         (Op::Sub, 0x4073_02b3),
         (Op::Sll, 0x0073_12b3),
@@ -54,20 +62,25 @@ fn reads_operations_on_registers(rt: HostRuntime) {
         (Op::Divu, 0x0273_52b3),
         (Op::Rem, 0x0273_62b3),
         (Op::Remu, 0x0273_72b3),
-    ] {
+    ]
+}
+
+#[test]
+fn reads_operations_on_registers(rt: HostRuntime) {
+    for (op, word) in operations() {
         let insn = Insn::Alu {
-            op,
+            op: *op,
             rd: x(5),
             rs1: x(6),
             rs2: x(7),
         };
-        is_row(&rt, word, insn);
+        is_row(&rt, *word, insn);
     }
 }
 
-#[test]
-fn reads_operations_on_a_constant(rt: HostRuntime) {
-    for (op, imm, word) in [
+/// Operations on register 6 and a constant, and their words for register 5.
+fn constants() -> &'static [(Op, i32, u32)] {
+    &[
         (Op::Add, -1, 0xfff3_0293),
         (Op::Slt, 2047, 0x7ff3_2293),
         (Op::Sltu, -2048, 0x8003_3293),
@@ -77,14 +90,19 @@ fn reads_operations_on_a_constant(rt: HostRuntime) {
         (Op::Sll, 31, 0x01f3_1293),
         (Op::Srl, 1, 0x0013_5293),
         (Op::Sra, 17, 0x4113_5293),
-    ] {
+    ]
+}
+
+#[test]
+fn reads_operations_on_a_constant(rt: HostRuntime) {
+    for (op, imm, word) in constants() {
         let insn = Insn::AluImm {
-            op,
+            op: *op,
             rd: x(5),
             rs1: x(6),
-            imm,
+            imm: *imm,
         };
-        is_row(&rt, word, insn);
+        is_row(&rt, *word, insn);
     }
 }
 
@@ -141,16 +159,21 @@ fn reads_upper_immediates_and_jumps(rt: HostRuntime) {
     );
 }
 
-#[test]
-fn reads_branches(rt: HostRuntime) {
-    for (cond, rs1, rs2, offset, word) in [
+/// Conditions, the registers that they compare, the offsets and the words.
+fn branches() -> [(Cond, Reg, Reg, i32, u32); 6] {
+    [
         (Cond::Eq, x(1), x(2), -4096, 0x8020_8063),
         (Cond::Ne, x(9), x(0), 4094, 0x7e04_9fe3),
         (Cond::Lt, x(3), x(4), 2048, 0x0041_c0e3),
         (Cond::Ge, x(3), x(4), -2, 0xfe41_dfe3),
         (Cond::Ltu, x(3), x(4), 30, 0x0041_ef63),
         (Cond::Geu, x(31), x(30), -2050, 0xffef_ff63),
-    ] {
+    ]
+}
+
+#[test]
+fn reads_branches(rt: HostRuntime) {
+    for (cond, rs1, rs2, offset, word) in branches() {
         let insn = Insn::Branch {
             cond,
             rs1,
@@ -161,35 +184,45 @@ fn reads_branches(rt: HostRuntime) {
     }
 }
 
-#[test]
-fn reads_loads_and_stores(rt: HostRuntime) {
-    for (kind, offset, word) in [
+/// Loads of register 1 from offsets of register 2, and their words.
+fn loads() -> &'static [(LoadKind, i32, u32)] {
+    &[
         (LoadKind::B, -2048, 0x8001_0083),
         (LoadKind::H, 2047, 0x7ff1_1083),
         (LoadKind::W, 0, 0x0001_2083),
         (LoadKind::Bu, 1, 0x0011_4083),
         (LoadKind::Hu, 2, 0x0021_5083),
-    ] {
-        let insn = Insn::Load {
-            kind,
-            rd: x(1),
-            rs1: x(2),
-            offset,
-        };
-        is_row(&rt, word, insn);
-    }
-    for (width, offset, word) in [
+    ]
+}
+
+/// Stores of register 1 to offsets of register 2, and their words.
+fn stores() -> &'static [(Width, i32, u32)] {
+    &[
         (Width::Byte, -2048, 0x8011_0023),
         (Width::Half, 2047, 0x7e11_1fa3),
         (Width::Word, 16, 0x0011_2823),
-    ] {
+    ]
+}
+
+#[test]
+fn reads_loads_and_stores(rt: HostRuntime) {
+    for (kind, offset, word) in loads() {
+        let insn = Insn::Load {
+            kind: *kind,
+            rd: x(1),
+            rs1: x(2),
+            offset: *offset,
+        };
+        is_row(&rt, *word, insn);
+    }
+    for (width, offset, word) in stores() {
         let insn = Insn::Store {
-            width,
+            width: *width,
             rs1: x(2),
             rs2: x(1),
-            offset,
+            offset: *offset,
         };
-        is_row(&rt, word, insn);
+        is_row(&rt, *word, insn);
     }
 }
 
@@ -240,9 +273,9 @@ fn reads_the_words_of_its_own(rt: HostRuntime) {
     assert_eq!(rt; decode(0x0000_032b), None);
 }
 
-#[test]
-fn reads_no_other_word(rt: HostRuntime) {
-    for word in [
+/// Words that are no instructions.
+fn others() -> &'static [u32] {
+    &[
         0,
         0xffff_ffff,
         0x0000_1067,
@@ -257,52 +290,71 @@ fn reads_no_other_word(rt: HostRuntime) {
         0x0000_100f,
         0x3020_0073,
         0x0000_102b,
-    ] {
-        assert_eq!(rt; decode_x(word), None, "{word:08x}");
-        assert_eq!(rt; insn_at(word), Insn::Illegal { word }, "{word:08x}");
+    ]
+}
+
+#[test]
+fn reads_no_other_word(rt: HostRuntime) {
+    for word in others() {
+        is_no_row(&rt, *word);
     }
     assert_eq!(rt; encode(&insn_at(0xffff_ffff)), 0xffff_ffff);
 }
 
+/// Asserts the class of the instruction of a word, whether it may be in a unit, and whether it ends a block.
+fn expect_kind(rt: &impl Abort, word: u32, due: Class, eligible: bool, terminator: bool) {
+    let insn = insn_at(word);
+    assert_eq!(rt; class(&insn), due);
+    assert_eq!(rt; is_eligible(&insn), eligible);
+    assert_eq!(rt; is_terminator(&insn), terminator);
+}
+
 #[test]
 fn knows_the_kinds(rt: HostRuntime) {
-    let no_op = insn_at(0x0000_0013);
-    assert_eq!(rt; class(&no_op), Class::Free);
-    assert!(rt; !is_eligible(&no_op));
-    assert!(rt; !is_terminator(&no_op));
-    let shift = insn_at(0x01f3_1293);
-    assert_eq!(rt; class(&shift), Class::ShiftConst);
-    assert!(rt; is_eligible(&shift));
-    let division = insn_at(0x0273_42b3);
-    assert_eq!(rt; class(&division), Class::Div);
-    assert!(rt; !is_eligible(&division));
-    let call = insn_at(0x0000_0073);
-    assert_eq!(rt; class(&call), Class::System);
-    assert!(rt; is_terminator(&call));
+    expect_kind(&rt, 0x0000_0013, Class::Free, false, false);
+    expect_kind(&rt, 0x01f3_1293, Class::ShiftConst, true, false);
+    expect_kind(&rt, 0x0273_42b3, Class::Div, false, false);
+    expect_kind(&rt, 0x0000_0073, Class::System, false, true);
+}
+
+/// Asserts what registers an instruction reads or writes.
+fn expect_set(rt: &impl Abort, set: &Row, registers: &[u8]) {
+    assert_eq!(rt; set.count() as usize, registers.len());
+    for register in registers {
+        assert!(rt; set.has(*register));
+    }
+}
+
+/// Asserts what registers an instruction reads, and what it writes.
+fn expect_registers(rt: &impl Abort, insn: &Insn, read: &[u8], written: &[u8]) {
+    expect_set(rt, &reads(insn), read);
+    expect_set(rt, &writes(insn), written);
+}
+
+/// Asserts what a store of register 18 to an address in register 11 reads and writes.
+fn expect_store(rt: &impl Abort, store: &Insn) {
+    expect_registers(rt, store, &[11, 18], &[]);
+    assert_eq!(rt; operands(store), [11, 18, 0, 0]);
+    assert_eq!(rt; destination(store), 0);
+    assert!(rt; reads_register(store, 18) && !reads_register(store, 0));
+    assert!(rt; is_access(store));
+}
+
+/// Asserts what an environment call reads and writes.
+fn expect_call(rt: &impl Abort, call: &Insn) {
+    expect_registers(rt, call, &[10, 11, 12, 17], &[10]);
+    assert!(rt; writes_register(call, 10));
+    assert!(rt; !is_access(call));
+    assert!(rt; !is_unit(call) && !is_cread(call));
 }
 
 #[test]
 fn knows_the_registers(rt: HostRuntime) {
-    let call = Insn::Ecall;
-    assert_eq!(rt; reads(&call).count(), 4);
-    for register in [10, 11, 12, 17] {
-        assert!(rt; reads(&call).has(register));
-    }
-    assert_eq!(rt; writes(&call).count(), 1);
-    assert!(rt; writes(&call).has(10));
+    expect_call(&rt, &Insn::Ecall);
+    expect_store(&rt, &insn_at(0x0125_a823));
     let no_op = insn_at(0x0000_0013);
-    assert_eq!(rt; reads(&no_op).count(), 0);
-    assert_eq!(rt; writes(&no_op).count(), 0);
-    let store = insn_at(0x0125_a823);
-    assert_eq!(rt; reads(&store).count(), 2);
-    assert!(rt; reads(&store).has(11) && reads(&store).has(18));
-    assert_eq!(rt; writes(&store).count(), 0);
-    assert_eq!(rt; operands(&store), [11, 18, 0, 0]);
-    assert_eq!(rt; destination(&store), 0);
-    assert!(rt; reads_register(&store, 18) && !reads_register(&store, 0));
-    assert!(rt; writes_register(&call, 10) && !writes_register(&no_op, 0));
-    assert!(rt; is_access(&store) && !is_access(&call));
-    assert!(rt; !is_unit(&call) && !is_cread(&call));
+    expect_registers(&rt, &no_op, &[], &[]);
+    assert!(rt; !writes_register(&no_op, 0));
 }
 
 #[test]

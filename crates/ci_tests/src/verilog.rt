@@ -1,8 +1,5 @@
 //! Modules built by hand.
-use crate::eval;
-use crate::expressions::{Expr, Item, Items, Name, Operator, Simple, Term, Wire};
-use crate::modules::Module;
-use crate::wires::Wires;
+use ci_verilog::{Expr, Item, Items, Module, Name, Operator, Simple, Term, Wire, Wires, eval};
 use std::alloc::{AllocError, Global};
 use std::process::Abort;
 use std::test::Fail;

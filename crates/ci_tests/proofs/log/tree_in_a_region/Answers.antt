@@ -7,7 +7,7 @@ use Rattle.ci_log.specs.declared.flattening.Child.TheVariants.{Inner}
 use Rattle.ci_log.specs.declared.flattening.LogNode.{LogNode}
 use Rattle.ci_log.specs.RegionTrees.{Slots, IsTreeIn}
 use Rattle.ci_log.proofs.RegionTreeLaws.{at_leaf, at_inner}
-use Rattle.ci_log.proofs.tests.tree_in_a_region.Goals as goal
+use Rattle.ci_tests.proofs.log.tree_in_a_region.Goals as goal
 
 -- without the second slot the region is what it was before it was taken
 pub flatten-requires-clause-tree : goal.flatten-requires-clause-tree

@@ -1,0 +1,438 @@
+//! Files, and what they read as.
+ghost use Rattle.std.specs.Prelude.{◌≡◌, ◌+◌, ◌<◌, ◌≤◌, length, vec_len};
+
+use crate::common::change;
+use ci_elf::{ElfFault, Image, Places, Range, Segment, frame, range_with, read};
+use std::alloc::{AllocError, Global};
+use std::process::Abort;
+use std::test::Fail;
+
+/// The fault of a file, if it has one.
+fn fault_of(rt: &impl Abort, alloc: Global, bytes: &[u8]) -> Option<ElfFault> {
+    assert!(rt; bytes.len() <= 268_435_456);
+    match read(alloc, bytes) {
+        Ok(_) => None,
+        Err(fault) => Some(fault),
+    }
+}
+
+/// The image of a file.
+fn image_of(rt: &impl Abort, alloc: Global, bytes: &[u8]) -> Result<Image, ElfFault> {
+    assert!(rt; bytes.len() <= 268_435_456);
+    read(alloc, bytes)
+}
+
+/// The fault of the file that has the one word `addi x0, x0, 0`, with other words at some offsets.
+fn changed(
+    rt: &impl Abort,
+    alloc: Global,
+    edits: &[(usize, u32)],
+) -> Result<Option<ElfFault>, AllocError> {
+    let mut bytes = frame(alloc, &[0x13], &[], &[])?;
+    change(rt, &mut bytes, edits);
+    Ok(fault_of(rt, alloc, &bytes))
+}
+
+/// The fault of the front of that file.
+fn cut(rt: &impl Abort, alloc: Global, len: usize) -> Result<Option<ElfFault>, AllocError> {
+    let mut bytes = frame(alloc, &[0x13], &[], &[])?;
+    bytes.truncate(len);
+    Ok(fault_of(rt, alloc, &bytes))
+}
+
+// A test hands its table on as a whole, so that the proof of the loop over it does not look at it.
+
+/// Words at offsets, and the fault of the file that has them.
+type Row<'a> = (&'a [(usize, u32)], Option<ElfFault>);
+
+/// Fails where a file has another fault than its row says.
+fn are_faults(rt: &impl Abort, alloc: Global, rows: &[Row<'_>]) -> Result<(), AllocError> {
+    for (edits, due) in rows {
+        let found = changed(rt, alloc, edits)?;
+        assert_eq!(rt; found, *due, "{edits:?}");
+    }
+    Ok(())
+}
+
+/// How many bytes of the file there are, and its fault then.
+fn fronts() -> &'static [(usize, Option<ElfFault>)] {
+    &[
+        (0, Some(ElfFault::Short(0))),
+        (51, Some(ElfFault::Short(0))),
+        (52, Some(ElfFault::Short(52))),
+        (60, Some(ElfFault::Short(52))),
+        (116, Some(ElfFault::Short(120))),
+        (200, Some(ElfFault::Short(120))),
+        (279, Some(ElfFault::Short(120))),
+        (280, None),
+    ]
+}
+
+#[test]
+fn a_file_may_be_cut(rt: HostRuntime) -> Result<(), Fail> {
+    for (len, due) in fronts() {
+        let found = cut(&rt, rt.alloc(), *len)?;
+        assert_eq!(rt; found, *due, "{len}");
+    }
+    Ok(())
+}
+
+#[test]
+fn the_file_header_is_tested(rt: HostRuntime) -> Result<(), AllocError> {
+    let rows: &[Row<'_>] = &[
+        (&[(0, 0x464c_4500)], Some(ElfFault::NotElf)),
+        (&[(4, 0x0001_0102)], Some(ElfFault::WrongKind(4, 2))),
+        (&[(4, 0x0001_0201)], Some(ElfFault::WrongKind(5, 2))),
+        (&[(4, 0x0002_0101)], Some(ElfFault::WrongKind(6, 2))),
+        (&[(16, 0x00f3_0003)], Some(ElfFault::WrongKind(16, 3))),
+        (&[(16, 0x003e_0002)], Some(ElfFault::WrongKind(18, 62))),
+        (&[(20, 2)], Some(ElfFault::WrongKind(20, 2))),
+        (&[(36, 1)], Some(ElfFault::WrongKind(36, 1))),
+        (&[(36, 4)], None),
+    ];
+    are_faults(&rt, rt.alloc(), rows)
+}
+
+#[test]
+fn the_tables_are_tested(rt: HostRuntime) -> Result<(), AllocError> {
+    let rows: &[Row<'_>] = &[
+        (&[(40, 0x0021_0034)], Some(ElfFault::WrongKind(42, 33))),
+        (&[(44, 0x0029_0002)], Some(ElfFault::WrongKind(46, 41))),
+        (&[(28, 0xffff_ffff)], Some(ElfFault::Short(0xffff_ffff))),
+        (&[(32, 0xffff_fff0)], Some(ElfFault::Short(0xffff_fff0))),
+        // Neither table has entries: where they would lie and what size their entries have is free.
+        (
+            &[
+                (28, 0xffff_ffff),
+                (32, 0xffff_ffff),
+                (40, 0x0021_0034),
+                (44, 0x0029_0000),
+                (48, 0),
+            ],
+            Some(ElfFault::EntryNotText),
+        ),
+    ];
+    are_faults(&rt, rt.alloc(), rows)
+}
+
+#[test]
+fn each_segment_is_tested(rt: HostRuntime) -> Result<(), AllocError> {
+    let rows: &[Row<'_>] = &[
+        (&[(84, 3)], Some(ElfFault::WrongKind(84, 3))),
+        (&[(84, 6), (92, 0x1_0000), (104, 4)], None),
+        (&[(56, 0xffff_ffff)], Some(ElfFault::Short(0xffff_ffff))),
+        (&[(72, 4)], Some(ElfFault::BadSegment(0))),
+        (&[(92, 0xfffe_fffc), (104, 4)], None),
+        (
+            &[(92, 0xfffe_fffd), (104, 4)],
+            Some(ElfFault::BadSegment(1)),
+        ),
+        (
+            &[(92, 0xffff_fffc), (104, 8)],
+            Some(ElfFault::BadSegment(1)),
+        ),
+        (&[(92, 0x7fef_fffc), (104, 4)], None),
+        (
+            &[(92, 0x7fef_fffd), (104, 4)],
+            Some(ElfFault::BadSegment(1)),
+        ),
+        (
+            &[(92, 0x7fff_ffff), (104, 1)],
+            Some(ElfFault::BadSegment(1)),
+        ),
+        (&[(92, 0x8000_0000), (104, 1)], None),
+    ];
+    are_faults(&rt, rt.alloc(), rows)
+}
+
+#[test]
+fn the_memory_is_tested(rt: HostRuntime) -> Result<(), AllocError> {
+    let rows: &[Row<'_>] = &[
+        (&[(92, 0x1_0000), (104, 4)], Some(ElfFault::Overlap(0, 1))),
+        (&[(92, 0x1_0077), (104, 1)], Some(ElfFault::Overlap(0, 1))),
+        (&[(92, 0x1_0078), (104, 1)], None),
+        (&[(92, 0x0_fffc), (104, 4)], None),
+        // The first segment has 120 bytes of memory, and the stack 1,048,576.
+        (&[(104, 66_060_168)], None),
+        (&[(104, 66_060_169)], Some(ElfFault::TooLarge)),
+    ];
+    are_faults(&rt, rt.alloc(), rows)
+}
+
+#[test]
+fn each_section_is_tested(rt: HostRuntime) -> Result<(), AllocError> {
+    let rows: &[Row<'_>] = &[
+        (&[(180, 8)], Some(ElfFault::BadSection(1))),
+        (&[(172, 0x1_0078)], Some(ElfFault::BadSection(1))),
+        // Text over the last bytes of the program headers.
+        (
+            &[(172, 0x1_0070), (176, 112)],
+            Some(ElfFault::BadSection(1)),
+        ),
+        // A symbol table at the end of the file: entries of no size, of 16 bytes, half an entry, and one past the end.
+        (&[(204, 2)], Some(ElfFault::BadSection(2))),
+        (&[(204, 2), (236, 16)], None),
+        (&[(204, 2), (236, 16), (220, 16)], None),
+        (
+            &[(204, 2), (236, 16), (220, 8)],
+            Some(ElfFault::BadSection(2)),
+        ),
+        (
+            &[(204, 2), (236, 16), (216, 265), (220, 16)],
+            Some(ElfFault::BadSection(2)),
+        ),
+        // A symbol table over the text.
+        (
+            &[(204, 2), (236, 16), (216, 116), (220, 16)],
+            Some(ElfFault::BadSection(1)),
+        ),
+        // A second text over the first.
+        (
+            &[(208, 6), (212, 0x1_0074), (216, 116), (220, 4)],
+            Some(ElfFault::BadSection(2)),
+        ),
+    ];
+    are_faults(&rt, rt.alloc(), rows)
+}
+
+#[test]
+fn the_text_is_tested(rt: HostRuntime) -> Result<(), AllocError> {
+    let rows: &[Row<'_>] = &[
+        // The second segment maps the file from its beginning, the text too, or up to the text.
+        (
+            &[(88, 0), (100, 120), (104, 120)],
+            Some(ElfFault::SharedText(0, 1)),
+        ),
+        (&[(88, 0), (100, 116), (104, 120)], None),
+        (&[(24, 0x1_0076)], Some(ElfFault::EntryNotText)),
+        (&[(24, 0x1_0078)], Some(ElfFault::EntryNotText)),
+        (&[(24, 0x1_0070)], Some(ElfFault::EntryNotText)),
+        // No text, and text without a whole word.
+        (&[(180, 0)], Some(ElfFault::EntryNotText)),
+        (&[(180, 3)], Some(ElfFault::EntryNotText)),
+        (&[(168, 4)], Some(ElfFault::EntryNotText)),
+    ];
+    are_faults(&rt, rt.alloc(), rows)
+}
+
+// Images are let go by calls of `drop`, which a proof does not look into.
+
+/// Asserts which addresses lie in the text of an image.
+fn expect_in_text(rt: &impl Abort, image: &Image, rows: &[(u32, bool)]) {
+    for (address, due) in rows {
+        assert_eq!(rt; image.in_text(*address), *due, "{address:x}");
+    }
+}
+
+/// Asserts what bytes an image loads.
+fn expect_loaded(rt: &impl Abort, image: &Image, rows: &[(u32, Option<u8>)]) {
+    for (address, due) in rows {
+        assert_eq!(rt; image.loaded_byte(*address), *due, "{address:x}");
+    }
+}
+
+/// Asserts what segments an image has.
+fn expect_segments(rt: &impl Abort, image: &Image) {
+    let text = Segment {
+        address: 0x1_0000,
+        memory_size: 128,
+        offset: 0,
+        file_size: 128,
+    };
+    let values = Segment {
+        address: 0x2_0000,
+        memory_size: 12,
+        offset: 128,
+        file_size: 12,
+    };
+    assert_eq!(rt; image.segments(), [text, values].as_slice());
+}
+
+/// Asserts what range an image has.
+fn expect_range(rt: &impl Abort, image: &Image) {
+    let words = Range {
+        start: 0x1_0074,
+        words: 2,
+    };
+    assert_eq!(rt; image.ranges(), [words].as_slice());
+    let range = range_with(image.ranges(), 0x1_007b);
+    assert_eq!(rt; range, Some(0));
+}
+
+#[test]
+fn an_image_has_the_parts_of_its_file(rt: HostRuntime) -> Result<(), Fail> {
+    let bytes = frame(rt.alloc(), &[0x13, 0x73], &[1000], &[5, 6, 7])?;
+    let image = image_of(&rt, rt.alloc(), &bytes)?;
+    assert_eq!(rt; image.entry(), 0x1_0074);
+    assert_eq!(rt; image.bytes(), bytes.as_slice());
+    expect_segments(&rt, &image);
+    expect_range(&rt, &image);
+    assert_eq!(rt; image.symbols().len(), 0);
+    expect_in_text(
+        &rt,
+        &image,
+        &[
+            (0x1_0074, true),
+            (0x1_007b, true),
+            (0x1_0073, false),
+            (0x1_007c, false),
+        ],
+    );
+    expect_loaded(
+        &rt,
+        &image,
+        &[
+            (0xffff, None),
+            (0x1_0001, Some(0x45)),
+            (0x1_0080, None),
+            (0x2_0004, Some(6)),
+            (0x2_000c, None),
+        ],
+    );
+    drop(image);
+    Ok(())
+}
+
+/// Asserts what word an image has at an address.
+fn expect_word(rt: &impl Abort, image: &Image, address: u32, word: u32) {
+    assert!(rt; address % 4 == 0);
+    assert!(rt; image.in_text(address));
+    assert_eq!(rt; image.word(address), word);
+}
+
+#[test]
+fn a_word_is_patched(rt: HostRuntime) -> Result<(), Fail> {
+    let bytes = frame(rt.alloc(), &[0x13, 0x73], &[], &[])?;
+    let mut expected = Vec::from_slice(rt.alloc(), &bytes)?;
+    change(&rt, &mut expected, &[(120, 0x0010_0073)]);
+    let mut image = image_of(&rt, rt.alloc(), &bytes)?;
+    expect_word(&rt, &image, 0x1_0078, 0x73);
+    let copy = image.duplicate(rt.alloc());
+    assert!(rt; image.in_text(0x1_0078));
+    image.patch(0x1_0078, 0x0010_0073);
+    expect_word(&rt, &image, 0x1_0078, 0x0010_0073);
+    assert_eq!(rt; image.bytes(), expected.as_slice());
+    drop(image);
+    let copy = copy?;
+    expect_word(&rt, &copy, 0x1_0078, 0x73);
+    assert_eq!(rt; copy.bytes(), bytes.as_slice());
+    drop(copy);
+    Ok(())
+}
+
+/// Asserts where the two words of a file have their places.
+fn expect_places(rt: &impl Abort, alloc: Global, image: &Image) -> Result<(), AllocError> {
+    let places = Places::new(alloc, image.ranges())?;
+    assert_eq!(rt; places.ranges(), image.ranges());
+    assert_eq!(rt; places.len(), 2);
+    assert!(rt; places.in_text(0x1_007b) && !places.in_text(0x1_007c));
+    let mut last = 7;
+    let near = places.near(&mut last, 0x1_0078);
+    assert_eq!(rt; near, Some(1));
+    assert_eq!(rt; last, 0);
+    let between = places.of(0x1_007a);
+    assert_eq!(rt; between, None);
+    Ok(())
+}
+
+#[test]
+fn words_have_places(rt: HostRuntime) -> Result<(), Fail> {
+    let bytes = frame(rt.alloc(), &[0x13, 0x73], &[], &[])?;
+    let image = image_of(&rt, rt.alloc(), &bytes)?;
+    let outcome = expect_places(&rt, rt.alloc(), &image);
+    drop(image);
+    outcome?;
+    Ok(())
+}
+
+/// Asserts what symbols a file has.
+fn expect_symbols(
+    rt: &impl Abort,
+    alloc: Global,
+    bytes: &[u8],
+    symbols: &[u32],
+) -> Result<(), ElfFault> {
+    let image = image_of(rt, alloc, bytes)?;
+    assert_eq!(rt; image.symbols(), symbols);
+    drop(image);
+    Ok(())
+}
+
+#[test]
+fn symbols_are_read_in_order(rt: HostRuntime) -> Result<(), Fail> {
+    // Two symbol tables: the values, as two entries, and the constants, as one.
+    let values = [0, 0x1_0078, 0, 0, 0, 0x1_0074, 0, 0];
+    let mut bytes = frame(rt.alloc(), &[0x13, 0x73], &[0, 7, 0, 0], &values)?;
+    change(&rt, &mut bytes, &[(296, 2), (328, 16)]);
+    expect_symbols(&rt, rt.alloc(), &bytes, &[0x1_0078, 0x1_0074])?;
+    change(&rt, &mut bytes, &[(256, 2), (288, 16)]);
+    expect_symbols(&rt, rt.alloc(), &bytes, &[7, 0x1_0078, 0x1_0074])?;
+    Ok(())
+}
+
+/// How many headers each table of the large file has.
+const MANY: u32 = 65_535;
+
+/// A file header for tables of `MANY` headers, the section headers behind the program headers.
+fn push_large_header(bytes: &mut Vec<u8>) -> Result<(), AllocError> {
+    bytes.extend_from_slice(b"\x7fELF\x01\x01\x01\0\0\0\0\0\0\0\0\0\x02\0\xf3\0")?;
+    for word in [
+        1,
+        0x10_0000,
+        52,
+        52 + 32 * MANY,
+        0,
+        52 + (32 << 16),
+        MANY + (40 << 16),
+        MANY,
+    ] {
+        bytes.extend_from_slice(&word.to_le_bytes())?;
+    }
+    Ok(())
+}
+
+/// Program and section headers of as many segments and texts of one word, by falling addresses. The
+/// file bytes of all of them lie behind both tables.
+fn push_large_tables(bytes: &mut Vec<u8>, last: u32) -> Result<(), AllocError> {
+    let words = 52 + 72 * MANY;
+    for i in 0..MANY {
+        let place = 4 * (MANY - 1 - i);
+        let address = if i == MANY - 1 {
+            last
+        } else {
+            0x10_0000 + place
+        };
+        for word in [1, words + place, address, address, 4, 4, 5, 4] {
+            bytes.extend_from_slice(&word.to_le_bytes())?;
+        }
+    }
+    for i in 0..MANY {
+        let place = 4 * i;
+        for word in [0, 1, 6, 0x10_0000 + place, words + place, 4, 0, 0, 0, 0] {
+            bytes.extend_from_slice(&word.to_le_bytes())?;
+        }
+    }
+    for _ in 0..MANY {
+        bytes.extend_from_slice(&[0x13, 0, 0, 0])?;
+    }
+    Ok(())
+}
+
+/// The fault of the large file whose last segment begins at this address.
+fn large_fault(rt: &impl Abort, alloc: Global, last: u32) -> Result<Option<ElfFault>, AllocError> {
+    let mut bytes = Vec::new(alloc);
+    push_large_header(&mut bytes)?;
+    push_large_tables(&mut bytes, last)?;
+    Ok(fault_of(rt, alloc, &bytes))
+}
+
+#[test]
+fn many_headers_take_little_time(rt: HostRuntime) -> Result<(), Fail> {
+    assert_eq!(rt; large_fault(&rt, rt.alloc(), 0x10_0000)?, None);
+    let overlap = Some(ElfFault::Overlap(0, MANY - 1));
+    assert_eq!(rt;
+        large_fault(&rt, rt.alloc(), 0x10_0000 + 4 * (MANY - 1))?,
+        overlap
+    );
+    Ok(())
+}

@@ -1,0 +1,219 @@
+//! Texts of tables and what they give.
+use ci_lat::{Key, LatFault, Table};
+use ci_word::Class;
+use std::process::Abort;
+use std::test::Fail;
+
+// Long tables are the answers of functions, so that the proof of a test looks at none of them.
+
+/// Each class with its latency and its delay by default.
+fn defaults() -> &'static [(Class, u32, u32)] {
+    &[
+        (Class::Add, 1, 400),
+        (Class::Logic, 1, 100),
+        (Class::Shift, 1, 300),
+        (Class::ShiftConst, 1, 0),
+        (Class::Compare, 1, 400),
+        (Class::Lui, 1, 0),
+        (Class::Mul, 3, 2100),
+        (Class::Mulh, 3, 2200),
+        (Class::Load, 2, 0),
+        (Class::Store, 1, 0),
+        (Class::Branch, 1, 0),
+        (Class::Jump, 2, 0),
+        (Class::Auipc, 1, 0),
+        (Class::Div, 32, 0),
+        (Class::Fence, 1, 0),
+        (Class::System, 1, 0),
+        (Class::Free, 0, 0),
+    ]
+}
+
+/// A `pad` that exceeds the default of `mulh`, the last latency that it is compared with, and `read`.
+const PAD_ABOVE_MULH: &[u8] =
+    b"pad = 4\nread = 3\n[software]\nadd = 4\nlogic = 4\nshift = 4\nshift_const = 4\n\
+    compare = 4\nlui = 4\nmul = 4\n";
+
+/// A `pad` that exceeds `read` alone.
+const PAD_ABOVE_READ: &[u8] =
+    b"pad = 4\nread = 3\n[software]\nadd = 4\nlogic = 4\nshift = 4\nshift_const = 4\n\
+    compare = 4\nlui = 4\nmul = 4\nmulh = 4\n";
+
+/// Texts and their faults.
+fn faults() -> &'static [(&'static [u8], LatFault)] {
+    &[
+        (b"x", LatFault::NotToml),
+        (b"\xff", LatFault::NotToml),
+        (b"read = 1\nread = 2\n", LatFault::NotToml),
+        (b"reed = 1", LatFault::UnknownKey),
+        (b"reed = 1\nread = 0", LatFault::UnknownKey),
+        (b"[software]\nfree = 1\n", LatFault::UnknownKey),
+        (b"[hardware]\nload = 1", LatFault::UnknownKey),
+        (
+            b"software = 1\n[hardware]\nload = 1\n",
+            LatFault::UnknownKey,
+        ),
+        (b"read = 0", LatFault::OutOfRange(Key::Read)),
+        (b"read = -1", LatFault::OutOfRange(Key::Read)),
+        (b"read = 1001", LatFault::OutOfRange(Key::Read)),
+        (
+            b"read = 9223372036854775807",
+            LatFault::OutOfRange(Key::Read),
+        ),
+        (b"read = 1.0", LatFault::OutOfRange(Key::Read)),
+        (b"read = \"1\"", LatFault::OutOfRange(Key::Read)),
+        (b"read.x = 1", LatFault::OutOfRange(Key::Read)),
+        (b"pad = -1", LatFault::OutOfRange(Key::Pad)),
+        (b"pad = 1001\nread = 0", LatFault::OutOfRange(Key::Read)),
+        (b"pad = 1001\nsoftware = 1", LatFault::OutOfRange(Key::Pad)),
+        (b"software = 1", LatFault::OutOfRange(Key::Software)),
+        (
+            b"software = []\n[hardware]\nadd = -1\n",
+            LatFault::OutOfRange(Key::Software),
+        ),
+        (
+            b"software.add.x = 1",
+            LatFault::OutOfRange(Key::SoftwareOf(Class::Add)),
+        ),
+        (
+            b"[software]\nadd = 0",
+            LatFault::OutOfRange(Key::SoftwareOf(Class::Add)),
+        ),
+        (
+            b"[software]\nsystem = 1001\ndiv = 0\n",
+            LatFault::OutOfRange(Key::SoftwareOf(Class::Div)),
+        ),
+        (
+            b"hardware = 1\n[software]\nsystem = 1001\n",
+            LatFault::OutOfRange(Key::SoftwareOf(Class::System)),
+        ),
+        (
+            b"pad = 1000\nhardware = 1",
+            LatFault::OutOfRange(Key::Hardware),
+        ),
+        (
+            b"[hardware]\nadd = 100001\nlogic = -1\n",
+            LatFault::OutOfRange(Key::HardwareOf(Class::Add)),
+        ),
+        (
+            b"[hardware]\nmulh = -1\n",
+            LatFault::OutOfRange(Key::HardwareOf(Class::Mulh)),
+        ),
+        (
+            b"pad = 2",
+            LatFault::PadTooLarge(Key::SoftwareOf(Class::Add)),
+        ),
+        (
+            b"pad = 2\n[software]\nadd = 2\n",
+            LatFault::PadTooLarge(Key::SoftwareOf(Class::Logic)),
+        ),
+        (
+            PAD_ABOVE_MULH,
+            LatFault::PadTooLarge(Key::SoftwareOf(Class::Mulh)),
+        ),
+        (PAD_ABOVE_READ, LatFault::PadTooLarge(Key::Read)),
+        (
+            b"pad = 2\nread = 1000\n[hardware]\nadd = 1.5\n",
+            LatFault::OutOfRange(Key::HardwareOf(Class::Add)),
+        ),
+        (
+            b"pad = 2\nread = 1000\n[hardware.add]\n",
+            LatFault::OutOfRange(Key::HardwareOf(Class::Add)),
+        ),
+        (
+            b"[[software]]\nadd = 0\n",
+            LatFault::OutOfRange(Key::Software),
+        ),
+    ]
+}
+
+/// Keys and what they print as.
+fn names() -> &'static [(Key, &'static str)] {
+    &[
+        (Key::Read, "read"),
+        (Key::Pad, "pad"),
+        (Key::Software, "software"),
+        (Key::Hardware, "hardware"),
+        (Key::SoftwareOf(Class::Add), "software.add"),
+        (Key::SoftwareOf(Class::System), "software.system"),
+        (Key::HardwareOf(Class::ShiftConst), "hardware.shift_const"),
+        (Key::HardwareOf(Class::Mulh), "hardware.mulh"),
+    ]
+}
+
+fn is_usual(rt: &impl Abort, table: &Table) {
+    assert_eq!(rt; table.read(), 1);
+    assert_eq!(rt; table.pad(), 0);
+    for (class, latency, delay) in defaults() {
+        assert_eq!(rt; table.latency(*class), *latency);
+        assert_eq!(rt; table.delay(*class), *delay);
+    }
+}
+
+#[test]
+fn an_empty_text_is_the_usual_table(rt: HostRuntime) -> Result<(), LatFault> {
+    is_usual(&rt, &Table::usual());
+    is_usual(&rt, &Table::from_toml(rt.alloc(), b"")?);
+    is_usual(
+        &rt,
+        &Table::from_toml(rt.alloc(), b"# nothing\n[software]\n[hardware]\n")?,
+    );
+    Ok(())
+}
+
+#[test]
+fn faults_are_the_first(rt: HostRuntime) {
+    for (text, fault) in faults() {
+        assert!(rt; Table::from_toml(rt.alloc(), text).err() == Some(*fault));
+    }
+}
+
+/// Numbers at the ends of their ranges.
+fn ends() -> &'static [u8] {
+    b"read = 1000\npad = 1000\nsoftware = { add = 1000, logic = 1000, shift = 1000, shift_const = 1000, \
+    compare = 1000, lui = 1000, mul = 1000, mulh = 1000, load = 1, system = 1000 }\n\
+    [hardware]\nadd = 0\nmulh = 100000\n"
+}
+
+fn expect_latencies(rt: &impl Abort, table: &Table, rows: &[(Class, u32)]) {
+    for (class, latency) in rows {
+        assert_eq!(rt; table.latency(*class), *latency);
+    }
+}
+
+fn expect_delays(rt: &impl Abort, table: &Table, rows: &[(Class, u32)]) {
+    for (class, delay) in rows {
+        assert_eq!(rt; table.delay(*class), *delay);
+    }
+}
+
+#[test]
+fn ends_of_ranges_are_taken(rt: HostRuntime) -> Result<(), LatFault> {
+    let table = Table::from_toml(rt.alloc(), ends())?;
+    assert_eq!(rt; (table.read(), table.pad()), (1000, 1000));
+    expect_latencies(
+        &rt,
+        &table,
+        &[
+            (Class::Mulh, 1000),
+            (Class::Load, 1),
+            (Class::Div, 32),
+            (Class::System, 1000),
+        ],
+    );
+    expect_delays(
+        &rt,
+        &table,
+        &[(Class::Add, 0), (Class::Logic, 100), (Class::Mulh, 100_000)],
+    );
+    Ok(())
+}
+
+#[test]
+fn keys_print_as_their_names(rt: HostRuntime) -> Result<(), Fail> {
+    for (key, name) in names() {
+        let text = format!(in rt.alloc(); "{key}")?;
+        assert_eq!(rt; text.as_str(), *name);
+    }
+    Ok(())
+}

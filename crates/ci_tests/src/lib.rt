@@ -1,0 +1,23 @@
+//! The tests of the crates below, by the calls that these give out.
+//!
+//! They stand here, over the libraries, since a crate with tests is proved once more with them.
+#![tactic(auto)]
+
+#[cfg(test)]
+mod asm;
+#[cfg(test)]
+mod common;
+#[cfg(test)]
+mod elf;
+#[cfg(test)]
+mod io;
+#[cfg(test)]
+mod isa;
+#[cfg(test)]
+mod lat;
+#[cfg(test)]
+mod log;
+#[cfg(test)]
+mod reading;
+#[cfg(test)]
+mod verilog;
