@@ -1,22 +1,24 @@
 -- How each call of a region changes its cells and the chain of the free ones, and keeps what they are.
-use Rattle.std.proofs.Common.{◌≡◌, ℕ, zero, suc, ◌+◌, ◌-◌, ◌<◌, ◌≤◌, List, [], ◌∷◌, length, get_or, set}
+use Rattle.std.proofs.Common.{◌≡◌, ℕ, zero, suc, ◌+◌, ◌-◌, ◌<◌, ◌≤◌, max, List, [], ◌∷◌, ◌++◌, length, get_or, set}
 use Rattle.std.proofs.Common.{count_by}
 use Rattle.std.proofs.Common.{Option, None, IsSome, cond, true≢false, refl, sym, ap, subst, ◌∙◌, inl}
 use Rattle.std.proofs.Common.{inr}
 use Rattle.std.proofs.Common.{arith}
-use Rattle.std.proofs.lemmas.Bool.{cases_eq, cases_lt}
-use Rattle.std.proofs.lemmas.List.{get_or_append_left, get_or_push, get_or_past, length_push}
+use Rattle.std.proofs.lemmas.Bool.{cases_lt}
+use Rattle.std.proofs.lemmas.List.{get_or_past, length_push}
 use Rattle.std.proofs.lemmas.List.{get_or-set_same, get_or-set_other, length-set}
-use Rattle.std.proofs.lemmas.List.Sums.{sum_by-set}
+use Rattle.std.proofs.lemmas.List.Sums.{sum_by-set, sum_by_push}
 use Rattle.std.specs.Ordering.{nat_cmp}
 use Rattle.std.specs.FinMap as map
 use Rattle.std.specs.FinMap.{len-empty}
+use Rattle.ci_region.specs.Blocks.{with_cells, with_next}
+use Rattle.ci_region.specs.declared.block.Block.{Block}
 use Rattle.ci_region.specs.BoundedMap.{BoundedMap, IsLive, used, with_value, without}
 use Rattle.ci_region.specs.declared.block.Cell.{Cell}
 use Rattle.ci_region.specs.declared.block.Cell.TheVariants.{Live, Free}
-use Rattle.ci_region.specs.Cells.{values_in, value_of, is_live, chain, Avoids, IsChain, chain_end}
+use Rattle.ci_region.specs.Cells.{values_in, value_of, is_live, Avoids, IsChain, chain_end}
 use Rattle.ci_region.specs.Cells.{chain_link, AreCells, AreAsMade}
-use Rattle.ci_region.proofs.ValueLaws.{get-values_in, len-values_in, no_value, values-live, values-free}
+use Rattle.ci_region.proofs.ValueLaws.{get-values_in, len-values_in, no_value, values-live, values-push, values-free}
 
 module _ {T : Type 0} (cells : List (Cell T)) where
   -- the count of values after a write
@@ -28,7 +30,7 @@ module _ {T : Type 0} (cells : List (Cell T)) where
   -- a cell with a value isn't in the chain
   chain_avoids : {first : ℕ} {free : List ℕ} → IsChain cells first free → (number : ℕ)
       → IsSome (value_of (get_or cells number (Free 0))) → Avoids number free
-  chain_avoids chain_end number live = tt
+  chain_avoids (chain_end last) number live = tt
   chain_avoids (chain_link {number = first} within is apart rest) number live = (
     λ same. true≢false (sym live ∙ ap (λ k. is_live (get_or cells k (Free 0))) same ∙ ap is_live is),
     chain_avoids rest number live,
@@ -37,7 +39,7 @@ module _ {T : Type 0} (cells : List (Cell T)) where
   -- a write of a cell that isn't in the chain keeps it
   chain_set : {first : ℕ} {free : List ℕ} → IsChain cells first free → (number : ℕ) (new : Cell T)
       → Avoids number free → IsChain (set cells number new) first free
-  chain_set chain_end number new avoids = chain_end
+  chain_set (chain_end last) number new avoids = chain_end (last ∙ sym (length-set cells number new))
   chain_set (chain_link {number = first} within is apart rest) number new avoids =
       chain_link (omega (arith, length-set cells number new))
       (get_or-set_other cells number first new (Free 0) (λ same. avoids.0 (sym same)) ∙ is) apart
@@ -47,23 +49,32 @@ module _ {T : Type 0} (cells : List (Cell T)) where
   record HasFirst (first count : ℕ) : Type 0 where
     next : ℕ
     others : List ℕ
-    within : first < length cells
     is : get_or cells first (Free 0) ≡ Free next
     apart : Avoids first others
     rest : IsChain cells next others
     shorter : length others + 1 ≡ count
 
-  has_first : {first : ℕ} {free : List ℕ} → IsChain cells first free → 0 < length free → HasFirst first (length free)
-  has_first chain_end some = absurd (omega arith)
-  has_first (chain_link {next = next} {others = others} within is apart rest) some = record {
+  has_first : {first : ℕ} {free : List ℕ} → IsChain cells first free → first < length cells
+      → HasFirst first (length free)
+  has_first (chain_end last) within = absurd (omega (arith, last))
+  has_first (chain_link {next = next} {others = others} inside is apart rest) within = record {
     next = next;
     others = others;
-    within = within;
     is = is;
     apart = apart;
     rest = rest;
     shorter = omega arith;
   }
+
+  -- a chain begins at one of the cells, or behind all of them
+  first_at_most : {first : ℕ} {free : List ℕ} → IsChain cells first free → first ≤ length cells
+  first_at_most (chain_end last) = omega (arith, last)
+  first_at_most (chain_link within is apart rest) = omega (arith, within)
+
+  -- a chain that begins behind all cells is empty
+  no_links : {first : ℕ} {free : List ℕ} → IsChain cells first free → first ≡ length cells → length free ≡ 0
+  no_links (chain_end last) behind = refl
+  no_links (chain_link within is apart rest) behind = absurd (omega (arith, within, behind))
 
 abbrev number_of : {T : Type 0} → Cell T → ℕ
 number_of (Free next) = next
@@ -71,59 +82,97 @@ number_of (Live value) = 0
 
 -- ---- the first free cell gets a value
 
-module _ {T : Type 0} (cells : List (Cell T)) (first used reached capacity : ℕ)
-    (are : AreCells cells first used reached capacity) (room : used < capacity) where
-  in_front : HasFirst cells first (length are.free)
-  in_front = has_first cells are.chained (omega (arith, are.rest_free, are.all))
+module _ {T : Type 0} (cells : List (Cell T)) (first used to_clear reached : ℕ)
+    (are : AreCells cells first used to_clear reached) where
+  -- the first free cell is one of the cells, or the next one
+  pub first_within : first ≤ reached
+  first_within = omega (arith, first_at_most cells are.chained, are.all)
 
-  -- the first free cell is one of the cells, and has no value
-  pub first_is_free : (first < length cells) × (value_of (get_or cells first (Free 0)) ≡ None)
-  first_is_free = (in_front.within, ap value_of in_front.is)
+  -- it is the next one where all cells have values
+  first_is_next : first ≡ reached → used ≡ reached
+  first_is_next next =
+      let none = no_links cells are.chained (omega (arith, next, are.all)) in
+      omega (arith, none, are.rest_free, are.all)
 
-  pub AreCells-fill : (next : ℕ) → get_or cells first (Free 0) ≡ Free next → (value : T) (later : ℕ)
-      → reached ≤ later → first < later → later ≤ capacity
-      → AreCells (set cells first (Live value)) next (used + 1) later capacity
-  AreCells-fill next is value later no_less behind within =
-      let same : in_front.next ≡ next = ap number_of (sym in_front.is ∙ is) in
-      let counted = count_set cells first (Live value) in_front.within in
-      let none : ◌≡◌ {A = ℕ} (cond (is_live (get_or cells first (Free 0))) 1 0) 0 =
-      ap (λ c. cond (is_live c) 1 0) in_front.is in
-      let long = length-set cells first (Live value) in
+  in_front : first < reached → HasFirst cells first (length are.free)
+  in_front below = has_first cells are.chained (omega (arith, below, are.all))
+
+  -- it has no value
+  pub first_is_free : value_of (get_or cells first (Free 0)) ≡ None
+  first_is_free = elim (cases_lt first reached) [
+    | inl below ↦ ap value_of (in_front below).is
+    | inr behind ↦ ap value_of (get_or_past cells first (Free 0) (omega (arith, behind, are.all)))
+  ]
+
+  -- where not all slots are live, there is memory for it
+  pub first_has_room : (left capacity : ℕ) → reached + left ≡ capacity → ¬ (used ≡ capacity) → first < capacity
+  first_has_room left capacity room some_free = elim (cases_lt first reached) [
+    | inl below ↦ omega (arith, below, room)
+    | inr behind ↦ let at : first ≡ reached = omega (arith, behind, first_within) in
+        omega (arith, at, first_is_next at, room, some_free)
+  ]
+
+  module _ (below : first < reached) where
+    pub AreCells-fill : (next : ℕ) → get_or cells first (Free 0) ≡ Free next → (value : T) (later : ℕ)
+        → to_clear ≤ later → first < later → later ≤ reached
+        → AreCells (set cells first (Live value)) next (used + 1) later reached
+    AreCells-fill next is value later no_less behind within =
+        let same : (in_front below).next ≡ next = ap number_of (sym (in_front below).is ∙ is) in
+        let counted = count_set cells first (Live value) (omega (arith, below, are.all)) in
+        let none : ◌≡◌ {A = ℕ} (cond (is_live (get_or cells first (Free 0))) 1 0) 0 =
+        ap (λ c. cond (is_live c) 1 0) (in_front below).is in
+        let long = length-set cells first (Live value) in
+        record {
+          free = (in_front below).others;
+          chained =
+              subst (λ (k : ℕ). IsChain (set cells first (Live value)) k (in_front below).others) same
+              (chain_set cells (in_front below).rest first (Live value) (in_front below).apart);
+          counted = omega (arith, counted, none, are.counted);
+          rest_free = omega (arith, long, are.rest_free, (in_front below).shorter);
+          all = long ∙ are.all;
+          within = within;
+          as_made =
+              λ number from inside. get_or-set_other cells first number (Live value) (Free 0)
+              (λ same. omega (arith, same)) ∙ are.as_made number (omega arith) (omega (arith, long));
+        }
+
+  -- the next cell is reached
+  pub AreCells-push : first ≡ reached → (value : T) (later : ℕ) → first < later → later ≤ reached + 1
+      → AreCells (cells ++ Live value ∷ []) (first + 1) (used + 1) later (reached + 1)
+  AreCells-push next value later behind within =
+      let all_used = first_is_next next in
+      let long = length_push cells (Live value) in
       record {
-        free = in_front.others;
-        chained =
-            subst (λ (k : ℕ). IsChain (set cells first (Live value)) k in_front.others) same
-            (chain_set cells in_front.rest first (Live value) in_front.apart);
-        counted = omega (arith, counted, none, are.counted);
-        rest_free = omega (arith, long, are.rest_free, in_front.shorter);
-        all = long ∙ are.all;
-        reached_within = within;
-        as_made =
-            λ number from below. get_or-set_other cells first number (Live value) (Free 0)
-            (λ same. omega (arith, same)) ∙ are.as_made number (omega arith) (omega (arith, long));
+        free = [];
+        chained = chain_end (omega (arith, next, long, are.all));
+        counted = omega (arith, sum_by_push (λ (c : Cell T). cond (is_live c) 1 0) cells (Live value), are.counted);
+        rest_free = omega (arith, long, all_used, are.all);
+        all = omega (arith, long, are.all);
+        within = within;
+        as_made = λ number from inside. absurd (omega (arith, next, behind, from, inside, long, are.all));
       }
 
 -- ---- a cell with a value is written, or gives its value away
 
-module _ {T : Type 0} (cells : List (Cell T)) (first used reached capacity number : ℕ)
+module _ {T : Type 0} (cells : List (Cell T)) (first used to_clear reached number : ℕ)
     (live : IsSome (value_of (get_or cells number (Free 0)))) (within : number < length cells)
-    (are : AreCells cells first used reached capacity) where
+    (are : AreCells cells first used to_clear reached) where
   one : ◌≡◌ {A = ℕ} (cond (is_live (get_or cells number (Free 0))) 1 0) 1
   one = ap (λ b. cond b 1 0) live
 
   avoids : Avoids number are.free
   avoids = chain_avoids cells are.chained number live
 
-  -- the cell was reached
-  was_reached : number < reached
-  was_reached = elim (cases_lt number reached) [
+  -- the cell is one of those that `clear` goes over
+  was_taken : number < to_clear
+  was_taken = elim (cases_lt number to_clear) [
     | inl less ↦ less
     | inr from ↦ absurd (true≢false (sym live ∙ ap is_live (are.as_made number from within)))
   ]
 
-  others_as_made : (new : Cell T) → AreAsMade (set cells number new) reached
+  others_as_made : (new : Cell T) → AreAsMade (set cells number new) to_clear
   others_as_made new other from below =
-      let reached_before = was_reached in
+      let before = was_taken in
       get_or-set_other cells number other new (Free 0) (λ same. omega (arith, same))
       ∙ are.as_made other from (omega (arith, length-set cells number new))
 
@@ -131,7 +180,7 @@ module _ {T : Type 0} (cells : List (Cell T)) (first used reached capacity numbe
   pub some_used : 0 < used
   some_used = omega (arith, are.counted, count_set cells number (Free 0) within, one)
 
-  pub AreCells-write : (value : T) → AreCells (set cells number (Live value)) first used reached capacity
+  pub AreCells-write : (value : T) → AreCells (set cells number (Live value)) first used to_clear reached
   AreCells-write value =
       let long = length-set cells number (Live value) in
       record {
@@ -140,11 +189,11 @@ module _ {T : Type 0} (cells : List (Cell T)) (first used reached capacity numbe
         counted = omega (arith, count_set cells number (Live value) within, one, are.counted);
         rest_free = omega (arith, long, are.rest_free);
         all = long ∙ are.all;
-        reached_within = are.reached_within;
+        within = are.within;
         as_made = others_as_made (Live value);
       }
 
-  pub AreCells-vacate : AreCells (set cells number (Free first)) number (used - 1) reached capacity
+  pub AreCells-vacate : AreCells (set cells number (Free first)) number (used - 1) to_clear reached
   AreCells-vacate =
       let long = length-set cells number (Free first) in
       let some = some_used in
@@ -156,14 +205,14 @@ module _ {T : Type 0} (cells : List (Cell T)) (first used reached capacity numbe
         counted = omega (arith, count_set cells number (Free first) within, one, are.counted);
         rest_free = omega (arith, long, are.rest_free);
         all = long ∙ are.all;
-        reached_within = are.reached_within;
+        within = are.within;
         as_made = others_as_made (Free first);
       }
 
 -- ---- all cells form one chain
 
 module _ {T : Type 0} (cells : List (Cell T)) (as_made : AreAsMade cells 0) where
-  -- a chain of the cells from a number on
+  -- a chain of the cells from a number on, to the last
   record ChainFrom (start count : ℕ) : Type 0 where
     free : List ℕ
     links : IsChain cells start free
@@ -171,7 +220,12 @@ module _ {T : Type 0} (cells : List (Cell T)) (as_made : AreAsMade cells 0) wher
     behind : (number : ℕ) → number < start → Avoids number free
 
   chain_from : (count start : ℕ) → start + count ≡ length cells → ChainFrom start count
-  chain_from zero start all = record { free = []; links = chain_end; long = refl; behind = λ number less. tt }
+  chain_from zero start all = record {
+    free = [];
+    links = chain_end (omega (arith, all));
+    long = refl;
+    behind = λ number less. tt;
+  }
   chain_from (suc count) start all =
       let rest = chain_from count (start + 1) (omega arith) in
       record {
@@ -184,8 +238,8 @@ module _ {T : Type 0} (cells : List (Cell T)) (as_made : AreAsMade cells 0) wher
   pub no_values : values_in cells ≡ map.empty
   no_values = no_value cells (λ number below. ap value_of (as_made number (omega arith) below))
 
-  pub AreCells-vacated : (capacity : ℕ) → length cells ≡ capacity → AreCells cells 0 0 0 capacity
-  AreCells-vacated capacity all =
+  pub AreCells-vacated : (reached : ℕ) → length cells ≡ reached → AreCells cells 0 0 0 reached
+  AreCells-vacated reached all =
       let whole = chain_from (length cells) 0 (omega arith) in
       record {
         free = whole.free;
@@ -193,42 +247,24 @@ module _ {T : Type 0} (cells : List (Cell T)) (as_made : AreAsMade cells 0) wher
         counted = sym (len-values_in cells) ∙ ap map.len no_values ∙ len-empty nat_cmp T;
         rest_free = omega (arith, whole.long);
         all = all;
-        reached_within = omega arith;
+        within = omega arith;
         as_made = as_made;
       }
 
--- ---- a chain that was made
+-- ---- no cell was reached
 
-module _ (T : Type 0) where
-  pub length-chain : (count : ℕ) → length (chain {T = T} count) ≡ count
-  unfolding chain
-  length-chain zero = refl
-  length-chain (suc count) = omega (arith, length_push (chain {T = T} count) (Free (count + 1)), length-chain count)
+module _ {T : Type 0} (cells : List (Cell T)) (none : cells ≡ []) where
+  long : length cells ≡ 0
+  long = ap length none
 
-  pub chain_read : (count number : ℕ) → number < count
-      → get_or (chain {T = T} count) number (Free 0) ≡ Free (number + 1)
-  unfolding chain
-  chain_read zero number below = absurd (omega arith)
-  chain_read (suc count) number below = elim (cases_eq number count) [
-    | inl last ↦ get_or_push (chain {T = T} count) (Free (count + 1)) (Free 0) number
-        (omega (arith, last, length-chain count)) ∙ ap (λ k. Free (k + 1)) (sym last)
-    | inr apart ↦ get_or_append_left (chain {T = T} count) (Free (count + 1) ∷ []) (Free 0) number
-        (omega (arith, length-chain count)) ∙ chain_read count number (omega arith)
-  ]
+  made : AreAsMade cells 0
+  made number from below = absurd (omega (arith, long))
 
-module _ {T : Type 0} (cells : List (Cell T)) (count : ℕ) (is : cells ≡ chain count) where
-  long : length cells ≡ count
-  long = ap length is ∙ length-chain T count
+  pub AreCells-none : AreCells cells 0 0 0 0
+  AreCells-none = AreCells-vacated cells made 0 long
 
-  links : AreAsMade cells 0
-  links number from below = ap (λ l. get_or l number (Free 0)) is ∙ chain_read T count number (omega (arith, long))
-
-  -- a chain is what a region without values has
-  pub AreCells-chain : AreCells cells 0 0 0 count
-  AreCells-chain = AreCells-vacated cells links count long
-
-  pub no_values-chain : values_in cells ≡ map.empty
-  no_values-chain = no_values cells links
+  pub no_values-none : values_in cells ≡ map.empty
+  no_values-none = no_values cells made
 
 -- ---- what contracts see of the cells
 
@@ -241,8 +277,9 @@ pub record IsLiveCell {T : Type 0} (cells : List (Cell T)) (number : ℕ) (held 
   pub live : IsSome (value_of (get_or cells number (Free 0)))
   pub read : held ≡ value_of (get_or cells number (Free 0))
 
-module _ {T : Type 0} (cells : List (Cell T)) (first used_cells reached capacity : ℕ) (region : BoundedMap T)
-    (is : region_of cells capacity ≡ region) (are : AreCells cells first used_cells reached capacity) where
+module _ {T : Type 0} (cells : List (Cell T)) (first used_cells to_clear reached left capacity : ℕ)
+    (region : BoundedMap T) (is : region_of cells capacity ≡ region)
+    (are : AreCells cells first used_cells to_clear reached) (room : reached + left ≡ capacity) where
   pub used_is : used region ≡ used_cells
   used_is = sym (ap (λ (m : BoundedMap T). used m) is) ∙ len-values_in cells ∙ are.counted
 
@@ -250,7 +287,7 @@ module _ {T : Type 0} (cells : List (Cell T)) (first used_cells reached capacity
   capacity_is = sym (ap (λ (m : BoundedMap T). m.capacity) is)
 
   pub used_at_most : used region ≤ region.capacity
-  used_at_most = omega (arith, used_is, capacity_is, are.rest_free, are.all)
+  used_at_most = omega (arith, used_is, capacity_is, are.rest_free, are.all, room)
 
 module _ {T : Type 0} (cells : List (Cell T)) (capacity number slot : ℕ) (region : BoundedMap T)
     (is : region_of cells capacity ≡ region) (same : number ≡ slot) where
@@ -270,9 +307,65 @@ module _ {T : Type 0} (cells : List (Cell T)) (capacity number slot : ℕ) (regi
       λ i. record { values = values-live cells number inside value i; capacity = capacity } in
       written ∙ (λ i. with_value (is i) (same i) value)
 
+  pub region-push : (value : T) → number ≡ length cells
+      → region_of (cells ++ Live value ∷ []) capacity ≡ with_value region slot value
+  region-push value behind =
+      let written : region_of (cells ++ Live value ∷ []) capacity
+      ≡ with_value (region_of cells capacity) number value =
+      λ i. record { values = values-push cells number behind value i; capacity = capacity } in
+      written ∙ (λ i. with_value (is i) (same i) value)
+
   pub region-free : (next : ℕ) → number < length cells
       → region_of (set cells number (Free next)) capacity ≡ without region slot
   region-free next inside =
       let removed : region_of (set cells number (Free next)) capacity ≡ without (region_of cells capacity) number =
       λ i. record { values = values-free cells number inside next i; capacity = capacity } in
       removed ∙ (λ i. without (is i) (same i))
+
+-- ---- a value is put into the first free cell, whichever that is
+
+module _ {T : Type 0} (block new : Block T) (first used_cells to_clear reached capacity next : ℕ) (value : T)
+    (are : AreCells block.cells first used_cells to_clear reached)
+    (in_cell : first < reached → (get_or block.cells first (Free 0) ≡ Free next)
+    × (new ≡ with_cells block (set block.cells first (Live value))))
+    (behind : first ≡ reached → (next ≡ first + 1) × (new ≡ with_next block value)) where
+  either : (P : Type 0) → (first < reached → P) → (first ≡ reached → P) → P
+  either P below at = elim (cases_lt first reached) [
+    | inl less ↦ below less
+    | inr from ↦ at (omega (arith, from, first_within block.cells first used_cells to_clear reached are))
+  ]
+
+  pub same_start : new.start ≡ block.start
+  same_start = either (new.start ≡ block.start) (λ less. ap (λ (b : Block T). b.start) (in_cell less).1)
+      (λ at. ap (λ (b : Block T). b.start) (behind at).1)
+
+  pub same_room : (later : ℕ) → later ≡ max reached (first + 1) → first < reached + block.left
+      → later + new.left ≡ reached + block.left
+  same_room later greater room = either (later + new.left ≡ reached + block.left)
+      (λ less. omega (arith, greater, less, ap (λ (b : Block T). b.left) (in_cell less).1))
+      (λ at. omega (arith, greater, at, room, ap (λ (b : Block T). b.left) (behind at).1))
+
+  pub AreCells-take : (later cleared : ℕ) → later ≡ max reached (first + 1) → cleared ≡ max to_clear (first + 1)
+      → AreCells new.cells next (used_cells + 1) cleared later
+  AreCells-take later cleared greater clear =
+      let Is : Block T → ℕ → ℕ → Type 0 = λ b n k. AreCells b.cells n (used_cells + 1) cleared k in
+      either (Is new next later)
+      (λ less. let still : reached ≡ later = omega (arith, greater, less) in
+      subst (λ (k : ℕ). Is new next k) still
+      (subst (λ (b : Block T). Is b next reached) (sym (in_cell less).1)
+      (AreCells-fill block.cells first used_cells to_clear reached are less next (in_cell less).0 value cleared
+      (omega (arith, clear)) (omega (arith, clear)) (omega (arith, clear, less, are.within)))))
+      (λ at. let more : reached + 1 ≡ later = omega (arith, greater, at) in
+      subst (λ (k : ℕ). Is new next k) more
+      (subst (λ (n : ℕ). Is new n (reached + 1)) (sym (behind at).0)
+      (subst (λ (b : Block T). Is b (first + 1) (reached + 1)) (sym (behind at).1)
+      (AreCells-push block.cells first used_cells to_clear reached are at value cleared (omega (arith, clear))
+      (omega (arith, clear, at, are.within))))))
+
+  pub region-take : (region : BoundedMap T) → region_of block.cells capacity ≡ region
+      → region_of new.cells capacity ≡ with_value region first value
+  region-take region is = either (region_of new.cells capacity ≡ with_value region first value)
+      (λ less. ap (λ (b : Block T). region_of b.cells capacity) (in_cell less).1
+      ∙ region-live block.cells capacity first first region is refl value (omega (arith, less, are.all)))
+      (λ at. ap (λ (b : Block T). region_of b.cells capacity) (behind at).1
+      ∙ region-push block.cells capacity first first region is refl value (omega (arith, at, are.all)))

@@ -1,6 +1,6 @@
 -- What the proofs by hand of the functions with pointers share: that the value of a block is one pointer; how one cell
--- is taken out of the others, put back, or seen; how cells are made one by one, and forgotten; and the values of a lease
--- and of a pair.
+-- is taken out of the others, put back, or seen; the room behind the cells, and how cells are forgotten; and the values of
+-- a lease, a pair and a cell.
 use mathlib.Core.Path.{◌≡◌, refl, sym, ap, subst, ◌∙◌}
 use Prim.Native.Nat.{ℕ, zero, suc, ◌+◌, ◌-◌, ◌*◌, ◌<◌, ◌≤◌, ◌^◌}
 use native.Mathlib.Omega.{arith}
@@ -10,8 +10,8 @@ use lib.ListN.{length, take, drop, set, get_or, take-append-drop, length-take}
 use lib.Seq.{drop-cons, set_split}
 use seplogic.Ra.Ura.{Ura}
 use base.Fraction.{full_share}
-use mir.Syntax.{Ty, w32, ty_array}
-use mir.Val.{Val, vint, vstruct, vcons, vnil, of_list}
+use mir.Syntax.{Ty, ty_array}
+use mir.Val.{Val, vstruct, vcons, vnil, of_list}
 use mir.Raw.{raw as bare}
 use prog.Memory.{size, align, capped}
 use prog.Capped.{capped_is}
@@ -21,16 +21,16 @@ use base.Fml.{Fml, Lft, ftrue, fsep, fat, froom}
 use types.Logic.{Logic, sem}
 use types.Match.{live}
 use types.Run.{forget}
-use types.Kit.{Item, Goal, Seq, Step, step, ‵, some, ◌⊛◌, ◌$◌, ◌∵◌, !, qed, by, pick, flt_i, move, keep, drop as skip}
-use types.Kit.{use0, use1, use2, split, fsplit, fjoin, fpick, fpack, feq_i, feq_l, rewrite, done}
+use types.Kit.{Item, Goal, Seq, Step, step, ‵, some, ◌⊛◌, ◌$◌, ◌∵◌, !, qed, pick, move, keep, drop as skip}
+use types.Kit.{use1, use2, split, fsplit, fjoin, fpick, fpack, feq_i, feq_l, rewrite, done}
 use borrow.Table.OneValue.{part_out}
-use denote.Builtin.{u32}
 use denote.RattleType.{RattleType, Valss, owns}
 use denote.Memory.{part_at, shared_of, hidden_shr}
 use denote.Opens.{shr_dup, unhide, hide}
 use denote.RawPtr.{Ptr, RawPtr, ptr_val, ptr_row_laws}
 use denote.Param.{layout}
-use denote.Steps.{nothing}
+use denote.Steps.{nothing, peeks}
+use denote.Laws.{Is, shows}
 use denote.Shadow.{makes_shadow}
 use denote.Struct.Struct.{Shape, Struct, within, Struct-row_laws}
 use denote.Struct.Owning.{shape as owning_shape}
@@ -40,18 +40,18 @@ use denote.Enum.Row.{tagged_with}
 use denote.Enum.Enum.{form_of, in_a_row}
 use denote.Enum.Declared.{shape}
 use Rattle.std.specs.Mem.{type_size}
-use Rattle.core.proofs.mem.Param.{El, R, el_x}
+use Rattle.core.proofs.mem.Param.{El, R, el_x, elτ, one, lawful}
 use Rattle.core.proofs.alloc.Calls.{Al}
 use Rattle.core.proofs.slots.Leases.{P}
-use Rattle.std_alloc.proofs.RcSteps.{word}
-use Rattle.ci_region.specs.Ownership.{cells_at, cells_lent_at}
+use Rattle.std_alloc.proofs.RawLayout.{as_raw, as_written}
+use Rattle.std_alloc.proofs.RcSteps.{Good, word}
+use Rattle.ci_region.specs.Ownership.{cells_at, cells_lent_at, room_behind}
 use Rattle.ci_region.specs.contracts.block.Block as block
 use Rattle.ci_region.specs.contracts.block.Cell as cell
 use Rattle.ci_region.specs.contracts.block.Lease as lease
 use Rattle.ci_region.specs.declared.block.Cell.{Cell}
-use Rattle.ci_region.specs.declared.block.Cell.TheVariants.{Free}
-use Rattle.ci_region.specs.Cells.{chain}
-use Rattle.ci_region.proofs.CellLaws.{length-chain}
+use Rattle.ci_region.specs.declared.block.Cell.TheVariants.{Live}
+use Rattle.std.proofs.lemmas.List.{length_push}
 
 module _ (E : El) where
   abbrev pub Cells : Type 0
@@ -184,7 +184,7 @@ module _ (C : RattleType) {M : Type 1} {𝓤 : Ura M} (𝓛 : Logic 𝓤) (b : �
         rewrite ! 0 (λ (l : List C.Denot). ‵ (Seen (i * s + o) l)) (drop-cons cells i d lt) refl $
         fsplit ! $ keep ! (0 ∷ []) $ done !
 
--- ---- cells that are made free, and cells that are forgotten
+-- ---- room for cells
 
 module _ (E : El) where
   abbrev pub cell_type : Ty
@@ -200,85 +200,76 @@ module _ (E : El) where
   pub block_align : (count : ℕ) → capped (align (block_type count)) ≡ capped (align cell_type)
   block_align count = ap capped (align-raw (ty_array cell_type count))
 
-  -- the machine's value of a free cell
-  abbrev pub free_value : ℕ → Val
-  free_value next = live 1 (of_list (vint w32 next ∷ []))
-
-module _ (E : El) {M : Type 1} {𝓤 : Ura M} (𝓛 : Logic 𝓤) where
+module _ (E : El) {M : Type 1} {𝓤 : Ura M} (𝓛 : Logic 𝓤) (b o : ℕ) where
   open 𝓛 use {H}
 
-  pub free_made : (next : ℕ) → next < 2 ^ 32
-      → ent 𝓤 (emp 𝓤) (sem 𝓛 ((Cell-row E).own_val (Free next) (free_value E next ∷ [])))
-  free_made next fits =
-      qed 𝓛 [] ∵ nothing ! $ flt_i ! next (2 ^ 32) fits $
-      feq_i ! (List Val) (vint w32 next ∷ []) (vint w32 next ∷ []) refl $ fjoin ! $ fjoin ! $
-      feq_i ! (List Val) (vint w32 next ∷ []) (vint w32 next ∷ []) refl $ fjoin ! $
-      fpack ! (Valss (u32 ∷ [])) (in_a_row (u32 ∷ []) (owns (u32 ∷ []) (next, tt)) (vint w32 next ∷ []))
-      (vint w32 next ∷ [], tt) $
-      feq_i ! (List Val) (free_value E next ∷ []) (free_value E next ∷ []) refl $ fjoin ! $
-      fpack ! (List Val) (tagged_with (form_of (shape (cell.the_type (R E))))
-      (form_of (shape (cell.the_type (R E)))).payload ((cell.the_type (R E)).to (Free next))
-      (free_value E next ∷ [])) (vint w32 next ∷ []) $ done !
+  -- behind the cells, the room for the next one and that for the others
+  pub next_room : (cells : Cells E) (value : el_x E) (left : ℕ) → 0 < left
+      → ent 𝓤 (sem 𝓛 (room_behind (Cell-row E) b o cells left))
+      (sep 𝓤 (H.room (cell_type E) b (length cells * cell_size E + o))
+      (sem 𝓛 (room_behind (Cell-row E) b o (cells ++ Live value ∷ []) (left - 1))))
+  next_room cells value left room =
+      let s = cell_size E in let at : ℕ = length cells * s + o in
+      let longer : suc (length cells) ≡ length (cells ++ Live value ∷ []) = omega (arith, length_push cells (Live value)) in
+      let beside : at + s ≡ suc (length cells) * s + o = omega (arith, suc-mul (length cells) s) in
+      let behind : at + s ≡ length (cells ++ Live value ∷ []) * s + o = beside ∙ ap (λ k. k * s + o) longer in
+      let more : left ≡ suc (left - 1) = omega arith in
+      qed 𝓛 (‵ (froom (block_type E left) b at) ∷ []) ∵ as_written ! (ty_array (cell_type E) left) b at $
+      rewrite ! 0 (λ (k : ℕ). ‵ (froom (ty_array (cell_type E) k) b at)) more refl $
+      use1 𝓛 (‵ (froom (cell_type E) b at) ⊛ ‵ (froom (ty_array (cell_type E) (left - 1)) b (at + s)))
+      (𝓛.laws.room_uncons (cell_type E) (left - 1) b at) $ split ! $ move ! (1 ∷ []) $
+      as_raw ! (ty_array (cell_type E) (left - 1)) b (at + s) $
+      rewrite ! 0 (λ (k : ℕ). ‵ (froom (block_type E (left - 1)) b k)) behind refl $
+      move ! (1 ∷ 0 ∷ []) $ done !
 
-  module _ (b o : ℕ) where
-    -- the first of the cells that are left to be made
-    pub room_out : (made count : ℕ) → made < count
-        → ent 𝓤 (H.room (ty_array (cell_type E) (count - made)) b (made * cell_size E + o))
-        (sep 𝓤 (H.room (cell_type E) b (made * cell_size E + o))
-        (H.room (ty_array (cell_type E) (count - suc made)) b (suc made * cell_size E + o)))
-    room_out made count less =
-        let behind : made * cell_size E + o + cell_size E ≡ suc made * cell_size E
-        + o = omega (arith, suc-mul made (cell_size E)) in
-        let left : count - made ≡ suc (count - suc made) = omega arith in
-        qed 𝓛 (‵ (froom (ty_array (cell_type E) (count - made)) b (made * cell_size E + o)) ∷ []) ∵
-        rewrite ! 0 (λ (k : ℕ). ‵ (froom (ty_array (cell_type E) k) b (made * cell_size E + o))) left refl $
-        use1 𝓛 (‵ (froom (cell_type E) b (made * cell_size E + o))
-        ⊛ ‵ (froom (ty_array (cell_type E) (count - suc made)) b (made * cell_size E + o + cell_size E)))
-        (𝓛.laws.room_uncons (cell_type E) (count - suc made) b (made * cell_size E + o)) $ split ! $ move ! (1 ∷ []) $
-        rewrite ! 0 (λ (k : ℕ). ‵ (froom (ty_array (cell_type E) (count - suc made)) b k)) behind refl $
-        move ! (1 ∷ 0 ∷ []) $ done !
+module _ (E : El) {M : Type 1} {𝓤 : Ura M} (𝓛 : Logic 𝓤) (b : ℕ) where
+  open 𝓛 use {H}
 
-    no_chain : ent 𝓤 (emp 𝓤) (sem 𝓛 (cells_at (Cell-row E) b o (chain 0)))
-    unfolding chain
-    no_chain = qed 𝓛 [] ∵ nothing ! $ done !
+  -- where no cell was reached, all is room
+  pub of_room : (o count : ℕ) → ent 𝓤 (H.room (block_type E count) b o)
+      (sem 𝓛 (fsep (cells_at (Cell-row E) b o []) (room_behind (Cell-row E) b o [] count)))
+  of_room o count =
+      let front : o ≡ 0 * cell_size E + o = omega (arith, zero-mul (cell_size E)) in
+      qed 𝓛 (‵ (froom (block_type E count) b o) ∷ []) ∵
+      rewrite ! 0 (λ (k : ℕ). ‵ (froom (block_type E count) b k)) front refl $ nothing ! $ fjoin ! $ done !
 
-    -- before the first cell is made, the memory is room for all
-    pub room_whole : (count : ℕ) → ent 𝓤 (H.room (ty_array (cell_type E) count) b o)
-        (sep 𝓤 (sem 𝓛 (cells_at (Cell-row E) b o (chain 0)))
-        (H.room (ty_array (cell_type E) (count - 0)) b (0 * cell_size E + o)))
-    room_whole count =
-        let all : count ≡ count - 0 = omega arith in
-        let front : o ≡ 0 * cell_size E + o = omega (arith, zero-mul (cell_size E)) in
-        qed 𝓛 (‵ (froom (ty_array (cell_type E) count) b o) ∷ []) ∵
-        rewrite ! 0 (λ (k : ℕ × ℕ). ‵ (froom (ty_array (cell_type E) k.0) b k.1)) (λ j. (all j, front j)) refl $
-        use0 𝓛 (‵ (cells_at (Cell-row E) b o (chain 0))) no_chain $ done !
+  -- room for typed cells behind these
+  abbrev Behind : ℕ → Cells E → ℕ → Fml
+  Behind o cells left = froom (ty_array (cell_type E) left) b (length cells * cell_size E + o)
 
-    -- a chain with a cell more
-    pub chain_grown : (made : ℕ)
-        → ent 𝓤 (sep 𝓤 (sem 𝓛 (cells_at (Cell-row E) b o (chain made)))
-        (sem 𝓛 (part_at (Cell-row E) full_share (Free (made + 1)) b (made * cell_size E + o))))
-        (sem 𝓛 (cells_at (Cell-row E) b o (chain (suc made))))
-    unfolding chain
-    chain_grown made =
-        qed 𝓛 (‵ (cells_at (Cell-row E) b o (chain made))
-        ∷ ‵ (part_at (Cell-row E) full_share (Free (made + 1)) b (made * cell_size E + o)) ∷ []) ∵ move ! (1 ∷ []) $
-        rewrite ! 0 (λ (k : ℕ). ‵ (part_at (Cell-row E) full_share (Free (made + 1)) b (k * cell_size E + o)))
-        (sym (length-chain (el_x E) made)) refl $ move ! (1 ∷ 0 ∷ []) $
-        use2 𝓛 (‵ (cells_at (Cell-row E) b o (chain (suc made))))
-        (joined_cell (Cell-row E) 𝓛 b (chain made) (Free (made + 1)) o) $ done !
-
-  -- the cells are forgotten, and their memory is left
-  pub to_room : (b o : ℕ) (cells : Cells E) → ent 𝓤 (sem 𝓛 (cells_at (Cell-row E) b o cells))
-      (H.room (ty_array (cell_type E) (length cells)) b o)
-  to_room b o [] = 𝓛.laws.room_nil (cell_type E) b o
-  to_room b o (c ∷ cells) =
-      qed 𝓛 (‵ (part_at (Cell-row E) full_share c b o) ∷ ‵ (cells_at (Cell-row E) b (o + cell_size E) cells) ∷ []) ∵
+  -- the cells are forgotten, and all is room
+  forgotten : (cells : Cells E) (o left : ℕ)
+      → ent 𝓤 (sep 𝓤 (sem 𝓛 (cells_at (Cell-row E) b o cells)) (sem 𝓛 (Behind o cells left)))
+      (H.room (ty_array (cell_type E) (length cells + left)) b o)
+  forgotten [] o left =
+      let front : 0 * cell_size E + o ≡ o = omega (arith, zero-mul (cell_size E)) in
+      let all : left ≡ 0 + left = omega arith in
+      qed 𝓛 (‵ ftrue ∷ ‵ (Behind o [] left) ∷ []) ∵ skip ! $
+      rewrite ! 0 (λ (k : ℕ × ℕ). ‵ (froom (ty_array (cell_type E) k.0) b k.1)) (λ j. (all j, front j)) refl $ done !
+  forgotten (c ∷ cells) o left =
+      let s = cell_size E in
+      let behind : suc (length cells) * s + o ≡ length cells * s + (o + s) = omega (arith, suc-mul (length cells) s) in
+      let all : suc (length cells + left) ≡ suc (length cells) + left = omega arith in
+      qed 𝓛 (‵ (cells_at (Cell-row E) b o (c ∷ cells)) ∷ ‵ (Behind o (c ∷ cells) left) ∷ []) ∵
+      move ! (1 ∷ []) $ rewrite ! 0 (λ (k : ℕ). ‵ (froom (ty_array (cell_type E) left) b k)) behind refl $
+      move ! (1 ∷ []) $ fsplit ! $
       use1 𝓛 (some (λ (v : Val). ‵ (fat full_share (cell_type E) b o v) ⊛ ‵ ((Cell-row E).own_val c (v ∷ []))))
       (part_out 𝓛 (Cell-row E) refl full_share c b o) $
-      pick ! (λ v. split ! $ forget ! 0 refl $ move ! (2 ∷ []) $
-      use1 𝓛 (‵ (froom (ty_array (cell_type E) (length cells)) b (o + cell_size E)))
-      (to_room b (o + cell_size E) cells) $ keep ! (1 ∷ 0 ∷ []) $
-      by ! (𝓛.laws.room_cons (cell_type E) (length cells) b o))
+      pick ! (λ v. split ! $ forget ! 0 refl $ move ! (2 ∷ 3 ∷ []) $
+      use2 𝓛 (‵ (froom (ty_array (cell_type E) (length cells + left)) b (o + s))) (forgotten cells (o + s) left) $
+      keep ! (1 ∷ 0 ∷ []) $
+      use2 𝓛 (‵ (froom (ty_array (cell_type E) (suc (length cells + left))) b o))
+      (𝓛.laws.room_cons (cell_type E) (length cells + left) b o) $
+      rewrite ! 0 (λ (k : ℕ). ‵ (froom (ty_array (cell_type E) k) b o)) all refl $ done !)
+
+  pub to_room : (cells : Cells E) (o left : ℕ)
+      → ent 𝓤 (sep 𝓤 (sem 𝓛 (cells_at (Cell-row E) b o cells)) (sem 𝓛 (room_behind (Cell-row E) b o cells left)))
+      (H.room (block_type E (length cells + left)) b o)
+  to_room cells o left =
+      qed 𝓛 (‵ (cells_at (Cell-row E) b o cells) ∷ ‵ (room_behind (Cell-row E) b o cells left) ∷ []) ∵ move ! (1 ∷ []) $
+      as_written ! (ty_array (cell_type E) left) b (length cells * cell_size E + o) $ move ! (1 ∷ 0 ∷ []) $
+      use2 𝓛 (‵ (froom (ty_array (cell_type E) (length cells + left)) b o)) (forgotten cells o left) $
+      as_raw ! (ty_array (cell_type E) (length cells + left)) b o $ done !
 
 -- ---- the right to free the memory, and what makes a block
 
@@ -316,3 +307,31 @@ two_of 𝓛 S T x y u v =
     feq_i ! (List Val) (two_value u v ∷ []) (two_value u v ∷ []) refl $ fjoin ! $
     fpack ! (Valss (S ∷ T ∷ [])) (within (struct_shape (tuple_type (S ∷ T ∷ []))) (x, (y, tt)) (two_value u v ∷ []))
     (u ∷ [], (v ∷ [], tt)) $ done !
+
+-- ---- the value of a live cell
+
+module _ (E : El) where
+  -- the machine's value of it
+  abbrev pub live_value : Val → Val
+  live_value v = live 0 (of_list (v ∷ []))
+
+  pub live_made : {M : Type 1} {𝓤 : Ura M} (𝓛 : Logic 𝓤) (value : el_x E) (v : Val)
+      → ent 𝓤 (sem 𝓛 ((R E).own_val value (v ∷ []))) (sem 𝓛 ((Cell-row E).own_val (Live value) (live_value v ∷ [])))
+  live_made 𝓛 value v =
+      qed 𝓛 (‵ ((R E).own_val value (v ∷ [])) ∷ []) ∵ nothing ! $ move ! (1 ∷ 0 ∷ []) $ fjoin ! $
+      feq_i ! (List Val) (v ∷ []) (v ∷ []) refl $ fjoin ! $
+      fpack ! (Valss (R E ∷ [])) (in_a_row (R E ∷ []) (owns (R E ∷ []) (value, tt)) (v ∷ [])) (v ∷ [], tt) $
+      feq_i ! (List Val) (live_value v ∷ []) (live_value v ∷ []) refl $ fjoin ! $
+      fpack ! (List Val) (tagged_with (form_of (shape (cell.the_type (R E))))
+      (form_of (shape (cell.the_type (R E)))).payload ((cell.the_type (R E)).to (Live value))
+      (live_value v ∷ [])) (v ∷ []) $ done !
+
+module _ {M : Type 1} {𝓤 : Ura M} {𝓛 : Logic 𝓤} {K : Type 0} {Γ : List (Item 𝓤)} {G : Goal 𝓤 𝓛.H} where
+  -- a value of the parameter's type is one value of the machine, of that type
+  pub value_had : K → (E : El) (x : el_x E) (vs : List Val)
+      → ((v : Val) → vs ≡ v ∷ [] → Good (elτ E) v → Seq K 𝓛 (‵ ((R E).own_val x (v ∷ [])) ∷ Γ) G)
+      → Seq K 𝓛 (‵ ((R E).own_val x vs) ∷ Γ) G
+  value_had t E x vs k =
+      peeks t (R E) (Is (R E)) (shows 𝓛 (R E)) x vs (λ is.
+      let alone = one E vs ((lawful E 𝓛).typed x vs is) in
+      rewrite t 0 (λ (us : List Val). ‵ ((R E).own_val x us)) alone.1 refl $ k alone.0 alone.1 alone.2)

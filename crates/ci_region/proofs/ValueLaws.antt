@@ -1,8 +1,10 @@
 -- The map of values that the cells of a region are, and how a change of one cell changes it.
-use Rattle.std.proofs.Common.{◌≡◌, ℕ, zero, suc, ◌+◌, ◌<◌, List, [], ◌∷◌, length, get_or, set, count_by}
+use Rattle.std.proofs.Common.{◌≡◌, ℕ, zero, suc, ◌+◌, ◌<◌, List, [], ◌∷◌, ◌++◌, length, get_or, set, count_by, inl}
 use Rattle.std.proofs.Common.{None, is_some, IsSome, true≢false, false, cond, refl, sym, ap, ◌∙◌}
-use Rattle.std.proofs.Common.{arith, add-zero, zero-add}
-use Rattle.std.proofs.lemmas.List.{get_or_past, get_or-set_same, get_or-set_other}
+use Rattle.std.proofs.Common.{inr, arith, add-zero, zero-add}
+use Rattle.std.proofs.lemmas.Bool.{cases_lt}
+use Rattle.std.proofs.lemmas.List.{get_or_append_left, get_or_push, get_or_past, length_push}
+use Rattle.std.proofs.lemmas.List.{get_or-set_same, get_or-set_other}
 use Rattle.std.proofs.lemmas.List.Sums.{sum_by-cons}
 use Rattle.std.specs.Ordering.{nat_cmp}
 use Rattle.std.specs.Cmp.{nat_cmp_total}
@@ -87,6 +89,21 @@ module _ {T : Type 0} where
       ∙ get-empty nat_cmp number
 
 -- ---- changes
+
+module _ {T : Type 0} (cells : List (Cell T)) (slot : ℕ) (behind : slot ≡ length cells) where
+  -- a cell more, which has a value
+  pub values-push : (value : T) → values_in (cells ++ Live value ∷ []) ≡ map.insert (values_in cells) slot value
+  values-push value =
+      let after = cells ++ Live value ∷ [] in
+      let past : (other : ℕ) → length cells < other → get_or after other (Free 0) ≡ get_or cells other (Free 0) =
+      λ other less. get_or_past after other (Free 0) (omega (arith, length_push cells (Live value)))
+      ∙ sym (get_or_past cells other (Free 0) (omega arith)) in
+      is_insert (values_in cells) slot (values_in after) value
+      (get-values_in after slot ∙ ap value_of (get_or_push cells (Live value) (Free 0) slot (sym behind)))
+      (λ other apart. get-values_in after other ∙ ap value_of (elim (cases_lt other (length cells)) [
+        | inl before ↦ get_or_append_left cells (Live value ∷ []) (Free 0) other before
+        | inr from ↦ past other (omega (arith, from, apart, behind))
+      ]) ∙ sym (get-values_in cells other))
 
 module _ {T : Type 0} (cells : List (Cell T)) (slot : ℕ) (within : slot < length cells) where
   pub values-live : (value : T) → values_in (set cells slot (Live value)) ≡ map.insert (values_in cells) slot value

@@ -1,5 +1,5 @@
 -- What a block and a cell end as, where a `&mut` into them is handed out, and whose memory a lease is of.
-use Rattle.std.specs.Prelude.{◌≡◌, ℕ, List, slice_set}
+use Rattle.std.specs.Prelude.{◌≡◌, ℕ, ◌-◌, List, [], ◌∷◌, ◌++◌, slice_set}
 use Rattle.std.specs.Borrow.{Fml, RattleType, MutBor, Lends}
 use Rattle.ci_region.specs.declared.block.Cell.{Cell}
 use Rattle.ci_region.specs.declared.block.Cell.TheVariants.{Live}
@@ -10,7 +10,11 @@ use Rattle.ci_region.specs.contracts.block.Block as block
 
 -- the block with these cells in place of its own
 abbrev pub with_cells : {T : Type 0} → Block T → List (Cell T) → Block T
-with_cells b cells = record { start = b.start; cells = cells }
+with_cells b cells = record { start = b.start; cells = cells; left = b.left }
+
+-- the block in which the next cell was reached, and has this value
+abbrev pub with_next : {T : Type 0} → Block T → T → Block T
+with_next b value = record { start = b.start; cells = b.cells ++ Live value ∷ []; left = b.left - 1 }
 
 -- once the borrow ends, the cell is the last one that was written through it
 abbrev pub LendsCell : (T : RattleType) → MutBor (Block T.Denot) → ℕ → MutBor (Cell T.Denot) → Fml

@@ -1,6 +1,6 @@
 -- How a region keeps its slots. No public clause cites this file.
-use Rattle.std.specs.Prelude.{◌≡◌, ◌≢◌, ℕ, zero, suc, ◌+◌, ◌<◌, ◌≤◌, Bool, Option, Some, None, is_some, ⊤}
-use Rattle.std.specs.Prelude.{List, [], ◌∷◌, ◌++◌, length, get_or, count_by}
+use Rattle.std.specs.Prelude.{◌≡◌, ◌≢◌, ℕ, ◌+◌, ◌<◌, ◌≤◌, Bool, Option, Some, None, is_some, ⊤}
+use Rattle.std.specs.Prelude.{List, [], ◌∷◌, length, get_or, count_by}
 use Rattle.std.specs.Ordering.{nat_cmp}
 use Rattle.std.specs.FinMap as map
 use Rattle.ci_region.specs.declared.block.Cell.{Cell}
@@ -39,24 +39,20 @@ module _ {T : Type 0} where
   abbrev pub AreFree : List (Cell T) → Type 0
   AreFree cells = (number : ℕ) → number < length cells → value_of (get_or cells number (Free 0)) ≡ None
 
-  -- so many free cells, each with the number of the one behind it
-  unfoldable pub chain : ℕ → List (Cell T)
-  chain zero = []
-  chain (suc count) = chain count ++ Free (count + 1) ∷ []
-
-  -- the cells of these numbers, which differ, are free, and each has the number of the next, of which the first is this
+  -- the cells of these numbers, which differ, are free, and each has the number of the next, of which the first is this;
+  -- the last has the number of the cell behind all
   pub data IsChain (cells : List (Cell T)) : ℕ → List ℕ → Type 0 where
-    chain_end : {number : ℕ} → IsChain cells number []
+    chain_end : {number : ℕ} → number ≡ length cells → IsChain cells number []
     chain_link : {number next : ℕ} {others : List ℕ} → number < length cells → get_or cells number (Free 0) ≡ Free next
         → Avoids number others → IsChain cells next others → IsChain cells number (number ∷ others)
 
-  -- there are as many cells as slots; so many have a value, and all others form a chain that begins at this number; the
-  -- cells from the reached number on are as they were made
-  pub record AreCells (cells : List (Cell T)) (first_free used reached capacity : ℕ) : Type 0 where
+  -- so many cells were reached; so many of them have a value, and all others form a chain that begins at this number;
+  -- from the number on that `clear` goes up to they are as they were made
+  pub record AreCells (cells : List (Cell T)) (first_free used to_clear reached : ℕ) : Type 0 where
     pub free : List ℕ
     pub chained : IsChain cells first_free free
     pub counted : count_by is_live cells ≡ used
     pub rest_free : used + length free ≡ length cells
-    pub all : length cells ≡ capacity
-    pub reached_within : reached ≤ capacity
-    pub as_made : AreAsMade cells reached
+    pub all : length cells ≡ reached
+    pub within : to_clear ≤ reached
+    pub as_made : AreAsMade cells to_clear

@@ -1,8 +1,10 @@
 //! One block of memory that holds the cells of a region.
 //!
-//! Only `Block::chained`, `Block::cell`, `Block::cell_mut` and `Block::free` use pointers, and are proved by hand.
+//! A cell is written when it is reached, and the memory behind the cells isn't touched before.
+//! Only `Block::reserve`, `Block::cell`, `Block::cell_mut`, `Block::push` and `Block::free` use pointers, and are proved
+//! by hand.
 
-ghost use Rattle.std.specs.Prelude.{◌≡◌, ℕ, ◌+◌, ◌<◌, ◌≤◌, List, length, get_or, IfOk};
+ghost use Rattle.std.specs.Prelude.{◌≡◌, ℕ, ◌+◌, ◌^◌, ◌<◌, ◌≤◌, List, [], length, get_or, slice_set, None, IfOk};
 ghost use Rattle.std.specs.Vec.Ownership.{FitsInBlock};
 ghost use Rattle.std.specs.Borrow.{sem};
 ghost use denote.RawPtr.{Ptr};
@@ -10,7 +12,7 @@ ghost use Rattle.ci_region.specs.declared.block.Cell.{Cell};
 
 use std::alloc::{AllocError, Allocator};
 use std::marker::{Model, PhantomData};
-use std::mem::{align_of, size_of};
+use std::mem::{self, align_of, size_of};
 
 /// A cell of a region.
 #[derive(Drop)]
@@ -21,20 +23,21 @@ pub(crate) enum Cell<T> {
     Free(u32),
 }
 
-/// The cells, and where the first one lies.
+/// The cells that were reached, where the first one lies, and for how many more there is room.
 pub(crate) struct Block<T> {
     // `*const`, so that a block is covariant in T, as a vector is.
     start: *const Cell<T>,
     pub(crate) ghost cells: { List (Cell T) },
+    pub(crate) ghost left: { ℕ },
 }
 
 impl<T> Model for Block<T> {
     ghost use Rattle.ci_region.specs.Ownership.{cells_own, cells_lent};
     ghost use Rattle.ci_region.specs.contracts.block.Cell.{the_row};
 
-    ghost also_owns = { λ b. cells_own (the_row T.row) b.start b.cells };
+    ghost also_owns = { λ b. cells_own (the_row T.row) b.start b.cells b.left };
 
-    ghost also_shares = { λ b _ κ. cells_lent (the_row T.row) b.start b.cells κ };
+    ghost also_shares = { λ b _ κ. cells_lent (the_row T.row) b.start b.cells b.left κ };
 }
 
 /// The right to give the memory of the cells back. It takes no space.
@@ -55,17 +58,17 @@ impl<T, A: Allocator> Model for Lease<T, A> {
 
 impl<T> Block<T> {
     ghost use Rattle.ci_region.specs.contracts.block.Cell.{the_row};
-    ghost use Rattle.ci_region.specs.declared.block.Cell.TheVariants.{Free};
-    ghost use Rattle.ci_region.specs.Blocks.{LendsCell, IsLeaseOf};
-    ghost use Rattle.ci_region.specs.Cells.{chain, AreFree, AreAsMade};
+    ghost use Rattle.ci_region.specs.declared.block.Cell.TheVariants.{Live, Free};
+    ghost use Rattle.ci_region.specs.Blocks.{LendsCell, IsLeaseOf, with_cells, with_next};
+    ghost use Rattle.ci_region.specs.Cells.{value_of, AreFree, AreAsMade};
 
-    /// Memory for `count` cells, all of which are free: each has the number of the one behind it.
-    pub(crate) fn chained<A: Allocator>(
+    /// Memory for `count` cells, none of which is reached.
+    pub(crate) fn reserve<A: Allocator>(
         alloc: &A,
         count: u32,
     ) -> Result<(Block<T>, Lease<T, A>), AllocError>
         requires { FitsInBlock (the_row T.row) count }
-        ensures { IfOk result (λ made. (made.0.cells ≡ chain count) × IsLeaseOf made.1 made.0 count alloc.now) }
+        ensures { IfOk result (λ made. (made.0.cells ≡ []) × (made.0.left ≡ count) × IsLeaseOf made.1 made.0 count alloc.now) }
     {
         let memory = match alloc.allocate(
             count as usize * size_of::<Cell<T>>(),
@@ -75,13 +78,6 @@ impl<T> Block<T> {
             Err(error) => return Err(error),
         };
         let start = memory as *mut Cell<T>;
-        let mut number = 0;
-        while number < count {
-            unsafe {
-                start.add(number as usize).write(Cell::Free(number + 1));
-            }
-            number += 1;
-        }
         Ok((Block { start }, Lease { mark: PhantomData }))
     }
 
@@ -102,6 +98,37 @@ impl<T> Block<T> {
         unsafe { &mut *self.start.cast_mut().add(number) }
     }
 
+    /// Reaches the next cell, which has this number and this value.
+    pub(crate) fn push(&mut self, number: usize, value: T)
+        requires { (number ≡ length self.old.cells) × (0 < self.old.left) }
+        ensures { self.new ≡ with_next self.old value }
+    {
+        unsafe {
+            self.start.cast_mut().add(number).write(Cell::Live(value));
+        }
+    }
+
+    /// Puts the value into the first free cell, which has this number, or is the next one where all `reached` cells have
+    /// a value. Answers the number of the free cell behind it.
+    pub(crate) fn fill(&mut self, number: u32, reached: u32, value: T) -> u32
+        requires all { length self.old.cells ≡ reached }
+        requires within { number ≤ reached }
+        requires room { number < reached + self.old.left }
+        requires free { value_of (get_or self.old.cells number (Free 0)) ≡ None }
+        requires fits { reached + self.old.left < 2 ^ 32 }
+        ensures reached { number < reached → (get_or self.old.cells number (Free 0) ≡ Free result) × (self.new ≡ with_cells self.old (slice_set self.old.cells number (Live value))) }
+        ensures next { number ≡ reached → (result ≡ number + 1) × (self.new ≡ with_next self.old value) }
+    {
+        if number == reached {
+            self.push(number as usize, value);
+            return number + 1;
+        }
+        match mem::replace(self.cell_mut(number as usize), Cell::Live(value)) {
+            Cell::Free(next) => next,
+            Cell::Live(_) => unreachable!(),
+        }
+    }
+
     /// Drops the values of the first `count` cells, and makes these as they were made; the others are so already.
     pub(crate) fn vacate(&mut self, count: u32)
     where
@@ -109,7 +136,7 @@ impl<T> Block<T> {
         requires within { count ≤ length self.old.cells }
         requires others { AreAsMade self.old.cells count }
         ensures as_made { AreAsMade self.new.cells 0 }
-        ensures in_place { (self.new.start ≡ self.old.start) × (length self.new.cells ≡ length self.old.cells) }
+        ensures in_place { (self.new.start ≡ self.old.start) × (length self.new.cells ≡ length self.old.cells) × (self.new.left ≡ self.old.left) }
     {
         for number in 0..count {
             *self.cell_mut(number as usize) = Cell::Free(number + 1);
@@ -118,7 +145,7 @@ impl<T> Block<T> {
 
     /// Gives the memory back. No cell has a value, so none is lost.
     pub(crate) fn free<A: Allocator>(self, lease: Lease<T, A>, count: u32, alloc: &A)
-        requires { IsLeaseOf lease self count alloc.now × (length self.cells ≡ count) × AreFree self.cells }
+        requires { IsLeaseOf lease self count alloc.now × (length self.cells + self.left ≡ count) × AreFree self.cells }
     {
         let Block { start } = self;
         let Lease { mark: _ } = lease;

@@ -47,13 +47,15 @@ pub struct Region<T> {
     lease: Lease<T, Global>,
     alloc: Global,
     capacity: u32,
-    // The number of the first free cell, where there is one. Each free cell has the number of the
-    // next.
+    // The number of the first free cell. Each free cell has the number of the next, and the last one that of the cell
+    // behind all that were reached, which is the next to be reached.
     first_free: u32,
     // The number of cells that have a value.
     used: u32,
-    // No slot from this number on was taken since the region was made or cleared.
+    // The number of cells that were reached. The memory behind them holds nothing, and isn't touched.
     reached: u32,
+    // No slot from this number on was taken since the region was made or cleared.
+    to_clear: u32,
 }
 
 impl<T> Model for Region<T> {
@@ -63,6 +65,7 @@ impl<T> Model for Region<T> {
 
     ghost coded = { bounded_map_code T.code };
 
+    ghost use Rattle.std.specs.Prelude.{◌≡◌, ◌+◌};
     ghost use Rattle.ci_region.specs.Cells.{values_in, AreCells};
     ghost use Rattle.ci_region.specs.Blocks.{IsLeaseOf};
 
@@ -72,7 +75,8 @@ impl<T> Model for Region<T> {
     } };
 
     ghost invariant = { λ r.
-        AreCells r.block.cells r.first_free r.used r.reached r.capacity
+        AreCells r.block.cells r.first_free r.used r.to_clear r.reached
+        × (r.reached + r.block.left ≡ r.capacity)
         × IsLeaseOf r.lease r.block r.capacity r.alloc };
 }
 
@@ -99,6 +103,7 @@ impl<T: Drop> Drop for Region<T> {
             first_free: _,
             used: _,
             reached: _,
+            to_clear: _,
         } = self;
         block.free(lease, capacity, &alloc);
     }
@@ -116,7 +121,7 @@ impl<T> Region<T> {
         if !may_hold::<Cell<T>>(n as usize) {
             return Err(AllocError);
         }
-        let (block, lease) = Block::chained(&alloc, n)?;
+        let (block, lease) = Block::reserve(&alloc, n)?;
         Ok(Region {
             block,
             lease,
@@ -125,6 +130,7 @@ impl<T> Region<T> {
             first_free: 0,
             used: 0,
             reached: 0,
+            to_clear: 0,
         })
     }
 
@@ -144,16 +150,11 @@ impl<T> Region<T> {
             return Err(value);
         }
         let number = self.first_free;
-        let cell = self.block.cell_mut(number as usize);
-        match mem::replace(cell, Cell::Live(value)) {
-            Cell::Free(next) => {
-                self.first_free = next;
-                self.used += 1;
-                self.reached = self.reached.max(number + 1);
-                Ok(Slot { number })
-            }
-            Cell::Live(_) => unreachable!(),
-        }
+        self.first_free = self.block.fill(number, self.reached, value);
+        self.used += 1;
+        self.reached = self.reached.max(number + 1);
+        self.to_clear = self.to_clear.max(number + 1);
+        Ok(Slot { number })
     }
 
     /// The value of a live slot.
@@ -200,10 +201,10 @@ impl<T> Region<T> {
         T: Drop,
         ensures { self.new ≡ record self.old { values = map.empty } }
     {
-        self.block.vacate(self.reached);
+        self.block.vacate(self.to_clear);
         self.first_free = 0;
         self.used = 0;
-        self.reached = 0;
+        self.to_clear = 0;
     }
 
     /// The number of live slots.

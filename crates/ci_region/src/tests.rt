@@ -15,7 +15,7 @@ mod safe_region;
 fn live_slot<T>(region: &Region<T>, number: u32) -> Option<Slot>
     ensures { IfSome result (λ slot. IsLive region.now slot) }
 {
-    if number >= region.capacity {
+    if number >= region.reached {
         return None;
     }
     match region.block.cell(number as usize) {

@@ -1,50 +1,61 @@
-use Rattle.std.proofs.Common.{◌<◌, true≢false, refl, sym, ap, ◌∙◌, arith}
+use Rattle.std.proofs.Common.{true≢false, refl, sym, ap, ◌∙◌, arith}
 use Rattle.std.specs.FinMap as map
 use Rattle.ci_region.specs.BoundedMap.{BoundedMap}
 use Rattle.ci_region.proofs.MapLaws.{get-insert_same}
 use Rattle.ci_region.proofs.ValueLaws.{get-values_in}
-use Rattle.ci_region.proofs.CellLaws.{first_is_free, AreCells-fill, region-live, used_is, capacity_is, used_at_most}
+use Rattle.ci_region.proofs.CellLaws.{first_within, first_is_free, first_has_room, used_is, capacity_is, used_at_most}
+use Rattle.ci_region.proofs.CellLaws.{same_start, same_room, AreCells-take, region-take}
 use Rattle.ci_region.proofs.Region.take.Goals as goal
 
 pub returns-then-self-clause-full : goal.returns-then-self-clause-full
 returns-then-self-clause-full g c = (
   λ e. omega (
     arith,
-    used_is _ _ _ _ _ _ c.self.view_is c.self.invariant.0,
-    capacity_is _ _ _ _ _ _ c.self.view_is c.self.invariant.0,
+    used_is _ _ _ _ _ _ _ _ c.self.view_is c.self.invariant.0 c.self.invariant.1,
+    capacity_is _ _ _ _ _ _ _ _ c.self.view_is c.self.invariant.0 c.self.invariant.1,
     c.if-self.true,
   ),
   λ e. refl,
 )
 
 pub returns-then-self-clause-bounded : goal.returns-then-self-clause-bounded
-returns-then-self-clause-bounded g c = used_at_most _ _ _ _ _ _ c.self.view_is c.self.invariant.0
+returns-then-self-clause-bounded g c =
+    used_at_most _ _ _ _ _ _ _ _ c.self.view_is c.self.invariant.0 c.self.invariant.1
+
+pub fill-self-inside-requires-clause-within : goal.fill-self-inside-requires-clause-within
+fill-self-inside-requires-clause-within g c = first_within _ _ _ _ _ c.self.invariant.0
+
+pub fill-self-inside-requires-clause-room : goal.fill-self-inside-requires-clause-room
+fill-self-inside-requires-clause-room g c =
+    let room = first_has_room _ _ _ _ _ c.self.invariant.0 _ _ c.self.invariant.1 c.if-self.false in
+    omega (arith, room, c.self.invariant.1)
+
+pub fill-self-inside-requires-clause-free : goal.fill-self-inside-requires-clause-free
+fill-self-inside-requires-clause-free g c = first_is_free _ _ _ _ _ c.self.invariant.0
+
+pub overflow_add-number : goal.overflow_add-number
+overflow_add-number g c =
+    let room = first_has_room _ _ _ _ _ c.self.invariant.0 _ _ c.self.invariant.1 c.if-self.false in
+    record { fits = omega (arith, room) }
 
 pub invariant_of-self : goal.invariant_of-self
 invariant_of-self g c =
-    let are = c.self.invariant.0 in
-    let room : c.self.inside.used < c.self.inside.capacity = omega (arith, are.rest_free, are.all, c.if-self.false) in
-    let is = sym c.cell_mut-cell.ensures.value ∙ sym c.replace.ensures.value ∙ c.in-Free.is in
-    let free = first_is_free _ _ _ _ _ are room in
-    let fits : c.self.inside.first_free < c.self.inside.capacity = omega (arith, free.0, are.all) in
-    let within = are.reached_within in rw c.replace.ensures.after (
-      AreCells-fill _ _ _ _ _ are room c.in-Free.next is c.args.value _ (omega arith) (omega arith) (omega arith),
-      c.self.invariant.1,
+    let are = c.self.invariant.0 in let filled = c.fill-self-inside.ensures in
+    let room = first_has_room _ _ _ _ _ are _ _ c.self.invariant.1 c.if-self.false in
+    let start = same_start _ _ _ _ _ _ c.self.inside.capacity _ _ are filled.reached filled.next in
+    let left = same_room _ _ _ _ _ _ c.self.inside.capacity _ _ are filled.reached filled.next _
+    c.max-self-inside.ensures (omega (arith, room, c.self.invariant.1)) in
+    let lease = c.self.invariant.2 in (
+      AreCells-take _ _ _ _ _ _ c.self.inside.capacity _ _ are filled.reached filled.next _ _ c.max-self-inside.ensures
+          c.max-self-inside-2.ensures,
+      omega (arith, left, c.self.invariant.1),
+      (lease.0 ∙ sym start, lease.1, lease.2),
     )
-
-pub unreachable-requires : goal.unreachable-requires
-unreachable-requires g c =
-    let are = c.self.invariant.0 in
-    let room : c.self.inside.used < c.self.inside.capacity = omega (arith, are.rest_free, are.all, c.if-self.false) in
-    let free = first_is_free _ _ _ _ _ are room in
-    grind (arith, free.1, c.cell_mut-cell.ensures.value, c.replace.ensures.value, c.in-Live.is)
 
 pub returns-clause-holds : goal.returns-clause-holds
 returns-clause-holds g c =
-    let are = c.self.invariant.0 in
-    let room : c.self.inside.used < c.self.inside.capacity = omega (arith, are.rest_free, are.all, c.if-self.false) in
-    let free = first_is_free _ _ _ _ _ are room in
-    rw c.replace.ensures.after (region-live _ _ _ _ _ c.self.view_is (omega arith) c.args.value free.0)
+    let filled = c.fill-self-inside.ensures in
+    region-take _ _ _ _ _ _ _ _ _ c.self.invariant.0 filled.reached filled.next _ c.self.view_is
 
 pub returns-clause-live : goal.returns-clause-live
 returns-clause-live g c =
@@ -53,23 +64,26 @@ returns-clause-live g c =
 
 pub returns-clause-was_free : goal.returns-clause-was_free
 returns-clause-was_free g c =
-    let are = c.self.invariant.0 in
-    let room : c.self.inside.used < c.self.inside.capacity = omega (arith, are.rest_free, are.all, c.if-self.false) in
-    let free = first_is_free _ _ _ _ _ are room in
-    rw (← c.self.view_is) (get-values_in c.self.inside.block.cells c.self.inside.first_free ∙ free.1)
+    let free = first_is_free _ _ _ _ _ c.self.invariant.0 in
+    rw (← c.self.view_is) (get-values_in c.self.inside.block.cells c.self.inside.first_free ∙ free)
+
+pub returns-clause-below_capacity : goal.returns-clause-below_capacity
+returns-clause-below_capacity g c =
+    let room = first_has_room _ _ _ _ _ c.self.invariant.0 _ _ c.self.invariant.1 c.if-self.false in
+    omega (arith, room, capacity_is _ _ _ _ _ _ _ _ c.self.view_is c.self.invariant.0 c.self.invariant.1)
 
 pub returns-clause-full : goal.returns-clause-full
 returns-clause-full g c = (
   λ e. absurd (true≢false (sym e)),
-  λ e. let are = c.self.invariant.0 in
-      absurd (omega (
-        arith,
-        e,
-        used_is _ _ _ _ _ _ c.self.view_is are,
-        capacity_is _ _ _ _ _ _ c.self.view_is are,
-        c.if-self.false,
-      )),
+  λ e. absurd (omega (
+    arith,
+    e,
+    used_is _ _ _ _ _ _ _ _ c.self.view_is c.self.invariant.0 c.self.invariant.1,
+    capacity_is _ _ _ _ _ _ _ _ c.self.view_is c.self.invariant.0 c.self.invariant.1,
+    c.if-self.false,
+  )),
 )
 
 pub returns-clause-bounded : goal.returns-clause-bounded
-returns-clause-bounded g c = used_at_most _ _ _ _ _ _ c.self.view_is c.self.invariant.0
+returns-clause-bounded g c =
+    used_at_most _ _ _ _ _ _ _ _ c.self.view_is c.self.invariant.0 c.self.invariant.1

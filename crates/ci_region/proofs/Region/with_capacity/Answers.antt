@@ -1,9 +1,10 @@
-use Rattle.ci_region.proofs.CellLaws.{AreCells-chain, no_values-chain}
+use Rattle.std.proofs.Common.{arith}
+use Rattle.ci_region.proofs.CellLaws.{AreCells-none, no_values-none}
 use Rattle.ci_region.proofs.Region.with_capacity.Goals as goal
 
 pub invariant_of-result : goal.invariant_of-result
 invariant_of-result g c =
-    let made = c.in_ok-block.ensures in (AreCells-chain _ _ made.0, made.1)
+    let made = c.in_ok-block.ensures in (AreCells-none _ made.0, omega (arith, made.1), made.2)
 
 pub returns : goal.returns
-returns g c = λ i. record { values = no_values-chain _ _ c.in_ok-block.ensures.0 i; capacity = c.args.n }
+returns g c = λ i. record { values = no_values-none _ c.in_ok-block.ensures.0 i; capacity = c.args.n }

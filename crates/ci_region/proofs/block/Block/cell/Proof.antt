@@ -116,12 +116,12 @@ module _ (E : El) {M : Type 1} {𝓤 : Ura M} (𝓛 : Logic 𝓤) (C : Calls �
       use1 𝓛 (‵ (hidden_shr Pointer κ (d.start, tt) rb ro) ⊛ ‵ (fhide (block.the_lent (R E) d d.start κ)))
       (lent_out 𝓛 (block.struct (R E)) (block.the_codes (el_x E) (R E).coded) (block.the_heap (R E))
       (block.the_lent (R E)) κ d rb ro) $ split ! $ move ! (1 ∷ []) $
-      unhide ! $ in_a_block ! d.start (λ p. cells_lent (Cell-row E) p d.cells κ) (id⊢ 𝓤 (never 𝓤))
+      unhide ! $ in_a_block ! d.start (λ p. cells_lent (Cell-row E) p d.cells d.left κ) (id⊢ 𝓤 (never 𝓤))
       (λ b o e. fsplit ! $ flt_l ! (λ small.
       let s = cell_size E in let tiny : s
-      < 2 ^ 64 = omega (arith, one_below (length d.cells) s (2 ^ 63) (omega arith) small) in
+      < 2 ^ 64 = omega (arith, one_below (length d.cells + d.left) s (2 ^ 63) (omega arith) small) in
       let far : number * s < 2 ^ 64 = omega
-      (arith, times_below number (length d.cells) s (2 ^ 63) (omega arith) small) in
+      (arith, times_below number (length d.cells + d.left) s (2 ^ 63) (omega arith) small) in
       use1 𝓛 (‵ (shared_of (Cell-row E) x b (number * s + o) κ))
       (cell_seen (Cell-row E) 𝓛 b κ o d.cells number inside (Free 0)) $ hide ! $ move ! (1 ∷ 2 ∷ []) $
       rewrite ! 0 (λ (p : Ptr). ‵ (hidden_shr Pointer κ (p, tt) rb ro)) e refl $

@@ -10,7 +10,7 @@ use mir.Syntax.{Fn, named, w64}
 use mir.MapTy.{inst_fn}
 use mir.Val.{Val, vptr, vint}
 use base.Logic.{SProp, ent, sep, never, id⊢}
-use base.Fml.{Lft, GName, Share, Fml, ftrue, fsep, flft, fobs, fbor}
+use base.Fml.{Lft, GName, Share, Fml, ftrue, fsep, froom, flft, fobs, fbor}
 use prog.Wp.{Env, Calls, Loops, WpFn, Tables}
 use types.Logic.{Logic, sem}
 use contract.Monad.{fact}
@@ -41,11 +41,11 @@ use Rattle.core.proofs.mem.Param.{El, args, el_x}
 use Rattle.core.proofs.ptr.Rows.{times_below, one_below}
 use Rattle.std_alloc.proofs.VecSteps.Shapes.{after}
 use Rattle.std_alloc.proofs.RcSteps.{word}
-use Rattle.ci_region.specs.Ownership.{cells_at, cells_own}
+use Rattle.ci_region.specs.Ownership.{cells_at, cells_own, room_behind}
 use Rattle.ci_region.specs.Blocks.{with_cells}
 use Rattle.ci_region.specs.declared.block.Cell.{Cell}
 use Rattle.ci_region.specs.declared.block.Cell.TheVariants.{Free}
-use Rattle.ci_region.proofs.Memory.{Cell-row, Block-row, cell_size, pointer_had, pointer_made, Besides, cell_out}
+use Rattle.ci_region.proofs.Memory.{Cell-row, Block-row, cell_size, block_type, pointer_had, pointer_made, Besides, cell_out}
 use Rattle.ci_region.proofs.Memory.{cell_in}
 use Rattle.ci_region.specs.contracts.block.Block.cell_mut.Key.{name as #self}
 use Rattle.ci_region.proofs.block.Block.cell_mut.Statement as stated
@@ -106,9 +106,10 @@ module _ (E : El) {M : Type 1} {𝓤 : Ura M} (𝓛 : Logic 𝓤) (C : Calls �
     -- all but the cell
     abbrev Rest : Fml
     Rest = fsep (Besides (Cell-row E) 𝓛 b o d.cells number inside (Free 0))
-        (cell_at full_share (Block-row E).mir (word d.start ∷ []) rb ro)
+        (fsep (room_behind (Cell-row E) b o d.cells d.left)
+        (cell_at full_share (Block-row E).mir (word d.start ∷ []) rb ro))
 
-    back : d.start ≡ block_ptr b o → length d.cells * cell_size E < 2 ^ 63
+    back : d.start ≡ block_ptr b o → (length d.cells + d.left) * cell_size E < 2 ^ 63
         → (w : Cell (el_x E)) → ent 𝓤 (sep 𝓤 (sem 𝓛 ((mem (Cell-row E)).own_at w b (number * cell_size E + o)))
         (sem 𝓛 Rest)) (sem 𝓛 ((mem (Block-row E)).own_at (new w) rb ro))
     unfolding part_of
@@ -117,10 +118,12 @@ module _ (E : El) {M : Type 1} {𝓤 : Ura M} (𝓛 : Logic 𝓤) (C : Calls �
         qed 𝓛 (‵ (part_at (Cell-row E) full_share w b (number * cell_size E + o)) ∷ ‵ Rest ∷ []) ∵ move ! (1 ∷ []) $
         fsplit ! $ move ! (2 ∷ 0 ∷ []) $
         use2 𝓛 (‵ (cells_at (Cell-row E) b o (new w).cells))
-        (cell_in (Cell-row E) 𝓛 b o d.cells number inside (Free 0) w) $
-        flt_i ! (length (new w).cells * cell_size E) (2 ^ 63)
-        (subst (λ k. k * cell_size E < 2 ^ 63) (sym long) small) $ fjoin ! $
-        rewrite ! 0 (λ (p : Ptr). ‵ (cells_own (Cell-row E) p (new w).cells)) (sym e) refl $
+        (cell_in (Cell-row E) 𝓛 b o d.cells number inside (Free 0) w) $ move ! (1 ∷ []) $ fsplit ! $
+        rewrite ! 0 (λ (k : ℕ). ‵ (froom (block_type E d.left) b (k * cell_size E + o))) (sym long) refl $
+        move ! (2 ∷ 0 ∷ []) $ fjoin ! $
+        flt_i ! ((length (new w).cells + d.left) * cell_size E) (2 ^ 63)
+        (subst (λ k. (k + d.left) * cell_size E < 2 ^ 63) (sym long) small) $ fjoin ! $
+        rewrite ! 0 (λ (p : Ptr). ‵ (cells_own (Cell-row E) p (new w).cells d.left)) (sym e) refl $
         pointer_made ! d.start $ fjoin ! $ move ! (1 ∷ 0 ∷ []) $ fjoin ! $
         fpack ! (List Val) (λ us. fsep (cell_at full_share (Block-row E).mir us rb ro)
         ((Block-row E).own_val (new w) us)) (word d.start ∷ []) $ done !
@@ -147,26 +150,26 @@ module _ (E : El) {M : Type 1} {𝓤 : Ura M} (𝓛 : Logic 𝓤) (C : Calls �
       let En : Env 𝓤 H = env (function E).locals l in
       opens ! tt (Block-row E) {h = d} rb ro (λ vs. move ! (1 ∷ []) $ fsplit ! $ pointer_had ! d.start vs (λ one.
       rewrite ! 1 (λ (ws : List Val). ‵ (cell_at full_share (Block-row E).mir ws rb ro)) one refl $
-      in_a_block ! d.start (λ p. cells_own (Cell-row E) p d.cells) (id⊢ 𝓤 (never 𝓤)) (λ b o e. fsplit ! $
+      in_a_block ! d.start (λ p. cells_own (Cell-row E) p d.cells d.left) (id⊢ 𝓤 (never 𝓤)) (λ b o e. fsplit ! $
       flt_l ! (λ small.
       let s = cell_size E in let tiny : s
-      < 2 ^ 64 = omega (arith, one_below (length d.cells) s (2 ^ 63) (omega arith) small) in
+      < 2 ^ 64 = omega (arith, one_below (length d.cells + d.left) s (2 ^ 63) (omega arith) small) in
       let far : number * s < 2 ^ 64 = omega
-      (arith, times_below number (length d.cells) s (2 ^ 63) (omega arith) small) in
-      let at = number * s + o in let way = back b o inside e small in
+      (arith, times_below number (length d.cells + d.left) s (2 ^ 63) (omega arith) small) in
+      let at = number * s + o in let way = back b o inside e small in fsplit ! $
       use1 𝓛 (‵ (part_at (Cell-row E) full_share x b at)
       ⊛ ‵ (Besides (Cell-row E) 𝓛 b o d.cells number inside (Free 0)))
       (cell_out (Cell-row E) 𝓛 b o d.cells number inside (Free 0)) $ split ! $
-      -- [the cell; the others; the block's word; the open borrow, in three entries]
+      -- [the cell; the others; the room; the block's word; the open borrow, in three entries]
       first ! $ blocks ! $
-      sets ! (is ! (of_opd ! (load ! (through ! refl (fld ! refl (stop !))) (look_in ! 2 (sub ! 0 refl (whole !)))))
+      sets ! (is ! (of_opd ! (load ! (through ! refl (fld ! refl (stop !))) (look_in ! 3 (sub ! 0 refl (whole !)))))
       (ap ptr_val e)) refl (tt, tt) $
       sets ! (bin ! (get ! refl) (size_lit ! (record { fits = tiny })) (record { fits = far })) refl
       (tt, record { fits = far }) $
       sets ! (bin ! (get ! refl) (get ! refl) tt) refl (tt, tt) $
       sets_last ! (addr ! (through ! refl (stop !))) refl (tt, tt) $
       exec ! C Λ En (after 1 (function E).body) (at_ret En Post) $ sets ! (of_opd ! (get ! refl)) refl (tt, tt) $
-      move ! (1 ∷ 2 ∷ []) $ fjoin ! $ move ! (2 ∷ 3 ∷ 4 ∷ 1 ∷ 0 ∷ []) $ group ! 5 $
+      move ! (2 ∷ 3 ∷ []) $ fjoin ! $ move ! (2 ∷ 0 ∷ []) $ fjoin ! $ move ! (2 ∷ 3 ∷ 4 ∷ 1 ∷ 0 ∷ []) $ group ! 5 $
       use1 𝓛 (later (some (λ (δ : GName). raw
       (Part 𝓛 (Block-row E) (Cell-row E) new (named 0) κ q rb ro b at γ (sem 𝓛 (Rest b o inside)) way x δ))))
       (lends_Part 𝓛 (Block-row E) (Cell-row E) new (named 0) κ q rb ro b at γ (sem 𝓛 (Rest b o inside)) way code code

@@ -1,12 +1,12 @@
 -- `free` makes memory of the cells, and hands it back with the allocator's token.
 use mathlib.Core.Path.{◌≡◌, refl, sym, ap, subst, ◌∙◌}
-use Prim.Native.Nat.{ℕ, ◌*◌, ◌<◌, ◌^◌}
+use Prim.Native.Nat.{ℕ, ◌+◌, ◌*◌, ◌<◌, ◌^◌}
 use native.Mathlib.Omega.{arith}
 use mathlib.Core.List.{List, [], ◌∷◌, ◌++◌}
 use lib.Dec.{T}
 use lib.ListN.{length}
 use seplogic.Ra.Ura.{Ura}
-use mir.Syntax.{Fn, named, w32, w64, ty_unit, ty_array}
+use mir.Syntax.{Fn, named, w32, w64, ty_unit}
 use mir.MapTy.{inst_fn}
 use mir.Val.{Val, vptr, vint, vunit, has_ty, WT}
 use base.Logic.{SProp, ent, never, id⊢}
@@ -21,7 +21,7 @@ use contract.Monad.{Fun, fact}
 use contract.Running.{tables, tables_of}
 use sound.WpLaws.{FmC, fm_of, WpFn-mono}
 use types.Kit.{Item, ⋆, ‵, raw, ◌⊛◌, given, later, await, learn, at_ret, ◌$◌, ◌∵◌, !, qed, by, move, keep, use1}
-use types.Kit.{split, join, group, rewrite, fsplit, fjoin, feq_i, feq_l, flt_l, suffices, done}
+use types.Kit.{use2, split, join, group, rewrite, fsplit, fjoin, feq_i, feq_l, flt_l, suffices, done}
 use types.Part.{whole, sub}
 use types.Run.{stop, fld, unit_lit, un, bin, of_opd, and_then, no_more, size_word, align_word, first, blocks, exec}
 use types.Run.{returns, enter}
@@ -44,7 +44,6 @@ use denote.Triple.Walked.{needs, Stays, stay_dropped, walk_of, ends_at, Goes-dro
 use Rattle.core.proofs.alloc.Calls.{Al, second, token, gives_key, Gives, at_gives, Gives-goes, Gives-Gives, Goes-blank}
 use Rattle.core.proofs.mem.Param.{El}
 use Rattle.core.proofs.slots.Leases.{uncapped, args, P}
-use Rattle.std_alloc.proofs.RawLayout.{as_raw}
 use Rattle.std_alloc.proofs.RcSteps.{word, word-Good}
 use Rattle.std_alloc.proofs.VecSteps.Shapes.{after}
 use Rattle.ci_region.specs.Blocks.{IsLeaseOf}
@@ -77,7 +76,7 @@ module _ (E : El) (Z : Al) where
   )
 
   abbrev Asks : (Block-row E).Denot → (Lease-row E Z).Denot → ℕ → Z.row.Denot → Type 0
-  Asks d right count a = IsLeaseOf right d count a × (length d.cells ≡ count) × AreFree d.cells
+  Asks d right count a = IsLeaseOf right d count a × (length d.cells + d.left ≡ count) × AreFree d.cells
 
 module _ (E : El) (Z : Al) {M : Type 1} {𝓤 : Ura M} (𝓛 : Logic 𝓤) (at_mem : Memory → SProp 𝓤) (run : Routine → Fun 𝓤)
     (C : Calls 𝓤 𝓛.H) (Λ : Loops 𝓤 𝓛.H) (fm : FmC 𝓤 𝓛.H 𝓛.laws C)
@@ -117,7 +116,7 @@ module _ (E : El) (Z : Al) {M : Type 1} {𝓤 : Ura M} (𝓛 : Logic 𝓤) (at_m
       move ! (1 ∷ 0 ∷ []) $ join ! $ nothing ! $ move ! (1 ∷ 0 ∷ []) $ done !
 
   abbrev Had : List (Item 𝓤)
-  Had = ‵ (cells_own (Cell-row E) d.start d.cells)
+  Had = ‵ (cells_own (Cell-row E) d.start d.cells d.left)
       ∷ ‵ (lease_owns (Cell-row E) (token Z right.alloc) right.start right.count) ∷ ‵ (hidden_shr (P E Z) κ a rb ro)
       ∷ ‵ (flft κ q) ∷ others ∷ []
 
@@ -129,17 +128,16 @@ module _ (E : El) (Z : Al) {M : Type 1} {𝓤 : Ura M} (𝓛 : Logic 𝓤) (at_m
       (word-Good [] d.start, ((tt, (tt, tt)), ((tt, record { fits = fits }), ((tt, tt), tt)))) $
       let En : Env 𝓤 H = env (function E Z).locals l in
       let s = cell_size E in let al : ℕ = capped (align (cell_type E)) in let wide : count < 2 ^ 64 = omega arith in
-      in_a_block ! d.start (λ p. cells_own (Cell-row E) p d.cells) (id⊢ 𝓤 (never 𝓤)) (λ b o e. fsplit ! $
+      in_a_block ! d.start (λ p. cells_own (Cell-row E) p d.cells d.left) (id⊢ 𝓤 (never 𝓤)) (λ b o e. fsplit ! $
       flt_l ! (λ fit.
       let small : count * s < 2 ^ 63 = subst (λ k. k * s < 2 ^ 63) asked.1 fit in
       let bytes : count * s < 2 ^ 64 = omega arith in
       let y : (Gives Z 𝓛 at_mem run).Ghost = at_gives Z 𝓛 at_mem run κ q (rb, ro) a b o (count * s) al
       (block_type E count) in
+      fsplit ! $ use2 𝓛 (‵ (froom (block_type E (length d.cells + d.left)) b o)) (to_room E 𝓛 b d.cells o d.left) $
       rewrite ! 1 (λ (t : Z.row.Denot × Ptr × ℕ). ‵ (lease_owns (Cell-row E) (token Z t.0) t.1 t.2))
       (λ i. (asked.0.2 i, (asked.0.0 ∙ e) i, asked.0.1 i)) refl $
-      use1 𝓛 (‵ (froom (ty_array (cell_type E) (length d.cells)) b o)) (to_room E 𝓛 b o d.cells) $
-      rewrite ! 0 (λ (k : ℕ). ‵ (froom (ty_array (cell_type E) k) b o)) asked.1 refl $
-      as_raw ! (ty_array (cell_type E) count) b o $
+      rewrite ! 0 (λ (k : ℕ). ‵ (froom (block_type E k) b o)) asked.1 refl $
       sets ! (is ! (of_opd ! (get_in ! (fld ! refl (stop !)) (sub ! 0 refl (whole !)))) (ap ptr_val e)) refl (tt, tt)
       $ first ! $ blocks ! $
       sets ! (of_opd ! (get ! refl)) refl (tt, tt) $

@@ -1,44 +1,40 @@
--- `chained` makes each cell of the new memory, and keeps the right to free it.
+-- `reserve` takes memory of which no cell was reached, and keeps the right to free it.
 use mathlib.Core.Path.{◌≡◌, refl, sym, ap, subst}
 use mathlib.Core.Bool.{true, false}
-use mathlib.Core.WellFounded.InvImage
-use Prim.Native.Nat.{ℕ, zero, suc, ◌+◌, ◌-◌, ◌*◌, ◌≤◌, ◌<◌, ◌^◌}
+use Prim.Native.Nat.{ℕ, ◌+◌, ◌*◌, ◌<◌, ◌^◌}
 use native.Mathlib.Omega.{arith}
 use mathlib.Core.List.{List, [], ◌∷◌, ◌++◌}
-use lib.Dec.{lit<, ltb→lt, nltb→le}
+use lib.Dec.{lit<}
 use lib.ListN.{length}
-use lib.WfN.{lt-wf_rel}
 use seplogic.Ra.Ura.{Ura}
-use base.Fraction.{full_share}
-use mir.Syntax.{Fn, Body, named, w32, w64, ty_int, ty_array}
+use mir.Syntax.{Fn, Body, named, w32, w64}
 use mir.MapTy.{inst_fn}
 use mir.Val.{Val, vptr, vint, vstruct, vcons, vnil}
 use base.Logic.{SProp, ent}
-use base.Fml.{Lft, Share, ftrue, fat, froom, flft, Incl-trans}
+use base.Fml.{Lft, Share, fsep, ftrue, flft, Incl-trans}
 use prog.Memory.{Memory, align, capped}
 use prog.Capped.{capped_fits}
 use prog.Routine.{Routine}
-use prog.Wp.{Env, Out, Wp, WpFn, Tables, at_return, after_seq, after_block, after_turn}
+use prog.Wp.{Env, Wp, WpFn, Tables, at_return, after_seq}
 use types.Logic.{Logic}
 use contract.BorrowLft.{◌⊑◌}
 use contract.Monad.{Fun, fact}
 use contract.Running.{tables, tables_of}
 use sound.WpLaws.{FmC, fm_of, WpFn-mono}
-use types.Kit.{Item, Sq, Post as After, any_q, runs, ⋆, ‵, raw, ◌⊛◌, later, await, at_ret, ◌$◌, ◌∵◌, !, qed, by, move}
-use types.Kit.{keep, use0, use1, use2, split, join, rewrite, fsplit, fsplit3, fjoin, feq_l, flt_l, flt_i}
+use types.Kit.{Item, Post as After, any_q, ⋆, ‵, raw, ◌⊛◌, later, await, at_ret, ◌$◌, ◌∵◌, !, qed, by, move}
+use types.Kit.{keep, use0, use1, use2, split, join, fsplit, fsplit3, fjoin, feq_l, flt_l, flt_i}
 use types.Kit.{suffices, frame, done}
 use types.Match.{live, vrt, in_variant}
 use types.Part.{whole, agg}
-use types.Run.{stop, fld, lit, un, bin, size_lit, of_opd, and_then, no_more, size_word, align_word, init}
-use types.Run.{assigns_last, first, blocks, skips, jumps, branches, switches_on, loops, again, Below, exec, returns}
+use types.Run.{stop, fld, lit, un, bin, of_opd, and_then, no_more, size_word, align_word}
+use types.Run.{first, switches_on, exec, returns}
 use types.Run.{returns_within, enter}
-use types.ByLocal.{alloc_all, pass_all, free_all, look_at, get, get_in, get_tag, through, sets, sets_last, is}
-use types.ByLocal.{lands_as, env, holding, forget_but, take_at, give_at}
-use borrow.Table.OneValue.{part_in}
+use types.ByLocal.{alloc_all, pass_all, free_all, look_at, get, get_in, get_tag, sets, sets_last, is}
+use types.ByLocal.{lands_as, env}
 use denote.Exit.{yes}
 use denote.Laws.{Is}
 use denote.RattleType.{RattleType, owns}
-use denote.Memory.{hidden_shr, part_at}
+use denote.Memory.{hidden_shr}
 use denote.Param.{layout}
 use denote.RawPtr.{Ptr, block_ptr}
 use denote.Ref.{Bor, ShrRef}
@@ -59,35 +55,25 @@ use Rattle.std.specs.Prelude.{IfOk, Ok, Err}
 use Rattle.std.specs.Vec.Ownership.{FitsInBlock}
 use Rattle.core.specs.contracts.result.Result as RS
 use Rattle.core.specs.contracts.alloc.AllocError as AE
-use Rattle.core.proofs.alloc.Calls.{Al, second, token, Answer-typed, takes_key, Takes, at_takes, Answered, Takes-goes}
+use Rattle.core.proofs.alloc.Calls.{Al, second, Answer-typed, takes_key, Takes, at_takes, Answered, Takes-goes}
 use Rattle.core.proofs.alloc.Calls.{Takes-gives, answers}
-use Rattle.core.proofs.mem.Param.{El, el_x}
-use Rattle.core.proofs.ptr.Rows.{one_more, times_below, one_below}
+use Rattle.core.proofs.mem.Param.{El}
 use Rattle.core.proofs.slots.Leases.{uncapped, args, P}
-use Rattle.std_alloc.proofs.RawLayout.{as_written}
 use Rattle.std_alloc.proofs.RcSteps.{Good, word, word-Good, first_Good}
 use Rattle.std_alloc.proofs.ResultValues.{ok_of, err_of}
 use Rattle.std_alloc.proofs.VecSteps.Shapes.{after, head, arm_body}
 use Rattle.ci_region.specs.Blocks.{IsLeaseOf}
-use Rattle.ci_region.specs.Cells.{chain}
-use Rattle.ci_region.specs.Ownership.{cells_at}
-use Rattle.ci_region.specs.declared.block.Cell.TheVariants.{Free}
-use Rattle.ci_region.proofs.CellLaws.{length-chain}
+use Rattle.ci_region.specs.Ownership.{cells_at, room_behind}
 use Rattle.ci_region.proofs.Memory.{Cell-row, Block-row, Lease-row, Mark, cell_size, cell_type, block_type}
-use Rattle.ci_region.proofs.Memory.{block_size, block_align, free_value, free_made, room_whole}
-use Rattle.ci_region.proofs.Memory.{room_out, chain_grown, mark, mark_made, pointer_made, two_value, two_of}
-use Rattle.ci_region.specs.contracts.block.Block.chained as F
-use Rattle.ci_region.specs.contracts.block.Block.chained.Key.{name as #self}
-use Rattle.ci_region.proofs.block.Block.chained.Statement as stated
-use Rattle.ci_region.proofs.block.Block.chained.Code as code
+use Rattle.ci_region.proofs.Memory.{block_size, block_align, of_room, mark, mark_made, pointer_made, two_value, two_of}
+use Rattle.ci_region.specs.contracts.block.Block.reserve as F
+use Rattle.ci_region.specs.contracts.block.Block.reserve.Key.{name as #self}
+use Rattle.ci_region.proofs.block.Block.reserve.Statement as stated
+use Rattle.ci_region.proofs.block.Block.reserve.Code as code
 
 module _ (E : El) (Z : Al) where
   abbrev function : Fn
   function = inst_fn (args E Z) code.function
-
-  -- the body of the loop
-  abbrev turn : Body
-  turn = head (head (head (after 7 function.body)))
 
   abbrev ended : Ended
   ended = F.ended E.row Z.row Z.g Z.d Z.drops
@@ -125,106 +111,13 @@ module _ (E : El) (Z : Al) {M : Type 1} {𝓤 : Ura M} (𝓛 : Logic 𝓤) (at_m
   abbrev Post : Val → SProp 𝓤
   Post = (walk_of 𝓛 (ended E Z) (stayed E Z) (clauses E Z 𝓛 at_mem run)).post bound
 
-  exits : (r : (Made E Z).Denot) (v : Val) → IfOk r (λ t. (t.0.cells ≡ chain count) × IsLeaseOf t.1 t.0 count a)
+  exits : (r : (Made E Z).Denot) (v : Val) → IfOk r (λ t. (t.0.cells ≡ []) × (t.0.left ≡ count) × IsLeaseOf t.1 t.0 count a)
       → ent 𝓤 (⋆ 𝓛 (‵ ((Made E Z).own_val r (v ∷ [])) ∷ ‵ (flft κ q) ∷ others ∷ [])) (Post v)
   exits r v g =
       qed 𝓛 (‵ ((Made E Z).own_val r (v ∷ [])) ∷ ‵ (flft κ q) ∷ others ∷ []) ∵
       suffices ! _ (ends_at 𝓛 (ended E Z) (stayed E Z) (clauses E Z 𝓛 at_mem run) bound v r (tt, (tt, tt))
       (tt, (tt, tt))) $ says ! g $
       move ! (1 ∷ 2 ∷ []) $ join ! $ frame ! $ nothing ! $ nothing ! $ fjoin ! $ nothing ! $ fjoin ! $ done !
-
-  -- how many cells are made
-  abbrev Making : Type 0
-  Making = (made : ℕ) × (made ≤ count)
-
-  abbrev Nearer : Making → Making → Type 0
-  Nearer t u = count - t.0 < count - u.0
-
-  module _ (fits : count < 2 ^ 32) (small : count * cell_size E < 2 ^ 63) (b o : ℕ) (l : ℕ → ℕ) where
-    abbrev En : Env 𝓤 H
-    En = env (function E Z).locals l
-
-    -- so many cells are made, and there is room for the others
-    abbrev Held : ℕ → List (Item 𝓤)
-    Held made = ‵ (cells_at (Cell-row E) b o (chain made))
-        ∷ ‵ (froom (ty_array (cell_type E) (count - made)) b (made * cell_size E + o))
-        ∷ ‵ (token Z a (block_type E count) (block_ptr b o)) ∷ ‵ (flft κ q) ∷ others
-        ∷ holding 𝓛 En ((1, vptr rb ro) ∷ (2, vint w32 count) ∷ (6, vptr b o) ∷ (7, vint w32 made) ∷ [])
-
-    abbrev Now : Making → List (Item 𝓤)
-    Now t = Held t.0
-
-    abbrev Turned : Making → Out → SProp 𝓤
-    Turned t = after_turn 𝓤 H (Below 𝓛 Nearer Now t)
-        (after_block 𝓤 H (after_seq 𝓤 H (Wp 𝓤 H 𝓣.C 𝓣.Λ En (after 8 (function E Z).body) (at_return 𝓤 H En Post))
-        (at_return 𝓤 H En Post)))
-
-    -- all cells are made
-    ends : Sq 𝓛 (Held count) (runs 𝓣.C 𝓣.Λ En (after 8 (function E Z).body) (at_ret En Post))
-    ends =
-        let s = cell_size E in let p : Ptr = block_ptr b o in
-        let blk : (Block-row E).Denot = record { start = p; cells = chain count } in
-        let right : (Lease-row E Z).Denot = record { mark = record {}; start = p; count = count; alloc = a } in
-        let made : Val = two_value (word p) mark in
-        let typed : Good (layout (Two E Z)) made = (tt, ((tt, tt), ((tt, tt), tt))) in
-        let ok = first_Good (layout (Two E Z)) made typed in
-        sets ! (agg ! (and_then ! (get ! refl) (no_more !))) refl (word-Good [] p) $
-        sets ! (agg ! (no_more !)) refl (tt, tt) $
-        sets ! (agg ! (and_then ! (get ! refl) (no_more !))) refl (tt, (tt, tt)) $
-        sets ! (agg ! (and_then ! (get ! refl) (and_then ! (get ! refl) (no_more !)))) refl typed $
-        sets ! (agg ! (and_then ! (lit ! tt) (and_then ! (get ! refl) (no_more !)))) refl ok $
-        flt_i ! (length blk.cells * s) (2 ^ 63) (subst (λ k. k * s < 2 ^ 63) (sym (length-chain (el_x E) count)) small) $
-        fjoin ! $ pointer_made ! p $ fjoin ! $
-        move ! (2 ∷ []) $ use0 𝓛 (‵ ((Mark E Z).own_val (tt, tt) (mark ∷ []))) (mark_made E Z 𝓛) $ fjoin ! $
-        move ! (1 ∷ 0 ∷ []) $
-        use2 𝓛 (‵ ((Two E Z).own_val (blk, right) (made ∷ [])))
-        (two_of 𝓛 (Block-row E) (Lease-row E Z) blk right (word p) mark) $
-        use1 𝓛 (‵ ((Made E Z).own_val (Ok (blk, right)) (live 0 (vcons made vnil) ∷ [])))
-        (ok_of 𝓛 (Two E Z) AE.the_row (blk, right) made) $
-        returns ! (look_at ! 0 refl) $ free_all ! refl $ keep ! (0 ∷ 2 ∷ 3 ∷ []) $
-        by ! (exits (Ok (blk, right)) (live 0 (vcons made vnil)) (refl, (refl, refl, refl)))
-
-    turns : (t : Making) → Sq 𝓛 (Now t) (runs 𝓣.C 𝓣.Λ En (turn E Z) (any_q (Turned t)))
-    unfolding after_turn
-    turns t =
-        let made : ℕ = t.0 in let le = t.1 in let s = cell_size E in
-        sets ! (bin ! (get ! refl) (get ! refl) tt) refl (tt, tt) $ first ! $ branches ! (get ! refl)
-        (λ less. let h : made < count = ltb→lt made count less in let at : ℕ = made * s + o in
-        let tiny : s < 2 ^ 64 = omega (arith, one_below count s (2 ^ 63) (omega arith) small) in
-        let far : made * s < 2 ^ 64 = omega (arith, times_below made count s (2 ^ 63) (omega arith) small) in
-        let wide : made < 2 ^ 64 = omega arith in let next : made + 1 < 2 ^ 32 = omega arith in
-        let v : Val = free_value E (made + 1) in
-        skips ! $ exec ! 𝓣.C 𝓣.Λ En (after 2 (turn E Z)) (any_q (Turned t)) $
-        first ! $ blocks ! $
-        sets ! (un ! (get ! refl) (record { fits = wide })) refl (tt, record { fits = wide }) $
-        sets ! (bin ! (get ! refl) (size_lit ! (record { fits = tiny })) (record { fits = far })) refl
-        (tt, record { fits = far }) $
-        sets ! (bin ! (get ! refl) (get ! refl) tt) refl (tt, tt) $
-        sets ! (bin ! (get ! refl) (lit ! tt) (record { fits = next })) refl (tt, record { fits = next }) $
-        sets ! (agg ! (and_then ! (lit ! tt) (and_then ! (get ! refl) (no_more !)))) refl
-        (tt, (record { fits = lit< tt }, (record { fits = next }, tt))) $
-        move ! (1 ∷ []) $
-        use1 𝓛 (‵ (froom (cell_type E) b at)
-        ⊛ ‵ (froom (ty_array (cell_type E) (count - suc made)) b (suc made * s + o)))
-        (room_out E 𝓛 b o made count h) $ split ! $
-        assigns_last ! (of_opd ! (get ! refl)) (through ! refl (stop !))
-        (init ! 0 refl (tt, (record { fits = lit< tt }, (record { fits = next }, tt)))) $
-        exec ! 𝓣.C 𝓣.Λ En (after 3 (turn E Z)) (any_q (Turned t)) $
-        sets_last ! (bin ! (get ! refl) (lit ! tt) (record { fits = next })) refl (tt, record { fits = next }) $
-        use0 𝓛 (‵ ((Cell-row E).own_val (Free (made + 1)) (v ∷ []))) (free_made E 𝓛 (made + 1) next) $
-        move ! (1 ∷ 0 ∷ []) $
-        use2 𝓛 (‵ (part_at (Cell-row E) full_share (Free (made + 1)) b at))
-        (part_in 𝓛 (Cell-row E) refl full_share (Free (made + 1)) b at v) $ move ! (2 ∷ 0 ∷ []) $
-        use2 𝓛 (‵ (cells_at (Cell-row E) b o (chain (suc made)))) (chain_grown E 𝓛 b o made) $
-        forget_but ! En (1 ∷ 2 ∷ 6 ∷ 7 ∷ []) refl $ take_at ! 7 $
-        rewrite ! 0 (λ (k : ℕ). ‵ (fat full_share (ty_int w32) (l 7) zero (vint w32 k))) (one_more made) refl $
-        give_at ! 7 $
-        again ! Nearer Now t (suc made, omega arith) (omega arith))
-        (λ over. let ge = nltb→le made count over in let all : made ≡ count = omega arith in
-        jumps ! $ exec ! 𝓣.C 𝓣.Λ En (after 8 (function E Z).body) (at_ret En Post) $
-        forget_but ! En (1 ∷ 2 ∷ 6 ∷ 7 ∷ []) refl $
-        subst (λ (k : ℕ). Sq 𝓛 (Held k) (runs 𝓣.C 𝓣.Λ En (after 8 (function E Z).body) (at_ret En Post)))
-        (sym all) ends)
 
   abbrev Had : List (Item 𝓤)
   Had = ‵ (hidden_shr (P E Z) κ a rb ro) ∷ ‵ (flft κ q) ∷ others ∷ []
@@ -263,13 +156,29 @@ module _ (E : El) (Z : Al) {M : Type 1} {𝓤 : Ura M} (𝓛 : Logic 𝓤) (at_m
       (tt, tt) $ sets_last ! (of_opd ! (get ! refl)) refl (tt, tt) $
       exec ! 𝓣.C 𝓣.Λ En' (after 4 (function E Z).body) (at_ret En' Post) $
       sets ! (of_opd ! (get ! refl)) refl (tt, tt) $ sets ! (of_opd ! (get ! refl)) refl (tt, tt) $
-      sets ! (of_opd ! (lit ! tt)) refl (tt, record { fits = lit< tt }) $
-      as_written ! (ty_array (cell_type E) count) b o $
-      use1 𝓛 (‵ (cells_at (Cell-row E) b o (chain 0)) ⊛ ‵ (froom (ty_array (cell_type E) (count - 0)) b (0 * s + o)))
-      (room_whole E 𝓛 b o count) $ split ! $
-      forget_but ! En' (1 ∷ 2 ∷ 6 ∷ 7 ∷ []) refl $
-      first ! $ blocks ! $ loops ! 𝓣 Nearer (InvImage.wf (λ (t : Making). count - t.0) lt-wf_rel.wf)
-      (Now fits small b o l) (turns fits small b o l) (0, omega arith))
+      let p : Ptr = block_ptr b o in
+      let blk : (Block-row E).Denot = record { start = p; cells = []; left = count } in
+      let right : (Lease-row E Z).Denot = record { mark = record {}; start = p; count = count; alloc = a } in
+      let made : Val = two_value (word p) mark in
+      let typed : Good (layout (Two E Z)) made = (tt, ((tt, tt), ((tt, tt), tt))) in
+      let ok = first_Good (layout (Two E Z)) made typed in let none_yet : count ≡ length blk.cells + count = omega arith in
+      sets ! (agg ! (and_then ! (get ! refl) (no_more !))) refl (word-Good [] p) $
+      sets ! (agg ! (no_more !)) refl (tt, tt) $
+      sets ! (agg ! (and_then ! (get ! refl) (no_more !))) refl (tt, (tt, tt)) $
+      sets ! (agg ! (and_then ! (get ! refl) (and_then ! (get ! refl) (no_more !)))) refl typed $
+      sets ! (agg ! (and_then ! (lit ! tt) (and_then ! (get ! refl) (no_more !)))) refl ok $
+      use1 𝓛 (‵ (fsep (cells_at (Cell-row E) b o []) (room_behind (Cell-row E) b o [] count)))
+      (of_room E 𝓛 b o count) $
+      flt_i ! ((length blk.cells + count) * s) (2 ^ 63) (subst (λ k. k * s < 2 ^ 63) none_yet small) $
+      fjoin ! $ pointer_made ! p $ fjoin ! $
+      move ! (1 ∷ []) $ use0 𝓛 (‵ ((Mark E Z).own_val (tt, tt) (mark ∷ []))) (mark_made E Z 𝓛) $ fjoin ! $
+      move ! (1 ∷ 0 ∷ []) $
+      use2 𝓛 (‵ ((Two E Z).own_val (blk, right) (made ∷ [])))
+      (two_of 𝓛 (Block-row E) (Lease-row E Z) blk right (word p) mark) $
+      use1 𝓛 (‵ ((Made E Z).own_val (Ok (blk, right)) (live 0 (vcons made vnil) ∷ [])))
+      (ok_of 𝓛 (Two E Z) AE.the_row (blk, right) made) $
+      returns ! (look_at ! 0 refl) $ free_all ! refl $ keep ! (0 ∷ 1 ∷ 2 ∷ []) $
+      by ! (exits (Ok (blk, right)) (live 0 (vcons made vnil)) (refl, refl, (refl, refl, refl))))
       (λ e.
       let Refusal : RattleType = Struct (Declared.shape AE.the_type) in
       let none : Val = live 1 (vcons (vstruct vnil) vnil) in
@@ -316,9 +225,9 @@ meets E Z {𝓤 = 𝓤} 𝓛 at_mem run 𝓣 callee =
     (entry E Z 𝓛 at_mem run 𝓣 (fm_of 𝓤 𝓛.H 𝓛.laws 𝓣) callee κs.0 κs.1.0 κs.1.1.0 qs.0 qs.1.0 qs.1.1.0 z.0.2.0 within
     a.0.ref_ptr.0 a.0.ref_ptr.1 a.0.now a.1.0 vss.0 vss.1.0)))
 
-pub chained_spec : {M : Type 1} → stated.statement M
+pub reserve_spec : {M : Type 1} → stated.statement M
 unfolding tables_of
-chained_spec 𝓤 𝓛 𝓜 𝓡 wired X W LX LW g d dd met md =
+reserve_spec 𝓤 𝓛 𝓜 𝓡 wired X W LX LW g d dd met md =
     let E : El = record { row = X; laws = LX } in
     let Z : Al = record { row = W; laws = LW; g = g; d = d; drops = dd } in
     let 𝓣 : Tables 𝓤 𝓛.H = tables_of 𝓤 𝓛.H 𝓜 (tables 𝓤 𝓛.H 𝓜 𝓡 𝓡.env) in
