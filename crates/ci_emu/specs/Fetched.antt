@@ -1,7 +1,5 @@
 -- What a decoded word keeps, and what may change the word that stands in memory. For private contracts.
-use Rattle.std.specs.Prelude.{◌≡◌, ℕ, ◌%◌, ◌==◌, Bool, true, false, is_some, List, find}
-use Rattle.std.specs.List.{list_all}
-use Rattle.ci_elf.specs.declared.ranges.Range.{Range}
+use Rattle.std.specs.Prelude.{◌≡◌, ℕ, Bool, true, false, is_some, find}
 use Rattle.ci_isa.specs.declared.instruction.Insn.{Insn}
 use Rattle.ci_isa.specs.declared.instruction.Insn.TheVariants.{Store, Ecall}
 use Rattle.ci_isa.specs.Laws.{IsInsnAtX}
@@ -11,10 +9,6 @@ use Rattle.ci_machine.specs.Cores.{Core}
 -- no other instruction stands at the word by the extended table
 abbrev pub IsOnlyAt : ℕ → Insn → Type 0
 IsOnlyAt word insn = (other : Insn) → IsInsnAtX word other → other ≡ insn
-
--- the first word of each range is at a multiple of four
-abbrev pub are_aligned : List Range → Bool
-are_aligned ranges = list_all (λ range. range.start % 4 == 0) ranges
 
 -- Bytes of the text may be others behind the instruction: a store moves some, or it is a call.
 abbrev pub may_change : (ℕ → Bool) → Insn → Core → Bool

@@ -1,7 +1,7 @@
 //! Counts of steps by the address at which they began.
 ghost use Rattle.std.specs.Prelude.{◌≡◌, ◌+◌, ◌<◌, ◌^◌, length, IfOk, IfSome, slice_index, slice_set};
 ghost use Rattle.ci_elf.specs.WordPlaces.{word_count, word_place};
-ghost use Rattle.ci_emu.specs.Fetched.{are_aligned};
+ghost use Rattle.ci_emu.specs.Alignment.{are_aligned};
 
 use ci_elf::{Places, Range};
 use std::alloc::{AllocError, Global};

@@ -7,7 +7,8 @@ ghost use Rattle.ci_isa.specs.Laws.{IsInsnAtX};
 ghost use Rattle.ci_word.specs.declared.arithmetic.Class.TheVariants.{Free};
 ghost use Rattle.ci_machine.specs.States.{program_of, state_of};
 ghost use Rattle.ci_machine.specs.Steps.{Meaning, fetched};
-ghost use Rattle.ci_emu.specs.Fetched.{IsOnlyAt, are_aligned};
+ghost use Rattle.ci_emu.specs.Alignment.{are_aligned};
+ghost use Rattle.ci_emu.specs.Fetched.{IsOnlyAt};
 ghost use Rattle.ci_emu.specs.TableLatencies.{cycles_on};
 
 use crate::machine::Machine;
