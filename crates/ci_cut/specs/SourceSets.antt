@@ -1,4 +1,4 @@
--- For private contracts only: sets of sources, and the nodes on either side of a set of nodes.
+-- For private contracts and for `Represents`: sets of sources, and the nodes on either side of a set of nodes.
 use Rattle.std.specs.Prelude.{◌≡◌, ℕ, Bool, true, false, not, ◌&&◌, List, IsTrue}
 use Rattle.std.specs.List.{list_any}
 use Rattle.std.specs.FinSet as set

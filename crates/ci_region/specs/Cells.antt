@@ -47,7 +47,7 @@ module _ {T : Type 0} where
         → Avoids number others → IsChain cells next others → IsChain cells number (number ∷ others)
 
   -- so many cells were reached; so many of them have a value, and all others form a chain that begins at this number;
-  -- from the number on that `clear` goes up to they are as they were made
+  -- from the number on that `clear` goes up to they are free, and each has the number of the one behind it
   pub record AreCells (cells : List (Cell T)) (first_free used to_clear reached : ℕ) : Type 0 where
     pub free : List ℕ
     pub chained : IsChain cells first_free free
