@@ -43,9 +43,9 @@ static int get(FILE *file)
 }
 
 static FILE both = FDEV_SETUP_STREAM(put, get, flush, _FDEV_SETUP_RW);
-FILE *const stdin = &both;
-FILE *const stdout = &both;
-FILE *const stderr = &both;
+__attribute__((used)) FILE *const stdin = &both;
+__attribute__((used)) FILE *const stdout = &both;
+__attribute__((used)) FILE *const stderr = &both;
 
 /* Memory for `malloc`: the break moves up from where it is. */
 void *sbrk(ptrdiff_t more)
