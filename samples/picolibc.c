@@ -5,6 +5,7 @@
 #include "start.h"
 
 int main(void);
+void __libc_init_array(void);
 
 /* Thread-local data (errno among them) are found from `tp`; none of them has a first value but zero. */
 static char thread_storage[1024];
@@ -61,8 +62,21 @@ _Noreturn void _exit(int code)
     leave(code);
 }
 
+/* What `abort` and a failed `assert` call: the signal ends the program, with the code that a shell tells of it. */
+int getpid(void)
+{
+    return 1;
+}
+
+int kill(int process, int signal)
+{
+    (void)process;
+    _exit(128 + signal);
+}
+
 void run(void)
 {
     __asm__ volatile("mv tp, %0" : : "r"(thread_storage));
-    _exit(main());
+    __libc_init_array();
+    exit(main());
 }
