@@ -36,6 +36,8 @@ rumtsafi area OLD --limit N [--in N]
   K             a number, 0 to 31
   A, B          words, as 0x and hex digits
 """
+# The numbers of the lines on each of these commands.
+USAGE_LINES = {"eval": (0, 1, 9, 10), "area": (2, 3, 4, 6, 7, 8)}
 COMMANDS = "there are: find check best blocks run eval load asm dis"
 TOOLCHAIN = "kit of the tests"
 # What a call of the script asks of `rt`, with the folder that it does so in.
@@ -237,7 +239,7 @@ class Built(Repository):
         self.use("one")
         self.assertEqual(self.use("best", STATUS="16")[2], "rumtsafi: a word isn't UTF-8\n")
 
-    def test_numbers_words_and_needed_options_are_read_from_the_usage(self):
+    def test_the_lines_on_a_command_and_what_it_takes_are_read_from_the_usage(self):
         self.write("docs/usage.txt", MORE_USAGE)
         self.assertEqual(self.call("checks/usage.py")[0], 0)
         self.use("one")
@@ -246,7 +248,9 @@ class Built(Repository):
                            (["eval", "a", "0", "0x0"], "eval takes UNITS K A B, and B is missing"),
                            (["area", "a", "--log=b"], "area needs --limit"),
                            (["area", "a", "--log=a", "--limit", "3"], "area can't write 'a', which it names twice")):
-            self.assertEqual(self.use(*words, STATUS="1")[2], f"{MORE_USAGE}rumtsafi: {why}\n")
+            lines = MORE_USAGE.splitlines(keepends=True)
+            usage = "".join(lines[number] for number in USAGE_LINES[words[0]])
+            self.assertEqual(self.use(*words, STATUS="1")[2], f"{usage}rumtsafi: {why}\n")
 
     def test_two_uses_at_once_build_once(self):
         uses = [self.start(word, LASTS="1") for word in ("one", "two", "three")]

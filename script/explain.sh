@@ -35,6 +35,18 @@ explain_fault() {
     done < "$root/docs/faults.tsv"
 }
 
+# Prints the lines on use of a command and of its words and options, or all lines where there is no such command.
+usage_of() {
+    command=$1 awk '
+        $1 == "rumtsafi" { ours = $2 == ENVIRON["command"]; known = known || ours }
+        { lines[NR] = $0 }
+        /^rumtsafi|^   / { if (ours) { form = form " " $0 " "; shown[NR] = 1 } }
+        /^  [^ ]/ { ours = 0; name = $1; sub(/,$/, "", name); gsub(/\[/, "", form)
+                    shown[NR] = index(form, " " name " ") }
+        END { for (n = 1; n <= NR; n++) if (!known || shown[n]) print lines[n] }
+    ' "$root/docs/usage.txt"
+}
+
 # Whether a word is one of a list of words.
 is_among() {
     [[ $1 =~ ^[a-z]+$ && " $2 " == *" $1 "* ]]
