@@ -12,6 +12,7 @@ value. What the toolchain's library and its ports define is not counted, and onl
 It ends with status 1 where a file is among them whose first comment says that it serves private contracts or holds
 lemmas, where a proof is, and where README.md has another number of files or lines.
 """
+import functools
 import os
 import re
 import sys
@@ -25,6 +26,7 @@ PRIVATE = re.compile(r"private contracts|no public clause|^lemmas\b|the model of
 DECLARED = r"^(?:pub(?:\([a-z]+\))? )?(?:unsafe )?(?:struct|enum|trait|const|static|type|fn) %s\b"
 
 
+@functools.lru_cache(maxsize=None)
 def text_of(name):
     """The text of a file of the repository."""
     with open(os.path.join(TOP, name), encoding="utf-8") as file:
@@ -56,11 +58,11 @@ def words(text):
 def item(text, name):
     """The lines of the item of this name in a text of code: its comments, attributes and contract, and its body where
     it is no function. A type with a model has the line of the model's value, too. None where no item has the name."""
-    lines = text.splitlines()
-    places = [n for n, line in enumerate(lines) if re.match(DECLARED % re.escape(name), line)]
-    if not places:
+    declared = re.search(DECLARED % re.escape(name), text, re.M)
+    if not declared:
         return None
-    first = last = places[0]
+    lines = text.splitlines()
+    first = last = text.count("\n", 0, declared.start())
     if not re.search(r"[;}]$", lines[first]):
         last = next(n for n in range(first, len(lines)) if re.match(r"[})\]{]", lines[n]))
     while first > 0 and re.match(r"///|#\[", lines[first - 1]):
