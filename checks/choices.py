@@ -90,7 +90,7 @@ class Graph:
 
     def bound(self, prefix):
         """What no set with these first choices gains more than. Where all nodes are decided, the gain."""
-        more = max(prefix.outputs - 1, 0)
+        more = max(prefix.outputs - 1, 0) + (self.inputs(prefix) > 3)
         size = prefix.size + len(self.order) - prefix.decided
         return (prefix.latency + self.left[prefix.decided] - max(1, -(-prefix.delay // 1000))
                 - more * self.table.read - (size - 1 - more) * self.table.pad)

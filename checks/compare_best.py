@@ -11,12 +11,13 @@ of loads, stores and registers that are written again. Of each, blocks are taken
 a cut, so that all sets of them can be tried. For each block, with limits on inputs and outputs and often with a latency
 table of its own, `best` has to print the best cut, or that there is none, where the budget is just what the search
 takes, and that it is skipped where the budget is one less. An address that begins no block has to be refused, as has a
-text with a word of a custom opcode. It ends with status 0 where all agree, and with 1 too where a line of one of these
-kinds was never due.
+text with a word of a custom opcode. And of a block of 256 words all of them have to be found to be the best cut, in
+half a second. It ends with status 0 where all agree, and with 1 too where a line of one of these kinds was never due.
 """
 import collections
 import os
 import random
+import resource
 import struct
 import subprocess
 import sys
@@ -25,45 +26,32 @@ import tempfile
 import shared  # noqa: F401  (it lets the modules of views/ be imported)
 import executable
 from blocks import Text, live_sets
-from cuts import Graph, Search, Table, may_join
+from cuts import Graph, Search, may_join
 from instructions import with_offset
 from made import executables
+from made_blocks import LIMITS, some_registers, some_table, some_word
 
 HERE = os.path.dirname(os.path.abspath(__file__))
 RUMTSAFI = os.path.abspath(sys.argv[1] if len(sys.argv) > 1 else os.path.join(HERE, "..", "rumtsafi"))
 LIMIT = 60
-LIMITS = [(inputs, outputs) for outputs in (1, 2) for inputs in (1, 2, 3)]
 # How the lines begin that are to be compared.
 KINDS = "cut", "no cut", "skipped", "fault"
 # The most instructions of a block that may join; and how many blocks of each number of them are taken of an executable.
 JOINING, EACH = 11, 1
 # How many executables are made of dense blocks, of how many blocks, and where the text of each begins.
 DENSE, BLOCKS, BASE = 70, 8, 0x10000
-# The words of operations by their fields funct7 and funct3: divisions are in the last eight.
-OPERATIONS = [funct7 << 25 | funct3 << 12 | 0x33 for funct7, places in ((0, range(8)), (0x20, (0, 5)), (1, range(8)))
-              for funct3 in places]
-# The words of immediate forms, with an immediate or a shift amount of 1.
-IMMEDIATES = [1 << 20 | funct3 << 12 | 0x13 for funct3 in range(8)] + [0x40105013]
-LOADS = [funct3 << 12 | 0x03 for funct3 in (0, 1, 2, 4, 5)]
-STORES = [funct3 << 12 | 0x23 for funct3 in (0, 1, 2)]
-NO_OPERATION, SYSTEM_CALL, BREAK, FENCE = 0x13, 0x73, 0x00100073, 0x0FF0000F
-
-
-def dense_word(source, registers):
-    """Some word that doesn't end a block, over a few registers, which may be x0."""
-    rows = source.choices((OPERATIONS, IMMEDIATES, LOADS, STORES, (0x37,), (NO_OPERATION,)), (8, 6, 5, 4, 2, 1))[0]
-    word, second = source.choice(rows), source.choice(registers)
-    if word == NO_OPERATION:
-        return word
-    word |= source.choice(registers) << 7 if rows is not STORES else 0
-    return word | source.choice(registers) << 15 | (second << 20 if rows in (OPERATIONS, STORES) else 0)
+SYSTEM_CALL, BREAK, FENCE = 0x73, 0x00100073, 0x0FF0000F
+# A block of the greatest length whose words are all `xor x5, x5, x10`: as one cut of two inputs it takes 26 cycles.
+# What `best` prints of it by the greatest budget, and in less than how many seconds of a processor.
+CHAIN = struct.pack("<I", 0x00A2C2B3) * 256
+OPTIONS, WHOLE, SOON = ("--out", "1", "--budget", "4194304"), f"cut {' '.join(map(str, range(256)))} gain 230\n", 0.5
 
 
 def dense_block(source, registers):
     """Words that don't end a block; up to 11 of them may join a cut."""
     block, wanted = [], source.randrange(1, JOINING + 1)
     while sum(map(may_join, block)) < wanted or source.random() < 0.5:
-        word = dense_word(source, registers)
+        word = some_word(source, registers)
         if sum(map(may_join, block + [word])) <= JOINING:
             block.append(word)
     return block
@@ -72,8 +60,7 @@ def dense_block(source, registers):
 def dense(source):
     """An executable of dense blocks, of which each ends in some way or falls through to the next one. The symbols are
     the leaders."""
-    registers = source.sample(range(1, 32), source.randrange(3, 9))
-    registers += source.choice(([], [0], [0, 10]))
+    registers = some_registers(source)
     blocks = [dense_block(source, registers) + [None] * source.randrange(2) for _ in range(BLOCKS)]
     starts = [BASE + 4 * sum(map(len, blocks[:number])) for number in range(BLOCKS)]
     words = [word for block in blocks for word in block]
@@ -91,17 +78,6 @@ def dense(source):
             + b"".join(struct.pack("<4I", 0, start, 0, 0) for start in starts))
 
 
-def some_table(source):
-    """The usual table, or another one."""
-    table = Table()
-    if source.random() < 0.4:
-        table.pad = source.randrange(3)
-        table.read = source.randrange(max(1, table.pad), 4)
-        table.latencies = {key: source.randrange(max(1, table.pad), 5) for key in table.latencies}
-        table.delays = {key: source.choice((0, 999, 1000, 1001, source.randrange(2500))) for key in table.delays}
-    return table
-
-
 def some_blocks(source, text, blocks):
     """Of the blocks with each number of instructions that may join, from 1 to 11, a few, by their leaders."""
     rows = collections.defaultdict(list)
@@ -109,6 +85,12 @@ def some_blocks(source, text, blocks):
         rows[sum(may_join(text.words[address]) for address in block)].append(leader)
     return [leader for count in range(1, JOINING + 1)
             for leader in source.sample(rows[count], min(EACH, len(rows[count])))]
+
+
+def seconds_of_calls():
+    """The processor time of all calls so far."""
+    used = resource.getrusage(resource.RUSAGE_CHILDREN)
+    return used.ru_utime + used.ru_stime
 
 
 class Comparison:
@@ -119,15 +101,32 @@ class Comparison:
         self.path, self.table_path = os.path.join(folder, "file"), os.path.join(folder, "table")
 
     def line(self, name, address, options, wanted, status=0):
-        """Compares what the program prints, and its status."""
+        """Compares what the program prints of the block at an address."""
         words = [word for key, value in {"at": f"0x{address:x}", **options}.items()
                  for word in self.source.choice(((f"--{key}={value}",), (f"--{key}", f"{value}")))]
+        self.counts[next(kind for kind in KINDS if wanted.startswith(kind))] += 1
+        self.call(name, words, wanted, status)
+
+    def call(self, name, words, wanted, status=0):
+        """Compares what the program prints of the words or the executable in hand, and its status."""
         done = subprocess.run([RUMTSAFI, "best", self.path, *words], stdout=subprocess.PIPE, timeout=LIMIT, check=False)
         ours = done.stdout.decode(errors="replace")
-        self.counts[next(kind for kind in KINDS if wanted.startswith(kind))] += 1
         if (done.returncode, ours) != (status, wanted):
             self.faults.append(f"{name}, {' '.join(words)}: status {done.returncode} against {status}, "
                                f"{ours!r} against {wanted!r}")
+
+    def chain(self):
+        """Compares the line of a block of the greatest length, and the time that it takes."""
+        self.write(CHAIN)
+        before = seconds_of_calls()
+        self.call("the chain", OPTIONS, WHOLE)
+        taken = seconds_of_calls() - before
+        if taken >= SOON:
+            self.faults.append(f"the chain takes {taken:.1f} seconds")
+
+    def write(self, data):
+        with open(self.path, "wb") as file:
+            file.write(data)
 
     def block(self, name, address, words, live):
         """Compares the best line of a block, by the budget that the search takes and by one less."""
@@ -147,8 +146,7 @@ class Comparison:
 
     def executable(self, name, data):
         """Compares some blocks of an executable, and how an address that begins no block is refused."""
-        with open(self.path, "wb") as file:
-            file.write(data)
+        self.write(data)
         image = executable.Image(data)
         text = Text(image, [])
         custom = text.custom()
@@ -177,6 +175,7 @@ def main():
         comparison = Comparison(folder, source)
         for name, data in found:
             comparison.executable(name, data)
+        comparison.chain()
     counts, faults = comparison.counts, comparison.faults
     for fault in faults[:20]:
         print(fault)

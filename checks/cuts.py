@@ -1,6 +1,6 @@
 """A naive reading of what the best cut of a block is, and of how much budget the search for it takes: all sets of
-eligible instructions and all prefixes of their choices are tried. It shares nothing with the program, so that the
-checks can compare the two."""
+eligible instructions and all prefixes of their choices are tried. And a naive reading of what is wrong first in a log
+of the search, by the same sets. It shares nothing with the program, so that the checks can compare the two."""
 import itertools
 from collections import namedtuple
 
@@ -80,10 +80,10 @@ class Graph:
                 [walks[source] for source in self.sources[node] if source in walks], default=0)
         return max(1, -(-max(walks.values(), default=0) // 1000))
 
-    def gain(self, nodes, cycles, outputs):
-        """The formula of the gain. The latencies are those of the nodes; no more than three inputs fit, so that none of
-        them takes an instruction of its own."""
-        more = max(outputs - 1, 0)
+    def gain(self, nodes, cycles, inputs, outputs):
+        """The formula of the gain. The latencies are those of the nodes; each output but the first takes an instruction
+        of its own, and so do more than three inputs, which no set has that fits."""
+        more = max(outputs - 1, 0) + (inputs > 3)
         return (sum(self.table.latencies[self.key[node]] for node in nodes) - cycles - more * self.table.read
                 - (len(nodes) - 1 - more) * self.table.pad)
 
@@ -92,9 +92,9 @@ class Graph:
         return {node for node, taken in zip(self.order, choice) if taken}
 
     def facts(self, cut):
+        inputs = set().union(*(self.sources[node] for node in cut)) - cut
         outputs, cycles = self.outputs(cut), self.cycles(cut)
-        return Facts(self.is_convex(cut), set().union(*(self.sources[node] for node in cut)) - cut, outputs, cycles,
-                     self.gain(cut, cycles, outputs))
+        return Facts(self.is_convex(cut), inputs, outputs, cycles, self.gain(cut, cycles, len(inputs), outputs))
 
 
 def choices(count):
@@ -104,7 +104,7 @@ def choices(count):
 
 
 class Search:
-    """The best cut of a graph within limits, and the budget that it takes."""
+    """The best cut of a graph within limits, the budget that it takes, and what is wrong first in a log."""
 
     def __init__(self, graph, inputs, outputs):
         self.graph, self.inputs, self.outputs = graph, inputs, outputs
@@ -120,16 +120,51 @@ class Search:
         first = next(choice for choice in self.facts if self.gains.get(choice) == greatest)
         return " ".join(("cut", *map(str, sorted(self.graph.taken(first))), f"gain {greatest}\n"))
 
-    def is_open(self, prefix):
-        """Whether the search has to go on where the last nodes alone are decided, as the prefix says."""
+    def settled(self, prefix):
+        """The facts of the nodes that are taken in where the last nodes alone are decided, as the prefix says; but of
+        their inputs those that can't be taken in any more, and the bound in place of the gain."""
         undecided = set(self.graph.order[len(prefix):])
         facts = self.facts[prefix + (False,) * len(undecided)]
-        if not facts.convex or facts.outputs > self.outputs or len(facts.inputs - undecided) > self.inputs:
+        inputs, nodes = facts.inputs - undecided, self.graph.taken(prefix) | undecided
+        bound = self.graph.gain(nodes, facts.cycles, len(inputs), facts.outputs)
+        return facts._replace(inputs=inputs, gain=bound)
+
+    def is_open(self, prefix):
+        """Whether the search has to go on where the last nodes alone are decided, as the prefix says."""
+        facts = self.settled(prefix)
+        if not facts.convex or facts.outputs > self.outputs or len(facts.inputs) > self.inputs:
             return False
         reached = max((gain for choice, gain in self.gains.items() if choice[:len(prefix)] > prefix), default=0)
-        bound = self.graph.gain(self.graph.taken(prefix) | undecided, facts.cycles, facts.outputs)
-        return bound > max(0, reached)
+        return facts.gain > max(0, reached)
 
     def need(self):
         """The number of prefixes that are open and leave a node undecided."""
         return sum(self.is_open(prefix) for decided in range(len(self.graph.order)) for prefix in choices(decided))
+
+    def breaks(self, letter, prefix, best):
+        """The number of the rule that an item of a log breaks at a prefix, by the choice that is said to be best, or
+        None; 0 where it breaks none."""
+        facts, gain, is_whole = self.settled(prefix), self.gains.get(best, 0), len(prefix) == len(self.graph.order)
+        comes_after, is_before = best is None or prefix < best[:len(prefix)], best is not None and prefix > best
+        rule, is_broken = {
+            "O": (1, facts.outputs <= self.outputs), "C": (2, facts.convex), "I": (3, len(facts.inputs) <= self.inputs),
+            "G": (4, facts.gain > gain or facts.gain == gain and not comes_after),
+            "F": (5, not is_whole or self.gains.get(prefix, 0) > gain or self.gains.get(prefix) == gain and is_before),
+            "B": (6, is_whole)}[letter]
+        return rule if is_broken else 0
+
+    def first_wrong(self, cut, tree):
+        """Of a log that is one whole tree: the first item that is wrong where a cut is said to be the best, or None,
+        and the number of the rule that it breaks; or None."""
+        best = None if cut is None else tuple(node in cut for node in self.graph.order)
+        if cut is not None and (self.graph.taken(best) != set(cut) or self.gains.get(best, 0) <= 0):
+            return 0, 7
+        waiting = [()]
+        for item, letter in enumerate(tree):
+            prefix = waiting.pop()
+            rule = self.breaks(letter, prefix, best)
+            if rule:
+                return item, rule
+            if letter == "B":
+                waiting += [prefix + (False,), prefix + (True,)]
+        return None
