@@ -11,7 +11,7 @@ use Rattle.std.proofs.lemmas.List.Sums.{sum_by-set, sum_by_push}
 use Rattle.std.specs.Ordering.{nat_cmp}
 use Rattle.std.specs.FinMap as map
 use Rattle.std.specs.FinMap.{len-empty}
-use Rattle.ci_region.specs.Blocks.{with_cells, with_next}
+use Rattle.ci_region.specs.Blocks.{with_cell, with_next}
 use Rattle.ci_region.specs.declared.block.Block.{Block}
 use Rattle.ci_region.specs.BoundedMap.{BoundedMap, IsLive, used, with_value, without}
 use Rattle.ci_region.specs.declared.block.Cell.{Cell}
@@ -113,7 +113,7 @@ module _ {T : Type 0} (cells : List (Cell T)) (first used to_clear reached : ℕ
   ]
 
   module _ (below : first < reached) where
-    pub AreCells-fill : (next : ℕ) → get_or cells first (Free 0) ≡ Free next → (value : T) (later : ℕ)
+    AreCells-fill : (next : ℕ) → get_or cells first (Free 0) ≡ Free next → (value : T) (later : ℕ)
         → to_clear ≤ later → first < later → later ≤ reached
         → AreCells (set cells first (Live value)) next (used + 1) later reached
     AreCells-fill next is value later no_less behind within =
@@ -137,7 +137,7 @@ module _ {T : Type 0} (cells : List (Cell T)) (first used to_clear reached : ℕ
         }
 
   -- the next cell is reached
-  pub AreCells-push : first ≡ reached → (value : T) (later : ℕ) → first < later → later ≤ reached + 1
+  AreCells-push : first ≡ reached → (value : T) (later : ℕ) → first < later → later ≤ reached + 1
       → AreCells (cells ++ Live value ∷ []) (first + 1) (used + 1) later (reached + 1)
   AreCells-push next value later behind within =
       let all_used = first_is_next next in
@@ -230,7 +230,9 @@ module _ {T : Type 0} (cells : List (Cell T)) (as_made : AreAsMade cells 0) wher
       let rest = chain_from count (start + 1) (omega arith) in
       record {
         free = start ∷ rest.free;
-        links = chain_link (omega arith) (as_made start (omega arith) (omega arith)) (rest.behind start (omega arith)) rest.links;
+        links =
+            chain_link (omega arith) (as_made start (omega arith) (omega arith)) (rest.behind start (omega arith))
+            rest.links;
         long = omega (arith, rest.long);
         behind = λ number less. ((λ same. omega (arith, same)), rest.behind number (omega arith));
       }
@@ -307,7 +309,7 @@ module _ {T : Type 0} (cells : List (Cell T)) (capacity number slot : ℕ) (regi
       λ i. record { values = values-live cells number inside value i; capacity = capacity } in
       written ∙ (λ i. with_value (is i) (same i) value)
 
-  pub region-push : (value : T) → number ≡ length cells
+  region-push : (value : T) → number ≡ length cells
       → region_of (cells ++ Live value ∷ []) capacity ≡ with_value region slot value
   region-push value behind =
       let written : region_of (cells ++ Live value ∷ []) capacity
@@ -324,10 +326,10 @@ module _ {T : Type 0} (cells : List (Cell T)) (capacity number slot : ℕ) (regi
 
 -- ---- a value is put into the first free cell, whichever that is
 
-module _ {T : Type 0} (block new : Block T) (first used_cells to_clear reached capacity next : ℕ) (value : T)
+module _ {T : Type 0} (block new : Block T) (first used_cells to_clear reached next : ℕ) (value : T)
     (are : AreCells block.cells first used_cells to_clear reached)
-    (in_cell : first < reached → (get_or block.cells first (Free 0) ≡ Free next)
-    × (new ≡ with_cells block (set block.cells first (Live value))))
+    (free : first < reached → get_or block.cells first (Free 0) ≡ Free next)
+    (in_place : first < reached → new ≡ with_cell block first (Live value))
     (behind : first ≡ reached → (next ≡ first + 1) × (new ≡ with_next block value)) where
   either : (P : Type 0) → (first < reached → P) → (first ≡ reached → P) → P
   either P below at = elim (cases_lt first reached) [
@@ -336,13 +338,13 @@ module _ {T : Type 0} (block new : Block T) (first used_cells to_clear reached c
   ]
 
   pub same_start : new.start ≡ block.start
-  same_start = either (new.start ≡ block.start) (λ less. ap (λ (b : Block T). b.start) (in_cell less).1)
+  same_start = either (new.start ≡ block.start) (λ less. ap (λ (b : Block T). b.start) (in_place less))
       (λ at. ap (λ (b : Block T). b.start) (behind at).1)
 
   pub same_room : (later : ℕ) → later ≡ max reached (first + 1) → first < reached + block.left
       → later + new.left ≡ reached + block.left
   same_room later greater room = either (later + new.left ≡ reached + block.left)
-      (λ less. omega (arith, greater, less, ap (λ (b : Block T). b.left) (in_cell less).1))
+      (λ less. omega (arith, greater, less, ap (λ (b : Block T). b.left) (in_place less)))
       (λ at. omega (arith, greater, at, room, ap (λ (b : Block T). b.left) (behind at).1))
 
   pub AreCells-take : (later cleared : ℕ) → later ≡ max reached (first + 1) → cleared ≡ max to_clear (first + 1)
@@ -352,8 +354,8 @@ module _ {T : Type 0} (block new : Block T) (first used_cells to_clear reached c
       either (Is new next later)
       (λ less. let still : reached ≡ later = omega (arith, greater, less) in
       subst (λ (k : ℕ). Is new next k) still
-      (subst (λ (b : Block T). Is b next reached) (sym (in_cell less).1)
-      (AreCells-fill block.cells first used_cells to_clear reached are less next (in_cell less).0 value cleared
+      (subst (λ (b : Block T). Is b next reached) (sym (in_place less))
+      (AreCells-fill block.cells first used_cells to_clear reached are less next (free less) value cleared
       (omega (arith, clear)) (omega (arith, clear)) (omega (arith, clear, less, are.within)))))
       (λ at. let more : reached + 1 ≡ later = omega (arith, greater, at) in
       subst (λ (k : ℕ). Is new next k) more
@@ -362,10 +364,10 @@ module _ {T : Type 0} (block new : Block T) (first used_cells to_clear reached c
       (AreCells-push block.cells first used_cells to_clear reached are at value cleared (omega (arith, clear))
       (omega (arith, clear, at, are.within))))))
 
-  pub region-take : (region : BoundedMap T) → region_of block.cells capacity ≡ region
+  pub region-take : (capacity : ℕ) (region : BoundedMap T) → region_of block.cells capacity ≡ region
       → region_of new.cells capacity ≡ with_value region first value
-  region-take region is = either (region_of new.cells capacity ≡ with_value region first value)
-      (λ less. ap (λ (b : Block T). region_of b.cells capacity) (in_cell less).1
+  region-take capacity region is = either (region_of new.cells capacity ≡ with_value region first value)
+      (λ less. ap (λ (b : Block T). region_of b.cells capacity) (in_place less)
       ∙ region-live block.cells capacity first first region is refl value (omega (arith, less, are.all)))
       (λ at. ap (λ (b : Block T). region_of b.cells capacity) (behind at).1
       ∙ region-push block.cells capacity first first region is refl value (omega (arith, at, are.all)))

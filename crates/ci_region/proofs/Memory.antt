@@ -1,6 +1,6 @@
 -- What the proofs by hand of the functions with pointers share: that the value of a block is one pointer; how one cell
--- is taken out of the others, put back, or seen; the room behind the cells, and how cells are forgotten; and the values of
--- a lease, a pair and a cell.
+-- is taken out of the others, put back, or seen; the room behind the cells, and how cells are forgotten; and the values
+-- of a lease, a pair and a live cell.
 use mathlib.Core.Path.{◌≡◌, refl, sym, ap, subst, ◌∙◌}
 use Prim.Native.Nat.{ℕ, zero, suc, ◌+◌, ◌-◌, ◌*◌, ◌<◌, ◌≤◌, ◌^◌}
 use native.Mathlib.Omega.{arith}
@@ -210,9 +210,10 @@ module _ (E : El) {M : Type 1} {𝓤 : Ura M} (𝓛 : Logic 𝓤) (b o : ℕ) wh
       (sem 𝓛 (room_behind (Cell-row E) b o (cells ++ Live value ∷ []) (left - 1))))
   next_room cells value left room =
       let s = cell_size E in let at : ℕ = length cells * s + o in
-      let longer : suc (length cells) ≡ length (cells ++ Live value ∷ []) = omega (arith, length_push cells (Live value)) in
+      let after : Cells E = cells ++ Live value ∷ [] in
+      let longer : suc (length cells) ≡ length after = omega (arith, length_push cells (Live value)) in
       let beside : at + s ≡ suc (length cells) * s + o = omega (arith, suc-mul (length cells) s) in
-      let behind : at + s ≡ length (cells ++ Live value ∷ []) * s + o = beside ∙ ap (λ k. k * s + o) longer in
+      let behind : at + s ≡ length after * s + o = beside ∙ ap (λ k. k * s + o) longer in
       let more : left ≡ suc (left - 1) = omega arith in
       qed 𝓛 (‵ (froom (block_type E left) b at) ∷ []) ∵ as_written ! (ty_array (cell_type E) left) b at $
       rewrite ! 0 (λ (k : ℕ). ‵ (froom (ty_array (cell_type E) k) b at)) more refl $

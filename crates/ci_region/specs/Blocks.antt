@@ -1,5 +1,5 @@
 -- What a block and a cell end as, where a `&mut` into them is handed out, and whose memory a lease is of.
-use Rattle.std.specs.Prelude.{◌≡◌, ℕ, ◌-◌, List, [], ◌∷◌, ◌++◌, slice_set}
+use Rattle.std.specs.Prelude.{◌≡◌, ℕ, ◌-◌, [], ◌∷◌, ◌++◌, slice_set}
 use Rattle.std.specs.Borrow.{Fml, RattleType, MutBor, Lends}
 use Rattle.ci_region.specs.declared.block.Cell.{Cell}
 use Rattle.ci_region.specs.declared.block.Cell.TheVariants.{Live}
@@ -8,9 +8,9 @@ use Rattle.ci_region.specs.declared.block.Lease.{Lease}
 use Rattle.ci_region.specs.contracts.block.Cell as cell
 use Rattle.ci_region.specs.contracts.block.Block as block
 
--- the block with these cells in place of its own
-abbrev pub with_cells : {T : Type 0} → Block T → List (Cell T) → Block T
-with_cells b cells = record { start = b.start; cells = cells; left = b.left }
+-- the block after a write: the cell of this number is this one
+abbrev pub with_cell : {T : Type 0} → Block T → ℕ → Cell T → Block T
+with_cell b number cell = record { start = b.start; cells = slice_set b.cells number cell; left = b.left }
 
 -- the block in which the next cell was reached, and has this value
 abbrev pub with_next : {T : Type 0} → Block T → T → Block T
@@ -19,11 +19,15 @@ with_next b value = record { start = b.start; cells = b.cells ++ Live value ∷ 
 -- once the borrow ends, the cell is the last one that was written through it
 abbrev pub LendsCell : (T : RattleType) → MutBor (Block T.Denot) → ℕ → MutBor (Cell T.Denot) → Fml
 LendsCell T b number r =
-    Lends (block.the_row T) (cell.the_row T) b r (λ new. with_cells b.now (slice_set b.now.cells number new))
+    Lends (block.the_row T) (cell.the_row T) b r (λ new. with_cell b.now number new)
 
 -- once the borrow ends, the cell has the last value that was written through it
 abbrev pub LendsLive : (T : RattleType) → MutBor (Cell T.Denot) → MutBor T.Denot → Fml
 LendsLive T c value = Lends (cell.the_row T) T c value (λ new. Live new)
+
+-- no cell was reached, and there is room for so many
+abbrev pub IsUnreached : {T : Type 0} → Block T → ℕ → Type 0
+IsUnreached b count = (b.cells ≡ []) × (b.left ≡ count)
 
 -- the lease is of the memory of this block, which this allocator gave for so many cells
 abbrev pub IsLeaseOf : {T A : Type 0} → Lease T A → Block T → ℕ → A → Type 0

@@ -39,8 +39,8 @@ module _ {T : Type 0} where
   abbrev pub AreFree : List (Cell T) → Type 0
   AreFree cells = (number : ℕ) → number < length cells → value_of (get_or cells number (Free 0)) ≡ None
 
-  -- the cells of these numbers, which differ, are free, and each has the number of the next, of which the first is this;
-  -- the last has the number of the cell behind all
+  -- the cells of these numbers, which differ, are free, and each has the number of the next, of which the first is
+  -- this; the last has the number of the cell behind all
   pub data IsChain (cells : List (Cell T)) : ℕ → List ℕ → Type 0 where
     chain_end : {number : ℕ} → number ≡ length cells → IsChain cells number []
     chain_link : {number next : ℕ} {others : List ℕ} → number < length cells → get_or cells number (Free 0) ≡ Free next

@@ -1,10 +1,10 @@
 //! One block of memory that holds the cells of a region.
 //!
 //! A cell is written when it is reached, and the memory behind the cells isn't touched before.
-//! Only `Block::reserve`, `Block::cell`, `Block::cell_mut`, `Block::push` and `Block::free` use pointers, and are proved
-//! by hand.
+//! Only `Block::reserve`, `Block::cell`, `Block::cell_mut`, `Block::push` and `Block::free` use pointers, and are
+//! proved by hand.
 
-ghost use Rattle.std.specs.Prelude.{◌≡◌, ℕ, ◌+◌, ◌^◌, ◌<◌, ◌≤◌, List, [], length, get_or, slice_set, None, IfOk};
+ghost use Rattle.std.specs.Prelude.{◌≡◌, ℕ, ◌+◌, ◌^◌, ◌<◌, ◌≤◌, List, length, get_or, None, IfOk};
 ghost use Rattle.std.specs.Vec.Ownership.{FitsInBlock};
 ghost use Rattle.std.specs.Borrow.{sem};
 ghost use denote.RawPtr.{Ptr};
@@ -59,7 +59,7 @@ impl<T, A: Allocator> Model for Lease<T, A> {
 impl<T> Block<T> {
     ghost use Rattle.ci_region.specs.contracts.block.Cell.{the_row};
     ghost use Rattle.ci_region.specs.declared.block.Cell.TheVariants.{Live, Free};
-    ghost use Rattle.ci_region.specs.Blocks.{LendsCell, IsLeaseOf, with_cells, with_next};
+    ghost use Rattle.ci_region.specs.Blocks.{IsUnreached, IsLeaseOf, LendsCell, with_cell, with_next};
     ghost use Rattle.ci_region.specs.Cells.{value_of, AreFree, AreAsMade};
 
     /// Memory for `count` cells, none of which is reached.
@@ -68,7 +68,7 @@ impl<T> Block<T> {
         count: u32,
     ) -> Result<(Block<T>, Lease<T, A>), AllocError>
         requires { FitsInBlock (the_row T.row) count }
-        ensures { IfOk result (λ made. (made.0.cells ≡ []) × (made.0.left ≡ count) × IsLeaseOf made.1 made.0 count alloc.now) }
+        ensures { IfOk result (λ made. IsUnreached made.0 count × IsLeaseOf made.1 made.0 count alloc.now) }
     {
         let memory = match alloc.allocate(
             count as usize * size_of::<Cell<T>>(),
@@ -108,15 +108,16 @@ impl<T> Block<T> {
         }
     }
 
-    /// Puts the value into the first free cell, which has this number, or is the next one where all `reached` cells have
-    /// a value. Answers the number of the free cell behind it.
+    /// Puts the value into the first free cell, whose number this is: one of the `reached` cells, or else the next one.
+    /// Answers the number of the free cell behind it.
     pub(crate) fn fill(&mut self, number: u32, reached: u32, value: T) -> u32
         requires all { length self.old.cells ≡ reached }
         requires within { number ≤ reached }
         requires room { number < reached + self.old.left }
         requires free { value_of (get_or self.old.cells number (Free 0)) ≡ None }
         requires fits { reached + self.old.left < 2 ^ 32 }
-        ensures reached { number < reached → (get_or self.old.cells number (Free 0) ≡ Free result) × (self.new ≡ with_cells self.old (slice_set self.old.cells number (Live value))) }
+        ensures next_free { number < reached → get_or self.old.cells number (Free 0) ≡ Free result }
+        ensures in_place { number < reached → self.new ≡ with_cell self.old number (Live value) }
         ensures next { number ≡ reached → (result ≡ number + 1) × (self.new ≡ with_next self.old value) }
     {
         if number == reached {
@@ -136,7 +137,8 @@ impl<T> Block<T> {
         requires within { count ≤ length self.old.cells }
         requires others { AreAsMade self.old.cells count }
         ensures as_made { AreAsMade self.new.cells 0 }
-        ensures in_place { (self.new.start ≡ self.old.start) × (length self.new.cells ≡ length self.old.cells) × (self.new.left ≡ self.old.left) }
+        ensures as_many { length self.new.cells ≡ length self.old.cells }
+        ensures in_place { (self.new.start ≡ self.old.start) × (self.new.left ≡ self.old.left) }
     {
         for number in 0..count {
             *self.cell_mut(number as usize) = Cell::Free(number + 1);

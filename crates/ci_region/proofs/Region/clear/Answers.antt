@@ -13,8 +13,8 @@ pub invariant_of-self : goal.invariant_of-self
 invariant_of-self g c =
     let place = c.vacate.ensures.in_place in
     let lease = c.self.invariant.2 in (
-      AreCells-vacated _ c.vacate.ensures.as_made _ (place.1 ∙ c.self.invariant.0.all),
-      omega (arith, place.2, c.self.invariant.1),
+      AreCells-vacated _ c.vacate.ensures.as_made _ (c.vacate.ensures.as_many ∙ c.self.invariant.0.all),
+      omega (arith, place.1, c.self.invariant.1),
       (lease.0 ∙ sym place.0, lease.1, lease.2),
     )
 

@@ -23,7 +23,7 @@ returns-then-self-clause-bounded g c =
     used_at_most _ _ _ _ _ _ _ _ c.self.view_is c.self.invariant.0 c.self.invariant.1
 
 pub fill-self-inside-requires-clause-within : goal.fill-self-inside-requires-clause-within
-fill-self-inside-requires-clause-within g c = first_within _ _ _ _ _ c.self.invariant.0
+fill-self-inside-requires-clause-within g c = omega (arith, first_within _ _ _ _ _ c.self.invariant.0)
 
 pub fill-self-inside-requires-clause-room : goal.fill-self-inside-requires-clause-room
 fill-self-inside-requires-clause-room g c =
@@ -31,7 +31,7 @@ fill-self-inside-requires-clause-room g c =
     omega (arith, room, c.self.invariant.1)
 
 pub fill-self-inside-requires-clause-free : goal.fill-self-inside-requires-clause-free
-fill-self-inside-requires-clause-free g c = first_is_free _ _ _ _ _ c.self.invariant.0
+fill-self-inside-requires-clause-free g c = grind (arith, first_is_free _ _ _ _ _ c.self.invariant.0)
 
 pub overflow_add-number : goal.overflow_add-number
 overflow_add-number g c =
@@ -42,12 +42,12 @@ pub invariant_of-self : goal.invariant_of-self
 invariant_of-self g c =
     let are = c.self.invariant.0 in let filled = c.fill-self-inside.ensures in
     let room = first_has_room _ _ _ _ _ are _ _ c.self.invariant.1 c.if-self.false in
-    let start = same_start _ _ _ _ _ _ c.self.inside.capacity _ _ are filled.reached filled.next in
-    let left = same_room _ _ _ _ _ _ c.self.inside.capacity _ _ are filled.reached filled.next _
-    c.max-self-inside.ensures (omega (arith, room, c.self.invariant.1)) in
+    let start = same_start _ _ _ _ _ _ _ _ are filled.next_free filled.in_place filled.next in
+    let left = same_room _ _ _ _ _ _ _ _ are filled.next_free filled.in_place filled.next c.max-self-inside.result
+    (omega (arith, c.max-self-inside.ensures)) (omega (arith, room, c.self.invariant.1)) in
     let lease = c.self.invariant.2 in (
-      AreCells-take _ _ _ _ _ _ c.self.inside.capacity _ _ are filled.reached filled.next _ _ c.max-self-inside.ensures
-          c.max-self-inside-2.ensures,
+      AreCells-take _ _ _ _ _ _ _ _ are filled.next_free filled.in_place filled.next _ _
+          (omega (arith, c.max-self-inside.ensures)) (omega (arith, c.max-self-inside-2.ensures)),
       omega (arith, left, c.self.invariant.1),
       (lease.0 ∙ sym start, lease.1, lease.2),
     )
@@ -55,7 +55,7 @@ invariant_of-self g c =
 pub returns-clause-holds : goal.returns-clause-holds
 returns-clause-holds g c =
     let filled = c.fill-self-inside.ensures in
-    region-take _ _ _ _ _ _ _ _ _ c.self.invariant.0 filled.reached filled.next _ c.self.view_is
+    region-take _ _ _ _ _ _ _ _ c.self.invariant.0 filled.next_free filled.in_place filled.next _ _ c.self.view_is
 
 pub returns-clause-live : goal.returns-clause-live
 returns-clause-live g c =

@@ -3,7 +3,7 @@ use mathlib.Core.Path.{◌≡◌, refl, sym, ap, subst}
 use Prim.Native.Nat.{ℕ, ◌+◌, ◌*◌, ◌<◌, ◌^◌}
 use native.Mathlib.Omega.{arith}
 use mathlib.Core.List.{List, [], ◌∷◌, ◌++◌}
-use lib.ListN.{length, set, get_or, length-set}
+use lib.ListN.{length, get_or, length-set}
 use seplogic.Ra.Ura.{Ura}
 use base.Fraction.{full_share}
 use mir.Syntax.{Fn, named, w64}
@@ -42,11 +42,11 @@ use Rattle.core.proofs.ptr.Rows.{times_below, one_below}
 use Rattle.std_alloc.proofs.VecSteps.Shapes.{after}
 use Rattle.std_alloc.proofs.RcSteps.{word}
 use Rattle.ci_region.specs.Ownership.{cells_at, cells_own, room_behind}
-use Rattle.ci_region.specs.Blocks.{with_cells}
+use Rattle.ci_region.specs.Blocks.{with_cell}
 use Rattle.ci_region.specs.declared.block.Cell.{Cell}
 use Rattle.ci_region.specs.declared.block.Cell.TheVariants.{Free}
-use Rattle.ci_region.proofs.Memory.{Cell-row, Block-row, cell_size, block_type, pointer_had, pointer_made, Besides, cell_out}
-use Rattle.ci_region.proofs.Memory.{cell_in}
+use Rattle.ci_region.proofs.Memory.{Cell-row, Block-row, cell_size, block_type, pointer_had, pointer_made, Besides}
+use Rattle.ci_region.proofs.Memory.{cell_out, cell_in}
 use Rattle.ci_region.specs.contracts.block.Block.cell_mut.Key.{name as #self}
 use Rattle.ci_region.proofs.block.Block.cell_mut.Statement as stated
 use Rattle.ci_region.proofs.block.Block.cell_mut.Code as code
@@ -80,7 +80,7 @@ module _ (E : El) where
     requires = λ _. fact 𝓤 (a.1.0 < length a.0.now.cells);
     ensures =
         λ _ r w. sep 𝓤 (sem 𝓛 (follows (Block-row E) (Cell-row E) a.0.ghost_name r.ghost_name
-        (λ w. with_cells a.0.now (set a.0.now.cells a.1.0 w)))) (fact 𝓤 (r.now ≡ get_or a.0.now.cells a.1.0 (Free 0)));
+        (λ w. with_cell a.0.now a.1.0 w))) (fact 𝓤 (r.now ≡ get_or a.0.now.cells a.1.0 (Free 0)));
   }
 
 module _ (E : El) {M : Type 1} {𝓤 : Ura M} (𝓛 : Logic 𝓤) (C : Calls 𝓤 𝓛.H) (Λ : Loops 𝓤 𝓛.H) (κ : Lft) (q : Share)
@@ -100,7 +100,7 @@ module _ (E : El) {M : Type 1} {𝓤 : Ura M} (𝓛 : Logic 𝓤) (C : Calls �
   x = get_or d.cells number (Free 0)
 
   abbrev new : Cell (el_x E) → (Block-row E).Denot
-  new w = with_cells d (set d.cells number w)
+  new w = with_cell d number w
 
   module _ (b o : ℕ) (inside : number < length d.cells) where
     -- all but the cell

@@ -19,7 +19,8 @@ use sound.WpLaws.{WpFn-mono}
 use types.Kit.{Item, ⋆, ‵, ◌⊛◌, at_ret, ◌$◌, ◌∵◌, !, qed, by, move, keep, use1, use2, split, join, rewrite, fsplit}
 use types.Kit.{fsplit3, fjoin, fjoin3, feq_i, feq_l, flt_l, flt_i, suffices, frame, done}
 use types.Part.{whole, sub, look_in, agg}
-use types.Run.{init, stop, fld, load, lit, and_then, no_more, bin, size_lit, unit_lit, of_opd, assigns_last, first, blocks, exec, returns, enter}
+use types.Run.{init, stop, fld, load, lit, and_then, no_more, bin, size_lit, unit_lit, of_opd, assigns_last, first}
+use types.Run.{blocks, exec, returns, enter}
 use types.ByLocal.{alloc_all, pass_all, free_all, look_at, get, through, sets, is, env}
 use types.SemTy.{Body as Borrowed}
 use denote.Exit.{yes, no}
@@ -35,7 +36,8 @@ use denote.Triple.Clauses.{Clauses, Ended, closing}
 use denote.Triple.Entry.{on_entry}
 use denote.Triple.Spec.{Meets, triple_of}
 use denote.Triple.Table.{entered, run_framed}
-use denote.Triple.Walked.{says, needs, Stays, stay_dropped, stay_ref, walk_of, ends_at, Goes-dropped, Goes-ref, walk_Meets}
+use denote.Triple.Walked.{says, needs, Stays, stay_dropped, stay_ref, walk_of, ends_at, Goes-dropped, Goes-ref}
+use denote.Triple.Walked.{walk_Meets}
 use borrow.Table.OneValue.{part_in}
 use Rattle.std.proofs.lemmas.List.{length_push}
 use Rattle.core.proofs.mem.Param.{El, R, args, el_x, elτ}
@@ -106,8 +108,8 @@ module _ (E : El) {M : Type 1} {𝓤 : Ura M} (𝓛 : Logic 𝓤) (C : Calls �
   exits passed =
       qed 𝓛 (‵ (fobs γ ((Block-row E).coded.code new)) ∷ ‵ (fbor κ (Borrowed (mem (Block-row E)) rb ro γ))
       ∷ ‵ (flft κ q) ∷ ‵ (unit.own_val tt (vunit ∷ [])) ∷ []) ∵
-      suffices ! _ (ends_at 𝓛 (ended E) (stayed E) (spec E 𝓛) bound vunit tt (new, (tt, (tt, tt))) (tt, (tt, (tt, tt)))) $
-      says ! refl $
+      suffices ! _ (ends_at 𝓛 (ended E) (stayed E) (spec E 𝓛) bound vunit tt (new, (tt, (tt, tt)))
+      (tt, (tt, (tt, tt)))) $ says ! refl $
       nothing ! $ move ! (3 ∷ 0 ∷ []) $ join ! $ frame ! $ feq_i ! (List Val) us0 (vptr rb ro ∷ []) passed $ fjoin3 ! $
       nothing ! $ nothing ! $ fjoin ! $ nothing ! $ fjoin ! $ move ! (1 ∷ 0 ∷ []) $ fjoin ! $ done !
 
@@ -125,10 +127,11 @@ module _ (E : El) {M : Type 1} {𝓤 : Ura M} (𝓛 : Logic 𝓤) (C : Calls �
       rewrite ! 1 (λ (ws : List Val). ‵ (cell_at full_share (Block-row E).mir ws rb ro)) one refl $
       in_a_block ! d.start (λ p. cells_own (Cell-row E) p d.cells d.left) (id⊢ 𝓤 (never 𝓤)) (λ b o e. fsplit ! $
       flt_l ! (λ small. fsplit ! $
-      let s = cell_size E in let at : ℕ = number * s + o in let behind : number < length d.cells + d.left = omega (arith, asked.0, asked.1) in
-      let tiny : s < 2 ^ 64 = omega (arith, one_below (length d.cells + d.left) s (2 ^ 63) (omega (arith, behind)) small) in
+      let s = cell_size E in let at : ℕ = number * s + o in let all : ℕ = length d.cells + d.left in
+      let behind : number < all = omega (arith, asked.0, asked.1) in
+      let tiny : s < 2 ^ 64 = omega (arith, one_below all s (2 ^ 63) (omega (arith, behind)) small) in
       let far : number * s < 2 ^ 64 = omega
-      (arith, times_below number (length d.cells + d.left) s (2 ^ 63) (omega (arith, behind)) small) in
+      (arith, times_below number all s (2 ^ 63) (omega (arith, behind)) small) in
       let long : length d.cells + d.left ≡ length new.cells + new.left = omega
       (arith, asked.1, length_push d.cells (Live value)) in
       -- [the cells; the room behind them; the block's word; the open borrow, in three entries; the value]

@@ -62,7 +62,7 @@ use Rattle.core.proofs.slots.Leases.{uncapped, args, P}
 use Rattle.std_alloc.proofs.RcSteps.{Good, word, word-Good, first_Good}
 use Rattle.std_alloc.proofs.ResultValues.{ok_of, err_of}
 use Rattle.std_alloc.proofs.VecSteps.Shapes.{after, head, arm_body}
-use Rattle.ci_region.specs.Blocks.{IsLeaseOf}
+use Rattle.ci_region.specs.Blocks.{IsUnreached, IsLeaseOf}
 use Rattle.ci_region.specs.Ownership.{cells_at, room_behind}
 use Rattle.ci_region.proofs.Memory.{Cell-row, Block-row, Lease-row, Mark, cell_size, cell_type, block_type}
 use Rattle.ci_region.proofs.Memory.{block_size, block_align, of_room, mark, mark_made, pointer_made, two_value, two_of}
@@ -111,7 +111,7 @@ module _ (E : El) (Z : Al) {M : Type 1} {𝓤 : Ura M} (𝓛 : Logic 𝓤) (at_m
   abbrev Post : Val → SProp 𝓤
   Post = (walk_of 𝓛 (ended E Z) (stayed E Z) (clauses E Z 𝓛 at_mem run)).post bound
 
-  exits : (r : (Made E Z).Denot) (v : Val) → IfOk r (λ t. (t.0.cells ≡ []) × (t.0.left ≡ count) × IsLeaseOf t.1 t.0 count a)
+  exits : (r : (Made E Z).Denot) (v : Val) → IfOk r (λ t. IsUnreached t.0 count × IsLeaseOf t.1 t.0 count a)
       → ent 𝓤 (⋆ 𝓛 (‵ ((Made E Z).own_val r (v ∷ [])) ∷ ‵ (flft κ q) ∷ others ∷ [])) (Post v)
   exits r v g =
       qed 𝓛 (‵ ((Made E Z).own_val r (v ∷ [])) ∷ ‵ (flft κ q) ∷ others ∷ []) ∵
@@ -161,7 +161,8 @@ module _ (E : El) (Z : Al) {M : Type 1} {𝓤 : Ura M} (𝓛 : Logic 𝓤) (at_m
       let right : (Lease-row E Z).Denot = record { mark = record {}; start = p; count = count; alloc = a } in
       let made : Val = two_value (word p) mark in
       let typed : Good (layout (Two E Z)) made = (tt, ((tt, tt), ((tt, tt), tt))) in
-      let ok = first_Good (layout (Two E Z)) made typed in let none_yet : count ≡ length blk.cells + count = omega arith in
+      let ok = first_Good (layout (Two E Z)) made typed in
+      let none_yet : count ≡ length blk.cells + count = omega arith in
       sets ! (agg ! (and_then ! (get ! refl) (no_more !))) refl (word-Good [] p) $
       sets ! (agg ! (no_more !)) refl (tt, tt) $
       sets ! (agg ! (and_then ! (get ! refl) (no_more !))) refl (tt, (tt, tt)) $
@@ -178,7 +179,7 @@ module _ (E : El) (Z : Al) {M : Type 1} {𝓤 : Ura M} (𝓛 : Logic 𝓤) (at_m
       use1 𝓛 (‵ ((Made E Z).own_val (Ok (blk, right)) (live 0 (vcons made vnil) ∷ [])))
       (ok_of 𝓛 (Two E Z) AE.the_row (blk, right) made) $
       returns ! (look_at ! 0 refl) $ free_all ! refl $ keep ! (0 ∷ 1 ∷ 2 ∷ []) $
-      by ! (exits (Ok (blk, right)) (live 0 (vcons made vnil)) (refl, refl, (refl, refl, refl))))
+      by ! (exits (Ok (blk, right)) (live 0 (vcons made vnil)) ((refl, refl), (refl, refl, refl))))
       (λ e.
       let Refusal : RattleType = Struct (Declared.shape AE.the_type) in
       let none : Val = live 1 (vcons (vstruct vnil) vnil) in
