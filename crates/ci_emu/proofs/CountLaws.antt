@@ -1,14 +1,16 @@
 -- Counts of steps by their address.
-use Rattle.std.proofs.Common.{arith, ◌≡◌, ℕ, ◌+◌, ◌%◌, ◌<◌, ap, sym, ◌∙◌, refl, List, length, Option, Some, None, replicate, inl, inr, eq-eqb, add-zero}
+use Rattle.std.proofs.Common.{arith, ◌≡◌, ℕ, ◌+◌, ◌-◌, ◌/◌, ◌%◌, ◌<◌, ◌≤◌, get_or, subst, take, ap, sym, ◌∙◌, refl, List, length, Option, Some, None, replicate, inl, inr, eq-eqb, add-zero}
 use Rattle.std.specs.Prelude.{false, ◌==◌, ◌&&◌, IfSome, if◌then◌else◌, slice_index, slice_set}
 use Rattle.std.proofs.lemmas.Bool.{cases_Bool, cases_eq, cases_lt, eqb-true, ne_eqb}
-use Rattle.std.proofs.lemmas.List.{get_or-replicate, get_or_past, length-replicate, get_or-set_same, get_or-set_other}
+use Rattle.std.proofs.lemmas.List.{get_or_default, get_or-replicate, get_or_past, length-replicate, get_or-set_same, get_or-set_other}
 use Rattle.ci_elf.specs.declared.ranges.Range.{Range}
-use Rattle.ci_elf.specs.Executables.{IsTextWord}
-use Rattle.ci_elf.specs.WordPlaces.{word_count, word_place}
-use Rattle.ci_elf.proofs.WordPlaceLaws.{no_text_word, one_word, word_below, word_has_place}
+use Rattle.ci_elf.specs.Executables.{end_of, HoldsAddress, IsAscending, IsTextWord}
+use Rattle.ci_elf.specs.WordPlaces.{place_in, word_count, word_place}
+use Rattle.ci_elf.proofs.RangeLaws.{has_bounds}
+use Rattle.ci_elf.proofs.WordPlaceLaws.{no_text_word, nowhere, one_word, place_held, word_below, word_has_place, word_placed}
 use Rattle.ci_machine.specs.Programs.{Program, in_text}
 use Rattle.ci_emu.specs.declared.counts.Counts.{Counts}
+use Rattle.ci_emu.specs.PlacedRanges.{ArePlaced}
 use Rattle.ci_emu.specs.Profiles.{at_place, count_at}
 
 -- ---- no steps yet
@@ -110,3 +112,35 @@ no_word program pc none = elim (cases_Bool (pc % 4 == 0)) [
   ]
   | inr other ↦ rw other refl
 ]
+
+-- ---- the range that served last
+
+-- a word of the range with this number
+module _ (ranges : List Range) (ascending : IsAscending ranges) (address index place : ℕ) (held : HoldsAddress ranges address index)
+    (is : word_place ranges address ≡ Some place) (listed : List Range) (same : listed ≡ ranges) where
+  abbrev range : Range
+  range = get_or listed index nowhere
+
+  range_is : (d : Range) → get_or ranges index d ≡ range
+  range_is d = get_or_default ranges index d nowhere held.within ∙ ap (λ rs. get_or rs index nowhere) (sym same)
+
+  place_of : (a : ℕ) → HoldsAddress ranges a index → place_in ranges a ≡ Some (word_count (take index ranges) + (a - range.start) / 4)
+  place_of a holds =
+      place_held ranges ascending a index holds
+      ∙ ap (λ (r : Range). Some (word_count (take index ranges) + (a - r.start) / 4)) (range_is nowhere)
+
+  -- has a place so far behind that of the first one
+  pub first_place : place ≡ word_count (take index ranges) + (address - range.start) / 4
+  first_place = same_number place _ (sym (word_placed ranges address place is).1 ∙ place_of address held)
+
+  -- and so has each word of the range
+  pub placed_alike : ArePlaced ranges (record { range = range; first = place - (address - range.start) / 4 })
+  placed_alike a has =
+      let bounds = has_bounds range a has in
+      let there : HoldsAddress ranges a index = record {
+        within = held.within;
+        from = λ d. subst (λ (r : Range). r.start ≤ a) (sym (range_is d)) bounds.0;
+        to = λ d. subst (λ (r : Range). a < end_of r) (sym (range_is d)) bounds.1;
+      } in
+      let first : word_count (take index ranges) ≡ place - (address - range.start) / 4 = omega (arith, first_place) in
+      place_of a there ∙ ap (λ n. Some (n + (a - range.start) / 4)) first

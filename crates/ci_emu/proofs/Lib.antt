@@ -4,3 +4,4 @@ pub mod CountLaws
 pub mod RunCounts
 pub mod RunSteps
 pub mod KnownLines
+pub mod TextEnds

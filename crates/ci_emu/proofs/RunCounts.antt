@@ -113,7 +113,7 @@ module _ (meaning : Meaning) (program : Program) (latencies : Latencies) (start 
       → IsCounted meaning program latencies start (suc n) new
   one_more n old new on so_far step = let is : made n ≡ true = ap is_none on in record {
     cost = step.cost ∙ ap (λ c. c + step_cost meaning program latencies (at n)) so_far.cost ∙ sym (cost_more n true is);
-    touched = rw step.touched (touch_more n old.touched _ is so_far.touched refl);
+    touched = rw step.touched (touch_more n old.touches.first _ is so_far.touched refl);
     entries = λ address word.
         step.entries address word ∙ ap (λ k. k + (if (at n).pc == address then 1 else 0)) (so_far.entries address word)
         ∙ sym (entries_more n address true is);
@@ -131,7 +131,7 @@ module _ (meaning : Meaning) (program : Program) (latencies : Latencies) (start 
   still : (n : ℕ) (tally : Tally) → made n ≡ false → IsCounted meaning program latencies start n tally → IsCounted meaning program latencies start (suc n) tally
   still n tally is so_far = record {
     cost = so_far.cost ∙ sym (cost_more n false is ∙ add-zero _);
-    touched = touch_still tally.touched so_far.touched;
+    touched = touch_still tally.touches.first so_far.touched;
     entries = λ address word. so_far.entries address word ∙ sym (entries_more n address false is ∙ add-zero _);
     targets = λ address. (
       λ l. target_later n address ((so_far.targets address).0 l),

@@ -36,7 +36,7 @@ target_of insn outcome pc = None
 -- nothing was counted yet
 pub record IsFresh (tally : Tally) : Type 0 where
   pub cost : tally.cost ≡ 0
-  pub touched : tally.touched ≡ None
+  pub touched : tally.touches.first ≡ None
   pub entries : (address : ℕ) → count_at tally.counts address ≡ 0
   pub targets : IsEmpty tally.targets
 
@@ -45,7 +45,7 @@ pub record IsToldBy (tally : Tally) (made : ℕ) (met : Option End) (profile : P
   pub steps : profile.steps ≡ made
   pub cost : profile.cost ≡ tally.cost
   pub end : profile.end ≡ met
-  pub touched : profile.touched ≡ tally.touched
+  pub touched : profile.touched ≡ tally.touches.first
   pub entries : (address : ℕ) → entries_in profile address ≡ count_at tally.counts address
   pub ascending : AllPairs (λ a b. a < b) (targets_in profile)
   pub targets : (address : ℕ) → Contains (targets_in profile) address ↔ Led tally.targets address
@@ -54,7 +54,7 @@ module _ (meaning : Meaning) (program : Program) (latencies : Latencies) where
   -- The tally is that of n steps from the state, or of fewer where one of them ends the run.
   pub record IsCounted (state : State) (n : ℕ) (tally : Tally) : Type 0 where
     pub cost : tally.cost ≡ cost meaning program latencies n state
-    pub touched : IsTouch meaning program n state tally.touched
+    pub touched : IsTouch meaning program n state tally.touches.first
     pub entries :
         (address : ℕ) → IsTextWord program.text address
         → count_at tally.counts address ≡ entries meaning program n state address
@@ -63,7 +63,7 @@ module _ (meaning : Meaning) (program : Program) (latencies : Latencies) where
   -- The step from this state was counted, and nothing else.
   pub record IsStepCounted (state : State) (old new : Tally) : Type 0 where
     pub cost : new.cost ≡ old.cost + step_cost meaning program latencies state
-    pub touched : new.touched ≡ first_touch old.touched state.pc (touched meaning program state)
+    pub touched : new.touches.first ≡ first_touch old.touches.first state.pc (touched meaning program state)
     pub entries :
         (address : ℕ) → IsTextWord program.text address
         → count_at new.counts address ≡ count_at old.counts address + (if state.pc == address then 1 else 0)

@@ -6,6 +6,37 @@ ghost use Rattle.ci_emu.specs.Alignment.{are_aligned};
 use ci_elf::{Places, Range};
 use std::alloc::{AllocError, Global};
 
+/// A range of a text, and the place of its first word.
+#[derive(Clone, Copy)]
+pub(crate) struct PlacedRange {
+    range: Range,
+    first: usize,
+}
+
+impl PlacedRange {
+    ghost use Rattle.std.specs.Prelude.{List};
+    ghost use Rattle.ci_elf.specs.declared.ranges.Range.{Range as TextRange};
+    ghost use Rattle.ci_elf.specs.Executables.{has_byte};
+    ghost use Rattle.ci_emu.specs.PlacedRanges.{ArePlaced};
+
+    /// A range without words.
+    pub(crate) fn empty() -> PlacedRange
+        ensures { (ranges : List TextRange) → ArePlaced ranges result }
+    {
+        PlacedRange {
+            range: Range { start: 0, words: 0 },
+            first: 0,
+        }
+    }
+
+    /// Whether the byte at the address is one of the range's.
+    fn has(&self, address: u32) -> bool
+        ensures { result ≡ has_byte self.now.range address }
+    {
+        self.range.start <= address && (address - self.range.start) / 4 < self.range.words
+    }
+}
+
 /// How many steps began at each word of the text.
 #[derive(Drop)]
 pub(crate) struct Counts {
@@ -28,6 +59,7 @@ fn are_aligned(text: &[Range]) -> bool
 impl Counts {
     ghost use Rattle.std.specs.Prelude.{ℕ};
     ghost use Rattle.ci_elf.specs.Executables.{IsAscending};
+    ghost use Rattle.ci_emu.specs.PlacedRanges.{ArePlaced};
     ghost use Rattle.ci_emu.specs.Profiles.{count_at};
 
     /// No steps yet.
@@ -60,12 +92,42 @@ impl Counts {
         self.aligned
     }
 
-    /// The place of the word at the address, where that is a multiple of four in the text. Range `last` is tried first.
-    pub(crate) fn place(&self, last: &mut usize, address: u32) -> Option<usize>
+    /// The place of the word at the address, where that is a multiple of four in the text. Where `nearby` has no such
+    /// word, and another range has it, `nearby` is then that one.
+    #[inline(always)]
+    pub(crate) fn place(&self, nearby: &mut PlacedRange, address: u32) -> Option<usize>
+        requires { ArePlaced self.now.places nearby.old }
         ensures value { result ≡ word_place self.now.places address }
         ensures within { IfSome result (λ place. place < length self.now.by_place.items) }
+        ensures nearby { ArePlaced self.now.places nearby.new }
     {
-        self.places.near(last, address)
+        if address % 4 != 0 {
+            return None;
+        }
+        if nearby.has(address) {
+            return Some(nearby.first + ((address - nearby.range.start) / 4) as usize);
+        }
+        self.look_up(nearby, address)
+    }
+
+    /// The same, by the range that has the address.
+    #[cold]
+    #[inline(never)]
+    fn look_up(&self, nearby: &mut PlacedRange, address: u32) -> Option<usize>
+        requires { ArePlaced self.now.places nearby.old }
+        ensures value { result ≡ word_place self.now.places address }
+        ensures within { IfSome result (λ place. place < length self.now.by_place.items) }
+        ensures nearby { ArePlaced self.now.places nearby.new }
+    {
+        let mut index = 0;
+        let place = self.places.near(&mut index, address)?;
+        let range = self.places.ranges()[index];
+        let past = ((address - range.start) / 4) as usize;
+        *nearby = PlacedRange {
+            range,
+            first: place - past,
+        };
+        Some(place)
     }
 
     /// Counts a step that begins at the word of this place.
@@ -75,6 +137,7 @@ impl Counts {
         ensures places { self.new.places ≡ self.old.places }
         ensures counted { self.new.by_place.items
             ≡ slice_set self.old.by_place.items place (slice_index self.old.by_place.items place + 1) }
+        ensures many { length self.new.by_place.items ≡ length self.old.by_place.items }
     {
         self.by_place[place] += 1;
     }
@@ -84,8 +147,8 @@ impl Counts {
     pub(crate) fn at(&self, address: u32) -> u64
         ensures { result ≡ count_at self.now address }
     {
-        let mut last = 0;
-        match self.place(&mut last, address) {
+        let mut nearby = PlacedRange::empty();
+        match self.place(&mut nearby, address) {
             Some(place) => self.by_place[place],
             None => 0,
         }

@@ -1,5 +1,5 @@
 //! Decoded words.
-ghost use Rattle.std.specs.Prelude.{◌≡◌, ◌<◌, ◌^◌, ℕ, Some, IfOk, IfSome, if◌then◌else◌, length, slice_index_or, slice_set};
+ghost use Rattle.std.specs.Prelude.{◌≡◌, ◌<◌, ◌^◌, ℕ, None, Some, IfOk, IfSome, IsTrue, MatchOption, if◌then◌else◌, length, slice_index_or, slice_set};
 ghost use Rattle.std.specs.Option.{option_map};
 ghost use Rattle.ci_elf.specs.WordPlaces.{word_place};
 ghost use Rattle.ci_isa.specs.Effects.{class_of};
@@ -8,8 +8,7 @@ ghost use Rattle.ci_word.specs.declared.arithmetic.Class.TheVariants.{Free};
 ghost use Rattle.ci_machine.specs.States.{program_of, state_of};
 ghost use Rattle.ci_machine.specs.Steps.{Meaning, fetched};
 ghost use Rattle.ci_emu.specs.Alignment.{are_aligned};
-ghost use Rattle.ci_emu.specs.Fetched.{IsOnlyAt};
-ghost use Rattle.ci_emu.specs.TableLatencies.{cycles_on};
+ghost use Rattle.ci_emu.specs.Fetched.{cycles_on, IsOnlyAt};
 
 use crate::machine::Machine;
 use crate::steps::fetch_word;
@@ -132,24 +131,22 @@ impl DecodeCache {
         table: &Table,
         count: usize,
     ) -> Result<DecodeCache, AllocError>
-        ensures { IfOk result (λ cache. AreKept (cycles_on (M.has_unit machine.now) (M.has_cread machine.now)
+        ensures kept { IfOk result (λ cache. AreKept (cycles_on (M.has_unit machine.now) (M.has_cread machine.now)
             (M.unit_cycles machine.now) table.now) 0 cache.words.items) }
+        ensures many { IfOk result (λ cache. length cache.words.items ≡ count) }
     {
         let mut words = Vec::new(alloc);
         words.resize(count, Decoded::of(machine, table, 0))?;
         Ok(DecodeCache { words })
     }
 
-    /// The line of a place, where it was seen since the text may have changed so often.
+    /// Whether the line of a place was seen since the text may have changed so often.
     #[inline(always)]
-    fn known(&self, place: usize, changes: u64) -> Option<Decoded>
-        ensures { IfSome result (λ line. (place < length self.now.words.items) × (line.seen ≡ changes)
-            × ((d : Decoded) → slice_index_or self.now.words.items place d ≡ line)) }
+    fn is_known(&self, place: usize, changes: u64) -> bool
+        requires { place < length self.now.words.items }
+        ensures { IsTrue result → (d : Decoded) → (slice_index_or self.now.words.items place d).seen ≡ changes }
     {
-        match self.words.get(place) {
-            Some(line) if line.seen == changes => Some(*line),
-            _ => None,
-        }
+        self.words[place].seen == changes
     }
 
     /// The instruction of the word that stands at a place, decoded anew where the cache has that of another word.
@@ -176,10 +173,10 @@ impl DecodeCache {
         }
     }
 
-    /// The line of the word at the pc, which has this place, where one is mapped there. Where the cache has none that
-    /// was seen since the text changed, the word is fetched.
-    #[inline(always)]
-    pub(crate) fn at<M: Machine>(
+    /// The line of the word at the pc, which has this place, where one is mapped there: the word is fetched.
+    #[cold]
+    #[inline(never)]
+    fn at<M: Machine>(
         &mut self,
         machine: &M,
         table: &Table,
@@ -189,27 +186,63 @@ impl DecodeCache {
         aligned: bool,
     ) -> Option<Decoded>
         requires place { word_place (program_of state.now).text (state_of state.now).pc ≡ Some place }
+        requires within { place < length self.old.words.items }
         requires small { (state_of state.now).pc < 2 ^ 32 }
         requires aligned { aligned ≡ are_aligned (program_of state.now).text }
         requires begun { 0 < changes }
         requires kept { AreKept (cycles_on (M.has_unit machine.now) (M.has_cread machine.now)
             (M.unit_cycles machine.now) table.now) changes self.old.words.items }
-        ensures fetched { (meaning : Meaning)
-            → AreKnown meaning (program_of state.now) (state_of state.now).core.memory changes self.old.words.items
-            → fetched meaning (program_of state.now) (state_of state.now)
+        ensures fetched { (meaning : Meaning) → fetched meaning (program_of state.now) (state_of state.now)
             ≡ option_map (λ decoded. meaning.insn decoded.word) result }
-        ensures cycles { IfSome result (IsTimed (cycles_on (M.has_unit machine.now) (M.has_cread machine.now)
-            (M.unit_cycles machine.now) table.now)) }
+        ensures there { IfSome result (λ line. (d : Decoded) → slice_index_or self.new.words.items place d ≡ line) }
         ensures kept { AreKept (cycles_on (M.has_unit machine.now) (M.has_cread machine.now)
             (M.unit_cycles machine.now) table.now) changes self.new.words.items }
         ensures known { (meaning : Meaning)
             → AreKnown meaning (program_of state.now) (state_of state.now).core.memory changes self.old.words.items
             → AreKnown meaning (program_of state.now) (state_of state.now).core.memory changes self.new.words.items }
+        ensures many { length self.new.words.items ≡ length self.old.words.items }
     {
-        if let Some(line) = self.known(place, changes) {
-            return Some(line);
-        }
         let word = fetch_word(state)?;
         Some(self.get(machine, table, place, word, seen_at(changes, aligned)))
+    }
+
+    /// The place of the line of the word at the pc, which has this place, where one is mapped there. Where the line was
+    /// not seen since the text changed, the word is fetched.
+    #[inline(always)]
+    pub(crate) fn line<M: Machine>(
+        &mut self,
+        machine: &M,
+        table: &Table,
+        state: &State,
+        place: usize,
+        changes: u64,
+        aligned: bool,
+    ) -> Option<usize>
+        requires place { word_place (program_of state.now).text (state_of state.now).pc ≡ Some place }
+        requires within { place < length self.old.words.items }
+        requires small { (state_of state.now).pc < 2 ^ 32 }
+        requires aligned { aligned ≡ are_aligned (program_of state.now).text }
+        requires begun { 0 < changes }
+        requires kept { AreKept (cycles_on (M.has_unit machine.now) (M.has_cread machine.now)
+            (M.unit_cycles machine.now) table.now) changes self.old.words.items }
+        ensures fetched { MatchOption result
+            ((meaning : Meaning) → fetched meaning (program_of state.now) (state_of state.now) ≡ None)
+            (λ line. (d : Decoded) (meaning : Meaning)
+            → AreKnown meaning (program_of state.now) (state_of state.now).core.memory changes self.old.words.items
+            → fetched meaning (program_of state.now) (state_of state.now)
+            ≡ Some (meaning.insn (slice_index_or self.new.words.items line d).word)) }
+        ensures within { IfSome result (λ line. line < length self.new.words.items) }
+        ensures kept { AreKept (cycles_on (M.has_unit machine.now) (M.has_cread machine.now)
+            (M.unit_cycles machine.now) table.now) changes self.new.words.items }
+        ensures known { (meaning : Meaning)
+            → AreKnown meaning (program_of state.now) (state_of state.now).core.memory changes self.old.words.items
+            → AreKnown meaning (program_of state.now) (state_of state.now).core.memory changes self.new.words.items }
+        ensures many { length self.new.words.items ≡ length self.old.words.items }
+    {
+        if self.is_known(place, changes) {
+            return Some(place);
+        }
+        self.at(machine, table, state, place, changes, aligned)?;
+        Some(place)
     }
 }

@@ -1,6 +1,6 @@
 //! What each instruction does.
 ghost use Rattle.std.specs.Prelude.{◌≡◌, ◌+◌, ◌*◌, ◌<◌, ◌≤◌, ◌^◌, None, is_some, IfOk, OnErr, nat_lt, if◌then◌else◌, pos, ◌-ℤ◌, find};
-ghost use Rattle.ci_word.specs.Arithmetic.{word_of};
+ghost use Rattle.ci_word.specs.Arithmetic.{operation, word_of};
 ghost use Rattle.ci_isa.specs.declared.instruction.Insn.TheVariants.{Branch, Load, Store};
 ghost use Rattle.ci_isa.specs.Effects.{width_bytes};
 ghost use Rattle.ci_machine.specs.Accesses.{extended, load_width, addresses, bytes_at};
@@ -12,20 +12,21 @@ ghost use Rattle.ci_machine.specs.Steps.{control, directed, even, execute, follo
 ghost use Rattle.ci_machine.specs.Steps.{Meaning};
 ghost use Rattle.ci_emu.specs.Machines.{standing};
 ghost use Rattle.ci_machine.specs.Programs.{in_text};
-ghost use Rattle.ci_machine.specs.Touches.{moved, moved_by_call};
+ghost use Rattle.ci_machine.specs.Touches.{moved};
 ghost use Rattle.ci_emu.specs.Steps.{LeadsTo};
 ghost use Rattle.ci_emu.specs.Counting.{first_touch};
-ghost use Rattle.ci_emu.specs.Fetched.{may_change};
+ghost use Rattle.ci_emu.specs.Fetched.{may_change, IsTextBelow};
 
 use crate::machine::Machine;
 use crate::steps::Outcome;
+use crate::touches::Touches;
 use ci_isa::{Cond, Insn, LoadKind, Reg, Width};
 use ci_machine::{Call, End, State};
-use ci_word::alu;
+use ci_word::{Op, alu};
 use std::alloc::{AllocError, Global};
 
-/// Does what the word's instruction does on the machine, for which the extended table has this reading, and notes the
-/// first byte of the text that it moves, and that it may change the text. Loads, stores and calls alone move bytes.
+/// Does what the word's instruction does on the machine, for which the extended table has this reading, and notes how it
+/// touches the text. Loads, stores and calls alone move bytes.
 ///
 /// The state stays as it is where that ends the run, and where memory runs out.
 #[inline(always)]
@@ -36,28 +37,29 @@ pub(crate) fn execute<M: Machine>(
     state: &mut State,
     word: u32,
     reading: &Insn,
-    touched: &mut Option<(u32, u32)>,
-    changes: &mut u64,
+    touches: &mut Touches,
 ) -> Result<Outcome, AllocError>
-    requires { changes.old ≤ 2 ^ 33 }
+    requires few { touches.old.changes ≤ 2 ^ 33 }
+    requires behind { IsTextBelow (in_text (program_of state.old)) touches.old.end }
     ensures executed { IfOk result (λ outcome. (meaning : Meaning) → M.meanings machine.now meaning
         → LeadsTo (state_of state.old) (execute meaning.units (program_of state.old)
         (standing (M.has_unit machine.now) (M.has_cread machine.now) word reading.now) (state_of state.old))
         (state_of state.new) outcome) }
     ensures refused { OnErr result (state_of state.new ≡ state_of state.old) }
     ensures program { program_of state.new ≡ program_of state.old }
-    ensures touched { touched.new ≡ first_touch touched.old (state_of state.old).pc
+    ensures touched { touches.new.first ≡ first_touch touches.old.first (state_of state.old).pc
         (find (in_text (program_of state.old)) (moved reading.now (state_of state.old).core)) }
-    ensures changes { changes.new ≡ changes.old
+    ensures changes { touches.new.changes ≡ touches.old.changes
         + (if may_change (in_text (program_of state.old)) reading.now (state_of state.old).core then 1 else 0) }
+    ensures end { touches.new.end ≡ touches.old.end }
 {
     match *reading {
         Insn::Alu { op, rd, rs1, rs2 } => {
-            let value = alu(op, state.register(rs1), state.register(rs2));
+            let value = operate(op, state.register(rs1), state.register(rs2));
             Ok(write_back(state, rd, value))
         }
         Insn::AluImm { op, rd, rs1, imm } => {
-            let value = alu(op, state.register(rs1), word_of(imm));
+            let value = operate(op, state.register(rs1), word_of(imm));
             Ok(write_back(state, rd, value))
         }
         Insn::Lui { rd, upper } => Ok(write_back(state, rd, upper)),
@@ -86,7 +88,7 @@ pub(crate) fn execute<M: Machine>(
             offset,
         } => {
             let from = address(state, rs1, offset);
-            note_load(touched, state, from, width_of(kind));
+            touches.note_load(state, from, width_of(kind));
             Ok(load(state, kind, rd, from))
         }
         Insn::Store {
@@ -96,13 +98,12 @@ pub(crate) fn execute<M: Machine>(
             offset,
         } => {
             let to = address(state, rs1, offset);
-            note_store(touched, changes, state, to, width);
+            touches.note_store(state, to, width);
             Ok(store(state, width, rs2, to))
         }
         Insn::Fence { .. } => Ok(advance(state)),
         Insn::Ecall => {
-            note_call(touched, state);
-            *changes += 1;
+            touches.note_call(state);
             call(alloc, state)
         }
         Insn::Ebreak => Ok(Outcome::Ended(End::Break)),
@@ -134,66 +135,33 @@ pub(crate) fn execute<M: Machine>(
     }
 }
 
-/// Notes the touch of a load by the instruction at the pc, where it is the first of a run.
-#[inline(always)]
-#[tactic(auto, using(crate::proofs::Touched::laws))]
-fn note_load(touched: &mut Option<(u32, u32)>, state: &State, address: u32, width: Width)
-    ensures { touched.new ≡ first_touch touched.old (state_of state.now).pc
-        (find (in_text (program_of state.now)) (addresses (width_bytes width) address)) }
-{
-    if touched.is_none() {
-        *touched = touch(state, state.touched_by_access(address, width));
-    }
-}
-
-/// Notes the touch of a store by the instruction at the pc, where it is the first of a run, and that it changes the
-/// text, where it does.
-#[inline(always)]
-#[tactic(auto, using(crate::proofs::Touched::laws))]
-fn note_store(
-    touched: &mut Option<(u32, u32)>,
-    changes: &mut u64,
-    state: &State,
-    address: u32,
-    width: Width,
-)
-    requires { changes.old ≤ 2 ^ 33 }
-    ensures touched { touched.new ≡ first_touch touched.old (state_of state.now).pc
-        (find (in_text (program_of state.now)) (addresses (width_bytes width) address)) }
-    ensures changes { changes.new ≡ changes.old
-        + (if is_some (find (in_text (program_of state.now)) (addresses (width_bytes width) address)) then 1 else 0) }
-{
-    if let Some(first) = state.touched_by_access(address, width) {
-        *changes += 1;
-        if touched.is_none() {
-            *touched = Some((state.pc(), first));
-        }
-    }
-}
-
-/// Notes the touch of the environment call that the registers ask for, where it is the first of a run.
-#[tactic(auto, using(crate::proofs::Touched::laws))]
-fn note_call(touched: &mut Option<(u32, u32)>, state: &State)
-    ensures { touched.new ≡ first_touch touched.old (state_of state.now).pc
-        (find (in_text (program_of state.now)) (moved_by_call (state_of state.now).core)) }
-{
-    if touched.is_none() {
-        *touched = touch(state, state.touched_by_call());
-    }
-}
-
-/// The touch of the instruction at the pc, where it moves this byte of the text first.
-fn touch(state: &State, address: Option<u32>) -> Option<(u32, u32)>
-    ensures { result ≡ first_touch None (state_of state.now).pc address }
-{
-    Some((state.pc(), address?))
-}
-
 /// The word of a constant or an offset.
 fn word_of(constant: i32) -> u32
     ensures { result ≡ word_of constant }
 {
     constant.cast_unsigned()
+}
+
+/// What the operation gives on the words `a` and `b`. Where it is a frequent one, its call has it as a constant, so that
+/// one instruction of the processor stands for the call.
+#[inline(always)]
+fn operate(op: Op, a: u32, b: u32) -> u32
+    ensures { result ≡ operation op a b }
+{
+    match op {
+        Op::Add => alu(Op::Add, a, b),
+        Op::Sub => alu(Op::Sub, a, b),
+        Op::Sll => alu(Op::Sll, a, b),
+        Op::Slt => alu(Op::Slt, a, b),
+        Op::Sltu => alu(Op::Sltu, a, b),
+        Op::Xor => alu(Op::Xor, a, b),
+        Op::Srl => alu(Op::Srl, a, b),
+        Op::Sra => alu(Op::Sra, a, b),
+        Op::Or => alu(Op::Or, a, b),
+        Op::And => alu(Op::And, a, b),
+        Op::Mul => alu(Op::Mul, a, b),
+        rare => alu(rare, a, b),
+    }
 }
 
 /// The address that is this offset from the one in the register.

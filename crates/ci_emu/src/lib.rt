@@ -23,3 +23,4 @@ mod steps;
 mod tally;
 #[cfg(test)]
 mod tests;
+mod touches;

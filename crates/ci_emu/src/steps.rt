@@ -8,6 +8,7 @@ ghost use Rattle.ci_emu.specs.Steps.{IsStep, IsPlainStep};
 use crate::decode_cache::reading;
 use crate::execution::execute;
 use crate::machine::{Machine, PlainMachine};
+use crate::touches::Touches;
 use ci_isa::Width;
 use ci_machine::{End, State};
 use std::alloc::{AllocError, Global};
@@ -45,18 +46,9 @@ pub fn step_on<M: Machine>(
 {
     match fetch(state) {
         Some(word) => {
-            let mut touched = None;
-            let mut changes = 0;
+            let mut touches = Touches::new(state.text());
             let insn = reading(word);
-            execute(
-                alloc,
-                machine,
-                state,
-                word,
-                &insn,
-                &mut touched,
-                &mut changes,
-            )
+            execute(alloc, machine, state, word, &insn, &mut touches)
         }
         None => Ok(Outcome::Ended(End::Fetch(state.pc()))),
     }

@@ -1,26 +1,29 @@
 //! What is counted while a run is made.
 ghost use Rattle.std.specs.Prelude.{◌≡◌, ◌+◌, ◌-◌, ◌<◌, ◌≤◌, ◌^◌, ◌==◌, ◌⊎◌, ◌↔◌, ℕ, Some, find};
-ghost use Rattle.std.specs.Prelude.{if◌then◌else◌, IfOk, IfSome, OnOk, OnErr, false, []};
+ghost use Rattle.std.specs.Prelude.{if◌then◌else◌, IfOk, IfSome, OnOk, OnErr, MatchOption, None, false, [], length, slice_index_or};
 ghost use Rattle.std.specs.BTreeSet.{IsOrdered};
-ghost use Rattle.std.specs.Option.{option_map};
 ghost use Rattle.std.specs.Ordering.{nat_cmp};
 ghost use Rattle.ci_isa.specs.declared.instruction.Insn.{Insn};
 ghost use Rattle.ci_machine.specs.Runs.{after};
 ghost use Rattle.ci_machine.specs.States.{program_of, state_of};
 ghost use Rattle.ci_machine.specs.Steps.{Meaning, fetched};
 ghost use Rattle.ci_emu.specs.Counting.{target_of, IsStepCounted, Led};
-ghost use Rattle.ci_elf.specs.Executables.{IsTextWord};
+ghost use Rattle.ci_elf.specs.Executables.{in_text as has_text, IsTextWord};
+ghost use Rattle.ci_machine.specs.Programs.{in_text};
+ghost use Rattle.ci_emu.specs.Fetched.{cycles_on, IsTextBelow};
 ghost use Rattle.ci_emu.specs.Profiles.{count_at};
-ghost use Rattle.ci_emu.specs.TableLatencies.{cycles_on, latencies_on};
-ghost use Rattle.ci_emu.specs.Lines.{AreKept, AreKnown, IsTimed};
+ghost use Rattle.ci_emu.specs.TableLatencies.{latencies_on};
+ghost use Rattle.ci_emu.specs.Lines.{AreKept, AreKnown};
+ghost use Rattle.ci_emu.specs.PlacedRanges.{ArePlaced};
 ghost use Rattle.ci_emu.specs.Steps.{IsStep, IsReached};
 
-use crate::counts::Counts;
+use crate::counts::{Counts, PlacedRange};
 use crate::decode_cache::{DecodeCache, Decoded};
 use crate::execution::execute;
 use crate::machine::Machine;
 use crate::profile::Profile;
 use crate::steps::Outcome;
+use crate::touches::Touches;
 use ci_elf::Range;
 use ci_isa::Insn;
 use ci_lat::Table;
@@ -33,14 +36,12 @@ use std::collections::BTreeSet;
 pub(crate) struct Tally {
     pub(crate) counts: Counts,
     pub(crate) cost: u64,
-    pub(crate) touched: Option<(u32, u32)>,
+    pub(crate) touches: Touches,
     pub(crate) targets: BTreeSet<u32>,
-    /// How often the text may have changed, from 1.
-    pub(crate) changes: u64,
     /// The words that were decoded before.
     pub(crate) cache: DecodeCache,
-    /// The number of the range of text from which the last step was fetched.
-    last: usize,
+    /// The range of the text from which a word was fetched last.
+    pub(crate) nearby: PlacedRange,
 }
 
 impl Tally {
@@ -60,18 +61,20 @@ impl Tally {
         ensures fresh { IfOk result IsFresh }
         ensures kept { IfOk result (λ tally. AreKept (cycles_on (M.has_unit machine.now) (M.has_cread machine.now)
             (M.unit_cycles machine.now) table.now) 0 tally.cache.words.items) }
-        ensures changes { IfOk result (λ tally. tally.changes ≡ 1) }
+        ensures changes { IfOk result (λ tally. tally.touches.changes ≡ 1) }
+        ensures behind { IfOk result (λ tally. IsTextBelow (has_text text.now) tally.touches.end) }
+        ensures nearby { IfOk result (λ tally. ArePlaced text.now tally.nearby) }
+        ensures many { IfOk result (λ tally. length tally.cache.words.items ≡ length tally.counts.by_place.items) }
     {
         let counts = Counts::new(alloc, text)?;
         let cache = DecodeCache::new(alloc, machine, table, counts.len())?;
         Ok(Tally {
             counts,
             cost: 0,
-            touched: None,
+            touches: Touches::new(text),
             targets: BTreeSet::new(alloc),
-            changes: 1,
             cache,
-            last: 0,
+            nearby: PlacedRange::empty(),
         })
     }
 
@@ -89,7 +92,7 @@ impl Tally {
             steps,
             cost: self.cost,
             end,
-            touched: self.touched,
+            touched: self.touches.first,
             counts: self.counts,
             targets,
         })
@@ -119,42 +122,47 @@ fn note(targets: &mut BTreeSet<u32>, target: Option<u32>) -> Result<(), AllocErr
     Ok(())
 }
 
-/// Counts the step that begins at the pc, and gives the word that it fetches, decoded, if it fetches one.
+/// Counts the step that begins at the pc, and gives the place of the line of the word that it fetches, if it fetches one.
 #[inline(always)]
 fn enter<M: Machine>(
     machine: &M,
     table: &Table,
     counts: &mut Counts,
     cache: &mut DecodeCache,
-    last: &mut usize,
+    nearby: &mut PlacedRange,
     changes: u64,
     state: &State,
-) -> Option<Decoded>
+) -> Option<usize>
     requires text { counts.old.places ≡ (program_of state.now).text }
     requires room { IsTextWord (program_of state.now).text (state_of state.now).pc
         → count_at counts.old (state_of state.now).pc < 2 ^ 32 }
+    requires nearby { ArePlaced counts.old.places nearby.old }
+    requires many { length cache.old.words.items ≡ length counts.old.by_place.items }
     requires begun { 0 < changes }
     requires kept { AreKept (cycles_on (M.has_unit machine.now) (M.has_cread machine.now)
         (M.unit_cycles machine.now) table.now) changes cache.old.words.items }
-    ensures fetched { (meaning : Meaning)
+    ensures fetched { MatchOption result
+        ((meaning : Meaning) → fetched meaning (program_of state.now) (state_of state.now) ≡ None)
+        (λ line. (d : Decoded) (meaning : Meaning)
         → AreKnown meaning (program_of state.now) (state_of state.now).core.memory changes cache.old.words.items
         → fetched meaning (program_of state.now) (state_of state.now)
-        ≡ option_map (λ decoded. meaning.insn decoded.word) result }
-    ensures cycles { IfSome result (IsTimed (cycles_on (M.has_unit machine.now) (M.has_cread machine.now)
-        (M.unit_cycles machine.now) table.now)) }
+        ≡ Some (meaning.insn (slice_index_or cache.new.words.items line d).word)) }
+    ensures within { IfSome result (λ line. line < length cache.new.words.items) }
     ensures kept { AreKept (cycles_on (M.has_unit machine.now) (M.has_cread machine.now)
         (M.unit_cycles machine.now) table.now) changes cache.new.words.items }
     ensures known { (meaning : Meaning)
         → AreKnown meaning (program_of state.now) (state_of state.now).core.memory changes cache.old.words.items
         → AreKnown meaning (program_of state.now) (state_of state.now).core.memory changes cache.new.words.items }
+    ensures nearby { ArePlaced counts.old.places nearby.new }
+    ensures many { length cache.new.words.items ≡ length counts.new.by_place.items }
     ensures text { counts.new.places ≡ counts.old.places }
     ensures counted { (address : ℕ) → IsTextWord (program_of state.now).text address → count_at counts.new address
         ≡ count_at counts.old address + (if (state_of state.now).pc == address then 1 else 0) }
 {
-    match counts.place(last, state.pc()) {
+    match counts.place(nearby, state.pc()) {
         Some(place) => {
             counts.add(place);
-            cache.at(machine, table, state, place, changes, counts.are_aligned())
+            cache.line(machine, table, state, place, changes, counts.are_aligned())
         }
         None => None,
     }
@@ -175,13 +183,16 @@ pub(crate) fn counted_step<M: Machine>(
     requires room { IsTextWord (program_of state.old).text (state_of state.old).pc
         → count_at tally.old.counts (state_of state.old).pc < 2 ^ 32 }
     requires cheap { tally.old.cost ≤ 2 ^ 64 - 2 ^ 32 }
-    requires begun { 0 < tally.old.changes }
-    requires few { tally.old.changes ≤ 2 ^ 33 }
+    requires nearby { ArePlaced tally.old.counts.places tally.old.nearby }
+    requires many { length tally.old.cache.words.items ≡ length tally.old.counts.by_place.items }
+    requires behind { IsTextBelow (in_text (program_of state.old)) tally.old.touches.end }
+    requires begun { 0 < tally.old.touches.changes }
+    requires few { tally.old.touches.changes ≤ 2 ^ 33 }
     requires kept { AreKept (cycles_on (M.has_unit machine.now) (M.has_cread machine.now)
-        (M.unit_cycles machine.now) table.now) tally.old.changes tally.old.cache.words.items }
+        (M.unit_cycles machine.now) table.now) tally.old.touches.changes tally.old.cache.words.items }
     requires known { (meaning : Meaning) → M.meanings machine.now meaning
         → AreKnown meaning (program_of state.old) (state_of state.old).core.memory
-        tally.old.changes tally.old.cache.words.items }
+        tally.old.touches.changes tally.old.cache.words.items }
     ensures stepped { IfOk result
         (IsStep (M.meanings machine.now) (program_of state.old) (state_of state.old) (state_of state.new)) }
     ensures counted { OnOk result ((meaning : Meaning) → M.meanings machine.now meaning
@@ -194,37 +205,40 @@ pub(crate) fn counted_step<M: Machine>(
         (IsReached (M.meanings machine.now) (program_of state.old) (state_of state.old) 1 (state_of state.new)) }
     ensures program { program_of state.new ≡ program_of state.old }
     ensures text { tally.new.counts.places ≡ tally.old.counts.places }
-    ensures later { tally.old.changes ≤ tally.new.changes }
-    ensures few { tally.new.changes ≤ tally.old.changes + 1 }
+    ensures nearby { ArePlaced tally.old.counts.places tally.new.nearby }
+    ensures many { length tally.new.cache.words.items ≡ length tally.new.counts.by_place.items }
+    ensures end { tally.new.touches.end ≡ tally.old.touches.end }
+    ensures later { tally.old.touches.changes ≤ tally.new.touches.changes }
+    ensures few { tally.new.touches.changes ≤ tally.old.touches.changes + 1 }
     ensures kept { AreKept (cycles_on (M.has_unit machine.now) (M.has_cread machine.now)
-        (M.unit_cycles machine.now) table.now) tally.new.changes tally.new.cache.words.items }
+        (M.unit_cycles machine.now) table.now) tally.new.touches.changes tally.new.cache.words.items }
     ensures known { OnOk result ((meaning : Meaning) → M.meanings machine.now meaning
         → AreKnown meaning (program_of state.old) (state_of state.new).core.memory
-        tally.new.changes tally.new.cache.words.items) }
+        tally.new.touches.changes tally.new.cache.words.items) }
 {
     // Two machines share these functions: without the hints at them each would be called out of line in every step.
-    let Some(decoded) = enter(
+    let Some(place) = enter(
         machine,
         table,
         &mut tally.counts,
         &mut tally.cache,
-        &mut tally.last,
-        tally.changes,
+        &mut tally.nearby,
+        tally.touches.changes,
         state,
     ) else {
         return Ok(Outcome::Ended(End::Fetch(state.pc())));
     };
-    tally.cost += u64::from(decoded.latency);
+    let line = &tally.cache.words[place];
+    tally.cost += u64::from(line.latency);
     let outcome = execute(
         alloc,
         machine,
         state,
-        decoded.word,
-        &decoded.insn,
-        &mut tally.touched,
-        &mut tally.changes,
+        line.word,
+        &line.insn,
+        &mut tally.touches,
     )?;
-    note(&mut tally.targets, target(state, &decoded.insn, outcome))?;
+    note(&mut tally.targets, target(state, &line.insn, outcome))?;
     Ok(outcome)
 }
 

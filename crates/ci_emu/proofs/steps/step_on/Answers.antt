@@ -1,4 +1,7 @@
+use Rattle.std.proofs.Common.{subst}
+use Rattle.ci_elf.specs.Executables.{in_text as has_text}
 use Rattle.ci_machine.specs.States.{program_of, state_of}
+use Rattle.ci_emu.specs.Fetched.{IsTextBelow}
 use Rattle.ci_emu.proofs.Fetching.{executed_is, fetched_as}
 use Rattle.ci_emu.proofs.steps.step_on.Goals as goal
 
@@ -9,3 +12,7 @@ returns-in-Some-clause-stepped g c =
     (g.met.M.Machine.stands c.args.machine.now) (program_of c.args.state.now) (state_of c.args.state.now)
     c.in-Some.word c.reading-insn.result c.reading-insn.ensures (λ meaning means. c.in-Some.ensures meaning))
     _ c.execute.ensures.executed
+
+pub execute-requires-clause-behind : goal.execute-requires-clause-behind
+execute-requires-clause-behind g c =
+    subst (λ ranges. IsTextBelow (has_text ranges) c.new-touches.result.end) c.text.ensures.value c.new-touches.ensures.end

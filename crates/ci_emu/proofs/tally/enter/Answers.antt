@@ -24,11 +24,11 @@ add-requires-clause-room g c =
     let same = count_here (program_of c.args.state.now) c.args.counts.now c.requires.text _ _ (here g (goal.at.add-requires-clause-room g c).In-Some) in
     subst (λ (n : ℕ). n < 2 ^ 32) same (c.requires.room (word g (goal.at.add-requires-clause-room g c).In-Some))
 
-pub at-requires-clause-place : goal.at-requires-clause-place
-at-requires-clause-place g c = here g (goal.at.at-requires-clause-place g c).In-Some
+pub line-requires-clause-place : goal.line-requires-clause-place
+line-requires-clause-place g c = here g (goal.at.line-requires-clause-place g c).In-Some
 
-pub at-requires-clause-small : goal.at-requires-clause-small
-at-requires-clause-small g c = subst (λ (n : ℕ). n < 2 ^ 32) c.pc.ensures (omega arith)
+pub line-requires-clause-small : goal.line-requires-clause-small
+line-requires-clause-small g c = subst (λ (n : ℕ). n < 2 ^ 32) c.pc.ensures (omega arith)
 
 pub returns-in-Some-clause-counted : goal.returns-in-Some-clause-counted
 returns-in-Some-clause-counted g c =
@@ -36,7 +36,7 @@ returns-in-Some-clause-counted g c =
     (here g (goal.at.returns-in-Some-clause-counted g c).In-Some) c.in-Some.ensures.within c.add.ensures.places c.add.ensures.counted
 
 pub returns-in-None-clause-fetched : goal.returns-in-None-clause-fetched
-returns-in-None-clause-fetched g c meaning known = nothing_fetched (program_of c.args.state.now) (state_of c.args.state.now) meaning (nowhere g c)
+returns-in-None-clause-fetched g c meaning = nothing_fetched (program_of c.args.state.now) (state_of c.args.state.now) meaning (nowhere g c)
 
 pub returns-in-None-clause-counted : goal.returns-in-None-clause-counted
 returns-in-None-clause-counted g c = not_entered (program_of c.args.state.now) c.args.counts.now c.requires.text _ (nowhere g c)

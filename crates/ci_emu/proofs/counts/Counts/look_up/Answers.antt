@@ -1,0 +1,19 @@
+use Rattle.std.proofs.Common.{Some, sym, ◌∙◌, arith}
+use Rattle.ci_emu.proofs.CountLaws.{first_place, placed_alike, within_places}
+use Rattle.ci_emu.proofs.counts.Counts.look_up.Goals as goal
+
+pub returns-clause-within : goal.returns-clause-within
+returns-clause-within c =
+    within_places c.args.self.now.places c.args.address _ (Some c.in_ok-place.place) c.args.self.now.whole (sym c.in_ok-place.was ∙ c.near.ensures.place)
+
+pub overflow_sub-nearby : goal.overflow_sub-nearby
+overflow_sub-nearby c =
+    let is =
+    first_place c.args.self.now.places c.ranges-2.ensures.ascending c.args.address c.near.new.last c.in_ok-place.place c.in_ok-place.ensures.last
+    (sym c.near.ensures.place ∙ c.in_ok-place.was) c.ranges-2.result.now c.ranges-2.ensures.value in
+    omega arith
+
+pub returns-clause-nearby : goal.returns-clause-nearby
+returns-clause-nearby c =
+    placed_alike c.args.self.now.places c.ranges-2.ensures.ascending c.args.address c.near.new.last c.in_ok-place.place c.in_ok-place.ensures.last
+    (sym c.near.ensures.place ∙ c.in_ok-place.was) c.ranges-2.result.now c.ranges-2.ensures.value
