@@ -304,7 +304,7 @@ fn load(state: &mut State, kind: LoadKind, rd: Reg, address: u32) -> Outcome
     ensures program { program_of state.new ≡ program_of state.old }
 {
     let width = width_of(kind);
-    match state.load(address, width) {
+    match state.load_near(address, width) {
         Ok(n) => write_back(state, rd, extend(kind, n)),
         Err(_) => Outcome::Ended(End::Access(address, width)),
     }

@@ -1,14 +1,11 @@
 -- What accesses read and write, at addresses in a row.
 use Rattle.std.proofs.Common.{◌≡◌, ℕ, zero, suc, ◌+◌, ◌-◌, ◌*◌, ◌%◌, ◌/◌, ◌^◌, ◌<◌, ◌≤◌, Bool, true, false, cond, List}
-use Rattle.std.proofs.Common.{[], ◌∷◌, ◌++◌, length, get_or, set, refl, sym, ◌∙◌, ap, subst, arith, eqb, Option, Some}
-use Rattle.std.proofs.Common.{None, is_some, ◌⊎◌, inl, inr, ◌≢◌, lit≤, drop, find}
-use Rattle.std.proofs.lemmas.List.{drop_more, length-set, get_or-set_same, get_or-set_other}
-use borrow.Author.Tests.{eqb-true, eqb-false}
+use Rattle.std.proofs.Common.{[], ◌∷◌, length, get_or, refl, sym, ◌∙◌, ap, subst, arith, eqb, Option, Some}
+use Rattle.std.proofs.Common.{None, is_some, lit≤, drop, find}
+use Rattle.std.proofs.lemmas.List.{drop_more}
 use Rattle.std.specs.Option.{option_map}
 use Rattle.ci_machine.specs.Accesses.{addresses, joined, bytes_at, with_bytes, number_of_bytes, bytes_of_number}
-use Rattle.ci_machine.specs.Programs.{lies_in}
-use Rattle.ci_machine.specs.Parts.{bytes_from, overwritten}
-use Rattle.ci_machine.proofs.PartLaws.{lies_in-bounds, bounds-lies_in, taken, passed}
+use Rattle.ci_machine.specs.ByteLists.{bytes_from}
 use Rattle.ci_machine.proofs.TestLaws.{some_is}
 
 -- ---- addresses
@@ -36,12 +33,6 @@ both_some : (byte : Option ℕ) (bytes : Option (List ℕ)) → is_some (joined 
 both_some None bytes h = absurd (let e : false ≡ true = h in cc)
 both_some (Some byte) None h = absurd (let e : false ≡ true = h in cc)
 both_some (Some byte) (Some bytes) h = (refl, refl)
-
-split : (byte : Option ℕ) (bytes : Option (List ℕ)) (all : List ℕ) → joined byte bytes ≡ Some all
-    → (x : ℕ) × ((xs : List ℕ) × ((byte ≡ Some x) × ((bytes ≡ Some xs) × (all ≡ x ∷ xs))))
-split None bytes all h = absurd (let e : None ≡ Some all = h in cc)
-split (Some byte) None all h = absurd (let e : None ≡ Some all = h in cc)
-split (Some byte) (Some bytes) all h = (byte, (bytes, (refl, (refl, sym (some_is h)))))
 
 module _ (memory : ℕ → Option ℕ) where
   -- bytes that stand in a list from an index on
@@ -71,20 +62,6 @@ module _ (memory : ℕ → Option ℕ) where
       bytes_at_none n (a + 1) k (omega arith) (ap (λ (b : ℕ). memory (b % 2 ^ 32)) (omega arith) ∙ h) in
       ap (λ (o : Option (List ℕ)). joined (memory (a % 2 ^ 32)) o) more ∙ joined_none _
 
-  pushed : (n a : ℕ) (bytes : List ℕ) (byte : ℕ) → bytes_at memory (addresses n a) ≡ Some bytes
-      → memory ((a + n) % 2 ^ 32) ≡ Some byte → bytes_at memory (addresses (suc n) a) ≡ Some (bytes ++ byte ∷ [])
-  pushed zero a bytes byte h b =
-      let none : bytes ≡ [] = some_is (sym h) in
-      let first : memory (a % 2 ^ 32) ≡ Some byte = ap (λ (c : ℕ). memory (c % 2 ^ 32)) (omega arith) ∙ b in
-      let P : List ℕ → Type 0 = λ bs. joined (memory (a % 2 ^ 32)) (Some []) ≡ Some (bs ++ byte ∷ []) in
-      subst P (sym none) (λ k. joined (first k) (Some []))
-  pushed (suc n) a bytes byte h b =
-      let s = split (memory (a % 2 ^ 32)) (bytes_at memory (addresses n (a + 1))) bytes h in
-      let last : memory ((a + 1 + n) % 2 ^ 32) ≡ Some byte = ap (λ (c : ℕ). memory (c % 2 ^ 32)) (omega arith) ∙ b in
-      let rest : bytes_at memory (addresses (suc n) (a + 1)) ≡ Some (s.1.0 ++ byte ∷ []) = pushed n (a + 1) s.1.0 byte s.1.1.1.0 last in
-      let P : List ℕ → Type 0 = λ bs. joined (memory (a % 2 ^ 32)) (bytes_at memory (addresses (suc n) (a + 1))) ≡ Some (bs ++ byte ∷ []) in
-      subst P (sym s.1.1.1.1) (λ k. joined (s.1.1.0 k) (rest k))
-
   -- bytes that are mapped
   pub bytes_at_first : (n a : ℕ) → is_some (bytes_at memory (addresses (suc n) a)) ≡ true
       → (is_some (memory (a % 2 ^ 32)) ≡ true) × (is_some (bytes_at memory (addresses n (a + 1))) ≡ true)
@@ -107,13 +84,6 @@ module _ (memory : ℕ → Option ℕ) where
   bytes_at_before n m a e h k =
       let P : ℕ → Type 0 = λ j. is_some (bytes_at memory (addresses j a)) ≡ true in
       subst P (let f : suc n ≡ m = omega arith in f) (some_both (memory (a % 2 ^ 32)) (bytes_at memory (addresses n (a + 1))) h k)
-
-  -- one byte more
-  pub bytes_at_push : (n a : ℕ) (bytes : List ℕ) (byte : ℕ) → bytes_at memory (addresses n a) ≡ Some bytes
-      → memory ((a + n) % 2 ^ 32) ≡ Some byte → bytes_at memory (addresses (n + 1) a) ≡ Some (bytes ++ byte ∷ [])
-  bytes_at_push n a bytes byte h b =
-      let P : ℕ → Type 0 = λ m. bytes_at memory (addresses m a) ≡ Some (bytes ++ byte ∷ []) in
-      subst P (let e : suc n ≡ n + 1 = omega arith in e) (pushed n a bytes byte h b)
 
 -- ---- numbers that are read
 
@@ -167,59 +137,6 @@ number_bound low high n count e small l h =
     subst P (let f : suc n ≡ count = omega arith in f) (bound_suc low high n (omega arith) l h)
 
 -- ---- bytes that are written
-
--- memory with a list of bytes from an address on
-abbrev pub over : (ℕ → Option ℕ) → ℕ → List ℕ → ℕ → Option ℕ
-over memory start bytes x = cond (lies_in start (start + length bytes) x) (Some (get_or bytes (x - start) 0)) (memory x)
-
-pub inside_or_not : (b : Bool) → (b ≡ true) ⊎ (b ≡ false)
-inside_or_not true = inl refl
-inside_or_not false = inr refl
-
-module _ (memory : ℕ → Option ℕ) (start : ℕ) where
-  over_at : (bytes : List ℕ) (i : ℕ) → i < length bytes → over memory start bytes (start + i) ≡ Some (get_or bytes i 0)
-  over_at bytes i lt =
-      taken _ _ _ (bounds-lies_in start (start + length bytes) (start + i) (omega arith) (omega arith))
-      ∙ ap (λ (j : ℕ). Some (get_or bytes j 0)) (omega arith)
-
-  over_other : (bytes : List ℕ) (i byte x : ℕ) → x ≢ start + i → over memory start (set bytes i byte) x ≡ over memory start bytes x
-  over_other bytes i byte x other =
-      let same : lies_in start (start + length (set bytes i byte)) x ≡ lies_in start (start + length bytes) x =
-      ap (λ (n : ℕ). lies_in start (start + n) x) (length-set bytes i byte) in
-      elim (inside_or_not (lies_in start (start + length bytes) x)) [
-        | inl h ↦ let low : start ≤ x = (lies_in-bounds start (start + length bytes) x h).0 in
-            let apart : x - start ≢ i = λ e. other (omega arith) in
-            taken _ _ _ (same ∙ h) ∙ ap Some (get_or-set_other bytes i (x - start) byte 0 apart) ∙ sym (taken _ _ _ h)
-        | inr h ↦ passed _ _ _ (same ∙ h) ∙ sym (passed _ _ _ h)
-      ]
-
-  over_set : (bytes : List ℕ) (i byte x : ℕ) → i < length bytes → start + length bytes ≤ 2 ^ 32
-      → over memory start (set bytes i byte) x ≡ cond (eqb x ((start + i) % 2 ^ 32)) (Some byte) (over memory start bytes x)
-  over_set bytes i byte x lt fits =
-      let here : (start + i) % 2 ^ 32 ≡ start + i = mod_small (start + i) (omega arith) in
-      elim (inside_or_not (eqb x ((start + i) % 2 ^ 32))) [
-        | inl h ↦ let at : x ≡ start + i = eqb-true x _ h ∙ here in
-            let P : ℕ → Type 0 = λ y. over memory start (set bytes i byte) y ≡ Some byte in
-            let got : over memory start (set bytes i byte) (start + i) ≡ Some byte =
-            over_at (set bytes i byte) i (omega (arith, length-set bytes i byte)) ∙ ap Some (get_or-set_same bytes i byte 0 lt) in
-            subst P (sym at) got ∙ sym (taken _ _ _ h)
-        | inr h ↦ over_other bytes i byte x (λ e. eqb-false x _ h (e ∙ sym here)) ∙ sym (passed _ _ _ h)
-      ]
-
-  pub length_overwritten : (bytes : List ℕ) (new : List ℕ) (i : ℕ) → length (overwritten bytes i new) ≡ length bytes
-  length_overwritten bytes [] i = refl
-  length_overwritten bytes (b ∷ new) i = length-set (overwritten bytes (i + 1) new) i b ∙ length_overwritten bytes new (i + 1)
-
-  pub over-overwritten : (bytes : List ℕ) → start + length bytes ≤ 2 ^ 32 → (new : List ℕ) (i : ℕ) → i + length new ≤ length bytes
-      → (x : ℕ) → over memory start (overwritten bytes i new) x
-      ≡ with_bytes (over memory start bytes) (addresses (length new) (start + i)) new x
-  over-overwritten bytes fits [] i inside x = refl
-  over-overwritten bytes fits (b ∷ new) i inside x =
-      let same : length (overwritten bytes (i + 1) new) ≡ length bytes = length_overwritten bytes new (i + 1) in
-      over_set (overwritten bytes (i + 1) new) i b x (omega arith) (omega arith)
-      ∙ ap (λ (o : Option ℕ). cond (eqb x ((start + i) % 2 ^ 32)) (Some b) o)
-      (over-overwritten bytes fits new (i + 1) (omega arith) x
-      ∙ ap (λ (a : ℕ). with_bytes (over memory start bytes) (addresses (length new) a) new x) (omega arith))
 
 pub none_from_is_some : (o : Option ℕ) → is_some o ≡ false → o ≡ None
 none_from_is_some None h = refl

@@ -16,12 +16,15 @@ pub mod MovedBytes
 pub mod Rows
 mod LawRows
 mod ExtendedRows
-pub mod PartLaws
+pub mod EditLaws
+pub mod SearchLaws
+pub mod PageLaws
+pub mod ByteLaws
+pub mod SpanLaws
 pub mod AccessLaws
-pub mod PartReads
-pub mod PartWrites
-pub mod HeapLaws
-pub mod HeapRoom
+pub mod MemoryLaws
+pub mod MemoryWrites
+pub mod WindowLaws
 pub mod CallLaws
 pub mod StartLaws
 pub mod TextRanges

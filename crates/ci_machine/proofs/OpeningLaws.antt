@@ -11,7 +11,7 @@ use Rattle.ci_elf.specs.Fields.{field}
 use Rattle.ci_elf.specs.Executables.{Executable, InText, IsTextWord, IsWellFormed, has_in_file, place_of, end_of, text_word}
 use Rattle.ci_elf.proofs.ImageLaws.{contained_later, loaded_from, loaded_to, loads_between, contains_tail, place_found, layout_of}
 use Rattle.ci_machine.specs.Accesses.{addresses, bytes_at, number_of_bytes}
-use Rattle.ci_machine.specs.Parts.{bytes_from}
+use Rattle.ci_machine.specs.ByteLists.{bytes_from}
 use Rattle.ci_machine.specs.Programs.{extent_of, maximum_end, heap_start, in_text, lies_in, loaded_byte, loaded_memory, loaded_program, opening}
 use Rattle.ci_machine.specs.Steps.{Meaning, word_at, insn_in, following}
 use Rattle.ci_isa.specs.declared.instruction.Insn.{Insn}
@@ -20,7 +20,7 @@ use Rattle.ci_machine.specs.Touches.{LeavesTextFor}
 use Rattle.ci_machine.specs.Blocks.{StandAt}
 use Rattle.ci_machine.specs.Texts.{HasText, IsFileInsn, AreFileInsns}
 use Rattle.ci_machine.proofs.TestLaws.{by_test}
-use Rattle.ci_machine.proofs.PartLaws.{lies_in-bounds, bounds-lies_in}
+use Rattle.ci_machine.proofs.TestLaws.{lies_in-bounds, bounds-lies_in}
 use Rattle.ci_machine.proofs.AccessLaws.{bytes_at_row}
 use Rattle.ci_machine.proofs.BlockSteps.{same_insn}
 use Rattle.ci_machine.proofs.TextLaws.{text_stays_for}

@@ -1,25 +1,23 @@
--- The memory in which a run opens: a stack of zeros, a heap without bytes, and the segments of a file.
-use Rattle.std.proofs.Common.{◌≡◌, ℕ, suc, ◌+◌, ◌-◌, ◌*◌, ◌/◌, ◌<◌, ◌≤◌, ◌⊎◌, inl, inr, Bool, true, false, cond, List}
-use Rattle.std.proofs.Common.{[], ◌∷◌, ◌++◌, map, length, get_or, take, refl, sym, ◌∙◌, ap, subst, arith, Option, Some}
-use Rattle.std.proofs.Common.{None}
-use Rattle.std.proofs.lemmas.Bool.{cases_Bool}
+-- Where the segments of a file lie, how much they take, and what they load.
+use Rattle.std.proofs.Common.{◌≡◌, ℕ, zero, suc, ◌+◌, ◌-◌, ◌*◌, ◌/◌, ◌<◌, ◌≤◌, ◌⊎◌, inl, inr, Bool, true, false, ◌||◌, cond, List, [], ◌∷◌, ◌++◌}
+use Rattle.std.proofs.Common.{map, length, get_or, take, drop, refl, sym, ap, subst, ◌∙◌, arith, Some, None, true≢false}
+use Rattle.std.specs.Prelude.{nat_lt, slice_index}
+use Rattle.std.proofs.lemmas.Bool.{lt-ltb}
 use Rattle.std.proofs.lemmas.Bool.Decides.{nat_tests}
-use Rattle.std.proofs.lemmas.List.Sums.{sum_by-cons}
-use Rattle.std.proofs.lemmas.List.{take_more}
+use Rattle.std.proofs.lemmas.List.{drop_more, take_more}
+use Rattle.std.proofs.lemmas.List.Sorted.{sum_by-IsPermutation}
+use Rattle.std.proofs.lemmas.List.Sums.{sum_by-cons, sum_by_more_le}
+use Rattle.std.specs.List.Sorted.{IsPermutation}
 use Rattle.std.proofs.lemmas.List.Elements.{Contains-get_or}
-use Rattle.std.proofs.lemmas.Slice.Zip.{all_zipped_more}
-use Rattle.std.specs.List.{AllPairs, AllZip, Contains, sum_by}
+use Rattle.std.specs.List.{AllPairs, Contains, sum_by}
 use Rattle.ci_elf.specs.declared.segments.Segment.{Segment}
 use Rattle.ci_elf.specs.Executables.{Executable, IsWellFormed, ShareNoMemory}
 use Rattle.ci_elf.proofs.ImageLaws.{contains_tail}
-use Rattle.ci_machine.specs.declared.parts.Part.{Part}
-use Rattle.ci_machine.specs.Programs.{extent_of, maximum_end, heap_start, lies_in, loaded_byte, loaded_memory}
-use Rattle.ci_machine.specs.Programs.{loaded_program, loaded_size, stack_start, stack_end}
-use Rattle.ci_machine.specs.Parts.{byte_in, holds, IsApart, IsLaidOut, places}
-use Rattle.ci_machine.specs.Loading.{AreOpening, IsLoaded}
-use Rattle.ci_machine.proofs.PartLaws.{held_same, lies_in-bounds}
-
--- ---- sizes and ends
+use Rattle.ci_machine.specs.Loading.{holders, in_segments, loaded_content}
+use Rattle.ci_machine.specs.PageTables.{written}
+use Rattle.ci_machine.specs.Programs.{extent_of, lies_in, maximum_end, loaded_memory, loaded_size, stack_start, stack_end}
+use Rattle.ci_machine.proofs.MemoryLaws.{or_true}
+use Rattle.ci_machine.proofs.TestLaws.{by_test, lies_in-bounds, taken, passed, neither_first, neither_second, or_second}
 
 ends_below : (segments : List Segment) (top : ℕ)
     → ((s : Segment) → Contains segments s → s.address + s.memory_size ≤ top)
@@ -33,119 +31,6 @@ size_counted : (segments : List Segment)
 size_counted [] = refl
 size_counted (s ∷ ss) = omega (arith, size_counted ss, sum_by-cons (λ (t : Segment). t.memory_size) s ss)
 
--- ---- the parts of segments
-
--- the address is one of the segment's
-abbrev covers : Segment → ℕ → Bool
-covers segment address = lies_in segment.address (segment.address + segment.memory_size) address
-
-module _ (bytes : List ℕ) where
-  holds_covers : (s : Segment) (p : Part) (x : ℕ) → IsLoaded bytes s p → holds p x ≡ covers s x
-  holds_covers s p x is = held_same _ _ _ _ x is.start is.size
-
-  -- what the part of a segment has at an address
-  part_byte : (s : Segment) (p : Part) (x : ℕ) (rest : Option ℕ) → IsLoaded bytes s p
-      → cond (holds p x) (Some (get_or p.bytes.items (x - p.start) 0)) rest
-      ≡ cond (covers s x) (Some (loaded_byte bytes s (x - s.address))) rest
-  part_byte s p x rest is = elim (cases_Bool (covers s x)) [
-    | inl h ↦
-        let inside = lies_in-bounds s.address (s.address + s.memory_size) x h in
-        rw (holds_covers s p x is, h, is.start) (ap Some (is.each (x - s.address) (omega (arith, inside.0, inside.1))))
-    | inr h ↦ rw (holds_covers s p x is, h) refl
-  ]
-
-  pub places_loaded : (segments : List Segment) (parts : List Part) → AllZip (IsLoaded bytes) segments parts
-      → places parts ≡ map extent_of segments
-  unfolding places
-  places_loaded [] [] all = refl
-  places_loaded [] (p ∷ ps) all = absurd all
-  places_loaded (s ∷ ss) [] all = absurd all
-  places_loaded (s ∷ ss) (p ∷ ps) all =
-      λ k. record { address = all.0.start k; size = all.0.size k } ∷ places_loaded ss ps all.1 k
-
-  -- no part has an address that no segment has
-  unheld : (segments : List Segment) (parts : List Part) (x : ℕ) → AllZip (IsLoaded bytes) segments parts
-      → ((k : ℕ) (d : Segment) → k < length segments → covers (get_or segments k d) x ≡ false) → byte_in parts x ≡ None
-  unfolding byte_in
-  unheld [] [] x all none = refl
-  unheld [] (p ∷ ps) x all none = absurd all
-  unheld (s ∷ ss) [] x all none = absurd all
-  unheld (s ∷ ss) (p ∷ ps) x all none =
-      rw (holds_covers s p x all.0, none 0 s (omega arith))
-      (unheld ss ps x all.1 (λ k d h. none (suc k) d (omega arith)))
-
-  missed : (s t : Segment) (x : ℕ) → ShareNoMemory s t → covers s x ≡ true → covers t x ≡ false
-  missed s t x (inl h) is = grind (arith, nat_tests)
-  missed s t x (inr h) is = grind (arith, nat_tests)
-
-  pub segments_apart : (segments : List Segment) (parts : List Part) → AllZip (IsLoaded bytes) segments parts
-      → AllPairs ShareNoMemory segments → IsApart parts
-  unfolding IsApart
-  segments_apart [] [] all pairs = tt
-  segments_apart [] (p ∷ ps) all pairs = absurd all
-  segments_apart (s ∷ ss) [] all pairs = absurd all
-  segments_apart (s ∷ ss) (p ∷ ps) all pairs = (
-    λ x h. unheld ss ps x all.1
-        (λ k d l.
-        missed s (get_or ss k d) x (pairs 0 (suc k) d (omega arith) (omega arith)) (sym (holds_covers s p x all.0) ∙ h)),
-    segments_apart ss ps all.1 (λ i j d h l. pairs (suc i) (suc j) d (omega arith) (omega arith)),
-  )
-
--- ---- with the stack and the heap
-
-abbrev in_stack : ℕ → Bool
-in_stack address = lies_in stack_start stack_end address
-
--- what the parts before the last have does not matter where only one of them has the address
-exchanged : (a b : Bool) (x y z : Option ℕ) → (a ≡ true → b ≡ false) → cond a x (cond b y z) ≡ cond b y (cond a x z)
-exchanged true true x y z apart = absurd (let e : true ≡ false = apart refl in cc)
-exchanged true false x y z apart = refl
-exchanged false b x y z apart = refl
-
-abbrev IsOffStack : Segment → Type 0
-IsOffStack s = (s.address + s.memory_size ≤ 0x7ff00000) ⊎ (0x80000000 ≤ s.address)
-
-uncovered : (s : Segment) (x : ℕ) → IsOffStack s → in_stack x ≡ true → covers s x ≡ false
-uncovered s x (inl h) is = grind (arith, nat_tests)
-uncovered s x (inr h) is = grind (arith, nat_tests)
-
-module _ (bytes : List ℕ) (x : ℕ) where
-  -- the stack stands before the parts of memory, and behind the segments in the definition
-  stack_first : (segments : List Segment) (parts : List Part) → AllZip (IsLoaded bytes) segments parts
-      → ((s : Segment) → Contains segments s → IsOffStack s)
-      → cond (in_stack x) (Some 0) (byte_in parts x) ≡ loaded_memory bytes segments x
-  unfolding byte_in
-  stack_first [] [] all off = refl
-  stack_first [] (p ∷ ps) all off = absurd all
-  stack_first (s ∷ ss) [] all off = absurd all
-  stack_first (s ∷ ss) (p ∷ ps) all off =
-      ap (λ (o : Option ℕ). cond (in_stack x) (Some 0) o) (part_byte bytes s p x (byte_in ps x) all.0)
-      ∙ exchanged (in_stack x) (covers s x) (Some 0) (Some (loaded_byte bytes s (x - s.address))) (byte_in ps x)
-      (uncovered s x (off s (0, omega arith, refl)))
-      ∙ ap (λ (o : Option ℕ). cond (covers s x) (Some (loaded_byte bytes s (x - s.address))) o)
-      (stack_first ss ps all.1 (λ t c. off t (contains_tail s ss t c)))
-
--- a part of zeros
-pub record IsZeros (part : Part) (start size : ℕ) : Type 0 where
-  pub begins : part.start ≡ start
-  pub many : length part.bytes.items ≡ size
-  pub zeros : (k : ℕ) → k < size → get_or part.bytes.items k 0 ≡ 0
-
-stack_held : (stack : Part) (x : ℕ) → IsZeros stack 0x7ff00000 0x100000 → holds stack x ≡ in_stack x
-stack_held stack x is = held_same _ _ _ _ x is.begins is.many
-
-stack_byte : (stack : Part) (x : ℕ) (rest : Option ℕ) → IsZeros stack 0x7ff00000 0x100000
-    → cond (holds stack x) (Some (get_or stack.bytes.items (x - stack.start) 0)) rest ≡ cond (in_stack x) (Some 0) rest
-stack_byte stack x rest is = elim (cases_Bool (in_stack x)) [
-  | inl h ↦
-      let inside = lies_in-bounds stack_start stack_end x h in
-      rw (stack_held stack x is, h, is.begins) (ap Some (is.zeros (x - 0x7ff00000) (omega (arith, inside.0, inside.1))))
-  | inr h ↦ rw (stack_held stack x is, h) refl
-]
-
-empty_holds : (heap : Part) (start x : ℕ) → IsZeros heap start 0 → holds heap x ≡ false
-empty_holds heap start x is = let many = is.many in grind (arith, nat_tests)
-
 module _ (file : Executable) (formed : IsWellFormed file) where
   pub segments_end : maximum_end (map extent_of file.segments) ≤ 0xffff0000
   segments_end = ends_below file.segments 0xffff0000 formed.below_top
@@ -153,71 +38,216 @@ module _ (file : Executable) (formed : IsWellFormed file) where
   pub segments_fit : loaded_size (map extent_of file.segments) ≤ 67108864
   segments_fit = omega (arith, size_counted file.segments, formed.bounded)
 
-  opening_byte : (stack heap : Part) (parts : List Part) (start : ℕ)
-      → IsZeros stack 0x7ff00000 0x100000 → IsZeros heap start 0 → AllZip (IsLoaded file.bytes) file.segments parts
-      → (x : ℕ) → byte_in (stack ∷ heap ∷ parts) x ≡ loaded_memory file.bytes file.segments x
-  unfolding byte_in
-  opening_byte stack heap parts start stack_is heap_is all x =
-      stack_byte stack x (byte_in (heap ∷ parts) x) stack_is
-      ∙ ap (λ (b : Bool).
-      cond (in_stack x) (Some 0) (cond b (Some (get_or heap.bytes.items (x - heap.start) 0)) (byte_in parts x)))
-      (empty_holds heap start x heap_is)
-      ∙ stack_first file.bytes x file.segments parts all formed.off_stack
+-- ---- which segments have an address
 
-  opening_from : (stack heap : Part) (parts : List Part) → IsZeros stack 0x7ff00000 0x100000
-      → IsZeros heap (heap_start (loaded_program file)) 0 → AllZip (IsLoaded file.bytes) file.segments parts
-      → AreOpening file (stack ∷ heap ∷ parts)
-  unfolding byte_in IsApart places IsLaidOut
-  opening_from stack heap parts stack_is heap_is all =
-      let there : places parts ≡ map extent_of file.segments = places_loaded file.bytes file.segments parts all in
-      let end : maximum_end (places parts) ≤ 0xffff0000 = rw there segments_end in
-      let begins : heap.start ≡ (maximum_end (places parts) + 15) / 16 * 16 = rw there heap_is.begins in
-      record {
-        apart = (
-          λ x h. rw (empty_holds heap _ x heap_is)
-              (unheld file.bytes file.segments parts x all
-              (λ k d l.
-              uncovered (get_or file.segments k d) x (formed.off_stack _ (Contains-get_or file.segments k d l))
-              (sym (stack_held stack x stack_is) ∙ h))),
-          (
-            λ x h. absurd (let e : true ≡ false = sym h ∙ empty_holds heap _ x heap_is in cc),
-            segments_apart file.bytes file.segments parts all formed.apart,
-          ),
-        );
-        within = omega (arith, end, begins, stack_is.begins, stack_is.many, heap_is.many);
-        laid_out = record {
-          stack_begins = stack_is.begins;
-          stack_ends = omega (arith, stack_is.begins, stack_is.many);
-          heap_begins = begins;
-          heap_ends = omega (arith, end, begins, heap_is.many);
-          counted = ap loaded_size (sym there);
-          fits = segments_fit;
-        };
-        bytes = λ k x. opening_byte stack heap parts _ stack_is heap_is all x k;
-        segments = there;
-        heap = omega (arith, heap_is.begins, heap_is.many);
-      }
+abbrev covers : Segment → ℕ → Bool
+covers s x = lies_in s.address (s.address + s.memory_size) x
 
-  pub opening_pushed : (none first second all parts : List Part) (stack heap : Part)
-      → none ≡ [] → first ≡ none ++ stack ∷ [] → second ≡ first ++ heap ∷ [] → all ≡ second ++ parts
-      → IsZeros stack 0x7ff00000 0x100000 → IsZeros heap (heap_start (loaded_program file)) 0
-      → AllZip (IsLoaded file.bytes) file.segments parts → AreOpening file all
-  opening_pushed none first second all parts stack heap is_none is_first is_second is_all stack_is heap_is loaded =
-      rw (is_all, is_second, is_first, is_none) (opening_from stack heap parts stack_is heap_is loaded)
+abbrev IsOffStack : Segment → Type 0
+IsOffStack s = (s.address + s.memory_size ≤ 0x7ff00000) ⊎ (0x80000000 ≤ s.address)
 
-  pub filled_at : (items : List Segment) (i : ℕ) (d : Segment) → items ≡ file.segments → i < length items
-      → (get_or items i d).file_size ≤ (get_or items i d).memory_size
-  filled_at items i d same lt =
-      let among = subst (λ ss. Contains ss (get_or items i d)) same (Contains-get_or items i d lt) in
-      formed.filled (get_or items i d) among
+missed : (s t : Segment) (x : ℕ) → ShareNoMemory s t → covers s x ≡ true → covers t x ≡ false
+missed s t x (inl h) is = grind (arith, nat_tests)
+missed s t x (inr h) is = grind (arith, nat_tests)
 
--- one segment more was loaded
-pub loaded_more : (file : Executable) (items : List Segment) (bytes : List ℕ) (parts new : List Part) (part : Part)
-    (i : ℕ) (d : Segment) → items ≡ file.segments → bytes ≡ file.bytes → i < length items
-    → AllZip (IsLoaded file.bytes) (take i file.segments) parts → IsLoaded bytes (get_or items i d) part
-    → new ≡ parts ++ part ∷ [] → AllZip (IsLoaded file.bytes) (take (i + 1) file.segments) new
-loaded_more file items bytes parts new part i d same same_bytes lt all is pushed =
-    let loaded = subst (λ bs. IsLoaded bs (get_or items i d) part) same_bytes is in
-    rw (pushed, take_more file.segments i d (subst (λ ss. i < length ss) same lt))
-    (all_zipped_more (IsLoaded file.bytes) (take i file.segments) parts (get_or file.segments i d) part all
-    (subst (λ ss. IsLoaded file.bytes (get_or ss i d) part) same loaded))
+off_stack : (s : Segment) (x : ℕ) → IsOffStack s → covers s x ≡ true → lies_in stack_start stack_end x ≡ false
+off_stack s x (inl h) is = grind (arith, nat_tests)
+off_stack s x (inr h) is = grind (arith, nat_tests)
+
+none_covers : (segments : List Segment) (x : ℕ) → ((i : ℕ) (d : Segment) → i < length segments → covers (get_or segments i d) x ≡ false)
+    → in_segments segments x ≡ false
+none_covers [] x none = refl
+none_covers (s ∷ ss) x none =
+    λ k. none 0 s (omega arith) k || none_covers ss x (λ i d lt. none (suc i) d (omega arith)) k
+
+segment_behind : (segments : List Segment) (s : Segment) (x : ℕ) → in_segments (segments ++ s ∷ []) x ≡ (covers s x || in_segments segments x)
+segment_behind [] s x = refl
+segment_behind (t ∷ ts) s x =
+    ap (λ b. covers t x || b) (segment_behind ts s x) ∙ exchanged (covers t x) (covers s x) (in_segments ts x)
+  where
+    exchanged : (a b c : Bool) → (a || (b || c)) ≡ (b || (a || c))
+    exchanged true true c = refl
+    exchanged true false c = refl
+    exchanged false b c = refl
+
+-- what one of them has, they have
+pub held_at : (segments : List Segment) (i : ℕ) (d : Segment) → i < length segments → (x : ℕ) → covers (get_or segments i d) x ≡ true
+    → in_segments segments x ≡ true
+held_at [] i d lt x is = absurd (omega arith)
+held_at (s ∷ ss) zero d lt x is = ap (λ b. b || in_segments ss x) is
+held_at (s ∷ ss) (suc i) d lt x is = or_true (covers s x) (in_segments ss x) (held_at ss i d (omega arith) x is)
+
+-- where one segment more is put in
+pub segment_more : (segments : List Segment) (i : ℕ) (d : Segment) → i < length segments → (x : ℕ) (before rest : Bool)
+    → before ≡ (in_segments (take i segments) x || rest)
+    → (covers (get_or segments i d) x || before) ≡ (in_segments (take (i + 1) segments) x || rest)
+segment_more segments i d lt x before rest is =
+    ap (λ b. covers (get_or segments i d) x || b) is
+    ∙ associated (covers (get_or segments i d) x) (in_segments (take i segments) x) rest
+    ∙ ap (λ b. b || rest)
+    (sym (segment_behind (take i segments) (get_or segments i d) x) ∙ ap (λ ss. in_segments ss x) (sym (take_more segments i d lt)))
+  where
+    associated : (a b c : Bool) → (a || (b || c)) ≡ ((a || b) || c)
+    associated true b c = refl
+    associated false b c = refl
+
+-- ---- how many segments have an address
+
+zero_of : (n : ℕ) → nat_lt 0 n ≡ false → n ≡ 0
+zero_of n none = grind (arith, nat_tests)
+
+of_zero : (n : ℕ) → n ≡ 0 → nat_lt 0 n ≡ false
+of_zero n none = grind (arith, nat_tests)
+
+module _ (x : ℕ) where
+  abbrev counted : Segment → ℕ
+  counted s = cond (covers s x) 1 0
+
+  held_by : (segments : List Segment) → in_segments segments x ≡ nat_lt 0 (holders segments x)
+  held_by [] = refl
+  held_by (s ∷ ss) =
+      let more = sum_by-cons counted s ss in
+      let rest = held_by ss in
+      by_test (covers s x)
+      (λ is. rw (more, is) (grind (arith, nat_tests)))
+      (λ none. rw (more, none) (grind (arith, nat_tests)))
+
+  -- no address is two segments'
+  at_most_one : (segments : List Segment) → AllPairs ShareNoMemory segments → holders segments x ≤ 1
+  at_most_one [] apart = omega arith
+  at_most_one (s ∷ ss) apart =
+      let more = sum_by-cons counted s ss in
+      by_test (covers s x)
+      (λ is. let none = none_covers ss x (λ i d lt. missed s (get_or ss i d) x (apart 0 (suc i) d (omega arith) (omega arith)) is) in
+      omega (arith, more, ap {B = ℕ} (λ (b : Bool). cond b 1 0) is, zero_of (holders ss x) (sym (held_by ss) ∙ none)))
+      (λ none. omega (arith, more, ap {B = ℕ} (λ (b : Bool). cond b 1 0) none, at_most_one ss (λ i j d lt end. apart (suc i) (suc j) d (omega arith) (omega arith))))
+
+  pub one_apart : (segments : List Segment) (i : ℕ) (d : Segment) → i < length segments → holders segments x ≤ 1
+      → covers (get_or segments i d) x ≡ true → in_segments (take i segments) x ≡ false
+  one_apart segments i d lt one is =
+      held_by (take i segments)
+      ∙ of_zero _ (omega (arith, one, sum_by_more_le counted segments i d lt, ap {B = ℕ} (λ (b : Bool). cond b 1 0) is))
+
+  -- the order of the segments counts for nothing
+  module _ (segments others : List Segment) (same : IsPermutation segments others) where
+    pub same_holders : holders others x ≡ holders segments x
+    same_holders = sum_by-IsPermutation counted segments others same
+
+    pub same_held : in_segments others x ≡ in_segments segments x
+    same_held = held_by others ∙ ap (nat_lt 0) same_holders ∙ sym (held_by segments)
+
+module _ (file : Executable) (formed : IsWellFormed file) where
+  pub one_holder : (x : ℕ) → holders file.segments x ≤ 1
+  one_holder x = at_most_one x file.segments formed.apart
+
+  held_off_stack : (segments : List Segment) (x : ℕ) → ((s : Segment) → Contains segments s → IsOffStack s)
+      → in_segments segments x ≡ true → lies_in stack_start stack_end x ≡ false
+  held_off_stack [] x off is = absurd (true≢false (sym is))
+  held_off_stack (s ∷ ss) x off is =
+      by_test (covers s x)
+      (λ here. off_stack s x (off s (0, omega arith, refl)) here)
+      (λ none. held_off_stack ss x (λ t c. off t (contains_tail s ss t c)) (or_second (covers s x) (in_segments ss x) is none))
+
+  pub beside_stack : (x : ℕ) → in_segments file.segments x ≡ true → lies_in stack_start stack_end x ≡ false
+  beside_stack x is = held_off_stack file.segments x formed.off_stack is
+
+-- ---- the bytes that segments load
+
+module _ (bytes : List ℕ) (x : ℕ) where
+  loaded_none : (segments : List Segment) → ((s : Segment) → Contains segments s → s.file_size ≤ s.memory_size)
+      → in_segments segments x ≡ false → loaded_content bytes segments x ≡ 0
+  loaded_none [] filled none = refl
+  loaded_none (s ∷ ss) filled none =
+      passed _ _ _ (short s (filled s (0, omega arith, refl)) (neither_first (covers s x) (in_segments ss x) none))
+      ∙ loaded_none ss (λ t c. filled t (contains_tail s ss t c)) (neither_second (covers s x) (in_segments ss x) none)
+    where
+      short : (s : Segment) → s.file_size ≤ s.memory_size → covers s x ≡ false → lies_in s.address (s.address + s.file_size) x ≡ false
+      short s le none = grind (arith, nat_tests)
+
+  -- the first segment that has an address gives its byte
+  opening_at : (segments : List Segment) → ((s : Segment) → Contains segments s → s.file_size ≤ s.memory_size)
+      → AllPairs ShareNoMemory segments
+      → cond (in_segments segments x || lies_in stack_start stack_end x) (Some (loaded_content bytes segments x)) None
+      ≡ loaded_memory bytes segments x
+  opening_at [] filled apart = refl
+  opening_at (s ∷ ss) filled apart =
+      by_test (covers s x)
+      (λ is. let bounds = lies_in-bounds s.address (s.address + s.memory_size) x is in
+      ap (λ b. cond (b || in_segments ss x || lies_in stack_start stack_end x) (Some (loaded_content bytes (s ∷ ss) x)) None) is
+      ∙ ap Some (by_test (lies_in s.address (s.address + s.file_size) x)
+      (λ there. let within = lies_in-bounds s.address (s.address + s.file_size) x there in
+      taken _ _ _ there ∙ sym (taken _ _ _ (lt-ltb (x - s.address) s.file_size (omega (arith, within.0, within.1)))))
+      (λ behind. passed _ _ _ behind
+      ∙ loaded_none ss (λ t c. filled t (contains_tail s ss t c))
+      (none_covers ss x (λ i d lt. missed s (get_or ss i d) x (apart 0 (suc i) d (omega arith) (omega arith)) is))
+      ∙ sym (passed _ _ _ (past s (bounds.0) behind))))
+      ∙ sym (taken _ _ _ is))
+      (λ none. (λ k. cond ((none k || in_segments ss x) || lies_in stack_start stack_end x)
+      (Some (cond (short s (filled s (0, omega arith, refl)) none k) (slice_index bytes (s.offset + (x - s.address))) (loaded_content bytes ss x))) None)
+      ∙ opening_at ss (λ t c. filled t (contains_tail s ss t c)) (λ i j d lt end. apart (suc i) (suc j) d (omega arith) (omega arith))
+      ∙ sym (passed _ _ _ none))
+    where
+      short : (s : Segment) → s.file_size ≤ s.memory_size → covers s x ≡ false → lies_in s.address (s.address + s.file_size) x ≡ false
+      short s le none = grind (arith, nat_tests)
+
+      past : (s : Segment) → s.address ≤ x → lies_in s.address (s.address + s.file_size) x ≡ false → nat_lt (x - s.address) s.file_size ≡ false
+      past s low none = grind (arith, nat_tests)
+
+  -- the part of the file of one segment more was written
+  pub loaded_step : (segments : List Segment) (i : ℕ) (d : Segment) (part : List ℕ) (before : ℕ → ℕ) → i < length segments
+      → length part ≡ (get_or segments i d).file_size
+      → ((k : ℕ) → k < (get_or segments i d).file_size → get_or part k 0 ≡ get_or bytes ((get_or segments i d).offset + k) 0)
+      → before x ≡ loaded_content bytes (drop (i + 1) segments) x
+      → written before (get_or segments i d).address part x ≡ loaded_content bytes (drop i segments) x
+  loaded_step segments i d part before lt size each is =
+      let s = get_or segments i d in
+      ap (λ n. cond (lies_in s.address (s.address + n) x) (get_or part (x - s.address) 0) (before x)) size
+      ∙ by_test (lies_in s.address (s.address + s.file_size) x)
+      (λ there. let bounds = lies_in-bounds s.address (s.address + s.file_size) x there in
+      taken _ _ _ there ∙ each (x - s.address) (omega (arith, bounds.0, bounds.1)) ∙ sym (taken _ _ _ there))
+      (λ none. passed _ _ _ none ∙ is ∙ sym (passed _ _ _ none))
+      ∙ ap (λ ss. loaded_content bytes ss x) (sym (drop_more segments i d lt))
+
+-- ---- the memory in which a run opens
+
+module _ (file : Executable) (formed : IsWellFormed file) where
+  pub opening_is : (x : ℕ) → cond (in_segments file.segments x || lies_in stack_start stack_end x) (Some (loaded_content file.bytes file.segments x)) None
+      ≡ loaded_memory file.bytes file.segments x
+  opening_is x = opening_at file.bytes x file.segments formed.filled formed.apart
+
+  pub opening_clean : (x : ℕ) → in_segments file.segments x ≡ false → loaded_content file.bytes file.segments x ≡ 0
+  opening_clean x none = loaded_none file.bytes x file.segments formed.filled none
+
+  covered_below : (segments : List Segment) (x : ℕ) → in_segments segments x ≡ true → x < maximum_end (map extent_of segments)
+  covered_below [] x is = absurd (true≢false (sym is))
+  covered_below (s ∷ ss) x is =
+      by_test (covers s x)
+      (λ here. omega (arith, (lies_in-bounds s.address (s.address + s.memory_size) x here).1))
+      (λ none. omega (arith, covered_below ss x (or_second (covers s x) (in_segments ss x) is none)))
+
+  pub opening_below : (start x : ℕ) → start ≡ (maximum_end (map extent_of file.segments) + 15) / 16 * 16
+      → (in_segments file.segments x || lies_in stack_start stack_end x) ≡ true
+      → (nat_lt x start || lies_in stack_start stack_end x) ≡ true
+  opening_below start x begins is =
+      by_test (in_segments file.segments x)
+      (λ here. ap (λ b. b || lies_in stack_start stack_end x) (lt-ltb x start (omega (arith, covered_below file.segments x here, begins))))
+      (λ none. or_true (nat_lt x start) (lies_in stack_start stack_end x) (or_second (in_segments file.segments x) (lies_in stack_start stack_end x) is none))
+
+  -- what is known of a segment that was read from the list
+  pub record IsSegment (s : Segment) : Type 0 where
+    pub filled : s.file_size ≤ s.memory_size
+    pub some : 0 < s.memory_size
+    pub top : s.address + s.memory_size ≤ 0xffff0000
+    pub held : (x : ℕ) → covers s x ≡ true → in_segments file.segments x ≡ true
+
+  pub segment_read : (items : List Segment) (i : ℕ) (d : Segment) → items ≡ file.segments → i < length items → IsSegment (get_or items i d)
+  segment_read items i d same lt =
+      let P : List Segment → Type 0 = λ ss. IsSegment (get_or ss i d) in
+      let below : i < length file.segments = subst (λ ss. i < length ss) same lt in
+      let among = Contains-get_or file.segments i d below in
+      subst P (sym same) (record {
+        filled = formed.filled _ among;
+        some = formed.has_memory _ among;
+        top = formed.below_top _ among;
+        held = held_at file.segments i d below;
+      })

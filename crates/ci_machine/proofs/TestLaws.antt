@@ -1,6 +1,8 @@
 -- Facts on tests, and cases on a test and on an end.
-use Rattle.std.proofs.Common.{◌≡◌, refl, arith, Option, Some, None}
+use Rattle.std.proofs.Common.{◌≡◌, ℕ, ◌<◌, ◌≤◌, ◌⊎◌, inl, inr, cond, refl, arith, Option, Some, None}
+use Rattle.std.proofs.lemmas.Bool.Decides.{nat_tests}
 use Rattle.std.specs.Prelude.{Bool, true, false, ◌&&◌, ◌||◌}
+use Rattle.ci_machine.specs.Programs.{lies_in}
 use Rattle.ci_machine.specs.declared.ends.End.{End}
 
 pub by_test : {A : Type 0} (b : Bool) → (b ≡ true → A) → (b ≡ false → A) → A
@@ -38,3 +40,23 @@ some_is e = cc
 -- a run has ended, or it has not
 pub no_end : (end : Option End) (e : End) → end ≡ None → end ≡ Some e → ⊥
 no_end end e none some = cc
+
+pub taken : {A : Type 0} (b : Bool) (x y : A) → b ≡ true → cond b x y ≡ x
+taken true x y h = refl
+taken false x y h = absurd (let e : false ≡ true = h in cc)
+
+pub passed : {A : Type 0} (b : Bool) (x y : A) → b ≡ false → cond b x y ≡ y
+passed true x y h = absurd (let e : true ≡ false = h in cc)
+passed false x y h = refl
+
+-- ---- addresses between two others
+
+pub lies_in-bounds : (start end address : ℕ) → lies_in start end address ≡ true → (start ≤ address) × (address < end)
+lies_in-bounds start end address h = (grind (arith, nat_tests), grind (arith, nat_tests))
+
+pub bounds-lies_in : (start end address : ℕ) → start ≤ address → address < end → lies_in start end address ≡ true
+bounds-lies_in start end address low high = grind (arith, nat_tests)
+
+pub outside : (start end address : ℕ) → (address < start) ⊎ (end ≤ address) → lies_in start end address ≡ false
+outside start end address (inl h) = grind (arith, nat_tests)
+outside start end address (inr h) = grind (arith, nat_tests)

@@ -20,6 +20,12 @@ pub mod StateLaws
 pub mod FileLaws
 pub mod MeaningLaws
 pub mod ExtendedLaws
-pub mod Parts
+pub mod ByteLists
+pub mod PageTables
+pub mod Pages
+pub mod Spans
+pub mod Layouts
+pub mod Windows
+pub mod Memories
 pub mod States
 pub mod Loading

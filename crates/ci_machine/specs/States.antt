@@ -13,14 +13,14 @@ use Rattle.ci_machine.specs.Outcomes.{Reached, reached}
 use Rattle.ci_machine.specs.Actions.{stored}
 use Rattle.ci_machine.specs.Calls.{call}
 use Rattle.ci_machine.specs.Programs.{Program, State}
-use Rattle.ci_machine.specs.Parts.{byte_in, places, segments_in, heap_end_in}
+use Rattle.ci_machine.specs.Memories.{memory_of, segments_of}
 
 -- everything of it but the pc
 unfoldable pub core_of : Machine → Core
 core_of machine = record {
   registers = slice_index machine.registers;
-  memory = byte_in machine.memory.parts.items;
-  heap_end = heap_end_in (places machine.memory.parts.items);
+  memory = memory_of machine.memory;
+  heap_end = machine.memory.heap_end;
   input = drop machine.read machine.input.items;
   output = machine.output.items;
 }
@@ -30,8 +30,7 @@ state_of machine = record { pc = machine.pc; core = core_of machine }
 
 -- the program that it runs
 unfoldable pub program_of : Machine → Program
-program_of machine =
-    record { segments = segments_in (places machine.memory.parts.items); text = machine.text }
+program_of machine = record { segments = segments_of machine.memory; text = machine.text }
 
 -- the end that an environment call comes to, if any
 abbrev pub end_of : Call → Option End

@@ -2,7 +2,7 @@
 ghost use Rattle.std.specs.Prelude.{◌≡◌, ℕ, ◌+◌, ◌<◌, ◌≤◌, length};
 ghost use Rattle.ci_isa.specs.Effects.{width_bytes};
 ghost use Rattle.ci_machine.specs.Accesses.{bytes_of_number, number_of_bytes};
-ghost use Rattle.ci_machine.specs.Parts.{bytes_from, overwritten};
+ghost use Rattle.ci_machine.specs.ByteLists.{bytes_from, overwritten};
 
 use ci_isa::Width;
 
@@ -14,17 +14,28 @@ pub(crate) fn number_at(bytes: &[u8], index: usize, width: Width) -> u32
     match width {
         Width::Byte => u32::from(bytes[index]),
         Width::Half => half_at(bytes, index),
-        Width::Word => half_at(bytes, index) + 65536 * half_at(bytes, index + 2),
+        Width::Word => word_at(bytes, index),
     }
 }
 
 /// The number of two bytes.
 fn half_at(bytes: &[u8], index: usize) -> u32
     requires { index + 2 ≤ length bytes.now }
-    ensures value { result ≡ number_of_bytes (bytes_from 2 bytes.now index) }
-    ensures below { result < 65536 }
+    ensures { result ≡ number_of_bytes (bytes_from 2 bytes.now index) }
 {
-    u32::from(bytes[index]) + 256 * u32::from(bytes[index + 1])
+    let mut half = [0; 2];
+    half.copy_from_slice(&bytes[index..index + 2]);
+    u32::from(u16::from_le_bytes(half))
+}
+
+/// The number of four bytes.
+fn word_at(bytes: &[u8], index: usize) -> u32
+    requires { index + 4 ≤ length bytes.now }
+    ensures { result ≡ number_of_bytes (bytes_from 4 bytes.now index) }
+{
+    let mut word = [0; 4];
+    word.copy_from_slice(&bytes[index..index + 4]);
+    u32::from_le_bytes(word)
 }
 
 /// Writes the low bytes of a number from an index on.
@@ -33,15 +44,18 @@ pub(crate) fn put_number(bytes: &mut [u8], index: usize, width: Width, value: u3
     ensures { bytes.new ≡ overwritten bytes.old index (bytes_of_number (width_bytes width) value) }
 {
     match width {
-        Width::Byte => {}
-        Width::Half => bytes[index + 1] = (value / 256 % 256) as u8,
+        Width::Byte => bytes[index] = (value % 256) as u8,
+        Width::Half => {
+            bytes[index + 1] = (value / 256 % 256) as u8;
+            bytes[index] = (value % 256) as u8;
+        }
         Width::Word => {
             bytes[index + 3] = (value / 16777216) as u8;
             bytes[index + 2] = (value / 65536 % 256) as u8;
             bytes[index + 1] = (value / 256 % 256) as u8;
+            bytes[index] = (value % 256) as u8;
         }
     }
-    bytes[index] = (value % 256) as u8;
 }
 
 /// The four bytes of a number.

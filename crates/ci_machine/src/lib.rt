@@ -12,9 +12,11 @@ mod calls;
 mod ends;
 pub mod laws;
 mod memory;
-mod parts;
+mod pages;
+mod spans;
 mod start;
 mod state;
 #[cfg(test)]
 mod tests;
 mod touches;
+mod windows;

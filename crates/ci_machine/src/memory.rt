@@ -1,28 +1,29 @@
-//! Memory: one vector of bytes for the stack, one for the heap, and one a segment.
-ghost use Rattle.std.specs.Prelude.{◌≡◌, ℕ, ◌+◌, ◌-◌, ◌*◌, ◌/◌, ◌%◌, ◌^◌, ◌<◌, ◌≤◌, Bool, true, false, ◌&&◌, ◌==◌};
+//! Memory: pages, the spans that the segments and the stack take, and the heap.
+#![tactic(auto, unfolding(crate::specs::Layouts::HasLayout, crate::specs::Layouts::HasPages, crate::specs::Memories::segments_of))]
+
+ghost use Rattle.std.specs.Prelude.{◌≡◌, ℕ, ◌+◌, ◌-◌, ◌*◌, ◌/◌, ◌%◌, ◌^◌, ◌<◌, ◌≤◌, true, false, ◌&&◌, ◌++◌};
 ghost use Rattle.std.specs.Prelude.{if◌then◌else◌, Option, Some, None, IfSome, IfOk, OnErr, MatchOption, is_some};
 ghost use Rattle.std.specs.Prelude.{length, slice_index_or, List, [], ◌∷◌, IsTrue, ◌↔◌, slice_index, is_ok, replicate};
-ghost use Rattle.std.specs.Prelude.{nat_le, ◌||◌};
+ghost use Rattle.std.specs.Prelude.{nat_le, ◌||◌, vec_capacity, vec_len};
 ghost use Rattle.std.specs.Option.{option_map};
 ghost use Rattle.ci_isa.specs.Effects.{width_bytes};
 ghost use Rattle.ci_machine.specs.Accesses.{addresses, bytes_at, bytes_of_number, number_of_bytes, with_bytes};
 ghost use Rattle.ci_elf.specs.declared.ranges.Range.{Range};
-ghost use Rattle.ci_machine.specs.Programs.{maximum_end, stack_end, stack_start};
-ghost use Rattle.ci_machine.specs.Calls.{may_end_at, range_at};
-ghost use Rattle.ci_machine.specs.Parts.{IsFound, bytes_in, heap_end_in, program_in, segments_in, with_heap_moved};
-ghost use Rattle.ci_machine.specs.Parts.{holds, byte_in, overwritten, with_number, IsApart, IsApart-prop, places};
-ghost use Rattle.ci_machine.specs.Parts.{IsLaidOut, IsLaidOut-prop};
+ghost use Rattle.ci_machine.specs.Programs.{lies_in, stack_end, stack_start};
+ghost use Rattle.ci_machine.specs.PageTables.{IsPlace};
+ghost use Rattle.ci_machine.specs.Windows.{HasWindows, HasWindows-prop, IsWindow};
+ghost use Rattle.ci_machine.specs.Layouts.{HasLayout, HasLayout-prop, HasPages, HasPages-prop};
 
-use crate::bytes::{bytes_of, number_at, put_number};
-use crate::parts::Part;
+use crate::bytes::bytes_of;
+use crate::pages::{PAGE, Pages, pages_to};
+use crate::spans::{Span, Spans};
+use crate::windows::{WINDOWS, Window};
+use ci_elf::Segment;
 use ci_isa::Width;
 use std::alloc::{AllocError, Global};
 
-/// The place of the heap among the parts.
-const HEAP: usize = 1;
-
 /// The address that the heap may not go past.
-const HEAP_LIMIT: u32 = 0xffff0000;
+pub(crate) const HEAP_LIMIT: u32 = 0xffff0000;
 
 /// Where the stack begins.
 pub(crate) const STACK_START: u32 = 0x7ff00000;
@@ -31,46 +32,106 @@ pub(crate) const STACK_START: u32 = 0x7ff00000;
 pub(crate) const STACK_END: u32 = 0x80000000;
 
 /// How many bytes the segments, the stack and the heap may take.
-const MEMORY_LIMIT: u32 = 67108864;
+pub(crate) const MEMORY_LIMIT: u32 = 67108864;
 
 /// The memory of a machine.
 #[derive(Drop)]
 pub(crate) struct Memory {
-    /// The stack, the heap, and the segments.
-    pub(crate) parts: Vec<Part>,
+    pub(crate) pages: Pages,
+    /// Where the segments and the stack lie.
+    pub(crate) spans: Spans,
+    /// Where accesses are made at once, by page number.
+    pub(crate) windows: [Window; WINDOWS],
+    /// The segments, in the order of the file.
+    pub(crate) segments: Vec<Segment>,
+    pub(crate) heap_start: u32,
+    pub(crate) heap_end: u32,
     /// How many bytes the segments and the stack take.
     pub(crate) loaded: u32,
-    ghost apart: { IsApart parts.items } by { IsApart-prop parts.items },
-    ghost within: { maximum_end (places parts.items) ≤ 2 ^ 32 },
-    ghost laid_out: { IsLaidOut (places parts.items) loaded } by { IsLaidOut-prop (places parts.items) loaded },
-}
-
-/// The first part that holds the address.
-fn find(parts: &[Part], address: u32) -> Option<usize>
-    ensures none { result ≡ None → byte_in parts.now address ≡ None }
-    ensures some { IfSome result (λ i. IsFound parts.now i address) }
-{
-    for (index, part) in parts.iter().enumerate() {
-        if part.holds(address) {
-            return Some(index);
-        }
-    }
-    None
+    ghost laid_out: { HasLayout spans.spans.items segments.items heap_start heap_end loaded } by { HasLayout-prop spans.spans.items segments.items heap_start heap_end loaded },
+    ghost paged: { HasPages pages spans.spans.items heap_start heap_end loaded } by { HasPages-prop pages spans.spans.items heap_start heap_end loaded },
+    ghost seen: { HasWindows windows pages.table.items spans.spans.items heap_start heap_end } by { HasWindows-prop windows pages.table.items spans.spans.items heap_start heap_end },
 }
 
 impl Memory {
+    ghost use Rattle.ci_machine.specs.Calls.{may_end_at, range_at};
+    ghost use Rattle.ci_machine.specs.Memories.{is_mapped, memory_of, program_in, segments_of, with_heap_moved};
+    ghost use Rattle.ci_machine.specs.Memories.{with_number};
+
+    /// How many bytes from the address on are mapped together: none where the first is not.
+    fn left(&self, address: u32) -> u32
+        ensures mapped { (k : ℕ) → k < result → is_mapped self.now (address + k) ≡ true }
+        ensures none { result ≡ 0 → is_mapped self.now address ≡ false }
+        ensures fits { address + result < 2 ^ 32 }
+    {
+        if self.in_heap(address) {
+            return self.heap_end - address;
+        }
+        self.spans.left(address)
+    }
+
+    /// Whether the byte at the address is the heap's.
+    fn in_heap(&self, address: u32) -> bool
+        ensures { result ≡ lies_in self.now.heap_start self.now.heap_end address }
+    {
+        self.heap_start <= address && address < self.heap_end
+    }
+
     /// The byte at the address, if it is mapped.
     pub(crate) fn byte(&self, address: u32) -> Option<u8>
-        ensures { result ≡ byte_in self.now.parts.items address }
+        ensures { result ≡ memory_of self.now address }
     {
-        let index = find(&self.parts, address)?;
-        let part = &self.parts[index];
-        Some(part.bytes[(address - part.start) as usize])
+        if self.left(address) == 0 {
+            return None;
+        }
+        Some(self.pages.byte(address))
+    }
+
+    /// The window in which the address may lie.
+    #[inline(always)]
+    fn window(&self, address: u32) -> Window
+        ensures { IsWindow self.now.pages.table.items (is_mapped self.now) result }
+    {
+        self.windows[(address / PAGE) as usize % WINDOWS]
+    }
+
+    /// Mapped addresses side by side, the address among them if it is mapped.
+    fn mapped_around(&self, address: u32) -> Span
+        ensures { (x : ℕ) → lies_in result.start result.end x ≡ true → is_mapped self.now x ≡ true }
+    {
+        if self.in_heap(address) {
+            return Span {
+                start: self.heap_start,
+                end: self.heap_end,
+            };
+        }
+        self.spans.around(address)
+    }
+
+    /// The mapped addresses on the page of an address.
+    fn window_around(&self, address: u32) -> Window
+        ensures { IsWindow self.now.pages.table.items (is_mapped self.now) result }
+    {
+        let span = self.mapped_around(address);
+        match self.pages.find(address / PAGE) {
+            Some(place) => Window::of(span, address - address % PAGE, place),
+            None => Window::none(),
+        }
+    }
+
+    /// Makes the mapped addresses on the page of an address a window.
+    fn look_at(&mut self, address: u32)
+        ensures memory { memory_of self.new ≡ memory_of self.old }
+        ensures end { self.new.heap_end ≡ self.old.heap_end }
+        ensures segments { segments_of self.new ≡ segments_of self.old }
+    {
+        let window = self.window_around(address);
+        self.windows[(address / PAGE) as usize % WINDOWS] = window;
     }
 
     /// Whether so many bytes from an address on are all mapped. Addresses wrap.
-    pub(crate) fn is_mapped(&self, address: u32, count: u32) -> bool
-        ensures { result ≡ is_some (bytes_in self.now.parts.items address count) }
+    fn are_mapped(&self, address: u32, count: u32) -> bool
+        ensures { result ≡ is_some (bytes_at (memory_of self.now) (addresses count address)) }
     {
         let mut left = count;
         while left > 0 {
@@ -85,7 +146,7 @@ impl Memory {
     /// The number of a few bytes, each wherever it is.
     fn load_bytes(&self, address: u32, count: u32) -> Option<u32>
         requires { count ≤ 4 }
-        ensures value { result ≡ option_map number_of_bytes (bytes_in self.now.parts.items address count) }
+        ensures value { result ≡ option_map number_of_bytes (bytes_at (memory_of self.now) (addresses count address)) }
         ensures below { IfSome result (λ n. n < 256 ^ count) }
     {
         if count == 0 {
@@ -96,45 +157,90 @@ impl Memory {
         Some(u32::from(low) + 256 * high)
     }
 
+    /// The number of the bytes at an address, where all lie in the window.
+    #[inline(always)]
+    fn load_in(&self, window: Window, address: u32, width: Width) -> Option<u32>
+        requires { IsWindow self.now.pages.table.items (is_mapped self.now) window }
+        ensures { IfSome result (λ n. option_map number_of_bytes
+            (bytes_at (memory_of self.now) (addresses (width_bytes width) address)) ≡ Some n) }
+    {
+        if window.holds(address, width.bytes()) {
+            return Some(self.pages.load_at(window.place, address, width));
+        }
+        None
+    }
+
     /// The number of the bytes at an address, where all are mapped.
     pub(crate) fn load(&self, address: u32, width: Width) -> Option<u32>
-        ensures { result ≡ option_map number_of_bytes (bytes_in self.now.parts.items address (width_bytes width)) }
+        ensures { result ≡ option_map number_of_bytes
+            (bytes_at (memory_of self.now) (addresses (width_bytes width) address)) }
     {
-        let index = find(&self.parts, address)?;
-        let part = &self.parts[index];
-        let offset = (address - part.start) as usize;
-        if part.bytes.len() - offset < width.bytes() as usize {
-            return self.load_bytes(address, width.bytes());
+        match self.load_in(self.window(address), address, width) {
+            Some(number) => Some(number),
+            None => self.load_far(address, width),
         }
-        Some(number_at(&part.bytes, offset, width))
+    }
+
+    /// The same, where the bytes lie in no window.
+    #[cold]
+    #[inline(never)]
+    fn load_far(&self, address: u32, width: Width) -> Option<u32>
+        ensures { result ≡ option_map number_of_bytes
+            (bytes_at (memory_of self.now) (addresses (width_bytes width) address)) }
+    {
+        match self.load_in(self.window_around(address), address, width) {
+            Some(number) => Some(number),
+            None => self.load_bytes(address, width.bytes()),
+        }
+    }
+
+    /// The same. A further access beside it is made at once.
+    #[inline(always)]
+    pub(crate) fn load_near(&mut self, address: u32, width: Width) -> Option<u32>
+        ensures value { result ≡ option_map number_of_bytes
+            (bytes_at (memory_of self.old) (addresses (width_bytes width) address)) }
+        ensures memory { memory_of self.new ≡ memory_of self.old }
+        ensures end { self.new.heap_end ≡ self.old.heap_end }
+        ensures segments { segments_of self.new ≡ segments_of self.old }
+    {
+        match self.load_in(self.window(address), address, width) {
+            Some(number) => Some(number),
+            None => self.load_anew(address, width),
+        }
+    }
+
+    /// The same, where the bytes lie in no window.
+    #[cold]
+    #[inline(never)]
+    fn load_anew(&mut self, address: u32, width: Width) -> Option<u32>
+        ensures value { result ≡ option_map number_of_bytes
+            (bytes_at (memory_of self.old) (addresses (width_bytes width) address)) }
+        ensures memory { memory_of self.new ≡ memory_of self.old }
+        ensures end { self.new.heap_end ≡ self.old.heap_end }
+        ensures segments { segments_of self.new ≡ segments_of self.old }
+    {
+        self.look_at(address);
+        self.load(address, width)
     }
 
     /// Writes one byte, at an address that is mapped.
     fn put(&mut self, address: u32, byte: u8)
-        requires { is_some (byte_in self.old.parts.items address) ≡ true }
-        ensures written { byte_in self.new.parts.items
-            ≡ with_bytes (byte_in self.old.parts.items) (address ∷ []) (byte ∷ []) }
-        ensures places { places self.new.parts.items ≡ places self.old.parts.items }
-        ensures loaded { self.new.loaded ≡ self.old.loaded }
+        requires { is_some (memory_of self.old address) ≡ true }
+        ensures written { memory_of self.new ≡ with_bytes (memory_of self.old) (address ∷ []) (byte ∷ []) }
+        ensures end { self.new.heap_end ≡ self.old.heap_end }
+        ensures segments { segments_of self.new ≡ segments_of self.old }
     {
-        match find(&self.parts, address) {
-            Some(index) => {
-                let part = &mut self.parts[index];
-                let offset = (address - part.start) as usize;
-                part.bytes[offset] = byte;
-            }
-            None => unreachable!(),
-        }
+        self.pages.store(address, Width::Byte, u32::from(byte));
     }
 
-    /// Writes bytes from an address on, where all are mapped. Addresses wrap.
-    pub(crate) fn put_all(&mut self, address: u32, bytes: &[u8])
-        requires mapped { is_some (bytes_in self.old.parts.items address (length bytes.now)) ≡ true }
+    /// Writes bytes from an address on, each wherever it is, where all are mapped. Addresses wrap.
+    fn put_all(&mut self, address: u32, bytes: &[u8])
+        requires mapped { is_some (bytes_at (memory_of self.old) (addresses (length bytes.now) address)) ≡ true }
         requires short { length bytes.now < 2 ^ 32 }
-        ensures written { byte_in self.new.parts.items
-            ≡ with_bytes (byte_in self.old.parts.items) (addresses (length bytes.now) address) bytes.now }
-        ensures places { places self.new.parts.items ≡ places self.old.parts.items }
-        ensures loaded { self.new.loaded ≡ self.old.loaded }
+        ensures written { memory_of self.new
+            ≡ with_bytes (memory_of self.old) (addresses (length bytes.now) address) bytes.now }
+        ensures end { self.new.heap_end ≡ self.old.heap_end }
+        ensures segments { segments_of self.new ≡ segments_of self.old }
     {
         let mut left = bytes.len();
         while left > 0 {
@@ -145,13 +251,12 @@ impl Memory {
 
     /// Writes the low bytes of a number, each wherever it is, where all are mapped. Says whether they are.
     fn store_bytes(&mut self, address: u32, width: Width, value: u32) -> bool
-        ensures mapped { result ≡ is_some (bytes_in self.old.parts.items address (width_bytes width)) }
-        ensures written { byte_in self.new.parts.items
-            ≡ with_number (byte_in self.old.parts.items) address width value result }
-        ensures places { places self.new.parts.items ≡ places self.old.parts.items }
-        ensures loaded { self.new.loaded ≡ self.old.loaded }
+        ensures mapped { result ≡ is_some (bytes_at (memory_of self.old) (addresses (width_bytes width) address)) }
+        ensures written { memory_of self.new ≡ with_number (memory_of self.old) address width value result }
+        ensures end { self.new.heap_end ≡ self.old.heap_end }
+        ensures segments { segments_of self.new ≡ segments_of self.old }
     {
-        if !self.is_mapped(address, width.bytes()) {
+        if !self.are_mapped(address, width.bytes()) {
             return false;
         }
         let bytes = bytes_of(value);
@@ -159,98 +264,162 @@ impl Memory {
         true
     }
 
-    /// Writes the low bytes of a number at an address, where all are mapped. Says whether they are.
-    pub(crate) fn store(&mut self, address: u32, width: Width, value: u32) -> bool
-        ensures mapped { result ≡ is_some (bytes_in self.old.parts.items address (width_bytes width)) }
-        ensures written { byte_in self.new.parts.items
-            ≡ with_number (byte_in self.old.parts.items) address width value result }
-        ensures places { places self.new.parts.items ≡ places self.old.parts.items }
-        ensures loaded { self.new.loaded ≡ self.old.loaded }
+    /// Writes the low bytes of a number at an address, where all are mapped, on the page whose number stands there in the
+    /// table.
+    #[inline(always)]
+    fn store_at(&mut self, place: usize, address: u32, width: Width, value: u32)
+        requires there { IsPlace self.old.pages.table.items (address / 4096) place }
+        requires on_page { address % 4096 + width_bytes width ≤ 4096 }
+        requires mapped { (k : ℕ) → k < width_bytes width → is_mapped self.old (address + k) ≡ true }
+        ensures mapped { is_some (bytes_at (memory_of self.old) (addresses (width_bytes width) address)) ≡ true }
+        ensures written { memory_of self.new ≡ with_number (memory_of self.old) address width value true }
+        ensures end { self.new.heap_end ≡ self.old.heap_end }
+        ensures segments { segments_of self.new ≡ segments_of self.old }
     {
-        match find(&self.parts, address) {
-            Some(index) => {
-                let part = &mut self.parts[index];
-                put_in(part, address, width, value) || self.store_bytes(address, width, value)
-            }
-            None => false,
-        }
+        self.pages.store_at(place, address, width, value);
     }
 
-    /// So many bytes from an address on, where all are mapped. Addresses wrap.
-    pub(crate) fn copy(
-        &self,
-        alloc: Global,
-        address: u32,
-        count: u32,
-    ) -> Result<Option<Vec<u8>>, AllocError>
-        ensures { IfOk result (λ copied. MatchOption copied
-            (bytes_in self.now.parts.items address count ≡ None)
-            (λ bytes. bytes_in self.now.parts.items address count ≡ Some bytes.items)) }
+    /// Writes the low bytes of a number at an address, where all are mapped. Says whether they are.
+    #[inline(always)]
+    pub(crate) fn store(&mut self, address: u32, width: Width, value: u32) -> bool
+        ensures mapped { result ≡ is_some (bytes_at (memory_of self.old) (addresses (width_bytes width) address)) }
+        ensures written { memory_of self.new ≡ with_number (memory_of self.old) address width value result }
+        ensures end { self.new.heap_end ≡ self.old.heap_end }
+        ensures segments { segments_of self.new ≡ segments_of self.old }
     {
-        let mut bytes = Vec::new(alloc);
-        for i in 0..count {
-            match self.byte(address.wrapping_add(i)) {
-                Some(byte) => bytes.push(byte)?,
-                None => return Ok(None),
-            }
+        let window = self.window(address);
+        if window.holds(address, width.bytes()) {
+            self.store_at(window.place, address, width, value);
+            return true;
         }
-        Ok(Some(bytes))
+        self.store_anew(address, width, value)
+    }
+
+    /// The same, where the bytes lie in no window.
+    #[cold]
+    #[inline(never)]
+    fn store_anew(&mut self, address: u32, width: Width, value: u32) -> bool
+        ensures mapped { result ≡ is_some (bytes_at (memory_of self.old) (addresses (width_bytes width) address)) }
+        ensures written { memory_of self.new ≡ with_number (memory_of self.old) address width value result }
+        ensures end { self.new.heap_end ≡ self.old.heap_end }
+        ensures segments { segments_of self.new ≡ segments_of self.old }
+    {
+        self.look_at(address);
+        let window = self.window(address);
+        if window.holds(address, width.bytes()) {
+            self.store_at(window.place, address, width, value);
+            return true;
+        }
+        self.store_bytes(address, width, value)
+    }
+
+    /// Whether so many bytes from an address on, none of which lies past the last address, are all mapped.
+    fn are_mapped_below(&self, address: u32, count: u32) -> bool
+        requires { address + count ≤ 2 ^ 32 }
+        ensures { result ≡ is_some (bytes_at (memory_of self.now) (addresses count address)) }
+    {
+        let mut done = 0;
+        while done < count {
+            let left = self.left(address + done);
+            if left == 0 {
+                return false;
+            }
+            done += left.min(count - done);
+        }
+        true
     }
 
     /// Whether so many bytes from an address on are all mapped, and none lies past the last address.
     pub(crate) fn is_range(&self, address: u32, count: u32) -> bool
-        ensures { result ≡ is_some (range_at (byte_in self.now.parts.items) address count) }
+        ensures { result ≡ is_some (range_at (memory_of self.now) address count) }
     {
-        u64::from(address) + u64::from(count) <= 4294967296 && self.is_mapped(address, count)
+        u64::from(address) + u64::from(count) <= 4294967296 && self.are_mapped_below(address, count)
     }
 
-    /// So many bytes from an address on, where all are mapped and none lies past the last address.
-    pub(crate) fn range(
-        &self,
-        alloc: Global,
-        address: u32,
-        count: u32,
-    ) -> Result<Option<Vec<u8>>, AllocError>
-        ensures { IfOk result (λ copied. MatchOption copied
-            (range_at (byte_in self.now.parts.items) address count ≡ None)
-            (λ bytes. range_at (byte_in self.now.parts.items) address count ≡ Some bytes.items)) }
+    /// Writes bytes from an address on, page by page, where all are mapped and none lies past the last address.
+    pub(crate) fn write(&mut self, address: u32, bytes: &[u8])
+        requires mapped { is_some (range_at (memory_of self.old) address (length bytes.now)) ≡ true }
+        ensures written { memory_of self.new
+            ≡ with_bytes (memory_of self.old) (addresses (length bytes.now) address) bytes.now }
+        ensures end { self.new.heap_end ≡ self.old.heap_end }
+        ensures segments { segments_of self.new ≡ segments_of self.old }
     {
-        if u64::from(address) + u64::from(count) > 4294967296 {
-            return Ok(None);
+        self.pages.write_all(address, bytes);
+    }
+
+    /// Puts so many bytes from an address on behind others, page by page, where all are mapped, none lies past the last
+    /// address, and there is room.
+    pub(crate) fn append_to(&self, output: &mut Vec<u8>, address: u32, count: u32)
+        requires mapped { is_some (range_at (memory_of self.now) address count) ≡ true }
+        requires room { vec_len output.old + count ≤ vec_capacity output.old }
+        ensures { (bytes : List ℕ) → range_at (memory_of self.now) address count ≡ Some bytes
+            → output.new.items ≡ output.old.items ++ bytes }
+    {
+        let mut done = 0;
+        while done < count {
+            let place = address + done;
+            let run = (count - done).min(PAGE - place % PAGE);
+            match output.extend_from_slice(self.pages.run(place, run)) {
+                Ok(()) => done += run,
+                Err(_) => unreachable!(),
+            }
         }
-        self.copy(alloc, address, count)
     }
 
     /// Where the heap ends.
     pub(crate) fn heap_end(&self) -> u32
-        ensures { result ≡ heap_end_in (places self.now.parts.items) }
+        ensures { result ≡ self.now.heap_end }
     {
-        let heap = &self.parts[HEAP];
-        heap.start + heap.bytes.len() as u32
+        self.heap_end
     }
 
     /// Whether the heap may end there.
     pub(crate) fn may_end_at(&self, end: u32) -> bool
-        ensures { (text : List Range) → result ≡ may_end_at (program_in (places self.now.parts.items) text) end }
+        ensures { (text : List Range) → result ≡ may_end_at (program_in self.now text) end }
     {
-        let heap = &self.parts[HEAP];
-        is_room(heap.start, self.loaded, end)
+        is_room(self.heap_start, self.loaded, end)
     }
 
-    /// Moves the heap's end, to where it may end. The heap stays as it is where there is no memory.
-    pub(crate) fn set_heap_end(&mut self, end: u32) -> Result<(), AllocError>
-        requires { may_end_at (program_in (places self.old.parts.items) []) end ≡ true }
-        ensures moved { byte_in self.new.parts.items ≡ with_heap_moved (heap_end_in (places self.old.parts.items))
-            (if is_ok result then end else heap_end_in (places self.old.parts.items))
-            (byte_in self.old.parts.items) }
-        ensures end { heap_end_in (places self.new.parts.items)
-            ≡ (if is_ok result then end else heap_end_in (places self.old.parts.items)) }
-        ensures segments { segments_in (places self.new.parts.items) ≡ segments_in (places self.old.parts.items) }
-        ensures loaded { self.new.loaded ≡ self.old.loaded }
+    /// Moves the heap's end, to where it may end. Pages come and go, and no memory is taken.
+    pub(crate) fn set_heap_end(&mut self, end: u32)
+        requires { may_end_at (program_in self.old []) end ≡ true }
+        ensures moved { memory_of self.new ≡ with_heap_moved self.old.heap_end end (memory_of self.old) }
+        ensures end { self.new.heap_end ≡ end }
+        ensures segments { segments_of self.new ≡ segments_of self.old }
     {
-        let heap = &mut self.parts[HEAP];
-        let size = (end - heap.start) as usize;
-        resize(&mut heap.bytes, size)
+        if end < self.heap_end {
+            self.shrink(end);
+        } else {
+            self.grow(end);
+        }
+    }
+
+    /// Moves the heap's end up.
+    fn grow(&mut self, end: u32)
+        requires may { may_end_at (program_in self.old []) end ≡ true }
+        requires up { self.old.heap_end ≤ end }
+        ensures moved { memory_of self.new ≡ with_heap_moved self.old.heap_end end (memory_of self.old) }
+        ensures end { self.new.heap_end ≡ end }
+        ensures segments { segments_of self.new ≡ segments_of self.old }
+    {
+        self.pages.add_all(pages_to(self.heap_end), pages_to(end));
+        self.heap_end = end;
+        self.windows = [Window::none(); WINDOWS];
+    }
+
+    /// Moves the heap's end down. What it leaves becomes 0.
+    fn shrink(&mut self, end: u32)
+        requires may { may_end_at (program_in self.old []) end ≡ true }
+        requires down { end < self.old.heap_end }
+        ensures moved { memory_of self.new ≡ with_heap_moved self.old.heap_end end (memory_of self.old) }
+        ensures end { self.new.heap_end ≡ end }
+        ensures segments { segments_of self.new ≡ segments_of self.old }
+    {
+        self.pages
+            .remove_all(pages_to(end), pages_to(self.heap_end));
+        self.pages.clear_rest(end);
+        self.heap_end = end;
+        self.windows = [Window::none(); WINDOWS];
     }
 }
 
@@ -270,29 +439,4 @@ fn is_clear(start: u32, end: u32) -> bool
     ensures { result ≡ (nat_le end stack_start || nat_le stack_end start) }
 {
     end <= STACK_START || STACK_END <= start
-}
-
-/// Shortens the bytes, or lengthens them by zeros. They stay as they are where there is no memory.
-pub(crate) fn resize(bytes: &mut Vec<u8>, size: usize) -> Result<(), AllocError>
-    ensures size { length bytes.new.items ≡ (if is_ok result then size else length bytes.old.items) }
-    ensures kept { (k : ℕ) → k < length bytes.new.items
-        → slice_index bytes.new.items k ≡ slice_index bytes.old.items k }
-{
-    bytes.resize(size, 0)
-}
-
-/// Writes the low bytes of a number at an address that the part holds, where they end in it. Says whether they do.
-fn put_in(part: &mut Part, address: u32, width: Width, value: u32) -> bool
-    requires { holds part.old address ≡ true }
-    ensures fits { IsTrue result ↔ (width_bytes width ≤ length part.old.bytes.items - (address - part.old.start)) }
-    ensures start { part.new.start ≡ part.old.start }
-    ensures bytes { part.new.bytes.items ≡ overwritten part.old.bytes.items (address - part.old.start)
-        (if result then bytes_of_number (width_bytes width) value else []) }
-{
-    let offset = (address - part.start) as usize;
-    if part.bytes.len() - offset < width.bytes() as usize {
-        return false;
-    }
-    put_number(&mut part.bytes, offset, width, value);
-    true
 }

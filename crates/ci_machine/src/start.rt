@@ -1,14 +1,25 @@
 //! The state in which a run opens.
 #![tactic(auto, unfolding(crate::proofs::StateViews::views))]
 
-ghost use Rattle.std.specs.Prelude.{◌≡◌, ℕ, ◌+◌, ◌*◌, ◌/◌, ◌<◌, ◌≤◌, IfOk, length, map, slice_index};
-ghost use Rattle.std.specs.List.{AllZip};
-ghost use Rattle.ci_machine.specs.Programs.{extent_of, maximum_end, loaded_size as loaded_size_of};
-ghost use Rattle.ci_machine.specs.Loading.{AreOpening, IsInFile, IsLoaded};
+ghost use Rattle.std.specs.Prelude.{◌≡◌, ℕ, ◌+◌, ◌-◌, ◌*◌, ◌/◌, ◌<◌, ◌≤◌, ◌||◌, true, IfOk, length, map, slice_index};
+ghost use Rattle.std.specs.Prelude.{OnOk, false};
+ghost use Rattle.std.specs.List.{Contains};
+ghost use Rattle.std.specs.List.Sorted.{IsPermutation};
+ghost use Rattle.ci_elf.specs.declared.segments.Segment.{Segment};
+ghost use Rattle.ci_machine.specs.Layouts.{heap_limit};
+ghost use Rattle.ci_machine.specs.Loading.{IsInFile, holders, in_segments, loaded_content};
+ghost use Rattle.ci_machine.specs.Memories.{memory_of, segments_of};
+ghost use Rattle.ci_machine.specs.Pages.{content, has, room};
+ghost use Rattle.ci_machine.specs.PageTables.{pages_to};
+ghost use Rattle.ci_machine.specs.Programs.{extent_of, lies_in, maximum_end, stack_end, stack_start, loaded_memory};
+ghost use Rattle.ci_machine.specs.Programs.{loaded_program, loaded_size as loaded_size_of, heap_start as heap_start_of};
+ghost use Rattle.ci_machine.specs.Spans.{in_spans};
 
-use crate::memory::{Memory, STACK_END, STACK_START, resize};
-use crate::parts::Part;
+use crate::memory::{HEAP_LIMIT, MEMORY_LIMIT, Memory, STACK_END, STACK_START};
+use crate::pages::{PAGE, Pages, pages_to};
+use crate::spans::{Span, Spans};
 use crate::state::{REGISTERS, State};
+use crate::windows::{WINDOWS, Window};
 use ci_elf::{Image, Places, Segment};
 use std::alloc::{AllocError, Global};
 
@@ -17,17 +28,6 @@ const STACK_POINTER: usize = 2;
 
 /// The stack pointer at the start: the last multiple of 16 in the stack.
 const STACK_TOP: u32 = 0x7ffffff0;
-
-/// A part of so many zeros.
-fn zeros(alloc: Global, start: u32, size: u32) -> Result<Part, AllocError>
-    ensures start { IfOk result (λ part. part.start ≡ start) }
-    ensures size { IfOk result (λ part. length part.bytes.items ≡ size) }
-    ensures zeros { IfOk result (λ part. (k : ℕ) → k < size → slice_index part.bytes.items k ≡ 0) }
-{
-    let mut bytes = Vec::new(alloc);
-    resize(&mut bytes, size as usize)?;
-    Ok(Part { start, bytes })
-}
 
 /// A segment's part of the file. One without bytes may lie past the file's end.
 fn file_part(bytes: &[u8], segment: Segment) -> &[u8]
@@ -38,33 +38,6 @@ fn file_part(bytes: &[u8], segment: Segment) -> &[u8]
 {
     let offset = (segment.offset as usize).min(bytes.len());
     &bytes[offset..offset + segment.file_size as usize]
-}
-
-/// The part of memory that has a segment: its part of the file, and zeros behind that.
-fn segment_part(alloc: Global, bytes: &[u8], segment: Segment) -> Result<Part, AllocError>
-    requires in_file { IsInFile bytes.now segment }
-    requires filled { segment.file_size ≤ segment.memory_size }
-    ensures { IfOk result (IsLoaded bytes.now segment) }
-{
-    let size = segment.memory_size as usize;
-    let mut loaded = Vec::with_capacity(alloc, size)?;
-    loaded.extend_from_slice(file_part(bytes, segment))?;
-    resize(&mut loaded, size)?;
-    Ok(Part {
-        start: segment.address,
-        bytes: loaded,
-    })
-}
-
-/// The parts of memory that have the segments of a file.
-fn segment_parts(alloc: Global, image: &Image) -> Result<Vec<Part>, AllocError>
-    ensures { IfOk result (λ parts. AllZip (IsLoaded image.now.bytes) image.now.segments parts.items) }
-{
-    let mut parts = Vec::new(alloc);
-    for segment in image.segments() {
-        parts.push(segment_part(alloc, image.bytes(), *segment)?)?;
-    }
-    Ok(parts)
 }
 
 /// Where the heap begins: behind the last segment, at a multiple of 16.
@@ -91,24 +64,123 @@ fn loaded_size(segments: &[Segment]) -> u32
     size
 }
 
-/// The parts of the memory in which a run of the file opens.
-fn opening_parts(alloc: Global, image: &Image) -> Result<Vec<Part>, AllocError>
-    ensures { IfOk result (λ parts. AreOpening image.now parts.items) }
+/// The segments in the order of their addresses.
+fn by_address(alloc: Global, segments: &[Segment]) -> Result<Vec<Segment>, AllocError>
+    ensures { IfOk result (λ sorted. IsPermutation segments.now sorted.items) }
 {
-    let mut parts = Vec::new(alloc);
-    parts.push(zeros(alloc, STACK_START, STACK_END - STACK_START)?)?;
-    parts.push(zeros(alloc, heap_start(image.segments()), 0)?)?;
-    parts.append(&mut segment_parts(alloc, image)?)?;
-    Ok(parts)
+    let mut sorted = Vec::from_slice(alloc, segments)?;
+    sorted.sort_unstable_by_key(|segment| segment.address);
+    Ok(sorted)
+}
+
+/// Puts in the spans of segments, which have no address that another of them or a span has.
+fn insert_all(spans: &mut Spans, segments: &[Segment]) -> Result<(), AllocError>
+    requires filled { (segment : Segment) → Contains segments.now segment
+        → (0 < segment.memory_size) × (segment.address + segment.memory_size ≤ 0xffff0000) }
+    requires apart { (address : ℕ) → holders segments.now address ≤ 1 }
+    requires free { (address : ℕ) → in_segments segments.now address ≡ true
+        → in_spans spans.old.spans.items address ≡ false }
+    ensures { OnOk result ((address : ℕ) → in_spans spans.new.spans.items address
+        ≡ (in_segments segments.now address || in_spans spans.old.spans.items address)) }
+{
+    for segment in segments {
+        spans.insert(Span {
+            start: segment.address,
+            end: segment.address + segment.memory_size,
+        })?;
+    }
+    Ok(())
+}
+
+/// Where the segments and the stack lie. They are put in by their addresses, which moves no span but the stack's.
+fn spans_of(alloc: Global, image: &Image) -> Result<Spans, AllocError>
+    ensures { IfOk result (λ spans. (address : ℕ) → in_spans spans.spans.items address
+        ≡ (in_segments image.now.segments address || lies_in stack_start stack_end address)) }
+{
+    let mut spans = Spans::new(alloc);
+    spans.insert(Span {
+        start: STACK_START,
+        end: STACK_END,
+    })?;
+    let segments = by_address(alloc, image.segments())?;
+    insert_all(&mut spans, &segments)?;
+    Ok(spans)
+}
+
+/// How many pages the heap that begins there may come to meet.
+fn heap_pages(heap_start: u32, loaded: u32) -> u32
+    requires start { heap_start ≤ 0xffff0000 }
+    requires fits { loaded ≤ 67108864 }
+    ensures value { result ≡ pages_to (heap_limit heap_start loaded) - heap_start / 4096 }
+    ensures bounded { result ≤ 1048576 }
+{
+    let limit = heap_start + (MEMORY_LIMIT - loaded).min(HEAP_LIMIT - heap_start);
+    pages_to(limit) - heap_start / PAGE
+}
+
+/// Pages of zeros: those that the spans and the heap's start meet, and room for those that the heap may come to meet.
+fn opening_pages(
+    alloc: Global,
+    spans: &Spans,
+    heap_start: u32,
+    loaded: u32,
+) -> Result<Pages, AllocError>
+    requires start { heap_start ≤ 0xffff0000 }
+    requires fits { loaded ≤ 67108864 }
+    ensures content { IfOk result (λ pages. (address : ℕ) → content pages address ≡ 0) }
+    ensures covered { IfOk result (λ pages. (address : ℕ) → in_spans spans.now.spans.items address ≡ true
+        → has pages (address / 4096) ≡ true) }
+    ensures heap { IfOk result (λ pages. (number : ℕ) → heap_start / 4096 ≤ number → number < pages_to heap_start
+        → has pages number ≡ true) }
+    ensures room { IfOk result (λ pages. pages_to (heap_limit heap_start loaded) ≤ room pages + pages_to heap_start) }
+{
+    let count = spans.page_count() + heap_pages(heap_start, loaded);
+    let mut pages = Pages::new(alloc, count)?;
+    spans.add_pages(&mut pages);
+    pages.add_all(heap_start / PAGE, pages_to(heap_start));
+    Ok(pages)
+}
+
+/// Writes the segments' parts of the file.
+fn load_segments(pages: &mut Pages, image: &Image)
+    requires zeros { (address : ℕ) → content pages.old address ≡ 0 }
+    requires there { (address : ℕ) → in_segments image.now.segments address ≡ true
+        → has pages.old (address / 4096) ≡ true }
+    ensures content { (address : ℕ) → content pages.new address
+        ≡ loaded_content image.now.bytes image.now.segments address }
+    ensures has { has pages.new ≡ has pages.old }
+    ensures room { room pages.new ≡ room pages.old }
+{
+    let segments = image.segments();
+    let mut left = segments.len();
+    while left > 0 {
+        left -= 1;
+        let segment = segments[left];
+        pages.write_all(segment.address, file_part(image.bytes(), segment));
+    }
 }
 
 /// The memory in which a run of the file opens.
 fn opening_memory(alloc: Global, image: &Image) -> Result<Memory, AllocError>
-    ensures { IfOk result (λ memory. AreOpening image.now memory.parts.items) }
+    ensures bytes { IfOk result (λ memory. memory_of memory ≡ loaded_memory image.now.bytes image.now.segments) }
+    ensures segments { IfOk result (λ memory. segments_of memory ≡ map extent_of image.now.segments) }
+    ensures heap { IfOk result (λ memory. memory.heap_end ≡ heap_start_of (loaded_program image.now)) }
 {
-    let parts = opening_parts(alloc, image)?;
+    let spans = spans_of(alloc, image)?;
+    let heap_start = heap_start(image.segments());
     let loaded = loaded_size(image.segments());
-    Ok(Memory { parts, loaded })
+    let mut pages = opening_pages(alloc, &spans, heap_start, loaded)?;
+    load_segments(&mut pages, image);
+    let segments = Vec::from_slice(alloc, image.segments())?;
+    Ok(Memory {
+        pages,
+        spans,
+        windows: [Window::none(); WINDOWS],
+        segments,
+        heap_start,
+        heap_end: heap_start,
+        loaded,
+    })
 }
 
 impl State {

@@ -137,6 +137,15 @@ impl State {
         self.memory.load(address, width).ok_or(Unmapped)
     }
 
+    /// The same. A further access beside it is made faster.
+    pub fn load_near(&mut self, address: u32, width: Width) -> Result<u32, Unmapped>
+        ensures value { result_ok result ≡ option_map number_of_bytes (bytes_of (state_of self.old).core address width) }
+        ensures state { state_of self.new ≡ state_of self.old }
+        ensures program { program_of self.new ≡ program_of self.old }
+    {
+        self.memory.load_near(address, width).ok_or(Unmapped)
+    }
+
     /// Writes the low bytes of the value at the address, the lowest first, where all are mapped. Addresses wrap
     /// (RISC-V Unprivileged ISA 20191213, section 2.6). Nothing changes where one is not.
     pub fn store(&mut self, address: u32, width: Width, value: u32) -> Result<(), Unmapped>

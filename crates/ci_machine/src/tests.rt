@@ -1,8 +1,8 @@
-//! A machine that runs a file of three segments: accesses at the edges of the parts of memory, and environment calls.
+//! A machine that runs a file of three segments: accesses at the edges of what is mapped, and environment calls.
 ghost use Rattle.std.specs.Prelude.{◌≡◌, ◌<◌};
 
 use crate::{Call, State, Unmapped};
-use ci_elf::{Range, read};
+use ci_elf::{Range, frame, read};
 use ci_isa::{Reg, Width};
 use std::alloc::{AllocError, Global};
 use std::process::Abort;
@@ -212,6 +212,58 @@ fn moves_the_heap(rt: HostRuntime) -> Result<(), Fail> {
     assert_eq!(&rt; state.load(0x20014, Width::Word), Err(Unmapped));
     assert_eq!(&rt; call(&mut state, alloc, 214, (0x20020, 0, 0))?, 0x20020);
     assert_eq!(&rt; state.load(0x20014, Width::Word), Ok(0x0000ffff));
+    Ok(())
+}
+
+/// The opening state of a small file of one word.
+fn small(rt: &impl Abort, alloc: Global) -> Result<State, Fail> {
+    let bytes = frame(alloc, &[0x13], &[], &[])?;
+    assert!(rt; bytes.len() <= 268_435_456);
+    let image = read(alloc, &bytes)?;
+    Ok(State::start(alloc, &image, b"")?)
+}
+
+#[test]
+fn keeps_no_bytes_of_pages_that_went(rt: HostRuntime) -> Result<(), Fail> {
+    let alloc = rt.alloc();
+    let mut state = small(&rt, alloc)?;
+    assert_eq!(&rt; call(&mut state, alloc, 214, (0x12080, 0, 0))?, 0x12080);
+    assert_eq!(&rt; state.store(0x11000, Width::Word, 0xffffffff), Ok(()));
+    assert_eq!(&rt; call(&mut state, alloc, 214, (0x10080, 0, 0))?, 0x10080);
+    assert_eq!(&rt; call(&mut state, alloc, 214, (0x12080, 0, 0))?, 0x12080);
+    assert_eq!(&rt; state.load(0x11000, Width::Word), Ok(0));
+    assert_eq!(&rt; state.load(0x1207d, Width::Word), Err(Unmapped));
+    Ok(())
+}
+
+#[test]
+fn loads_near_as_it_loads(rt: HostRuntime) -> Result<(), Fail> {
+    let alloc = rt.alloc();
+    let mut state = small(&rt, alloc)?;
+    assert_eq!(&rt; call(&mut state, alloc, 214, (0x11010, 0, 0))?, 0x11010);
+    assert_eq!(&rt; state.store(0x1100c, Width::Word, 0x04030201), Ok(()));
+    assert_eq!(&rt; state.load_near(0x1100c, Width::Word), Ok(0x04030201));
+    assert_eq!(&rt; state.load_near(0x1100d, Width::Word), Err(Unmapped));
+    assert_eq!(&rt; state.load_near(0x10ffe, Width::Word), Ok(0));
+    // The bytes that were loaded go, and come again.
+    assert_eq!(&rt; call(&mut state, alloc, 214, (0x1100e, 0, 0))?, 0x1100e);
+    assert_eq!(&rt; state.load_near(0x1100c, Width::Word), Err(Unmapped));
+    assert_eq!(&rt; call(&mut state, alloc, 214, (0x11010, 0, 0))?, 0x11010);
+    assert_eq!(&rt; state.load_near(0x1100c, Width::Word), Ok(0x0201));
+    Ok(())
+}
+
+#[test]
+fn crosses_pages(rt: HostRuntime) -> Result<(), Fail> {
+    let alloc = rt.alloc();
+    let mut state = sample(&rt, alloc)?;
+    assert_eq!(&rt; state.store(0x7ff00ffe, Width::Word, 0x04030201), Ok(()));
+    assert_eq!(&rt; state.load(0x7ff01000, Width::Half), Ok(0x0403));
+    assert_eq!(&rt; state.load(0x7ff00ffd, Width::Word), Ok(0x03020100));
+    assert_eq!(&rt; call(&mut state, alloc, 63, (0, 0x7ff01ff8, 12))?, 12);
+    assert_eq!(&rt; state.load(0x7ff01ffe, Width::Word), Ok(0x726f7720));
+    assert_eq!(&rt; call(&mut state, alloc, 64, (1, 0x7ff01ffe, 3))?, 3);
+    assert!(&rt; state.output() == b" wo".as_slice());
     Ok(())
 }
 

@@ -1,11 +1,17 @@
-use Rattle.std.proofs.Common.{List, subst}
-use Rattle.ci_machine.specs.declared.parts.Part.{Part}
-use Rattle.ci_machine.specs.Parts.{IsFound}
-use Rattle.ci_machine.proofs.PartLaws.{byte_in-found}
+use Rattle.std.proofs.Common.{◌+◌, ap, ◌∙◌, sym, arith, Some, ◌≡◌}
+use Rattle.ci_machine.specs.Memories.{is_mapped}
+use Rattle.ci_machine.proofs.MemoryWrites.{has_page, seen, unseen}
 use Rattle.ci_machine.proofs.memory.Memory.byte.Goals as goal
+
+pub returns-then-left-eq0 : goal.returns-then-left-eq0
+returns-then-left-eq0 c = sym (unseen c.args.self.now c.args.address (c.left.ensures.none (omega arith)))
+
+pub byte-requires : goal.byte-requires
+byte-requires c =
+    let here : c.args.address + 0 ≡ c.args.address = omega arith in
+    has_page c.args.self.now c.args.address (ap (is_mapped c.args.self.now) (sym here) ∙ c.left.ensures.mapped 0 (omega arith))
 
 pub returns : goal.returns
 returns c =
-    let P : List Part → Type 0 = λ ps. IsFound ps c.in_ok-index.index c.args.address in
-    byte_in-found _ _ _ c.index-part.result.now _ c.args.self.now.apart
-    (subst P c.deref.ensures.value c.in_ok-index.ensures.some) c.index-part.ensures c.index.ensures
+    let here : c.args.address + 0 ≡ c.args.address = omega arith in
+    ap Some c.byte.ensures ∙ sym (seen c.args.self.now c.args.address (ap (is_mapped c.args.self.now) (sym here) ∙ c.left.ensures.mapped 0 (omega arith)))

@@ -2,7 +2,6 @@ use Rattle.std.proofs.Common.{◌≡◌, ◌+◌, ◌-◌, ◌≤◌, ap, sym, �
 use Rattle.std.proofs.lemmas.List.{length-drop, drop-drop}
 use Rattle.ci_machine.specs.Cores.{Core}
 use Rattle.ci_machine.specs.Calls.{answering, read_length}
-use Rattle.ci_machine.specs.Parts.{heap_end_in}
 use Rattle.ci_machine.specs.States.{program_of, state_of, core_of}
 use Rattle.ci_machine.proofs.CallLaws.{read_call-is, read_bytes}
 use Rattle.ci_machine.proofs.state.State.read_call.Goals as goal
@@ -15,7 +14,7 @@ returns-then-is_range-clause-state c =
     let size : old.input.len ≡ length old.input.items = old.input.ok.0 in
     let within : count ≤ length old.input.items - old.read = omega (arith, c.min-count.ensures, c.len.ensures) in
     let memory = read_bytes _ _ (slice_index old.registers 11) old.read count (old.read + count - old.read) old.input.items c.deref.result.now
-    (omega arith) c.deref.ensures.value within c.put_all.ensures.written in
+    (omega arith) c.deref.ensures.value within c.write.ensures.written in
     let left = drop-drop count old.read old.input.items in
     let wanted : count ≡ read_length (core_of old) =
     omega (arith, c.min-count.ensures, c.len.ensures, length-drop old.read old.input.items) in
@@ -26,7 +25,7 @@ returns-then-is_range-clause-state c =
           (ap (λ (core : Core). answering core count) (λ i. record {
             registers = slice_index old.registers;
             memory = memory i;
-            heap_end = heap_end_in (c.put_all.ensures.places i);
+            heap_end = c.write.ensures.end i;
             input = sym left i;
             output = old.output.items;
           })) k;

@@ -2,7 +2,7 @@ use Rattle.std.proofs.Common.{◌≡◌, ℕ, zero, suc, false, ◌∷◌, cond,
 use Rattle.std.proofs.lemmas.Bool.Decides.{nat_tests}
 use Rattle.ci_elf.specs.Executables.{IsAscending}
 use Rattle.ci_machine.specs.States.{state_of, core_of}
-use Rattle.ci_machine.proofs.PartLaws.{passed}
+use Rattle.ci_machine.proofs.TestLaws.{passed}
 use Rattle.ci_machine.proofs.state.State.start_on.Goals as goal
 
 zeros_at : (n k : ℕ) → ◌≡◌ {A = ℕ} (get_or (replicate n 0) k 0) 0

@@ -1,0 +1,57 @@
+-- Which bytes of a machine's memory are mapped, and where its heap lies.
+use Rattle.std.specs.Prelude.{◌≡◌, ℕ, ◌+◌, ◌-◌, ◌*◌, ◌/◌, ◌<◌, ◌≤◌, Bool, true, false, ◌||◌, nat_lt, nat_le, List, map}
+use Rattle.std.specs.Prelude.{min}
+use native.Mathlib.Nat.{ℕ_set}
+use native.Mathlib.Bridge.{le_prop}
+use Rattle.std.proofs.Props.{props}
+use Rattle.ci_elf.specs.declared.segments.Segment.{Segment}
+use Rattle.ci_machine.specs.declared.pages.Pages.{Pages}
+use Rattle.ci_machine.specs.declared.spans.Span.{Span}
+use Rattle.ci_machine.specs.Pages.{content, has, room}
+use Rattle.ci_machine.specs.PageTables.{pages_to}
+use Rattle.ci_machine.specs.Programs.{extent_of, lies_in, loaded_size, maximum_end, stack_start, stack_end}
+use Rattle.ci_machine.specs.Spans.{in_spans}
+
+-- the address lies in a span or in the heap
+abbrev pub mapped_in : List Span → ℕ → ℕ → ℕ → Bool
+mapped_in spans heap_start heap_end address = in_spans spans address || lies_in heap_start heap_end address
+
+-- the greatest address at which the heap may end, where the segments and the stack take so many bytes
+abbrev pub heap_limit : ℕ → ℕ → ℕ
+heap_limit start loaded = start + min (67108864 - loaded) (0xffff0000 - start)
+
+-- Where the heap lies: behind the segments, of which it has no byte, and clear of the stack. The segments' bytes and
+-- the stack's are counted.
+pub record IsLaidOut (spans : List Span) (segments : List Segment) (start end loaded : ℕ) : Type 0 where
+  pub begins : start ≡ (maximum_end (map extent_of segments) + 15) / 16 * 16
+  pub ordered : start ≤ end
+  pub top : end ≤ 0xffff0000
+  pub clear : start < end → (nat_le end stack_start || nat_le stack_end start) ≡ true
+  pub counted : loaded ≡ loaded_size (map extent_of segments)
+  pub fits : loaded ≤ 67108864
+  pub below : (address : ℕ) → in_spans spans address ≡ true
+      → (nat_lt address start || lies_in stack_start stack_end address) ≡ true
+
+-- Each mapped byte is on a page, and what isn't mapped is 0. The pages that the heap meets are there, and there is room
+-- for those that it may come to meet.
+pub record IsPaged (pages : Pages) (spans : List Span) (start end loaded : ℕ) : Type 0 where
+  pub covered : (address : ℕ) → in_spans spans address ≡ true → has pages (address / 4096) ≡ true
+  pub heap : (number : ℕ) → start / 4096 ≤ number → number < pages_to end → has pages number ≡ true
+  pub clean : (address : ℕ) → mapped_in spans start end address ≡ false → content pages address ≡ 0
+  pub room : pages_to (heap_limit start loaded) ≤ room pages + pages_to end
+
+-- The same, shut, so that they stay apart from what is known of a state.
+unfoldable pub HasLayout : List Span → List Segment → ℕ → ℕ → ℕ → Type 0
+HasLayout spans segments start end loaded = IsLaidOut spans segments start end loaded
+
+unfoldable pub HasPages : Pages → List Span → ℕ → ℕ → ℕ → Type 0
+HasPages pages spans start end loaded = IsPaged pages spans start end loaded
+
+pub HasLayout-prop : (spans : List Span) (segments : List Segment) (start end loaded : ℕ)
+    → IsProp (HasLayout spans segments start end loaded)
+unfolding HasLayout
+HasLayout-prop spans segments start end loaded = hlevel (ℕ_set, le_prop, props)
+
+pub HasPages-prop : (pages : Pages) (spans : List Span) (start end loaded : ℕ) → IsProp (HasPages pages spans start end loaded)
+unfolding HasPages
+HasPages-prop pages spans start end loaded = hlevel (ℕ_set, le_prop, props)
