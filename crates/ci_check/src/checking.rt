@@ -1,15 +1,16 @@
 //! The checker of logs.
-ghost use Rattle.std.specs.Prelude.{◌≡◌, ◌↔◌, ◌^◌, ◌<◌, ◌≤◌, List, ◌++◌, drop, length, MatchOption, IsOk, IfErr, OnOk};
+ghost use Rattle.std.specs.Prelude.{◌≡◌, ◌↔◌, suc, ◌^◌, ◌<◌, ◌≤◌, true, IsTrue, List, ◌∷◌, ◌++◌, drop, length};
+ghost use Rattle.std.specs.Prelude.{MatchOption, IsOk, IfErr, OnOk};
 ghost use Rattle.std.specs.FinSet as set;
 ghost use Rattle.ci_cut.specs.Best.{IsBest, HasNoCut};
 ghost use Rattle.ci_log.specs.declared.log.Item.{Item};
 ghost use Rattle.ci_log.specs.Trees.{IsTree};
-ghost use Rattle.ci_cut.specs.Prefixes.{Prefix};
+ghost use Rattle.ci_cut.specs.Prefixes.{Prefix, is_next};
 ghost use Rattle.ci_check.specs.Rules.{stations, IsAccepted, IsFirstWrong};
 ghost use Rattle.ci_cut.specs.Representation.{AreRowsOf, Represents, AreKeptFrom};
 ghost use Rattle.ci_check.specs.Representation.{IsMeasured, IsTreeAt, IsJudged, IsBranchOn};
 
-use crate::rules::{checked, is_right, reason_of};
+use crate::rules::{checked, is_right, is_right_with, reason_of};
 use ci_cut::{Delays, Graph, GraphRows, Incumbent, Limits, PrefixTerms};
 use ci_log::{Item, Log};
 use ci_word::Row;
@@ -44,7 +45,7 @@ pub fn check(graph: &Graph, limits: &Limits, best: Option<Row>, log: &Log) -> Re
     };
     let rows = GraphRows::of(graph);
     let mut delays = [0; 256];
-    let none = PrefixTerms::none(graph);
+    let mut none = PrefixTerms::none(graph);
     check_tree(
         graph,
         &rows,
@@ -52,13 +53,14 @@ pub fn check(graph: &Graph, limits: &Limits, best: Option<Row>, log: &Log) -> Re
         &best,
         log.items(),
         0,
-        &none,
+        &mut none,
         &mut delays,
     )?;
     Ok(())
 }
 
 /// Checks the items of the tree that begins at `place`, at the prefix with these terms. It answers where the tree ends.
+#[cycle(trees)]
 fn check_tree(
     graph: &Graph,
     rows: &GraphRows,
@@ -66,17 +68,17 @@ fn check_tree(
     best: &Incumbent,
     items: &[Item],
     place: usize,
-    terms: &PrefixTerms,
+    terms: &mut PrefixTerms,
     delays: &mut Delays,
 ) -> Result<usize, Wrong>
     requires rows { AreRowsOf graph.now rows.now }
-    requires represents { (prefix : Prefix) × Represents graph.now prefix terms.now delays.old }
+    requires represents { (prefix : Prefix) × Represents graph.now prefix terms.old delays.old }
     requires measured { IsMeasured graph.now limits.now best.now }
     requires few { length items.now < 2 ^ 32 }
     requires tree { IsTreeAt items.now place }
-    ensures kept { AreKeptFrom terms.now.place delays.old delays.new }
+    ensures kept { AreKeptFrom terms.old.place delays.old delays.new }
     ensures judged { (prefix : Prefix) (one rest : List Item) (tree : IsTree one)
-        → Represents graph.now prefix terms.now delays.old → drop place items.now ≡ one ++ rest
+        → Represents graph.now prefix terms.old delays.old → drop place items.now ≡ one ++ rest
         → IsJudged graph.now limits.now best.now.cut (stations tree prefix) place result }
 {
     let item = items[place];
@@ -89,19 +91,90 @@ fn check_tree(
     let Some(node) = branch_on(graph, rows, terms, item) else {
         return Ok(place + 1);
     };
-    let with_node = terms.take_in(graph, rows, delays, node);
-    let end = check_tree(
+    let end = check_first(
         graph,
         rows,
         limits,
         best,
         items,
         place + 1,
-        &with_node,
+        terms,
         delays,
+        node,
     )?;
-    let without_node = terms.leave_out(graph, node);
-    check_tree(graph, rows, limits, best, items, end, &without_node, delays)
+    terms.leave_out(graph, node);
+    check_tree(graph, rows, limits, best, items, end, terms, delays)
+}
+
+/// Checks the items of the tree that begins at `place`, where the next node is taken in.
+#[cycle(trees)]
+fn check_first(
+    graph: &Graph,
+    rows: &GraphRows,
+    limits: &Limits,
+    best: &Incumbent,
+    items: &[Item],
+    place: usize,
+    terms: &PrefixTerms,
+    delays: &mut Delays,
+    node: u8,
+) -> Result<usize, Wrong>
+    requires rows { AreRowsOf graph.now rows.now }
+    requires next { (prefix : Prefix) × Represents graph.now prefix terms.now delays.old
+        × IsTrue (is_next graph.now prefix node) }
+    requires measured { IsMeasured graph.now limits.now best.now }
+    requires few { length items.now < 2 ^ 32 }
+    requires tree { IsTreeAt items.now place }
+    ensures kept { AreKeptFrom (suc node) delays.old delays.new }
+    ensures judged { (prefix : Prefix) (one rest : List Item) (tree : IsTree one)
+        → Represents graph.now prefix terms.now delays.old → IsTrue (is_next graph.now prefix node)
+        → drop place items.now ≡ one ++ rest
+        → IsJudged graph.now limits.now best.now.cut (stations tree (true ∷ prefix)) place result }
+{
+    if is_right_with(graph, rows, limits, terms, node, items[place]) {
+        return Ok(place + 1);
+    }
+    check_with(graph, rows, limits, best, items, place, terms, delays, node)
+}
+
+/// The same with the terms of the prefix that takes the node in.
+// A frame of its own holds them, since few items need them.
+#[cycle(trees)]
+#[inline(never)]
+fn check_with(
+    graph: &Graph,
+    rows: &GraphRows,
+    limits: &Limits,
+    best: &Incumbent,
+    items: &[Item],
+    place: usize,
+    terms: &PrefixTerms,
+    delays: &mut Delays,
+    node: u8,
+) -> Result<usize, Wrong>
+    requires rows { AreRowsOf graph.now rows.now }
+    requires next { (prefix : Prefix) × Represents graph.now prefix terms.now delays.old
+        × IsTrue (is_next graph.now prefix node) }
+    requires measured { IsMeasured graph.now limits.now best.now }
+    requires few { length items.now < 2 ^ 32 }
+    requires tree { IsTreeAt items.now place }
+    ensures kept { AreKeptFrom (suc node) delays.old delays.new }
+    ensures judged { (prefix : Prefix) (one rest : List Item) (tree : IsTree one)
+        → Represents graph.now prefix terms.now delays.old → IsTrue (is_next graph.now prefix node)
+        → drop place items.now ≡ one ++ rest
+        → IsJudged graph.now limits.now best.now.cut (stations tree (true ∷ prefix)) place result }
+{
+    let mut with_node = terms.take_in(graph, rows, delays, node);
+    check_tree(
+        graph,
+        rows,
+        limits,
+        best,
+        items,
+        place,
+        &mut with_node,
+        delays,
+    )
 }
 
 /// The node that the item branches on, or `None` where it is a leaf or all nodes are decided.

@@ -5,7 +5,8 @@
 //! node. `check` looks at each item of a log by itself, and `needs_more` tells whether a search needs more branches
 //! than a budget.
 //!
-//! What rules out the sets that go on from a prefix is told as the checker tells it: `is_right` serves both.
+//! What rules out the sets that go on from a prefix is told as the checker tells it: `is_right` and `is_right_with`
+//! serve both.
 //!
 //! The definitions of `ci_cut` say what a prefix is and what bounds the sets that go on from it (`Prefixes`), and how
 //! many prefixes are open (`Need`); those in `specs` say when a log is accepted (`Rules`).
@@ -14,7 +15,7 @@
 pub use checking::{Wrong, check};
 pub use laws::each_item_has_one_prefix;
 pub use need::needs_more;
-pub use rules::is_right;
+pub use rules::{is_right, is_right_with};
 
 mod checking;
 mod laws;

@@ -29,13 +29,13 @@ pub fn needs_more(graph: &Graph, limits: &Limits, budget: u32) -> bool
     };
     let rows = GraphRows::of(graph);
     let mut delays = [0; 256];
-    let first = PrefixTerms::none(graph);
+    let mut first = PrefixTerms::none(graph);
     let all = walk(
         graph,
         &rows,
         limits,
         u64::from(budget),
-        &first,
+        &mut first,
         &mut delays,
         none,
     );
@@ -48,16 +48,16 @@ fn walk(
     rows: &GraphRows,
     limits: &Limits,
     budget: u64,
-    terms: &PrefixTerms,
+    terms: &mut PrefixTerms,
     delays: &mut Delays,
     before: Walked,
 ) -> Walked
     requires rows { AreRowsOf graph.now rows.now }
-    requires represents { (prefix : Prefix) × Represents graph.now prefix terms.now delays.old }
+    requires represents { (prefix : Prefix) × Represents graph.now prefix terms.old delays.old }
     requires few { budget < 2 ^ 32 }
     requires within { before.open ≤ budget }
-    ensures kept { AreKeptFrom terms.now.place delays.old delays.new }
-    ensures walked { (prefix : Prefix) (undecided : ℕ) → Represents graph.now prefix terms.now delays.old
+    ensures kept { AreKeptFrom terms.old.place delays.old delays.new }
+    ensures walked { (prefix : Prefix) (undecided : ℕ) → Represents graph.now prefix terms.old delays.old
         → undecided + length prefix ≡ eligible_nodes graph.now
         → IsReachedBefore graph.now limits.now prefix before.reached
         → IsWalked graph.now limits.now budget undecided prefix before result }
@@ -78,13 +78,13 @@ fn walk(
     if here.open > budget {
         return here;
     }
-    let with_node = terms.take_in(graph, rows, delays, node);
-    let between = walk(graph, rows, limits, budget, &with_node, delays, here);
+    let mut with_node = terms.take_in(graph, rows, delays, node);
+    let between = walk(graph, rows, limits, budget, &mut with_node, delays, here);
     if between.open > budget {
         return between;
     }
-    let without_node = terms.leave_out(graph, node);
-    walk(graph, rows, limits, budget, &without_node, delays, between)
+    terms.leave_out(graph, node);
+    walk(graph, rows, limits, budget, terms, delays, between)
 }
 
 /// The reached gain, with the set that is taken in.

@@ -1,10 +1,12 @@
 //! The rules of the items of a log.
-ghost use Rattle.std.specs.Prelude.{◌≡◌, ◌↔◌, ℕ, List, MatchOption, IsTrue};
+ghost use Rattle.std.specs.Prelude.{◌≡◌, ◌↔◌, ℕ, true, List, ◌∷◌, MatchOption, IsTrue};
 ghost use Rattle.std.specs.FinSet as set;
 ghost use Rattle.ci_cut.specs.GraphRules.{AreNodes};
-ghost use Rattle.ci_cut.specs.Prefixes.{Prefix};
+ghost use Rattle.ci_cut.specs.Prefixes.{Prefix, is_next};
 ghost use Rattle.ci_cut.specs.Representation.{AreRowsOf, Represents, RepresentsSome, RepresentsWhole};
-ghost use Rattle.ci_check.specs.Rules.{IsGood, IsAfterBest, IsBeforeBest, IsBetter, IsRight, GainsTooLittle, reason_of};
+ghost use Rattle.ci_log.specs.Trees.{IsLeaf};
+ghost use Rattle.ci_check.specs.Rules.{Given, IsGood, IsAfterBest, IsBeforeBest, IsBetter, IsRight, GainsTooLittle};
+ghost use Rattle.ci_check.specs.Rules.{reason_of};
 ghost use Rattle.ci_check.specs.Representation.{IsMeasured};
 
 use crate::order::comes_before;
@@ -110,6 +112,29 @@ pub fn is_right(
         Item::G => gains_too_little(graph, limits, best, terms),
         Item::F => terms.next(graph, rows).is_none() && !is_better(graph, limits, best, terms),
         Item::B => terms.next(graph, rows).is_some(),
+    }
+}
+
+/// Whether the outputs or the way back show at once that the item is right where the next node is taken in.
+pub fn is_right_with(
+    graph: &Graph,
+    rows: &GraphRows,
+    limits: &Limits,
+    terms: &PrefixTerms,
+    node: u8,
+    item: Item,
+) -> bool
+    requires rows { AreRowsOf graph.now rows.now }
+    requires next { (prefix : Prefix) × (delays : List ℕ) × Represents graph.now prefix terms.now delays
+        × IsTrue (is_next graph.now prefix node) }
+    ensures { (best : Given) (prefix : Prefix) (delays : List ℕ) → Represents graph.now prefix terms.now delays
+        → IsTrue (is_next graph.now prefix node) → IsTrue result
+        → IsLeaf item × IsRight graph.now limits.now best (true ∷ prefix) item }
+{
+    match item {
+        Item::O => terms.outputs_with(graph, rows, node) > u32::from(limits.outputs),
+        Item::C => !terms.convex_with(rows, node),
+        Item::I | Item::G | Item::F | Item::B => false,
     }
 }
 

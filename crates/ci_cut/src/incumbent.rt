@@ -17,7 +17,7 @@ impl Incumbent {
     /// The set where it fits and gains more than this cut, and else this cut.
     ///
     /// Each number of the set has to be a node.
-    pub fn improved(&self, graph: &Graph, limits: &Limits, cut: &Row) -> Incumbent
+    pub(crate) fn improved(&self, graph: &Graph, limits: &Limits, cut: &Row) -> Incumbent
         requires { AreNodes graph.now cut.now }
         ensures { IsImproved graph.now limits.now self.now cut.now result }
     {

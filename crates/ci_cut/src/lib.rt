@@ -10,10 +10,10 @@ pub use convexity::is_convex;
 pub use graph::{Graph, Limits, Node, Source, Sources};
 pub use graph_rows::GraphRows;
 pub use incumbent::Incumbent;
-pub use ports::{SourceSet, inputs, inputs_from_outside, outputs};
+pub use ports::{SourceSet, inputs, outputs};
 pub use prefix::{Delays, PrefixTerms};
 pub use timing::{hardware, hardware_is_the_critical_path};
-pub use value::{fits, fitting_gain, gain, gain_above, saved_by};
+pub use value::{fits, gain, gain_above};
 
 mod choice;
 mod convexity;

@@ -175,18 +175,10 @@ pub fn inputs(graph: &Graph, cut: &Row) -> u32
     requires { AreNodes graph.now cut.now }
     ensures { result ≡ terms.inputs graph.now (set.contains cut.now) }
 {
-    inputs_from_outside(graph, cut, cut)
-}
-
-/// How many distinct sources outside the first set the members of the second read: nodes, and registers at entry.
-pub fn inputs_from_outside(graph: &Graph, inside: &Row, readers: &Row) -> u32
-    ensures { result
-        ≡ terms.inputs_from graph.now (terms.is_outside (set.contains inside.now)) (set.contains readers.now) }
-{
-    let read = read_by(graph, readers, true);
+    let read = read_by(graph, cut, true);
     let mut nodes = 0;
     for k in 0..graph.nodes().len() {
-        if read.nodes.has(k as u8) && !inside.has(k as u8) {
+        if read.nodes.has(k as u8) && !cut.has(k as u8) {
             nodes += 1;
         }
     }

@@ -1,10 +1,14 @@
 //! The terms of a prefix, one decision after the other.
 //!
-//! A recursion over prefixes holds the terms of each in the frame of its call, so that a decision is taken back by
-//! leaving the call, and no memory is taken. The frames are at most one more than there are nodes.
+//! A recursion over prefixes holds the terms in the frame of a call that takes a node in, and writes over them where
+//! it then leaves the node out, so that no decision is taken back, and no memory is taken. The frames are at most one
+//! more than there are nodes.
 ghost use Rattle.std.specs.Prelude.{◌≡◌, ◌↔◌, ℕ, suc, ◌<◌, ◌≤◌, true, false, List, [], ◌∷◌, length, IsTrue, MatchOption};
 ghost use Rattle.std.specs.Prelude.{slice_index};
 ghost use Rattle.std.specs.FinSet as set;
+ghost use Rattle.ci_cut.specs.FlowGraph.{FlowGraph};
+ghost use Rattle.ci_cut.specs.Walks.{IsConvex};
+ghost use Rattle.ci_cut.specs.Ports as counts;
 ghost use Rattle.ci_cut.specs.Gain as gains;
 ghost use Rattle.ci_cut.specs.Prefixes as prefixes;
 ghost use Rattle.ci_cut.specs.Representation.{row_at, AreRowsOf, IsLastBelow, IsDelayTo, HasWayBack, HasReaderOutside};
@@ -96,8 +100,6 @@ impl PrefixTerms {
         let delay = self.delay_to(rows, delays, node, here.delay);
         let mut read = self.read;
         let settled = read.extend_settled(graph, here.sources.as_slice());
-        let output = here.live | self.is_read_outside(rows, node);
-        let convex = self.convex & !self.breaks_convexity(rows, node);
         let mut taken = self.taken;
         taken.insert(node);
         delays[node as usize] = delay;
@@ -106,8 +108,8 @@ impl PrefixTerms {
             place: node as usize,
             reaching: self.reaching.union(&rows.ancestors[node as usize]),
             read,
-            convex,
-            outputs: self.outputs + u32::from(output),
+            convex: self.convex_with(rows, node),
+            outputs: self.outputs_with(graph, rows, node),
             settled: self.settled + settled,
             longest: self.longest.max(delay),
             software: self.software,
@@ -116,28 +118,42 @@ impl PrefixTerms {
     }
 
     /// The next node is left out.
-    pub fn leave_out(&self, graph: &Graph, node: u8) -> PrefixTerms
-        requires next { (prefix : prefixes.Prefix) × (delays : List ℕ) × Represents graph.now prefix self.now delays
+    pub fn leave_out(&mut self, graph: &Graph, node: u8)
+        requires next { (prefix : prefixes.Prefix) × (delays : List ℕ) × Represents graph.now prefix self.old delays
             × IsTrue (prefixes.is_next graph.now prefix node) }
-        ensures place { result.place ≡ node }
-        ensures represents { (prefix : prefixes.Prefix) (delays : List ℕ) → Represents graph.now prefix self.now delays
+        ensures place { self.new.place ≡ node }
+        ensures represents { (prefix : prefixes.Prefix) (delays : List ℕ) → Represents graph.now prefix self.old delays
             → IsTrue (prefixes.is_next graph.now prefix node)
-            → Represents graph.now (false ∷ prefix) result delays }
+            → Represents graph.now (false ∷ prefix) self.new delays }
     {
         let read = self.read.has(&Source::Made(node));
         let latency = graph.nodes()[node as usize].latency;
-        PrefixTerms {
-            taken: self.taken,
-            place: node as usize,
-            reaching: self.reaching,
-            read: self.read,
-            convex: self.convex,
-            outputs: self.outputs,
-            settled: self.settled + u32::from(read),
-            longest: self.longest,
-            software: self.software - latency,
-            size: self.size - 1,
-        }
+        self.place = node as usize;
+        self.settled += u32::from(read);
+        self.software -= latency;
+        self.size -= 1;
+    }
+
+    /// How many outputs there are once the next node is taken in.
+    pub fn outputs_with(&self, graph: &Graph, rows: &GraphRows, node: u8) -> u32
+        requires rows { AreRowsOf graph.now rows.now }
+        requires next { (prefix : prefixes.Prefix) × (delays : List ℕ) × Represents graph.now prefix self.now delays
+            × IsTrue (prefixes.is_next graph.now prefix node) }
+        ensures { (prefix : prefixes.Prefix) (delays : List ℕ) → Represents graph.now prefix self.now delays
+            → IsTrue (prefixes.is_next graph.now prefix node)
+            → result ≡ counts.outputs graph.now (prefixes.taken graph.now (true ∷ prefix)) }
+    {
+        let here = &graph.nodes()[node as usize];
+        self.outputs + u32::from(here.live | self.is_read_outside(rows, node))
+    }
+
+    /// Whether the nodes taken in are convex once the next node is one of them.
+    pub fn convex_with(&self, rows: &GraphRows, node: u8) -> bool
+        ensures { (graph : FlowGraph) (prefix : prefixes.Prefix) (delays : List ℕ) → AreRowsOf graph rows.now
+            → Represents graph prefix self.now delays → IsTrue (prefixes.is_next graph prefix node)
+            → IsTrue result ↔ IsConvex graph (prefixes.taken graph (true ∷ prefix)) }
+    {
+        self.convex & !self.breaks_convexity(rows, node)
     }
 
     /// Whether the node has an arc into one that is not taken in and from which a walk leads to one that is.
@@ -155,10 +171,8 @@ impl PrefixTerms {
         ensures { IsTrue result
             ↔ HasReaderOutside (set.contains (row_at rows.now.readers node)) (set.contains self.now.taken) }
     {
-        match rows.readers[node as usize].minus(&self.taken).greatest() {
-            Some(_) => true,
-            None => false,
-        }
+        let readers = &rows.readers[node as usize];
+        readers.minus(&self.taken).meets(readers)
     }
 
     /// The greatest sum of delays along a chain that ends at the node, which has this delay, once it is taken in.

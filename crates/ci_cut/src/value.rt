@@ -9,7 +9,7 @@ ghost use Rattle.ci_cut.specs.GraphRules.{AreNodes};
 
 use crate::convexity::is_convex;
 use crate::graph::{Graph, Limits, Node};
-use crate::ports::{Ports, inputs_from_outside, outputs, ports_of};
+use crate::ports::{Ports, ports_of};
 use crate::timing::hardware;
 use ci_word::Row;
 
@@ -21,40 +21,22 @@ pub fn gain(graph: &Graph, cut: &Row) -> i64
     requires { AreNodes graph.now cut.now }
     ensures { result ≡ terms.gain graph.now (set.contains cut.now) }
 {
-    saved_by_ports(graph, cut, cut, &ports_of(graph, cut))
+    gain_by_ports(graph, cut, &ports_of(graph, cut))
 }
 
-/// The saved cycles by the latencies and the size of one set of nodes, the hardware time and the outputs of another,
-/// and the inputs that the other has from outside the first. For one set alone they are its gain.
-///
-/// Each number of the sets has to be a node.
-pub fn saved_by(graph: &Graph, members: &Row, core: &Row) -> i64
-    requires members { AreNodes graph.now members.now }
-    requires core { AreNodes graph.now core.now }
-    ensures { result ≡ terms.saved_by graph.now (set.contains members.now) (set.contains core.now) }
-{
-    let ports = Ports {
-        inputs: inputs_from_outside(graph, members, core),
-        outputs: outputs(graph, core),
-    };
-    saved_by_ports(graph, members, core, &ports)
-}
-
-/// The saved cycles, where these ports are known.
-fn saved_by_ports(graph: &Graph, members: &Row, core: &Row, ports: &Ports) -> i64
-    requires members { AreNodes graph.now members.now }
-    requires core { AreNodes graph.now core.now }
-    requires inputs { ports.now.inputs
-        ≡ counts.inputs_from graph.now (counts.is_outside (set.contains members.now)) (set.contains core.now) }
-    requires outputs { ports.now.outputs ≡ counts.outputs graph.now (set.contains core.now) }
-    ensures { result ≡ terms.saved_by graph.now (set.contains members.now) (set.contains core.now) }
+/// The same, where the ports are known.
+fn gain_by_ports(graph: &Graph, cut: &Row, ports: &Ports) -> i64
+    requires nodes { AreNodes graph.now cut.now }
+    requires inputs { ports.now.inputs ≡ counts.inputs graph.now (set.contains cut.now) }
+    requires outputs { ports.now.outputs ≡ counts.outputs graph.now (set.contains cut.now) }
+    ensures { result ≡ terms.gain graph.now (set.contains cut.now) }
 {
     saved_cycles(
         graph,
-        software(graph.nodes(), members),
-        hardware(graph, core),
+        software(graph.nodes(), cut),
+        hardware(graph, cut),
         ports.further_words(),
-        members.count(),
+        cut.count(),
     )
 }
 
@@ -107,14 +89,14 @@ fn fitting_ports(graph: &Graph, limits: &Limits, cut: &Row) -> Option<Ports>
 /// What the set gains, if it fits under the limits.
 ///
 /// Each number of the set has to be a node.
-pub fn fitting_gain(graph: &Graph, limits: &Limits, cut: &Row) -> Option<i64>
+fn fitting_gain(graph: &Graph, limits: &Limits, cut: &Row) -> Option<i64>
     requires { AreNodes graph.now cut.now }
     ensures { MatchOption result (¬ terms.Fits graph.now limits.now (set.contains cut.now))
         (λ gained. terms.Fits graph.now limits.now (set.contains cut.now)
         × (gained ≡ terms.gain graph.now (set.contains cut.now))) }
 {
     let ports = fitting_ports(graph, limits, cut)?;
-    Some(saved_by_ports(graph, cut, cut, &ports))
+    Some(gain_by_ports(graph, cut, &ports))
 }
 
 /// What the set gains, if it fits under the limits and gains more than `floor`.

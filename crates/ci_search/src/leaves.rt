@@ -1,12 +1,13 @@
 //! The leaves of a log.
-ghost use Rattle.std.specs.Prelude.{ℕ, List};
-ghost use Rattle.ci_cut.specs.Prefixes.{Prefix};
+ghost use Rattle.std.specs.Prelude.{ℕ, true, List, ◌∷◌, IfSome, IsTrue};
+ghost use Rattle.ci_cut.specs.Prefixes.{Prefix, is_next};
 ghost use Rattle.ci_cut.specs.Incumbents.{IsImproved};
 ghost use Rattle.ci_cut.specs.Representation.{AreRowsOf, Represents, RepresentsSome, RepresentsWhole};
 ghost use Rattle.ci_check.specs.Representation.{IsMeasured};
-ghost use Rattle.ci_search.specs.Searched.{IsPruning};
+ghost use Rattle.ci_check.specs.Rules.{Given, IsRight};
+ghost use Rattle.ci_search.specs.Searched.{Prunes, IsPruning};
 
-use ci_check::is_right;
+use ci_check::{is_right, is_right_with};
 use ci_cut::{Graph, GraphRows, Incumbent, Limits, PrefixTerms};
 use ci_log::Item;
 
@@ -39,22 +40,48 @@ pub fn pruning_item(
     None
 }
 
-/// The set that is taken in, where it fits and gains more than the best cut so far, and else that cut.
+/// The item that shows at once, by the outputs or the way back, that no set that goes on from where the next node is
+/// taken in is a better cut, if one does and a node is undecided there.
+pub fn pruning_with(
+    graph: &Graph,
+    rows: &GraphRows,
+    limits: &Limits,
+    terms: &PrefixTerms,
+    node: u8,
+) -> Option<Item>
+    requires rows { AreRowsOf graph.now rows.now }
+    requires next { (prefix : Prefix) × (delays : List ℕ) × Represents graph.now prefix terms.now delays
+        × IsTrue (is_next graph.now prefix node) }
+    ensures { (best : Given) (prefix : Prefix) (delays : List ℕ) → Represents graph.now prefix terms.now delays
+        → IsTrue (is_next graph.now prefix node)
+        → IfSome result (λ item. Prunes item × IsRight graph.now limits.now best (true ∷ prefix) item) }
+{
+    if rows.last_below[node as usize].is_none() {
+        return None;
+    }
+    if is_right_with(graph, rows, limits, terms, node, Item::O) {
+        return Some(Item::O);
+    }
+    if is_right_with(graph, rows, limits, terms, node, Item::C) {
+        return Some(Item::C);
+    }
+    None
+}
+
+/// Puts the set that is taken in where the best cut so far stands, if it fits and gains more.
 ///
 /// All nodes have to be decided.
-pub fn improved(graph: &Graph, limits: &Limits, best: &Incumbent, terms: &PrefixTerms) -> Incumbent
+pub fn improve(graph: &Graph, limits: &Limits, best: &mut Incumbent, terms: &PrefixTerms)
     requires { RepresentsWhole graph.now terms.now }
-    ensures { IsImproved graph.now limits.now best.now terms.now.taken result }
+    ensures { IsImproved graph.now limits.now best.old terms.now.taken best.new }
 {
     let Some(gain) = terms.fitting_gain(graph, limits) else {
-        return *best;
+        return;
     };
     if gain > best.gain {
-        Incumbent {
+        *best = Incumbent {
             cut: Some(terms.taken),
             gain,
-        }
-    } else {
-        *best
+        };
     }
 }

@@ -1,8 +1,8 @@
 //! The search.
-ghost use Rattle.std.specs.Prelude.{◌≡◌, ◌↔◌, ℕ, ◌≤◌, ◌-◌, ◌^◌, MatchOption, Some};
+ghost use Rattle.std.specs.Prelude.{◌≡◌, ◌↔◌, ℕ, suc, ◌≤◌, ◌-◌, ◌^◌, true, IsTrue, ◌∷◌, MatchOption, Some};
 ghost use Rattle.std.specs.FinMap as map;
 ghost use Rattle.ci_region.specs.BoundedMap.{used};
-ghost use Rattle.ci_cut.specs.Prefixes.{Prefix, eligible_nodes};
+ghost use Rattle.ci_cut.specs.Prefixes.{Prefix, eligible_nodes, is_next};
 ghost use Rattle.ci_cut.specs.Need.{IsNeed, NeedExceeds};
 ghost use Rattle.ci_cut.specs.Representation.{AreRowsOf, AreKeptFrom};
 ghost use Rattle.ci_check.specs.Representation.{IsMeasured};
@@ -11,7 +11,7 @@ ghost use Rattle.ci_search.specs.Answered.{free, IsAnswer, IsSpent, IsOptimal};
 ghost use Rattle.ci_search.specs.Searched.{IsReady, IsSpentAt};
 ghost use Rattle.ci_search.specs.Trees.{IsSearched, answer_of};
 
-use crate::leaves::{improved, pruning_item};
+use crate::leaves::{improve, pruning_item, pruning_with};
 use crate::trees::{branch, give_back};
 use ci_cut::{Delays, Graph, GraphRows, Incumbent, Limits, PrefixTerms};
 use ci_log::{Child, Item, LogNode};
@@ -56,86 +56,126 @@ pub fn search(graph: &Graph, limits: &Limits, region: &mut Region<LogNode>) -> F
     ensures slots { ¬ IsSpent result → IsNeed graph.now limits.now (used region.new - used region.old) }
 {
     let budget = region.capacity() - region.used();
-    let none = Incumbent { cut: None, gain: 0 };
+    let mut best = Incumbent { cut: None, gain: 0 };
     let rows = GraphRows::of(graph);
     let mut delays = [0; 256];
-    let first = PrefixTerms::none(graph);
-    let searched = search_from(graph, &rows, limits, region, &first, &mut delays, &none);
-    answer_of(searched, budget)
+    let mut first = PrefixTerms::none(graph);
+    let root = search_from(
+        graph,
+        &rows,
+        limits,
+        region,
+        &mut first,
+        &mut delays,
+        &mut best,
+    );
+    answer_of(root, best.cut, budget)
 }
 
-/// What a search answers that has passed all sets, or that spent this budget.
-fn answer_of(searched: Option<Searched>, budget: u32) -> Found
-    ensures { result ≡ answer_of searched budget }
+/// What a search answers that has passed all sets with this best cut, or that spent this budget.
+fn answer_of(root: Option<Child>, best: Option<Row>, budget: u32) -> Found
+    ensures { result ≡ answer_of root best budget }
 {
-    let Some(Searched { best, root }) = searched else {
+    let Some(root) = root else {
         return Found::Spent { budget };
     };
-    match best.cut {
+    match best {
         Some(cut) => Found::Best { cut, root },
         None => Found::NoCut { root },
     }
 }
 
-/// What a search has found once it passed all sets that go on from a prefix.
-#[derive(Clone, Copy)]
-struct Searched {
-    /// The best cut so far.
-    best: Incumbent,
-    /// The tree of the prefix.
-    root: Child,
+/// Searches among the sets that go on from the prefix with these terms, with this best cut so far, and answers the tree
+/// of the prefix. `None` where slots are wanting.
+#[cycle(search)]
+fn search_from(
+    graph: &Graph,
+    rows: &GraphRows,
+    limits: &Limits,
+    region: &mut Region<LogNode>,
+    terms: &mut PrefixTerms,
+    delays: &mut Delays,
+    best: &mut Incumbent,
+) -> Option<Child>
+    requires rows { AreRowsOf graph.now rows.now }
+    requires measured { IsMeasured graph.now limits.now best.old }
+    requires ready { (prefix : Prefix) × IsReady graph.now limits.now terms.old delays.old best.old prefix }
+    requires within { used region.old ≤ region.old.capacity }
+    ensures kept { AreKeptFrom terms.old.place delays.old delays.new }
+    ensures searched { (prefix : Prefix) → IsReady graph.now limits.now terms.old delays.old best.old prefix
+        → MatchOption result (IsSpentAt graph.now limits.now prefix region.old region.new)
+        (IsSearched graph.now limits.now prefix best.old best.new region.old region.new) }
+{
+    let Some(node) = terms.next(graph, rows) else {
+        improve(graph, limits, best, terms);
+        return Some(Child::Leaf(Item::F));
+    };
+    if let Some(item) = pruning_item(graph, rows, limits, best, terms) {
+        return Some(Child::Leaf(item));
+    }
+    let taken = search_first(graph, rows, limits, region, terms, delays, best, node)?;
+    terms.leave_out(graph, node);
+    let Some(left_out) = search_from(graph, rows, limits, region, terms, delays, best) else {
+        give_back(region, taken);
+        return None;
+    };
+    branch(region, taken, left_out)
 }
 
-/// Searches among the sets that go on from the prefix with these terms, with this best cut so far. `None` where slots
-/// are wanting.
-fn search_from(
+/// Searches among the sets that go on from where the next node is taken in.
+#[cycle(search)]
+fn search_first(
     graph: &Graph,
     rows: &GraphRows,
     limits: &Limits,
     region: &mut Region<LogNode>,
     terms: &PrefixTerms,
     delays: &mut Delays,
-    best: &Incumbent,
-) -> Option<Searched>
+    best: &mut Incumbent,
+    node: u8,
+) -> Option<Child>
     requires rows { AreRowsOf graph.now rows.now }
-    requires measured { IsMeasured graph.now limits.now best.now }
-    requires ready { (prefix : Prefix) × IsReady graph.now limits.now terms.now delays.old best.now prefix }
+    requires measured { IsMeasured graph.now limits.now best.old }
+    requires ready { (prefix : Prefix) × IsReady graph.now limits.now terms.now delays.old best.old prefix
+        × IsTrue (is_next graph.now prefix node) }
     requires within { used region.old ≤ region.old.capacity }
-    ensures kept { AreKeptFrom terms.now.place delays.old delays.new }
-    ensures searched { (prefix : Prefix) → IsReady graph.now limits.now terms.now delays.old best.now prefix
-        → MatchOption result (IsSpentAt graph.now limits.now prefix region.old region.new)
-        (IsSearched graph.now limits.now prefix best.now region.old region.new) }
+    ensures kept { AreKeptFrom (suc node) delays.old delays.new }
+    ensures searched { (prefix : Prefix) → IsReady graph.now limits.now terms.now delays.old best.old prefix
+        → IsTrue (is_next graph.now prefix node)
+        → MatchOption result (IsSpentAt graph.now limits.now (true ∷ prefix) region.old region.new)
+        (IsSearched graph.now limits.now (true ∷ prefix) best.old best.new region.old region.new) }
 {
-    let Some(node) = terms.next(graph, rows) else {
-        return Some(Searched {
-            best: improved(graph, limits, best, terms),
-            root: Child::Leaf(Item::F),
-        });
-    };
-    if let Some(item) = pruning_item(graph, rows, limits, best, terms) {
-        return Some(Searched {
-            best: *best,
-            root: Child::Leaf(item),
-        });
+    if let Some(item) = pruning_with(graph, rows, limits, terms, node) {
+        return Some(Child::Leaf(item));
     }
-    let with_node = terms.take_in(graph, rows, delays, node);
-    let taken = search_from(graph, rows, limits, region, &with_node, delays, best)?;
-    let without_node = terms.leave_out(graph, node);
-    let Some(left_out) = search_from(
-        graph,
-        rows,
-        limits,
-        region,
-        &without_node,
-        delays,
-        &taken.best,
-    ) else {
-        give_back(region, taken.root);
-        return None;
-    };
-    let root = branch(region, taken.root, left_out.root)?;
-    Some(Searched {
-        best: left_out.best,
-        root,
-    })
+    search_with(graph, rows, limits, region, terms, delays, best, node)
+}
+
+/// The same with the terms of the prefix that takes the node in.
+// A frame of its own holds them, since few prefixes need them.
+#[cycle(search)]
+#[inline(never)]
+fn search_with(
+    graph: &Graph,
+    rows: &GraphRows,
+    limits: &Limits,
+    region: &mut Region<LogNode>,
+    terms: &PrefixTerms,
+    delays: &mut Delays,
+    best: &mut Incumbent,
+    node: u8,
+) -> Option<Child>
+    requires rows { AreRowsOf graph.now rows.now }
+    requires measured { IsMeasured graph.now limits.now best.old }
+    requires ready { (prefix : Prefix) × IsReady graph.now limits.now terms.now delays.old best.old prefix
+        × IsTrue (is_next graph.now prefix node) }
+    requires within { used region.old ≤ region.old.capacity }
+    ensures kept { AreKeptFrom (suc node) delays.old delays.new }
+    ensures searched { (prefix : Prefix) → IsReady graph.now limits.now terms.now delays.old best.old prefix
+        → IsTrue (is_next graph.now prefix node)
+        → MatchOption result (IsSpentAt graph.now limits.now (true ∷ prefix) region.old region.new)
+        (IsSearched graph.now limits.now (true ∷ prefix) best.old best.new region.old region.new) }
+{
+    let mut with_node = terms.take_in(graph, rows, delays, node);
+    search_from(graph, rows, limits, region, &mut with_node, delays, best)
 }

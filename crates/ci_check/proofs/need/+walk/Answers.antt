@@ -97,11 +97,11 @@ walk-requires t c =
     let represents = c.requires.represents.1 in
     let next = next_from_below graph prefix c.args.terms.now c.args.delays.now represents c.in-Some.node c.in-Some.ensures in
     let later = represents_kept graph prefix c.args.terms.now c.args.delays.now represents c.walk-between.new.delays (between t (goal.at.walk-requires t c).After-walk-between) in (
-      omega (arith, c.in-Some.ensures.below, c.leave_out-without_node.ensures.place),
+      omega (arith, c.in-Some.ensures.below, c.leave_out.ensures.place),
       (
         c.requires.rows,
         (
-          (false ∷ prefix, c.leave_out-without_node.ensures.represents prefix c.walk-between.new.delays later next),
+          (false ∷ prefix, c.leave_out.ensures.represents prefix c.walk-between.new.delays later next),
           (c.requires.few, omega (arith, c.if-between-budget.false)),
         ),
       ),
@@ -117,9 +117,14 @@ returns-clause-walked t c prefix undecided represents left reached =
     let first = first_walked t here prefix undecided represents left reached in
     let later = represents_kept graph prefix c.args.terms.now c.args.delays.now represents c.walk-between.new.delays (between t here) in
     let second = c.walk.ensures.walked (false ∷ prefix) (undecided - 1)
-    (c.leave_out-without_node.ensures.represents prefix c.walk-between.new.delays later next) (omega (arith, fewer, left))
+    (c.leave_out.ensures.represents prefix c.walk-between.new.delays later next) (omega (arith, fewer, left))
     (reached_between graph represents.kept limits prefix c.walk-between.result.reached c.in-Some.node next (first.reached c.if-between-budget.false)) in
     walked_both graph represents.kept limits c.args.budget prefix undecided (undecided - 1) fewer
     ((c.is_open.ensures prefix c.args.delays.now represents (passed_on graph limits prefix c.args.before.reached
     (search rules) reached)).0 c.if-not-is_open.false) c.args.before _ refl c.walk-between.result first
     c.walk.result second c.in-Some.node next
+
+pub returns-clause-kept : goal.returns-clause-kept
+returns-clause-kept t c k from =
+    c.walk.ensures.kept k (omega (arith, from, c.in-Some.ensures.below, c.leave_out.ensures.place))
+    ∙ between t (goal.at.returns-clause-kept t c).After-walk-between k from

@@ -12,8 +12,8 @@ use Rattle.ci_cut.proofs.Represented.{settled_inputs-few}
 use Rattle.ci_cut.proofs.Decisions as more
 use Rattle.ci_cut.proofs.prefix.PrefixTerms.leave_out.Goals as goal
 
-pub overflow_add-result : goal.overflow_add-result
-overflow_add-result c =
+pub overflow_add-self : goal.overflow_add-self
+overflow_add-self c =
     let represents = c.requires.next.2 in
     omega (
       arith,
@@ -23,8 +23,8 @@ overflow_add-result c =
       bool_byte-le c.has-read.result,
     )
 
-pub overflow_sub-result : goal.overflow_sub-result
-overflow_sub-result c =
+pub overflow_sub-self : goal.overflow_sub-self
+overflow_sub-self c =
     let graph = c.args.graph.now in
     let prefix = c.requires.next.0 in
     let next = c.requires.next.3 in
@@ -32,8 +32,8 @@ overflow_sub-result c =
     let read_node = node_there graph _ c.args.node _ c.nodes.ensures.value (omega (arith, below, ap length c.nodes.ensures.value)) c.index-nodes-node.is in
     omega (arith, c.requires.next.2.software_is, more.software_out graph prefix c.args.node next, ap (λ n. n.latency) (read_node ∙ c.index-nodes-node.is))
 
-pub overflow_sub-result-2 : goal.overflow_sub-result-2
-overflow_sub-result-2 c = omega (arith, c.requires.next.2.size_is, more.size_out c.args.graph.now c.requires.next.0 c.args.node c.requires.next.3)
+pub overflow_sub-self-2 : goal.overflow_sub-self-2
+overflow_sub-self-2 c = omega (arith, c.requires.next.2.size_is, more.size_out c.args.graph.now c.requires.next.0 c.args.node c.requires.next.3)
 
 pub returns-clause-represents : goal.returns-clause-represents
 returns-clause-represents c prefix delays represents next =

@@ -1,19 +1,18 @@
-use Rattle.std.proofs.Common.{◌≡◌, ◌↔◌, ℕ, ◌+◌, max, Bool, true, nat_eq, ◌||◌, IsTrue, ◌∷◌, length, refl, sym, ap, ◌∙◌, arith, subst}
+use Rattle.std.proofs.Common.{◌≡◌, ℕ, ◌+◌, max, Bool, true, nat_eq, ◌||◌, ◌∷◌, length, sym, ap, ◌∙◌, arith, subst}
 use Rattle.std.specs.Cmp.{nat_cmp_total}
 use Rattle.std.specs.FinSet as set
 use Rattle.std.proofs.Math.ListN.{set as list_set}
 use Rattle.std.proofs.lemmas.Bool.Decides.{nat_tests}
 use Rattle.std.proofs.lemmas.List.{get_or_default}
-use Rattle.ci_word.proofs.NumberLaws.{contains-insert_nat, count_below-le}
+use Rattle.ci_word.proofs.NumberLaws.{contains-insert_nat}
 use Rattle.ci_cut.specs.declared.graph.Source.TheVariants.{Made}
 use Rattle.ci_cut.specs.FlowGraph.{reads}
-use Rattle.ci_cut.specs.Ports.{is_output, size}
+use Rattle.ci_cut.specs.Ports.{size}
 use Rattle.ci_cut.specs.Gain.{software}
 use Rattle.ci_cut.specs.Prefixes.{taken}
-use Rattle.ci_cut.specs.Representation.{row_at, HasWayBack, HasReaderOutside, IsDelayTo, AreLongest}
+use Rattle.ci_cut.specs.Representation.{row_at, IsDelayTo, AreLongest}
 use Rattle.ci_cut.proofs.NodeLaws.{node_there}
 use Rattle.ci_cut.proofs.PrefixLaws.{eligible_below, decided_parts, next_parts}
-use Rattle.ci_cut.proofs.OneMore.{bool_byte-is, bool_byte-le}
 use Rattle.ci_cut.proofs.Represented.{settled_inputs-few}
 use Rattle.ci_cut.proofs.ChainsTo.{delay_small, longest_more}
 use Rattle.ci_cut.proofs.Decisions as more
@@ -29,17 +28,6 @@ delay_to-delay-requires-clause-small c k member =
 
 pub overflow_add-result : goal.overflow_add-result
 overflow_add-result c =
-    let few = c.requires.next.1.kept.few in
-    omega (
-      arith,
-      c.requires.next.1.outputs_are,
-      count_below-le (length c.args.graph.now.nodes) (is_output c.args.graph.now (taken c.args.graph.now c.requires.next.0)),
-      c.from.ensures,
-      bool_byte-le (c.index-nodes-node.result.live || c.is_read_outside.result),
-    )
-
-pub overflow_add-result-2 : goal.overflow_add-result-2
-overflow_add-result-2 c =
     let graph = c.args.graph.now in
     let prefix = c.requires.next.0 in
     omega (
@@ -59,7 +47,6 @@ returns-clause-represents c prefix represents next =
     let below = more.node_below graph prefix node next in
     let same_taken : set.contains terms.taken ≡ taken graph prefix = λ i k. represents.is_taken k i in
     let read_node = node_there graph _ node _ c.nodes.ensures.value (omega (arith, below, ap length c.nodes.ensures.value)) c.index-nodes-node.is in
-    let successors = λ (k : ℕ). c.requires.rows.successors node k below in
     let readers = λ (k : ℕ). c.requires.rows.readers node k below in
     let in_row = get_or_default rows.ancestors node set.empty c.index-rows-node.result (omega arith) in
     let most : c.max.result ≡ max terms.longest c.delay_to-delay.result = grind (arith, nat_tests) in
@@ -78,15 +65,8 @@ returns-clause-represents c prefix represents next =
           (represents.is_reaching k) (c.requires.rows.ancestors k node below);
       is_read = more.read_in graph prefix node next flows terms.read c.extend_settled-settled.new.self c.as_slice.result.now are
           represents.is_read c.extend_settled-settled.ensures.holds;
-      is_convex =
-          more.convex_in graph prefix node next flows _ _ successors represents.is_reaching terms.convex _ c.breaks_convexity.result represents.is_convex
-          (subst (λ (cut : ℕ → Bool). IsTrue c.breaks_convexity.result ↔ HasWayBack (set.contains (row_at rows.successors node)) cut (set.contains terms.reaching)) same_taken c.breaks_convexity.ensures)
-          refl;
-      outputs_are =
-          (λ i. represents.outputs_are i + (c.from.ensures ∙ bool_byte-is (c.index-nodes-node.result.live || c.is_read_outside.result)) i)
-          ∙ sym (more.outputs_in graph prefix node next flows _ readers c.is_read_outside.result _
-          (subst (λ (cut : ℕ → Bool). IsTrue c.is_read_outside.result ↔ HasReaderOutside (set.contains (row_at rows.readers node)) cut) same_taken c.is_read_outside.ensures)
-          (ap (λ n. n.live || c.is_read_outside.result) (sym read_node)));
+      is_convex = c.convex_with.ensures graph prefix c.args.delays.now c.requires.rows represents next;
+      outputs_are = c.outputs_with.ensures prefix c.args.delays.now represents next;
       settled_are =
           ap (λ m. m + c.extend_settled-settled.result) represents.settled_are
           ∙ sym (more.settled_in graph prefix node next flows terms.read c.extend_settled-settled.new.self c.as_slice.result.now are

@@ -4,8 +4,8 @@ use Rattle.ci_word.proofs.NumberLaws.{count_below-zero, count_below-same, count_
 use Rattle.std.proofs.Math.Bool.{and-false}
 use Rattle.ci_cut.specs.declared.graph.Source.TheVariants.{Entry, Made}
 use Rattle.ci_cut.proofs.PortLaws.{is_input, counted, not_counted, is_input-made}
-use Rattle.ci_cut.proofs.ports.inputs_from_outside.Goals as goal
-use Rattle.ci_cut.proofs.ports.inputs_from_outside.Goals.{then-has+then-not-has, else-has, else-has-via-then-has+else-not-has, else-has-via-else-has}
+use Rattle.ci_cut.proofs.ports.inputs.Goals as goal
+use Rattle.ci_cut.proofs.ports.inputs.Goals.{then-has+then-not-has, else-has, else-has-via-then-has+else-not-has, else-has-via-else-has}
 
 pub loop-k-init : goal.loop-k-init
 loop-k-init c = sym (count_below-zero _)
@@ -17,7 +17,7 @@ overflow_add-nodes c = let few = c.nodes-k-end.ensures.kept.few in
       arith,
       c.loop-k.invariant,
       count_below-le c.loop-k.k
-          (λ k. is_input c.args.graph.now (set.contains c.args.inside.now) (set.contains c.args.readers.now) (Made k)),
+          (λ k. is_input c.args.graph.now (set.contains c.args.cut.now) (set.contains c.args.cut.now) (Made k)),
     )
 
 pub overflow_add-result : goal.overflow_add-result
@@ -28,14 +28,14 @@ overflow_add-result c = let few = c.nodes-k-end.ensures.kept.few in
       c.loop-k.invariant,
       c.count.ensures.counted,
       count_below-le 256 (set.contains c.read_by-read.result.registers),
-      count_below-le c.loop-k.k (λ k. is_input c.args.graph.now (set.contains c.args.inside.now) (set.contains c.args.readers.now) (Made k)),
+      count_below-le c.loop-k.k (λ k. is_input c.args.graph.now (set.contains c.args.cut.now) (set.contains c.args.cut.now) (Made k)),
     )
 
 pub loop-k-preserved : goal.loop-k-preserved
 loop-k-preserved c =
-    let test : ℕ → Bool = λ k. is_input c.args.graph.now (set.contains c.args.inside.now) (set.contains c.args.readers.now) (Made k) in
-    let value = is_input-made c.args.graph.now (set.contains c.args.inside.now)
-    (set.contains c.args.readers.now) c.loop-k.k _
+    let test : ℕ → Bool = λ k. is_input c.args.graph.now (set.contains c.args.cut.now) (set.contains c.args.cut.now) (Made k) in
+    let value = is_input-made c.args.graph.now (set.contains c.args.cut.now)
+    (set.contains c.args.cut.now) c.loop-k.k _
     (c.has.ensures.value ∙ c.read_by-read.ensures (Made c.loop-k.k)) in
     elim c.if-has.branch [
       | then-has+then-not-has w ↦ rw w.nodes-is
@@ -50,7 +50,7 @@ loop-k-preserved c =
 pub returns : goal.returns
 returns c =
     let registers = count_below-same 256 (set.contains c.read_by-read.result.registers)
-    (λ r. is_input c.args.graph.now (set.contains c.args.inside.now) (set.contains c.args.readers.now)
+    (λ r. is_input c.args.graph.now (set.contains c.args.cut.now) (set.contains c.args.cut.now)
     (Entry r)) (λ r _. c.read_by-read.ensures (Entry r)) in
     let end : c.loop-k.k ≡ length c.nodes-k-end.result.now = omega arith in
     rw (c.count.ensures.counted, registers, c.loop-k.invariant, end, c.nodes-k-end.ensures.value)

@@ -1,0 +1,185 @@
+use Rattle.std.proofs.Common.{◌≡◌, ℕ, ◌+◌, List, ◌∷◌, ◌++◌, drop, length, get_or, true, false, inl, IsTrue, ◌∙◌, arith, subst}
+use Rattle.std.proofs.lemmas.Bool.Decides.{not_from_Decides}
+use Rattle.std.proofs.lemmas.Result.{err_from_is_err_and}
+use Rattle.ci_log.specs.declared.log.Item.{Item}
+use Rattle.ci_log.specs.declared.log.Item.TheVariants.{B}
+use Rattle.ci_log.specs.Trees.{IsTree}
+use Rattle.ci_cut.specs.Prefixes.{Prefix, is_next}
+use Rattle.ci_check.specs.Rules.{IsRight}
+use Rattle.ci_cut.specs.Representation.{Represents, AreKeptFrom}
+use Rattle.ci_cut.proofs.Represented.{next_from_below, all_decided, represents_kept}
+use Rattle.ci_check.proofs.TreeWalk.{tree_within, first_item, wrong_here, right_alone, SubTrees, sub_trees, behind_first, judged_by_first, judged_by_second}
+use Rattle.ci_check.proofs.checking.+trees.Goals as goal
+use Rattle.ci_check.proofs.checking.+trees.Goals.{check_tree-In-Some, check_tree-In_ok-end}
+
+pub check_tree-bounds-items-place : goal.check_tree-bounds-items-place
+check_tree-bounds-items-place t c = tree_within c.args.items.now c.args.place c.requires.tree
+
+pub check_tree-overflow_cast-result : goal.check_tree-overflow_cast-result
+check_tree-overflow_cast-result t c = omega (arith, tree_within c.args.items.now c.args.place c.requires.tree)
+
+pub check_tree-overflow_add-place : goal.check_tree-overflow_add-place
+check_tree-overflow_add-place t c = omega (arith, tree_within c.args.items.now c.args.place c.requires.tree)
+
+pub check_tree-overflow_add-result : goal.check_tree-overflow_add-result
+check_tree-overflow_add-result t c = omega (arith, tree_within c.args.items.now c.args.place c.requires.tree)
+
+pub check_tree-returns-then-not-is_right-clause-judged : goal.check_tree-returns-then-not-is_right-clause-judged
+check_tree-returns-then-not-is_right-clause-judged t c prefix one rest tree represents splits =
+    let items = c.args.items.now in
+    let place = c.args.place in
+    let within = tree_within items place c.requires.tree in
+    let wrong = not_from_Decides _ (c.is_right.ensures prefix c.args.delays.now represents) c.if-not-is_right.true in (
+      0,
+      rw c.reason_of.ensures (wrong_here c.args.graph.now c.args.limits.now c.args.best.now.cut tree prefix
+          (get_or items place B) (drop (place + 1) items) rest (first_item items one rest place within splits) wrong),
+      omega arith,
+    )
+
+pub check_tree-returns-in_default-clause-judged : goal.check_tree-returns-in_default-clause-judged
+check_tree-returns-in_default-clause-judged t c prefix one rest tree represents splits =
+    let items = c.args.items.now in
+    let place = c.args.place in
+    let within = tree_within items place c.requires.tree in
+    let right = (c.is_right.ensures prefix c.args.delays.now represents).0 c.if-not-is_right.false in
+    let judged = right_alone c.args.graph.now c.args.limits.now c.args.best.now.cut tree prefix
+    (get_or items place B) (drop (place + 1) items) rest c.args.terms.now.place
+    (first_item items one rest place within splits) right
+    c.in_default.ensures (all_decided c.args.graph.now prefix c.args.terms.now c.args.delays.now represents) in
+    (judged.0, omega (arith, judged.1))
+
+-- what is known at a branch: the next node, the trees below, and that the item is right
+record Branch (t : ℕ) (c : check_tree-In-Some t) (prefix : Prefix) {one : List Item} (tree : IsTree one) (rest : List Item) : Type 0 where
+  next : IsTrue (is_next c.args.graph.now prefix c.in-Some.node)
+  parts : SubTrees tree prefix (drop (c.args.place + 1) c.args.items.now) rest
+  right : IsRight c.args.graph.now c.args.limits.now c.args.best.now.cut prefix B
+
+branch_at : (t : ℕ) (c : check_tree-In-Some t) (prefix : Prefix) (one rest : List Item) (tree : IsTree one)
+    → Represents c.args.graph.now prefix c.args.terms.now c.args.delays.now → drop c.args.place c.args.items.now ≡ one ++ rest
+    → Branch t c prefix tree rest
+branch_at t c prefix one rest tree represents splits = record {
+  next = next_from_below c.args.graph.now prefix c.args.terms.now c.args.delays.now represents c.in-Some.node c.in-Some.ensures.1;
+  parts = sub_trees tree prefix (get_or c.args.items.now c.args.place B) (drop (c.args.place + 1) c.args.items.now) rest
+      (first_item c.args.items.now one rest c.args.place (tree_within c.args.items.now c.args.place c.requires.tree) splits) c.in-Some.ensures.0;
+  right = subst (λ (item : Item). IsRight c.args.graph.now c.args.limits.now c.args.best.now.cut prefix item)
+      c.in-Some.ensures.0 ((c.is_right.ensures prefix c.args.delays.now represents).0 c.if-not-is_right.false);
+}
+
+pub check_tree-check_first-requires : goal.check_tree-check_first-requires
+check_tree-check_first-requires t c =
+    let prefix = c.requires.represents.0 in
+    let represents = c.requires.represents.1 in
+    let here = c.requires.tree in
+    let b = branch_at t (goal.at.check_tree-check_first-requires t c).In-Some prefix here.one here.rest here.tree represents here.is_split in (
+      omega (arith, c.in-Some.ensures.1.below),
+      (
+        c.requires.rows,
+        (
+          (prefix, represents, b.next),
+          (
+            c.requires.measured,
+            (c.requires.few, record { one = b.parts.first; rest = b.parts.second ++ here.rest; is_split = b.parts.is_tail; tree = b.parts.first_tree }),
+          ),
+        ),
+      ),
+    )
+
+pub check_tree-leave_out-requires : goal.check_tree-leave_out-requires
+check_tree-leave_out-requires t c =
+    let prefix = c.requires.represents.0 in
+    let represents = c.requires.represents.1 in
+    let here = c.requires.tree in
+    let b = branch_at t (goal.at.check_tree-leave_out-requires t c).In-Some prefix here.one here.rest here.tree represents here.is_split in
+    record { next = (prefix, c.args.delays.now, represents, b.next) }
+
+-- the delays of the nodes taken in are the same behind the first tree
+between : (t : ℕ) (c : check_tree-In_ok-end t) → AreKeptFrom c.args.terms.now.place c.args.delays.now c.check_first.new.delays
+between t c k from = c.in_ok-end.ensures.kept k (omega (arith, from, c.in-Some.ensures.1.below))
+
+pub check_tree-returns-in_err-end-clause-judged : goal.check_tree-returns-in_err-end-clause-judged
+check_tree-returns-in_err-end-clause-judged t c prefix one rest tree represents splits =
+    let b = branch_at t (goal.at.check_tree-returns-in_err-end-clause-judged t c).In-Some prefix one rest tree represents splits in
+    let first = c.in_err-end.ensures.judged prefix b.parts.first (b.parts.second ++ rest) b.parts.first_tree represents b.next b.parts.is_tail in
+    let p = err_from_is_err_and c.from_residual.result c.from_residual.ensures.1 in
+    rw (p.1, p.2)
+    (judged_by_first c.args.graph.now c.args.limits.now c.args.best.now.cut tree prefix _ rest b.parts b.right
+    c.args.place c.in_err-end.field-0.0 first)
+
+pub check_tree-check_tree-requires : goal.check_tree-check_tree-requires
+check_tree-check_tree-requires t c =
+    let prefix = c.requires.represents.0 in
+    let represents = c.requires.represents.1 in
+    let here = c.requires.tree in
+    let b = branch_at t (goal.at.check_tree-check_tree-requires t c).In-Some prefix here.one here.rest here.tree represents here.is_split in
+    let first = c.in_ok-end.ensures.judged prefix b.parts.first (b.parts.second ++ here.rest) b.parts.first_tree represents b.next b.parts.is_tail in
+    let later = represents_kept c.args.graph.now prefix c.args.terms.now c.args.delays.now represents c.check_first.new.delays (between t (goal.at.check_tree-check_tree-requires t c).In_ok-end) in
+    let behind = behind_first c.args.items.now here.rest (c.args.place + 1) c.in_ok-end.end b.parts first.1 in (
+      omega (arith, c.in-Some.ensures.1.below, c.leave_out.ensures.place),
+      (
+        c.requires.rows,
+        (
+          (false ∷ prefix, c.leave_out.ensures.represents prefix c.check_first.new.delays later b.next),
+          (c.requires.measured, (c.requires.few, record { one = b.parts.second; rest = here.rest; is_split = behind; tree = b.parts.second_tree })),
+        ),
+      ),
+    )
+
+pub check_tree-returns-clause-judged : goal.check_tree-returns-clause-judged
+check_tree-returns-clause-judged t c prefix one rest tree represents splits =
+    let b = branch_at t (goal.at.check_tree-returns-clause-judged t c).In-Some prefix one rest tree represents splits in
+    let first = c.in_ok-end.ensures.judged prefix b.parts.first (b.parts.second ++ rest) b.parts.first_tree represents b.next b.parts.is_tail in
+    let later = represents_kept c.args.graph.now prefix c.args.terms.now c.args.delays.now represents c.check_first.new.delays (between t (goal.at.check_tree-returns-clause-judged t c).In_ok-end) in
+    let second = c.check_tree.ensures.judged (false ∷ prefix) b.parts.second rest b.parts.second_tree
+    (c.leave_out.ensures.represents prefix c.check_first.new.delays later b.next)
+    (behind_first c.args.items.now rest (c.args.place + 1) c.in_ok-end.end b.parts first.1) in
+    judged_by_second c.args.graph.now c.args.limits.now c.args.best.now.cut tree prefix _ rest b.parts b.right
+    c.args.place c.in_ok-end.end c.check_tree.result first second
+
+pub check_tree-returns-clause-kept : goal.check_tree-returns-clause-kept
+check_tree-returns-clause-kept t c k from =
+    c.check_tree.ensures.kept k (omega (arith, from, c.in-Some.ensures.1.below, c.leave_out.ensures.place))
+    ∙ between t (goal.at.check_tree-returns-clause-kept t c).In_ok-end k from
+
+-- ---- where the next node is taken in
+
+pub check_first-bounds-items-place : goal.check_first-bounds-items-place
+check_first-bounds-items-place t c = tree_within c.args.items.now c.args.place c.requires.tree
+
+pub check_first-is_right_with-requires-clause-next : goal.check_first-is_right_with-requires-clause-next
+check_first-is_right_with-requires-clause-next t c = let next = c.requires.next in (next.0, c.args.delays.now, next.1, next.2)
+
+pub check_first-overflow_add-result : goal.check_first-overflow_add-result
+check_first-overflow_add-result t c = omega (arith, tree_within c.args.items.now c.args.place c.requires.tree)
+
+pub check_first-returns-then-is_right_with-clause-judged : goal.check_first-returns-then-is_right_with-clause-judged
+check_first-returns-then-is_right_with-clause-judged t c prefix one rest tree represents next splits =
+    let graph = c.args.graph.now in
+    let items = c.args.items.now in
+    let place = c.args.place in
+    let best = c.args.best.now.cut in
+    let right = c.is_right_with.ensures best prefix c.args.delays.now represents next c.if-is_right_with.true in
+    let judged = right_alone graph c.args.limits.now best tree (true ∷ prefix)
+    (get_or items place B) (drop (place + 1) items) rest (length graph.nodes)
+    (first_item items one rest place (tree_within items place c.requires.tree) splits) right.1 (inl right.0) (λ none. omega (arith, none)) in
+    (judged.0, omega (arith, judged.1))
+
+pub check_with-take_in-with_node-requires-clause-next : goal.check_with-take_in-with_node-requires-clause-next
+check_with-take_in-with_node-requires-clause-next t c = c.requires.next
+
+pub check_with-check_tree-requires : goal.check_with-check_tree-requires
+check_with-check_tree-requires t c =
+    let next = c.requires.next in (
+      omega (arith, c.take_in-with_node.ensures.place),
+      (
+        c.requires.rows,
+        ((true ∷ next.0, c.take_in-with_node.ensures.represents next.0 next.1 next.2), (c.requires.measured, (c.requires.few, c.requires.tree))),
+      ),
+    )
+
+pub check_with-returns-clause-judged : goal.check_with-returns-clause-judged
+check_with-returns-clause-judged t c prefix one rest tree represents next =
+    c.check_tree.ensures.judged (true ∷ prefix) one rest tree (c.take_in-with_node.ensures.represents prefix represents next)
+
+pub check_with-returns-clause-kept : goal.check_with-returns-clause-kept
+check_with-returns-clause-kept t c k from =
+    c.check_tree.ensures.kept k (omega (arith, from, c.take_in-with_node.ensures.place)) ∙ c.take_in-with_node.ensures.kept k from
