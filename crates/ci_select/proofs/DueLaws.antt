@@ -59,12 +59,6 @@ pub next_of_take :
 next_of_take (takes_known {units = units} {unit = unit} next at) = (units, unit, next)
 next_of_take (takes_new {units = units} {unit = unit} next apart few) = (units, unit, next)
 
--- and a search that is due is that of its block
-pub search_of_due :
-    {instance : Instance} {history : History} {leader : ℕ} → IsDue instance history (due.Search leader)
-    → IsSearchDue instance history leader
-search_of_due (searches is) = is
-
 -- ---- one of them
 
 module _ (instance : Instance) (history : History) (order : AreInOrder instance.blocks) where

@@ -21,8 +21,9 @@ use Rattle.ci_select.specs.Candidates.{HasNoCandidate, IsCandidate, IsDueCandida
 use Rattle.ci_select.specs.Dues.{HasNoSearchDue, IsNextTake, IsSearchDue}
 use Rattle.ci_select.specs.Followed.{Follows, IsDueBlock, IsFirst, instance_in}
 use Rattle.ci_select.proofs.CandidateLaws.{due_candidate_is_one, saved_is_one}
-use Rattle.ci_select.proofs.DueLaws.{next_of_take, search_due_is_one, search_of_due}
+use Rattle.ci_select.proofs.DueLaws.{next_of_take, search_due_is_one}
 use Rattle.ci_select.proofs.PresentIsOne.{blocks_in_order}
+use Rattle.ci_select.proofs.PresentLaws.{due_search}
 use Rattle.ci_select.proofs.SearchesDue.{due_of_list, list_of_due}
 
 -- the blocks of the rounds are in order
@@ -89,7 +90,7 @@ next_of_first rank candidate follows no_search first =
 candidate_of_due :
     {instance : Instance} {history : History} {leader : ℕ} → HasNoSearchDue instance history
     → IsDueBlock instance history leader → IsDueCandidate instance history leader
-candidate_of_due {leader = leader} no_search (inl search) = absurd (no_search leader (search_of_due search))
+candidate_of_due {leader = leader} no_search (inl search) = absurd (no_search leader (due_search search))
 candidate_of_due no_search (inr take) = (next_of_take take.1).2.candidate
 
 -- so there is a candidate,
@@ -175,7 +176,7 @@ module _ {history : History} {rounds : Rounds} (place : ℕ) (follows : Follows 
   -- it is the block whose search or take is due
   pub last_is_at :
       {leader : ℕ} (block : Block) → IsDueBlock (instance_in rounds) history leader → leader_at block ≡ leader
-  last_is_at block (inl search) = search_due_is_one (search_at_last block) (search_of_due search)
+  last_is_at block (inl search) = search_due_is_one (search_at_last block) (due_search search)
   last_is_at block (inr take) = absurd ((next_of_take take.1).2.no_search (leader_at block) (search_at_last block))
 
 -- a list with no last element is empty
