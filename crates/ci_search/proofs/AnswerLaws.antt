@@ -25,9 +25,6 @@ use Rattle.ci_search.specs.Searched.{undecided, IsReady, IsSpentAt}
 use Rattle.ci_search.specs.Trees.{IsSearched, found_at, answer_of}
 
 module _ (graph : FlowGraph) (flows : IsFlowGraph graph) (limits : Limits) where
-  pub none_measured : IsMeasured graph limits (record { cut = None; gain = pos 0 })
-  none_measured = record { good = tt; gain_is = refl }
-
   pub none_ready : (terms : PrefixTerms) (delays : List ℕ) → Represents graph [] terms delays
       → IsReady graph limits terms delays (record { cut = None; gain = pos 0 }) []
   none_ready terms delays represents = record { represents = represents; after_best = tt; reached = reached_none graph limits }

@@ -88,9 +88,6 @@ module _ (graph : FlowGraph) (flows : IsFlowGraph graph) (plan : Plan) where
 
 -- ---- entries that are due behind histories that are one but for their logs
 
-same_search : (l m : ℕ) → due.Search l ≡ due.Search m → l ≡ m
-same_search l m same = cc
-
 -- what is known of the entries of a book, behind some history: they are legal, by need, and the end is due
 record IsSettled (instance : Instance) (finish : Finish) (history : History) : Type 0 where
   legal : IsLegalHistory instance history
