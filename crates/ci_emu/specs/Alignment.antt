@@ -1,5 +1,5 @@
 -- Text whose words begin at multiples of four. For the readers of profiles.
-use Rattle.std.specs.Prelude.{ℕ, ◌%◌, ◌==◌, Bool, List}
+use Rattle.std.specs.Prelude.{◌%◌, ◌==◌, Bool, List}
 use Rattle.std.specs.List.{list_all}
 use Rattle.ci_elf.specs.declared.ranges.Range.{Range}
 

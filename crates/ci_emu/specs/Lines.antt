@@ -6,11 +6,12 @@ use Rattle.ci_isa.specs.declared.instruction.Insn.{Insn}
 use Rattle.ci_machine.specs.Accesses.{addresses}
 use Rattle.ci_machine.specs.Programs.{Program, in_text}
 use Rattle.ci_machine.specs.Steps.{Meaning, insn_in}
+use Rattle.ci_emu.specs.Actions.{insn_of}
 use Rattle.ci_emu.specs.declared.decode_cache.Decoded.{Decoded}
 
 -- the line has how long its word takes
 abbrev pub IsTimed : (ℕ → Insn → ℕ) → Decoded → Type 0
-IsTimed cycles line = line.latency ≡ cycles line.word line.insn
+IsTimed cycles line = line.latency ≡ cycles line.word (insn_of line.action)
 
 -- Each line has how long its word takes, and was compared with memory after at most so many changes of the text.
 abbrev pub AreKept : (ℕ → Insn → ℕ) → ℕ → List Decoded → Type 0

@@ -8,8 +8,10 @@ ghost use Rattle.ci_word.specs.declared.arithmetic.Class.TheVariants.{Free};
 ghost use Rattle.ci_machine.specs.States.{program_of, state_of};
 ghost use Rattle.ci_machine.specs.Steps.{Meaning, fetched};
 ghost use Rattle.ci_emu.specs.Alignment.{are_aligned};
+ghost use Rattle.ci_emu.specs.Actions.{insn_of};
 ghost use Rattle.ci_emu.specs.Fetched.{cycles_on, IsOnlyAt};
 
+use crate::actions::Action;
 use crate::machine::Machine;
 use crate::steps::fetch_word;
 use ci_isa::{Insn, class, decode_x};
@@ -25,16 +27,17 @@ pub(crate) fn reading(word: u32) -> Insn
     decode_x(word).unwrap_or(Insn::Illegal { word })
 }
 
-/// A word, what the extended table has for it, and how long that takes on a machine.
+/// A word, what it does by the extended table, and how long that takes on a machine.
 #[derive(Clone, Copy)]
 pub(crate) struct Decoded {
     pub(crate) word: u32,
-    pub(crate) insn: Insn,
+    /// What the extended table has for it.
+    pub(crate) action: Action,
     /// In cycles.
     pub(crate) latency: u32,
     /// How often the text may have changed when the word was last found in memory; 0 where it never was.
     pub(crate) seen: u64,
-    ghost decoded: { IsOnlyAt word insn },
+    ghost decoded: { IsOnlyAt word (insn_of action) },
 }
 
 /// How long the instruction takes on the machine, in cycles. A word that is none takes no time.
@@ -83,7 +86,7 @@ impl Decoded {
         let insn = reading(word);
         Decoded {
             word,
-            insn,
+            action: Action::of(insn),
             latency: latency(machine, table, &insn),
             seen: 0,
         }

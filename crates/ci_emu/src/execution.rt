@@ -13,20 +13,22 @@ ghost use Rattle.ci_machine.specs.Steps.{Meaning};
 ghost use Rattle.ci_emu.specs.Machines.{standing};
 ghost use Rattle.ci_machine.specs.Programs.{in_text};
 ghost use Rattle.ci_machine.specs.Touches.{moved};
+ghost use Rattle.ci_emu.specs.Actions.{insn_of};
 ghost use Rattle.ci_emu.specs.Steps.{LeadsTo};
 ghost use Rattle.ci_emu.specs.Counting.{first_touch};
 ghost use Rattle.ci_emu.specs.Fetched.{may_change, IsTextBelow};
 
+use crate::actions::Action;
 use crate::machine::Machine;
 use crate::steps::Outcome;
 use crate::touches::Touches;
-use ci_isa::{Cond, Insn, LoadKind, Reg, Width};
+use ci_isa::{Cond, LoadKind, Reg, Width};
 use ci_machine::{Call, End, State};
 use ci_word::{Op, alu};
 use std::alloc::{AllocError, Global};
 
-/// Does what the word's instruction does on the machine, for which the extended table has this reading, and notes how it
-/// touches the text. Loads, stores and calls alone move bytes.
+/// Does what the action of the word does on the machine, and notes how it touches the text. Loads, stores and calls alone
+/// move bytes.
 ///
 /// The state stays as it is where that ends the run, and where memory runs out.
 #[inline(always)]
@@ -36,52 +38,57 @@ pub(crate) fn execute<M: Machine>(
     machine: &M,
     state: &mut State,
     word: u32,
-    reading: &Insn,
+    action: &Action,
     touches: &mut Touches,
 ) -> Result<Outcome, AllocError>
     requires few { touches.old.changes ≤ 2 ^ 33 }
     requires behind { IsTextBelow (in_text (program_of state.old)) touches.old.end }
     ensures executed { IfOk result (λ outcome. (meaning : Meaning) → M.meanings machine.now meaning
         → LeadsTo (state_of state.old) (execute meaning.units (program_of state.old)
-        (standing (M.has_unit machine.now) (M.has_cread machine.now) word reading.now) (state_of state.old))
+        (standing (M.has_unit machine.now) (M.has_cread machine.now) word (insn_of action.now)) (state_of state.old))
         (state_of state.new) outcome) }
     ensures refused { OnErr result (state_of state.new ≡ state_of state.old) }
     ensures program { program_of state.new ≡ program_of state.old }
     ensures touched { touches.new.first ≡ first_touch touches.old.first (state_of state.old).pc
-        (find (in_text (program_of state.old)) (moved reading.now (state_of state.old).core)) }
+        (find (in_text (program_of state.old)) (moved (insn_of action.now) (state_of state.old).core)) }
     ensures changes { touches.new.changes ≡ touches.old.changes
-        + (if may_change (in_text (program_of state.old)) reading.now (state_of state.old).core then 1 else 0) }
+        + (if may_change (in_text (program_of state.old)) (insn_of action.now) (state_of state.old).core then 1
+        else 0) }
     ensures end { touches.new.end ≡ touches.old.end }
 {
-    match *reading {
-        Insn::Alu { op, rd, rs1, rs2 } => {
-            let value = operate(op, state.register(rs1), state.register(rs2));
-            Ok(write_back(state, rd, value))
-        }
-        Insn::AluImm { op, rd, rs1, imm } => {
-            let value = operate(op, state.register(rs1), word_of(imm));
-            Ok(write_back(state, rd, value))
-        }
-        Insn::Lui { rd, upper } => Ok(write_back(state, rd, upper)),
-        Insn::Auipc { rd, upper } => {
-            let value = state.pc().wrapping_add(upper);
-            Ok(write_back(state, rd, value))
-        }
-        Insn::Jal { rd, offset } => {
+    match *action {
+        Action::Add { rd, rs1, rs2 } => Ok(by_registers(state, Op::Add, rd, rs1, rs2)),
+        Action::Sub { rd, rs1, rs2 } => Ok(by_registers(state, Op::Sub, rd, rs1, rs2)),
+        Action::Sll { rd, rs1, rs2 } => Ok(by_registers(state, Op::Sll, rd, rs1, rs2)),
+        Action::Slt { rd, rs1, rs2 } => Ok(by_registers(state, Op::Slt, rd, rs1, rs2)),
+        Action::Sltu { rd, rs1, rs2 } => Ok(by_registers(state, Op::Sltu, rd, rs1, rs2)),
+        Action::Xor { rd, rs1, rs2 } => Ok(by_registers(state, Op::Xor, rd, rs1, rs2)),
+        Action::Srl { rd, rs1, rs2 } => Ok(by_registers(state, Op::Srl, rd, rs1, rs2)),
+        Action::Sra { rd, rs1, rs2 } => Ok(by_registers(state, Op::Sra, rd, rs1, rs2)),
+        Action::Or { rd, rs1, rs2 } => Ok(by_registers(state, Op::Or, rd, rs1, rs2)),
+        Action::And { rd, rs1, rs2 } => Ok(by_registers(state, Op::And, rd, rs1, rs2)),
+        Action::Mul { rd, rs1, rs2 } => Ok(by_registers(state, Op::Mul, rd, rs1, rs2)),
+        Action::Addi { rd, rs1, imm } => Ok(by_constant(state, Op::Add, rd, rs1, imm)),
+        Action::Slli { rd, rs1, imm } => Ok(by_constant(state, Op::Sll, rd, rs1, imm)),
+        Action::Slti { rd, rs1, imm } => Ok(by_constant(state, Op::Slt, rd, rs1, imm)),
+        Action::Sltiu { rd, rs1, imm } => Ok(by_constant(state, Op::Sltu, rd, rs1, imm)),
+        Action::Xori { rd, rs1, imm } => Ok(by_constant(state, Op::Xor, rd, rs1, imm)),
+        Action::Srli { rd, rs1, imm } => Ok(by_constant(state, Op::Srl, rd, rs1, imm)),
+        Action::Srai { rd, rs1, imm } => Ok(by_constant(state, Op::Sra, rd, rs1, imm)),
+        Action::Ori { rd, rs1, imm } => Ok(by_constant(state, Op::Or, rd, rs1, imm)),
+        Action::Andi { rd, rs1, imm } => Ok(by_constant(state, Op::And, rd, rs1, imm)),
+        Action::Beq { rs1, rs2, offset } => Ok(branch(state, Cond::Eq, rs1, rs2, offset)),
+        Action::Bne { rs1, rs2, offset } => Ok(branch(state, Cond::Ne, rs1, rs2, offset)),
+        Action::Blt { rs1, rs2, offset } => Ok(branch(state, Cond::Lt, rs1, rs2, offset)),
+        Action::Bge { rs1, rs2, offset } => Ok(branch(state, Cond::Ge, rs1, rs2, offset)),
+        Action::Bltu { rs1, rs2, offset } => Ok(branch(state, Cond::Ltu, rs1, rs2, offset)),
+        Action::Bgeu { rs1, rs2, offset } => Ok(branch(state, Cond::Geu, rs1, rs2, offset)),
+        Action::Lui { rd, upper } => Ok(write_back(state, rd, upper)),
+        Action::Jal { rd, offset } => {
             let target = state.pc().wrapping_add(word_of(offset));
             Ok(jump(state, rd, target))
         }
-        Insn::Jalr { rd, rs1, offset } => {
-            let target = address(state, rs1, offset);
-            Ok(jump(state, rd, target - target % 2))
-        }
-        Insn::Branch {
-            cond,
-            rs1,
-            rs2,
-            offset,
-        } => Ok(branch(state, cond, rs1, rs2, offset)),
-        Insn::Load {
+        Action::Load {
             kind,
             rd,
             rs1,
@@ -91,7 +98,7 @@ pub(crate) fn execute<M: Machine>(
             touches.note_load(state, from, width_of(kind));
             Ok(load(state, kind, rd, from))
         }
-        Insn::Store {
+        Action::Store {
             width,
             rs1,
             rs2,
@@ -101,14 +108,24 @@ pub(crate) fn execute<M: Machine>(
             touches.note_store(state, to, width);
             Ok(store(state, width, rs2, to))
         }
-        Insn::Fence { .. } => Ok(advance(state)),
-        Insn::Ecall => {
+        Action::Jalr { rd, rs1, offset } => {
+            let target = address(state, rs1, offset);
+            Ok(jump(state, rd, target - target % 2))
+        }
+        Action::Auipc { rd, upper } => {
+            let value = state.pc().wrapping_add(upper);
+            Ok(write_back(state, rd, value))
+        }
+        Action::Registers { op, rd, rs1, rs2 } => Ok(by_registers(state, op, rd, rs1, rs2)),
+        Action::Constant { op, rd, rs1, imm } => Ok(by_constant(state, op, rd, rs1, imm)),
+        Action::Fence { .. } => Ok(advance(state)),
+        Action::Ecall => {
             touches.note_call(state);
             call(alloc, state)
         }
-        Insn::Ebreak => Ok(Outcome::Ended(End::Break)),
-        Insn::Illegal { word } => Ok(Outcome::Ended(End::Illegal(word))),
-        Insn::Unit {
+        Action::Ebreak => Ok(Outcome::Ended(End::Break)),
+        Action::Illegal { word } => Ok(Outcome::Ended(End::Illegal(word))),
+        Action::Unit {
             number,
             rd,
             rs1,
@@ -125,7 +142,7 @@ pub(crate) fn execute<M: Machine>(
                 None => Ok(Outcome::Ended(End::Illegal(word))),
             }
         }
-        Insn::Cread { rd } => {
+        Action::Cread { rd } => {
             if !machine.has_cread() {
                 return Ok(Outcome::Ended(End::Illegal(word)));
             }
@@ -140,28 +157,6 @@ fn word_of(constant: i32) -> u32
     ensures { result ≡ word_of constant }
 {
     constant.cast_unsigned()
-}
-
-/// What the operation gives on the words `a` and `b`. Where it is a frequent one, its call has it as a constant, so that
-/// one instruction of the processor stands for the call.
-#[inline(always)]
-fn operate(op: Op, a: u32, b: u32) -> u32
-    ensures { result ≡ operation op a b }
-{
-    match op {
-        Op::Add => alu(Op::Add, a, b),
-        Op::Sub => alu(Op::Sub, a, b),
-        Op::Sll => alu(Op::Sll, a, b),
-        Op::Slt => alu(Op::Slt, a, b),
-        Op::Sltu => alu(Op::Sltu, a, b),
-        Op::Xor => alu(Op::Xor, a, b),
-        Op::Srl => alu(Op::Srl, a, b),
-        Op::Sra => alu(Op::Sra, a, b),
-        Op::Or => alu(Op::Or, a, b),
-        Op::And => alu(Op::And, a, b),
-        Op::Mul => alu(Op::Mul, a, b),
-        rare => alu(rare, a, b),
-    }
 }
 
 /// The address that is this offset from the one in the register.
@@ -191,6 +186,32 @@ fn write_back(state: &mut State, rd: Reg, value: u32) -> Outcome
 {
     state.set_register(rd, value);
     advance(state)
+}
+
+/// An operation on two registers.
+#[inline(always)]
+fn by_registers(state: &mut State, op: Op, rd: Reg, rs1: Reg, rs2: Reg) -> Outcome
+    ensures outcome { LeadsTo (state_of state.old)
+        (onward (state_of state.old).pc (with_register (state_of state.old).core rd
+        (operation op (register (state_of state.old).core rs1) (register (state_of state.old).core rs2))))
+        (state_of state.new) result }
+    ensures program { program_of state.new ≡ program_of state.old }
+{
+    let value = alu(op, state.register(rs1), state.register(rs2));
+    write_back(state, rd, value)
+}
+
+/// An operation on a register and a constant.
+#[inline(always)]
+fn by_constant(state: &mut State, op: Op, rd: Reg, rs1: Reg, imm: i32) -> Outcome
+    ensures outcome { LeadsTo (state_of state.old)
+        (onward (state_of state.old).pc (with_register (state_of state.old).core rd
+        (operation op (register (state_of state.old).core rs1) (word_of imm))))
+        (state_of state.new) result }
+    ensures program { program_of state.new ≡ program_of state.old }
+{
+    let value = alu(op, state.register(rs1), word_of(imm));
+    write_back(state, rd, value)
 }
 
 /// The register and the hidden one take the results of a unit, and on at the next instruction.
@@ -249,6 +270,7 @@ fn taken(cond: Cond, a: u32, b: u32) -> bool
 }
 
 /// A branch.
+#[inline(always)]
 fn branch(state: &mut State, cond: Cond, rs1: Reg, rs2: Reg, offset: i32) -> Outcome
     ensures outcome { LeadsTo (state_of state.old)
         (control (program_of state.old) (Branch cond rs1 rs2 offset) (state_of state.old).pc (state_of state.old).core)

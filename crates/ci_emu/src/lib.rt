@@ -12,6 +12,7 @@ pub use profile::Profile;
 pub use runs::{run, run_on};
 pub use steps::{Outcome, step, step_on};
 
+mod actions;
 mod counts;
 mod decode_cache;
 mod ends;

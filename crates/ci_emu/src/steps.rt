@@ -5,6 +5,7 @@ ghost use Rattle.ci_machine.specs.Steps.{Meaning, fetched, word_at};
 ghost use Rattle.std.specs.Option.{option_map};
 ghost use Rattle.ci_emu.specs.Steps.{IsStep, IsPlainStep};
 
+use crate::actions::Action;
 use crate::decode_cache::reading;
 use crate::execution::execute;
 use crate::machine::{Machine, PlainMachine};
@@ -47,8 +48,8 @@ pub fn step_on<M: Machine>(
     match fetch(state) {
         Some(word) => {
             let mut touches = Touches::new(state.text());
-            let insn = reading(word);
-            execute(alloc, machine, state, word, &insn, &mut touches)
+            let action = Action::of(reading(word));
+            execute(alloc, machine, state, word, &action, &mut touches)
         }
         None => Ok(Outcome::Ended(End::Fetch(state.pc()))),
     }

@@ -3,7 +3,7 @@ ghost use Rattle.std.specs.Prelude.{◌≡◌, ◌+◌, ◌-◌, ◌<◌, ◌≤
 ghost use Rattle.std.specs.Prelude.{if◌then◌else◌, IfOk, IfSome, OnOk, OnErr, MatchOption, None, false, [], length, slice_index_or};
 ghost use Rattle.std.specs.BTreeSet.{IsOrdered};
 ghost use Rattle.std.specs.Ordering.{nat_cmp};
-ghost use Rattle.ci_isa.specs.declared.instruction.Insn.{Insn};
+ghost use Rattle.ci_emu.specs.Actions.{insn_of};
 ghost use Rattle.ci_machine.specs.Runs.{after};
 ghost use Rattle.ci_machine.specs.States.{program_of, state_of};
 ghost use Rattle.ci_machine.specs.Steps.{Meaning, fetched};
@@ -17,6 +17,7 @@ ghost use Rattle.ci_emu.specs.Lines.{AreKept, AreKnown};
 ghost use Rattle.ci_emu.specs.PlacedRanges.{ArePlaced};
 ghost use Rattle.ci_emu.specs.Steps.{IsStep, IsReached};
 
+use crate::actions::Action;
 use crate::counts::{Counts, PlacedRange};
 use crate::decode_cache::{DecodeCache, Decoded};
 use crate::execution::execute;
@@ -25,7 +26,6 @@ use crate::profile::Profile;
 use crate::steps::Outcome;
 use crate::touches::Touches;
 use ci_elf::Range;
-use ci_isa::Insn;
 use ci_lat::Table;
 use ci_machine::{End, State};
 use std::alloc::{AllocError, Global};
@@ -99,13 +99,13 @@ impl Tally {
     }
 }
 
-/// Where the instruction led, if it is a JALR and did not end.
+/// Where the action led, if it is a JALR and did not end.
 #[inline(always)]
-fn target(state: &State, insn: &Insn, outcome: Outcome) -> Option<u32>
-    ensures { result ≡ target_of insn.now outcome (state_of state.now).pc }
+fn target(state: &State, action: &Action, outcome: Outcome) -> Option<u32>
+    ensures { result ≡ target_of (insn_of action.now) outcome (state_of state.now).pc }
 {
-    match (*insn, outcome) {
-        (Insn::Jalr { .. }, Outcome::Next) => Some(state.pc()),
+    match (*action, outcome) {
+        (Action::Jalr { .. }, Outcome::Next) => Some(state.pc()),
         _ => None,
     }
 }
@@ -235,10 +235,10 @@ pub(crate) fn counted_step<M: Machine>(
         machine,
         state,
         line.word,
-        &line.insn,
+        &line.action,
         &mut tally.touches,
     )?;
-    note(&mut tally.targets, target(state, &line.insn, outcome))?;
+    note(&mut tally.targets, target(state, &line.action, outcome))?;
     Ok(outcome)
 }
 

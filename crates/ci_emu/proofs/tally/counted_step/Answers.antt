@@ -5,6 +5,7 @@ use Rattle.ci_emu.specs.Machines.{standing}
 use Rattle.ci_emu.proofs.Fetching.{behind_one, fetched_as, stands_at, same_change, same_moved, same_target}
 use Rattle.ci_machine.specs.Programs.{in_text}
 use Rattle.ci_isa.specs.declared.instruction.Insn.{Insn}
+use Rattle.ci_emu.specs.Actions.{insn_of}
 use Rattle.ci_emu.specs.declared.decode_cache.Decoded.{Decoded}
 use Rattle.ci_emu.specs.Fetched.{cycles_on, may_change}
 use Rattle.ci_emu.specs.Lines.{AreKnown, IsTimed}
@@ -18,11 +19,11 @@ line g c = c.index-line.result.now
 
 fetches : (g : Over) (c : After-index-line g) (meaning : Meaning) → g.M.Machine.meanings c.args.machine.now meaning
     → fetched meaning (program_of c.args.state.now) (state_of c.args.state.now)
-    ≡ Some (standing (g.M.Machine.has_unit c.args.machine.now) (g.M.Machine.has_cread c.args.machine.now) (line g c).word (line g c).insn)
+    ≡ Some (standing (g.M.Machine.has_unit c.args.machine.now) (g.M.Machine.has_cread c.args.machine.now) (line g c).word (insn_of (line g c).action))
 fetches g c =
     fetched_as (g.M.Machine.meanings c.args.machine.now) (g.M.Machine.has_unit c.args.machine.now) (g.M.Machine.has_cread c.args.machine.now)
     (g.met.M.Machine.stands c.args.machine.now) (program_of c.args.state.now) (state_of c.args.state.now)
-    (line g c).word (line g c).insn (stands_at _ _ (line g c).decoded)
+    (line g c).word (insn_of (line g c).action) (stands_at _ _ (line g c).decoded)
     (λ meaning means. c.in-Some.ensures.fetched (line g c) meaning (c.requires.known meaning means)
     ∙ ap (λ (l : Decoded). Some (meaning.insn l.word)) (sym c.index-line.ensures))
 
@@ -48,16 +49,16 @@ returns-clause-counted g c meaning means =
     let is = fetches g (goal.at.returns-clause-counted g c).After-index-line meaning means in
     let cost = takes g (goal.at.returns-clause-counted g c).After-index-line in
     let moves = same_moved (g.M.Machine.has_unit c.args.machine.now) (g.M.Machine.has_cread c.args.machine.now) (line g (goal.at.returns-clause-counted g c).After-index-line).word
-    (state_of c.args.state.now).core (line g (goal.at.returns-clause-counted g c).After-index-line).insn in
+    (state_of c.args.state.now).core (insn_of (line g (goal.at.returns-clause-counted g c).After-index-line).action) in
     let leads = same_target (g.M.Machine.has_unit c.args.machine.now) (g.M.Machine.has_cread c.args.machine.now) (line g (goal.at.returns-clause-counted g c).After-index-line).word
-    c.in_ok-outcome.outcome (state_of c.execute.new.state).pc (line g (goal.at.returns-clause-counted g c).After-index-line).insn in
+    c.in_ok-outcome.outcome (state_of c.execute.new.state).pc (insn_of (line g (goal.at.returns-clause-counted g c).After-index-line).action) in
     search rules
 
 pub returns-clause-known : goal.returns-clause-known
 returns-clause-known g c meaning means =
     let program = program_of c.args.state.now in
     let state = state_of c.args.state.now in
-    let insn = c.index-line.result.now.insn in
+    let insn = insn_of c.index-line.result.now.action in
     let changes = same_change (g.M.Machine.has_unit c.args.machine.now) (g.M.Machine.has_cread c.args.machine.now) c.index-line.result.now.word
     (in_text program) state.core insn in
     subst (λ (n : ℕ). AreKnown meaning program (state_of c.execute.new.state).core.memory n c.enter.new.cache.words.items)
