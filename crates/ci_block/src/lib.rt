@@ -18,6 +18,4 @@ mod data;
 pub mod laws;
 mod listing;
 mod marks;
-#[cfg(test)]
-mod tests;
 mod text;

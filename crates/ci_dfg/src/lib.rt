@@ -17,5 +17,3 @@ mod arcs;
 mod laws;
 mod nodes;
 mod operand_sources;
-#[cfg(test)]
-mod tests;

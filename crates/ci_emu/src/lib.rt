@@ -22,6 +22,4 @@ mod profile;
 mod runs;
 mod steps;
 mod tally;
-#[cfg(test)]
-mod tests;
 mod touches;

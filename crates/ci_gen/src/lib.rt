@@ -12,6 +12,4 @@ pub use file::program;
 mod file;
 mod generator;
 pub mod laws;
-#[cfg(test)]
-mod tests;
 mod text;

@@ -15,5 +15,3 @@ mod iteration;
 pub mod laws;
 mod live_sets;
 mod predecessors;
-#[cfg(test)]
-mod tests;

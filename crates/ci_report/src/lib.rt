@@ -10,5 +10,3 @@ pub use reporting::report;
 mod laws;
 mod lines;
 mod reporting;
-#[cfg(test)]
-mod tests;

@@ -6,9 +6,17 @@
 #[cfg(test)]
 mod asm;
 #[cfg(test)]
+mod block;
+#[cfg(test)]
 mod common;
 #[cfg(test)]
+mod dfg;
+#[cfg(test)]
 mod elf;
+#[cfg(test)]
+mod emu;
+#[cfg(test)]
+mod generated;
 #[cfg(test)]
 mod io;
 #[cfg(test)]
@@ -16,8 +24,18 @@ mod isa;
 #[cfg(test)]
 mod lat;
 #[cfg(test)]
+mod live;
+#[cfg(test)]
 mod log;
 #[cfg(test)]
 mod reading;
 #[cfg(test)]
+mod report;
+#[cfg(test)]
+mod rewrite;
+#[cfg(test)]
+mod unit;
+#[cfg(test)]
 mod verilog;
+#[cfg(test)]
+mod xemu;

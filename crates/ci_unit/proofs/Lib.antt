@@ -1,6 +1,5 @@
 pub mod CountLaws
 pub mod InputLaws
-mod NodeLaws
 pub mod ReadingLaws
 mod Rows
 pub mod SourceLaws

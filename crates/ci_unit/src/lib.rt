@@ -13,8 +13,6 @@ mod cuts;
 mod laws;
 mod operations;
 mod table;
-#[cfg(test)]
-mod tests;
 mod units;
 mod uses;
 mod values;

@@ -6,5 +6,3 @@ pub use running::{run_x, step_x};
 
 mod machine;
 mod running;
-#[cfg(test)]
-mod tests;

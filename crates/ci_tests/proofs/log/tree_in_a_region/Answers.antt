@@ -14,7 +14,9 @@ pub flatten-requires-clause-tree : goal.flatten-requires-clause-tree
 flatten-requires-clause-tree g c =
     let first = c.in_ok-below.ensures in
     let second = c.in_ok-root.ensures in
-    let bare = ap (λ (m : BoundedMap LogNode). map.remove m.values c.in_ok-root.root) second.holds ∙ given_back _ c.in_ok-root.root _ second.was_free in (
+    let bare =
+        ap (λ (m : BoundedMap LogNode). map.remove m.values c.in_ok-root.root) second.holds
+        ∙ given_back _ c.in_ok-root.root _ second.was_free in (
       _,
       _,
       at_inner second.live (at_leaf tt)

@@ -1,6 +1,0 @@
-use Rattle.std.specs.Prelude.{All}
-use Rattle.ci_isa.specs.FieldBounds.{FieldsFit}
-use Rattle.ci_rewrite.proofs.tests.insns_of.Given as goal
-
-abbrev pub invariant-loop-word : goal.invariant-loop-word
-invariant-loop-word l = All FieldsFit l.insns.items

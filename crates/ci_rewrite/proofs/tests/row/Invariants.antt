@@ -1,6 +1,0 @@
-use Rattle.std.proofs.Common.{ℕ, ◌<◌, IsTrue}
-use Rattle.std.specs.FinSet as set
-use Rattle.ci_rewrite.proofs.tests.row.Given as goal
-
-abbrev pub invariant-loop-n : goal.invariant-loop-n
-invariant-loop-n g l = (k : ℕ) → IsTrue (set.contains l.row k) → k < l.count

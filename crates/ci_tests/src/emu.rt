@@ -1,0 +1,161 @@
+//! Runs of small programs, whose outcomes were worked out by hand or by other simulators.
+use crate::common::{calls, expect_counts, opening, table};
+use ci_emu::{End, Outcome, Profile, run, step};
+use ci_isa::Width;
+use ci_lat::Table;
+use ci_machine::State;
+use std::alloc::{AllocError, Global};
+use std::process::Abort;
+use std::test::Fail;
+
+// States and profiles are let go by calls of `drop`, which a proof does not look into.
+
+/// The profile of a run of these words, of at most `n` steps.
+fn profile(rt: &impl Abort, alloc: Global, text: &[u32], n: u64) -> Result<Profile, Fail> {
+    assert!(rt; n <= 100);
+    let mut state = opening(rt, alloc, text, &[], &[], b"")?;
+    let profile = run(alloc, &mut state, &Table::usual(), n);
+    drop(state);
+    Ok(profile?)
+}
+
+/// Fails where blocks were entered another number of times.
+fn check_entries(rt: &impl Abort, profile: &Profile, due: &[(u32, u64)]) {
+    for (leader, entries) in due {
+        assert_eq!(rt; profile.entries(*leader), *entries, "{leader:x}");
+    }
+}
+
+#[test]
+fn calls_write_and_exit(rt: HostRuntime) -> Result<(), Fail> {
+    let alloc = rt.alloc();
+    let mut state = opening(&rt, alloc, calls(), &[1000], table(), b"")?;
+    let profile = run(alloc, &mut state, &Table::usual(), 4294967296);
+    assert_eq!(&rt; state.output(), [0xe8, 0x1d, 0, 0].as_slice());
+    assert_eq!(&rt; state.pc(), 0x100c0);
+    drop(state);
+    let profile = profile?;
+    expect_counts(&rt, &profile, Some(End::Exit(0)), 61, 75);
+    assert_eq!(&rt; profile.touched, None);
+    let entries = [(0x10074, 1), (0x10080, 4), (0x100d4, 2), (0x100d6, 0)];
+    check_entries(&rt, &profile, &entries);
+    assert_eq!(&rt; profile.targets(), [0x1008c, 0x100c4, 0x100d4].as_slice());
+    drop(profile);
+    Ok(())
+}
+
+#[test]
+fn ends_after_so_many_steps(rt: HostRuntime) -> Result<(), Fail> {
+    let jump_to_itself = profile(&rt, rt.alloc(), &[0x0000006f], 3)?;
+    expect_counts(&rt, &jump_to_itself, None, 3, 6);
+    check_entries(&rt, &jump_to_itself, &[(0x10074, 3)]);
+    assert_eq!(&rt; jump_to_itself.targets(), [].as_slice());
+    drop(jump_to_itself);
+    Ok(())
+}
+
+/// Fails where a run of these words, of at most nine steps, has another end, or other counts.
+fn check_run(
+    rt: &impl Abort,
+    alloc: Global,
+    text: &[u32],
+    end: End,
+    steps: u64,
+    cost: u64,
+) -> Result<(), Fail> {
+    let profile = profile(rt, alloc, text, 9)?;
+    expect_counts(rt, &profile, Some(end), steps, cost);
+    drop(profile);
+    Ok(())
+}
+
+#[test]
+fn ends_by_each_cause(rt: HostRuntime) -> Result<(), Fail> {
+    let alloc = rt.alloc();
+    let odd_jump = profile(&rt, alloc, &[0x00200067], 9)?;
+    expect_counts(&rt, &odd_jump, Some(End::Misaligned(2)), 1, 2);
+    assert_eq!(&rt; odd_jump.targets(), [].as_slice());
+    drop(odd_jump);
+    let no_op = [0x00000013];
+    check_run(&rt, alloc, &no_op, End::Fetch(0x10078), 2, 0)?;
+    let unit_word = [0x0000000b];
+    check_run(&rt, alloc, &unit_word, End::Illegal(0xb), 1, 0)?;
+    let load_at_zero = [0x00b502b3, 0x00002303];
+    check_run(&rt, alloc, &load_at_zero, End::Access(0, Width::Word), 2, 3)?;
+    Ok(())
+}
+
+#[test]
+fn tells_the_first_touch(rt: HostRuntime) -> Result<(), Fail> {
+    // auipc x5, 0; lw x6, 0(x5); ebreak
+    let profile = profile(&rt, rt.alloc(), &[0x00000297, 0x0002a303, 0x00100073], 9)?;
+    expect_counts(&rt, &profile, Some(End::Break), 3, 4);
+    assert_eq!(&rt; profile.touched, Some((0x10078, 0x10074)));
+    drop(profile);
+    Ok(())
+}
+
+/// Makes a step, and fails where its outcome or the address behind it is another.
+fn check_step(
+    rt: &impl Abort,
+    alloc: Global,
+    state: &mut State,
+    outcome: Outcome,
+    pc: u32,
+) -> Result<(), AllocError> {
+    assert_eq!(rt; step(alloc, state)?, outcome);
+    assert_eq!(rt; state.pc(), pc);
+    Ok(())
+}
+
+#[test]
+fn makes_one_step(rt: HostRuntime) -> Result<(), Fail> {
+    let alloc = rt.alloc();
+    let mut state = opening(&rt, alloc, &[0x00000013], &[], &[], b"")?;
+    let first = check_step(&rt, alloc, &mut state, Outcome::Next, 0x10078);
+    let end = Outcome::Ended(End::Fetch(0x10078));
+    let second = check_step(&rt, alloc, &mut state, end, 0x10078);
+    drop(state);
+    first?;
+    second?;
+    Ok(())
+}
+
+/// A loop that is made twice, and then entered again after EBREAK was written over its first word.
+fn overwritten() -> &'static [u32] {
+    &[
+        0x000102b7, 0x00200393, 0x00150513, 0xfff38393, 0xfe039ce3, 0x0982a303, 0x0662ae23,
+        0x00500393, 0xfe9ff06f, 0x00100073,
+    ]
+}
+
+#[test]
+fn decodes_a_word_that_was_written(rt: HostRuntime) -> Result<(), Fail> {
+    let profile = profile(&rt, rt.alloc(), overwritten(), 99)?;
+    expect_counts(&rt, &profile, Some(End::Break), 13, 15);
+    assert_eq!(&rt; profile.entries(0x1007c), 3);
+    assert_eq!(&rt; profile.touched, Some((0x10088, 0x10098)));
+    drop(profile);
+    Ok(())
+}
+
+/// A read of a word over one that was executed, to which it then jumps.
+fn read_over() -> &'static [u32] {
+    &[
+        0x00000297, 0x01028593, 0x00400613, 0x03f00893, 0x00000513, 0x00000073, 0xff9ff06f,
+    ]
+}
+
+#[test]
+fn decodes_a_word_that_was_read(rt: HostRuntime) -> Result<(), Fail> {
+    let alloc = rt.alloc();
+    let mut state = opening(&rt, alloc, read_over(), &[], &[], &[0x73, 0x00, 0x10, 0x00])?;
+    let profile = run(alloc, &mut state, &Table::usual(), 99);
+    drop(state);
+    let profile = profile?;
+    expect_counts(&rt, &profile, Some(End::Break), 8, 9);
+    assert_eq!(&rt; profile.entries(0x10084), 2);
+    assert_eq!(&rt; profile.touched, Some((0x10088, 0x10084)));
+    drop(profile);
+    Ok(())
+}

@@ -1,5 +1,0 @@
-use Rattle.std.proofs.Common.{rules}
-use Rattle.ci_unit.proofs.tests.words_of_use.Goals as goal
-
-pub encode_use-unit-requires-clause-fits : goal.encode_use-unit-requires-clause-fits
-encode_use-unit-requires-clause-fits g c = let fits = c.fits.ensures.0 (search rules) in (_, fits)
