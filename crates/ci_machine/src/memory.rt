@@ -157,6 +157,17 @@ impl Memory {
         Some(u32::from(low) + 256 * high)
     }
 
+    /// Whether an access lies in the window.
+    #[inline(always)]
+    fn is_in(&self, window: Window, address: u32, width: Width) -> bool
+        requires { IsWindow self.now.pages.table.items (is_mapped self.now) window }
+        ensures there { result ≡ true → IsPlace self.now.pages.table.items (address / 4096) window.place }
+        ensures on_page { result ≡ true → address % 4096 + width_bytes width ≤ 4096 }
+        ensures mapped { result ≡ true → (k : ℕ) → k < width_bytes width → is_mapped self.now (address + k) ≡ true }
+    {
+        window.holds(address, width.bytes())
+    }
+
     /// The number of the bytes at an address, where all lie in the window.
     #[inline(always)]
     fn load_in(&self, window: Window, address: u32, width: Width) -> Option<u32>
@@ -164,7 +175,7 @@ impl Memory {
         ensures { IfSome result (λ n. option_map number_of_bytes
             (bytes_at (memory_of self.now) (addresses (width_bytes width) address)) ≡ Some n) }
     {
-        if window.holds(address, width.bytes()) {
+        if self.is_in(window, address, width) {
             return Some(self.pages.load_at(window.place, address, width));
         }
         None
@@ -288,7 +299,7 @@ impl Memory {
         ensures segments { segments_of self.new ≡ segments_of self.old }
     {
         let window = self.window(address);
-        if window.holds(address, width.bytes()) {
+        if self.is_in(window, address, width) {
             self.store_at(window.place, address, width, value);
             return true;
         }
@@ -306,7 +317,7 @@ impl Memory {
     {
         self.look_at(address);
         let window = self.window(address);
-        if window.holds(address, width.bytes()) {
+        if self.is_in(window, address, width) {
             self.store_at(window.place, address, width, value);
             return true;
         }
