@@ -17,7 +17,6 @@ use Rattle.ci_cut.specs.ListCounts.{AtLeast}
 use Rattle.ci_cut.specs.Need.{IsOpen, IsNeed, NeedExceeds, continuations}
 use Rattle.ci_check.specs.Rules.{Given}
 use Rattle.ci_cut.specs.Representation.{Represents}
-use Rattle.ci_check.specs.Representation.{IsMeasured}
 use Rattle.ci_check.proofs.Acceptance.{accepted_is_best}
 use Rattle.ci_cut.proofs.NeedLaws.{reached_none}
 use Rattle.ci_search.specs.Answered.{free, HasLog, IsAnswer, IsSpent, IsOptimal}
