@@ -11,7 +11,9 @@ use Rattle.ci_log.specs.declared.log.Item.{Item}
 use Rattle.ci_log.specs.declared.log.Item.TheVariants.{B}
 use Rattle.ci_log.specs.Trees.{IsLeaf, IsTree, leaf, branch}
 use Rattle.ci_check.specs.declared.checking.Wrong.{Wrong}
+use Rattle.ci_cut.specs.declared.prefix.PrefixTerms.{PrefixTerms}
 use Rattle.ci_cut.specs.Prefixes.{Prefix, is_eligible, eligible_nodes}
+use Rattle.ci_cut.specs.Representation.{Represents}
 use Rattle.ci_check.specs.Rules.{Given, IsRight, reason_of, Station, stations, IsRightAt, IsFirstWrongIn}
 use Rattle.ci_check.specs.Representation.{IsTreeAt, IsJudged, IsBranchOn}
 use Rattle.ci_check.proofs.Acceptance.{all_right, all_both}
@@ -191,3 +193,14 @@ module _ (graph : FlowGraph) (limits : Limits) (best : Given) where
   not_all all number reason wrong right =
       wrong.not_right (all_right (IsRightAt graph limits best) wrong.before (wrong.station ∷ wrong.behind)
       (subst (AllByRecursion (IsRightAt graph limits best)) wrong.is_split right)).0
+
+-- the walk went on from the tree of a prefix to that of another, of which what is judged holds of the first
+pub record Goes (graph : FlowGraph) (limits : Limits) (best : Given) (items : List Item) (terms : PrefixTerms) (delays : List ℕ)
+    (prefix : Prefix) {one : List Item} (tree : IsTree one) (start place : ℕ) (rest : List Item) : Type 0 where
+  pub now : Prefix
+  pub here : List Item
+  pub here_tree : IsTree here
+  pub represents : Represents graph now terms delays
+  pub is_split : drop place items ≡ here ++ rest
+  pub judged : (result : Result ℕ Wrong) → IsJudged graph limits best (stations here_tree now) place result
+      → IsJudged graph limits best (stations tree prefix) start result

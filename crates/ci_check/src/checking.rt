@@ -81,29 +81,32 @@ fn check_tree(
         → Represents graph.now prefix terms.old delays.old → drop place items.now ≡ one ++ rest
         → IsJudged graph.now limits.now best.now.cut (stations tree prefix) place result }
 {
-    let item = items[place];
-    if !is_right(graph, rows, limits, best, terms, item) {
-        return Err(Wrong {
-            item: place as u32,
-            reason: reason_of(item),
-        });
+    let mut place = place;
+    'prefixes: loop {
+        let item = items[place];
+        if !is_right(graph, rows, limits, best, terms, item) {
+            return Err(Wrong {
+                item: place as u32,
+                reason: reason_of(item),
+            });
+        }
+        let Some(node) = branch_on(graph, rows, terms, item) else {
+            return Ok(place + 1);
+        };
+        let end = check_first(
+            graph,
+            rows,
+            limits,
+            best,
+            items,
+            place + 1,
+            terms,
+            delays,
+            node,
+        )?;
+        terms.leave_out(graph, node);
+        place = end;
     }
-    let Some(node) = branch_on(graph, rows, terms, item) else {
-        return Ok(place + 1);
-    };
-    let end = check_first(
-        graph,
-        rows,
-        limits,
-        best,
-        items,
-        place + 1,
-        terms,
-        delays,
-        node,
-    )?;
-    terms.leave_out(graph, node);
-    check_tree(graph, rows, limits, best, items, end, terms, delays)
 }
 
 /// Checks the items of the tree that begins at `place`, where the next node is taken in.

@@ -6,6 +6,8 @@ ghost use Rattle.ci_check.specs.Representation.{ComesBeforeFrom};
 use ci_word::Row;
 
 /// Whether the sets differ at some number from `from` on, and the first has the greatest number in which they differ.
+// Few prefixes are as good as the best cut, so those that ask for the others are kept short.
+#[inline(never)]
 pub fn comes_before(first: &Row, second: &Row, from: usize) -> bool
     ensures { IsTrue result ↔ ComesBeforeFrom from (set.contains first.now) (set.contains second.now) }
 {

@@ -80,6 +80,7 @@ fn is_after_best(graph: &Graph, limits: &Limits, best: &Incumbent, terms: &Prefi
 }
 
 /// Whether the bound is too small for a better cut.
+#[inline]
 fn gains_too_little(graph: &Graph, limits: &Limits, best: &Incumbent, terms: &PrefixTerms) -> bool
     requires represents { RepresentsSome graph.now terms.now }
     requires measured { IsMeasured graph.now limits.now best.now }
@@ -91,6 +92,7 @@ fn gains_too_little(graph: &Graph, limits: &Limits, best: &Incumbent, terms: &Pr
 }
 
 /// Whether the item is right at the prefix.
+#[inline]
 pub fn is_right(
     graph: &Graph,
     rows: &GraphRows,

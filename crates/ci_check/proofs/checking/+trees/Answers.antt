@@ -1,4 +1,4 @@
-use Rattle.std.proofs.Common.{◌≡◌, ℕ, ◌+◌, List, ◌∷◌, ◌++◌, drop, length, get_or, true, false, inl, IsTrue, ◌∙◌, arith, subst}
+use Rattle.std.proofs.Common.{◌≡◌, ℕ, ◌+◌, List, ◌∷◌, ◌++◌, drop, length, get_or, true, false, inl, IsTrue, Ok, Err, refl, ◌∙◌, arith, subst}
 use Rattle.std.proofs.lemmas.Bool.Decides.{not_from_Decides}
 use Rattle.std.proofs.lemmas.Result.{err_from_is_err_and}
 use Rattle.ci_log.specs.declared.log.Item.{Item}
@@ -12,73 +12,96 @@ use Rattle.ci_check.proofs.TreeWalk.{tree_within, first_item, wrong_here, right_
 use Rattle.ci_check.proofs.checking.+trees.Goals as goal
 use Rattle.ci_check.proofs.checking.+trees.Goals.{check_tree-In-Some, check_tree-In_ok-end}
 
+pub check_tree-prefixes-init : goal.check_tree-prefixes-init
+check_tree-prefixes-init t c = record {
+  represents = c.requires.represents;
+  tree = c.requires.tree;
+  below = omega arith;
+  kept = λ k from. refl;
+  goes = λ prefix one rest tree represents splits. record {
+    now = prefix;
+    here = one;
+    here_tree = tree;
+    represents = represents;
+    is_split = splits;
+    judged = λ result is. is;
+  };
+}
+
 pub check_tree-bounds-items-place : goal.check_tree-bounds-items-place
-check_tree-bounds-items-place t c = tree_within c.args.items.now c.args.place c.requires.tree
+check_tree-bounds-items-place t c = tree_within c.args.items.now c.prefixes.place c.prefixes.invariant.tree
 
 pub check_tree-overflow_cast-result : goal.check_tree-overflow_cast-result
-check_tree-overflow_cast-result t c = omega (arith, tree_within c.args.items.now c.args.place c.requires.tree)
+check_tree-overflow_cast-result t c = omega (arith, tree_within c.args.items.now c.prefixes.place c.prefixes.invariant.tree)
 
 pub check_tree-overflow_add-place : goal.check_tree-overflow_add-place
-check_tree-overflow_add-place t c = omega (arith, tree_within c.args.items.now c.args.place c.requires.tree)
+check_tree-overflow_add-place t c = omega (arith, tree_within c.args.items.now c.prefixes.place c.prefixes.invariant.tree)
 
 pub check_tree-overflow_add-result : goal.check_tree-overflow_add-result
-check_tree-overflow_add-result t c = omega (arith, tree_within c.args.items.now c.args.place c.requires.tree)
+check_tree-overflow_add-result t c = omega (arith, tree_within c.args.items.now c.prefixes.place c.prefixes.invariant.tree)
 
 pub check_tree-returns-then-not-is_right-clause-judged : goal.check_tree-returns-then-not-is_right-clause-judged
 check_tree-returns-then-not-is_right-clause-judged t c prefix one rest tree represents splits =
+    let goes = c.prefixes.invariant.goes prefix one rest tree represents splits in
     let items = c.args.items.now in
-    let place = c.args.place in
-    let within = tree_within items place c.requires.tree in
-    let wrong = not_from_Decides _ (c.is_right.ensures prefix c.args.delays.now represents) c.if-not-is_right.true in (
+    let place = c.prefixes.place in
+    let within = tree_within items place c.prefixes.invariant.tree in
+    let wrong = not_from_Decides _ (c.is_right.ensures goes.now c.prefixes.delays goes.represents) c.if-not-is_right.true in
+    goes.judged (Err (record { item = place; reason = c.reason_of.result })) (
       0,
-      rw c.reason_of.ensures (wrong_here c.args.graph.now c.args.limits.now c.args.best.now.cut tree prefix
-          (get_or items place B) (drop (place + 1) items) rest (first_item items one rest place within splits) wrong),
+      rw c.reason_of.ensures (wrong_here c.args.graph.now c.args.limits.now c.args.best.now.cut goes.here_tree goes.now
+          (get_or items place B) (drop (place + 1) items) rest (first_item items goes.here rest place within goes.is_split) wrong),
       omega arith,
     )
 
 pub check_tree-returns-in_default-clause-judged : goal.check_tree-returns-in_default-clause-judged
 check_tree-returns-in_default-clause-judged t c prefix one rest tree represents splits =
+    let goes = c.prefixes.invariant.goes prefix one rest tree represents splits in
     let items = c.args.items.now in
-    let place = c.args.place in
-    let within = tree_within items place c.requires.tree in
-    let right = (c.is_right.ensures prefix c.args.delays.now represents).0 c.if-not-is_right.false in
-    let judged = right_alone c.args.graph.now c.args.limits.now c.args.best.now.cut tree prefix
-    (get_or items place B) (drop (place + 1) items) rest c.args.terms.now.place
-    (first_item items one rest place within splits) right
-    c.in_default.ensures (all_decided c.args.graph.now prefix c.args.terms.now c.args.delays.now represents) in
-    (judged.0, omega (arith, judged.1))
+    let place = c.prefixes.place in
+    let within = tree_within items place c.prefixes.invariant.tree in
+    let right = (c.is_right.ensures goes.now c.prefixes.delays goes.represents).0 c.if-not-is_right.false in
+    let judged = right_alone c.args.graph.now c.args.limits.now c.args.best.now.cut goes.here_tree goes.now
+    (get_or items place B) (drop (place + 1) items) rest c.prefixes.terms.place
+    (first_item items goes.here rest place within goes.is_split) right
+    c.in_default.ensures (all_decided c.args.graph.now goes.now c.prefixes.terms c.prefixes.delays goes.represents) in
+    goes.judged (Ok (place + 1)) (judged.0, omega (arith, judged.1))
 
 -- what is known at a branch: the next node, the trees below, and that the item is right
 record Branch (t : ℕ) (c : check_tree-In-Some t) (prefix : Prefix) {one : List Item} (tree : IsTree one) (rest : List Item) : Type 0 where
   next : IsTrue (is_next c.args.graph.now prefix c.in-Some.node)
-  parts : SubTrees tree prefix (drop (c.args.place + 1) c.args.items.now) rest
+  parts : SubTrees tree prefix (drop (c.prefixes.place + 1) c.args.items.now) rest
   right : IsRight c.args.graph.now c.args.limits.now c.args.best.now.cut prefix B
 
 branch_at : (t : ℕ) (c : check_tree-In-Some t) (prefix : Prefix) (one rest : List Item) (tree : IsTree one)
-    → Represents c.args.graph.now prefix c.args.terms.now c.args.delays.now → drop c.args.place c.args.items.now ≡ one ++ rest
+    → Represents c.args.graph.now prefix c.prefixes.terms c.prefixes.delays → drop c.prefixes.place c.args.items.now ≡ one ++ rest
     → Branch t c prefix tree rest
 branch_at t c prefix one rest tree represents splits = record {
-  next = next_from_below c.args.graph.now prefix c.args.terms.now c.args.delays.now represents c.in-Some.node c.in-Some.ensures.1;
-  parts = sub_trees tree prefix (get_or c.args.items.now c.args.place B) (drop (c.args.place + 1) c.args.items.now) rest
-      (first_item c.args.items.now one rest c.args.place (tree_within c.args.items.now c.args.place c.requires.tree) splits) c.in-Some.ensures.0;
+  next = next_from_below c.args.graph.now prefix c.prefixes.terms c.prefixes.delays represents c.in-Some.node c.in-Some.ensures.1;
+  parts = sub_trees tree prefix (get_or c.args.items.now c.prefixes.place B) (drop (c.prefixes.place + 1) c.args.items.now) rest
+      (first_item c.args.items.now one rest c.prefixes.place (tree_within c.args.items.now c.prefixes.place c.prefixes.invariant.tree) splits) c.in-Some.ensures.0;
   right = subst (λ (item : Item). IsRight c.args.graph.now c.args.limits.now c.args.best.now.cut prefix item)
-      c.in-Some.ensures.0 ((c.is_right.ensures prefix c.args.delays.now represents).0 c.if-not-is_right.false);
+      c.in-Some.ensures.0 ((c.is_right.ensures prefix c.prefixes.delays represents).0 c.if-not-is_right.false);
 }
+
+-- the same at the prefix that is looked at
+here_at : (t : ℕ) (c : check_tree-In-Some t) → Branch t c c.prefixes.invariant.represents.0 c.prefixes.invariant.tree.tree c.prefixes.invariant.tree.rest
+here_at t c =
+    let inv = c.prefixes.invariant in
+    branch_at t c inv.represents.0 inv.tree.one inv.tree.rest inv.tree.tree inv.represents.1 inv.tree.is_split
 
 pub check_tree-check_first-requires : goal.check_tree-check_first-requires
 check_tree-check_first-requires t c =
-    let prefix = c.requires.represents.0 in
-    let represents = c.requires.represents.1 in
-    let here = c.requires.tree in
-    let b = branch_at t (goal.at.check_tree-check_first-requires t c).In-Some prefix here.one here.rest here.tree represents here.is_split in (
-      omega (arith, c.in-Some.ensures.1.below),
+    let inv = c.prefixes.invariant in
+    let b = here_at t (goal.at.check_tree-check_first-requires t c).In-Some in (
+      omega (arith, c.in-Some.ensures.1.below, inv.below),
       (
         c.requires.rows,
         (
-          (prefix, represents, b.next),
+          (inv.represents.0, inv.represents.1, b.next),
           (
             c.requires.measured,
-            (c.requires.few, record { one = b.parts.first; rest = b.parts.second ++ here.rest; is_split = b.parts.is_tail; tree = b.parts.first_tree }),
+            (c.requires.few, record { one = b.parts.first; rest = b.parts.second ++ inv.tree.rest; is_split = b.parts.is_tail; tree = b.parts.first_tree }),
           ),
         ),
       ),
@@ -86,59 +109,63 @@ check_tree-check_first-requires t c =
 
 pub check_tree-leave_out-requires : goal.check_tree-leave_out-requires
 check_tree-leave_out-requires t c =
-    let prefix = c.requires.represents.0 in
-    let represents = c.requires.represents.1 in
-    let here = c.requires.tree in
-    let b = branch_at t (goal.at.check_tree-leave_out-requires t c).In-Some prefix here.one here.rest here.tree represents here.is_split in
-    record { next = (prefix, c.args.delays.now, represents, b.next) }
-
--- the delays of the nodes taken in are the same behind the first tree
-between : (t : ℕ) (c : check_tree-In_ok-end t) → AreKeptFrom c.args.terms.now.place c.args.delays.now c.check_first.new.delays
-between t c k from = c.in_ok-end.ensures.kept k (omega (arith, from, c.in-Some.ensures.1.below))
+    let inv = c.prefixes.invariant in
+    let b = here_at t (goal.at.check_tree-leave_out-requires t c).In-Some in
+    record { next = (inv.represents.0, c.prefixes.delays, inv.represents.1, b.next) }
 
 pub check_tree-returns-in_err-end-clause-judged : goal.check_tree-returns-in_err-end-clause-judged
 check_tree-returns-in_err-end-clause-judged t c prefix one rest tree represents splits =
-    let b = branch_at t (goal.at.check_tree-returns-in_err-end-clause-judged t c).In-Some prefix one rest tree represents splits in
-    let first = c.in_err-end.ensures.judged prefix b.parts.first (b.parts.second ++ rest) b.parts.first_tree represents b.next b.parts.is_tail in
+    let goes = c.prefixes.invariant.goes prefix one rest tree represents splits in
+    let b = branch_at t (goal.at.check_tree-returns-in_err-end-clause-judged t c).In-Some goes.now goes.here rest goes.here_tree goes.represents goes.is_split in
+    let first = c.in_err-end.ensures.judged goes.now b.parts.first (b.parts.second ++ rest) b.parts.first_tree goes.represents b.next b.parts.is_tail in
     let p = err_from_is_err_and c.from_residual.result c.from_residual.ensures.1 in
     rw (p.1, p.2)
-    (judged_by_first c.args.graph.now c.args.limits.now c.args.best.now.cut tree prefix _ rest b.parts b.right
-    c.args.place c.in_err-end.field-0.0 first)
+    (goes.judged (Err c.in_err-end.field-0.0) (judged_by_first c.args.graph.now c.args.limits.now c.args.best.now.cut goes.here_tree goes.now _ rest b.parts b.right
+    c.prefixes.place c.in_err-end.field-0.0 first))
 
-pub check_tree-check_tree-requires : goal.check_tree-check_tree-requires
-check_tree-check_tree-requires t c =
-    let prefix = c.requires.represents.0 in
-    let represents = c.requires.represents.1 in
-    let here = c.requires.tree in
-    let b = branch_at t (goal.at.check_tree-check_tree-requires t c).In-Some prefix here.one here.rest here.tree represents here.is_split in
-    let first = c.in_ok-end.ensures.judged prefix b.parts.first (b.parts.second ++ here.rest) b.parts.first_tree represents b.next b.parts.is_tail in
-    let later = represents_kept c.args.graph.now prefix c.args.terms.now c.args.delays.now represents c.check_first.new.delays (between t (goal.at.check_tree-check_tree-requires t c).In_ok-end) in
-    let behind = behind_first c.args.items.now here.rest (c.args.place + 1) c.in_ok-end.end b.parts first.1 in (
-      omega (arith, c.in-Some.ensures.1.below, c.leave_out.ensures.place),
-      (
-        c.requires.rows,
-        (
-          (false ∷ prefix, c.leave_out.ensures.represents prefix c.check_first.new.delays later b.next),
-          (c.requires.measured, (c.requires.few, record { one = b.parts.second; rest = here.rest; is_split = behind; tree = b.parts.second_tree })),
-        ),
-      ),
-    )
+-- the delays of the nodes taken in are the same behind the first tree
+between : (t : ℕ) (c : check_tree-In_ok-end t) → AreKeptFrom c.prefixes.terms.place c.prefixes.delays c.check_first.new.delays
+between t c k from = c.in_ok-end.ensures.kept k (omega (arith, from, c.in-Some.ensures.1.below))
 
-pub check_tree-returns-clause-judged : goal.check_tree-returns-clause-judged
-check_tree-returns-clause-judged t c prefix one rest tree represents splits =
-    let b = branch_at t (goal.at.check_tree-returns-clause-judged t c).In-Some prefix one rest tree represents splits in
-    let first = c.in_ok-end.ensures.judged prefix b.parts.first (b.parts.second ++ rest) b.parts.first_tree represents b.next b.parts.is_tail in
-    let later = represents_kept c.args.graph.now prefix c.args.terms.now c.args.delays.now represents c.check_first.new.delays (between t (goal.at.check_tree-returns-clause-judged t c).In_ok-end) in
-    let second = c.check_tree.ensures.judged (false ∷ prefix) b.parts.second rest b.parts.second_tree
-    (c.leave_out.ensures.represents prefix c.check_first.new.delays later b.next)
-    (behind_first c.args.items.now rest (c.args.place + 1) c.in_ok-end.end b.parts first.1) in
-    judged_by_second c.args.graph.now c.args.limits.now c.args.best.now.cut tree prefix _ rest b.parts b.right
-    c.args.place c.in_ok-end.end c.check_tree.result first second
+pub check_tree-prefixes-preserved : goal.check_tree-prefixes-preserved
+check_tree-prefixes-preserved t c =
+    let inv = c.prefixes.invariant in
+    let graph = c.args.graph.now in
+    let limits = c.args.limits.now in
+    let best = c.args.best.now.cut in
+    let some = (goal.at.check_tree-prefixes-preserved t c).In-Some in
+    let later = λ (prefix : Prefix) (represents : Represents graph prefix c.prefixes.terms c.prefixes.delays).
+    represents_kept graph prefix c.prefixes.terms c.prefixes.delays represents c.check_first.new.delays (between t (goal.at.check_tree-prefixes-preserved t c).In_ok-end) in
+    let b = here_at t some in
+    let first = c.in_ok-end.ensures.judged inv.represents.0 b.parts.first (b.parts.second ++ inv.tree.rest) b.parts.first_tree inv.represents.1 b.next b.parts.is_tail in
+    record {
+      represents = (false ∷ inv.represents.0, c.leave_out.ensures.represents inv.represents.0 c.check_first.new.delays (later inv.represents.0 inv.represents.1) b.next);
+      tree = record {
+        one = b.parts.second;
+        rest = inv.tree.rest;
+        is_split = behind_first c.args.items.now inv.tree.rest (c.prefixes.place + 1) c.in_ok-end.end b.parts first.1;
+        tree = b.parts.second_tree;
+      };
+      below = omega (arith, inv.below, c.in-Some.ensures.1.below, c.leave_out.ensures.place);
+      kept = λ k from.
+          c.in_ok-end.ensures.kept k (omega (arith, from, inv.below, c.in-Some.ensures.1.below)) ∙ inv.kept k from;
+      goes = λ prefix one rest tree represents splits.
+          let goes = inv.goes prefix one rest tree represents splits in
+          let b = branch_at t some goes.now goes.here rest goes.here_tree goes.represents goes.is_split in
+          let first = c.in_ok-end.ensures.judged goes.now b.parts.first (b.parts.second ++ rest) b.parts.first_tree goes.represents b.next b.parts.is_tail in
+          record {
+            now = false ∷ goes.now;
+            here = b.parts.second;
+            here_tree = b.parts.second_tree;
+            represents = c.leave_out.ensures.represents goes.now c.check_first.new.delays (later goes.now goes.represents) b.next;
+            is_split = behind_first c.args.items.now rest (c.prefixes.place + 1) c.in_ok-end.end b.parts first.1;
+            judged = λ result second. goes.judged result
+                (judged_by_second graph limits best goes.here_tree goes.now _ rest b.parts b.right c.prefixes.place c.in_ok-end.end result first second);
+          };
+    }
 
-pub check_tree-returns-clause-kept : goal.check_tree-returns-clause-kept
-check_tree-returns-clause-kept t c k from =
-    c.check_tree.ensures.kept k (omega (arith, from, c.in-Some.ensures.1.below, c.leave_out.ensures.place))
-    ∙ between t (goal.at.check_tree-returns-clause-kept t c).In_ok-end k from
+pub check_tree-prefixes-smaller : goal.check_tree-prefixes-smaller
+check_tree-prefixes-smaller t c = omega (arith, c.in-Some.ensures.1.below, c.leave_out.ensures.place)
 
 -- ---- where the next node is taken in
 
