@@ -20,7 +20,7 @@ each_more P nodes more node k pushed count before last j below =
     (elim (cases_eq j k) [
       | inl same ↦
           let at_last =
-              ap (λ (i : ℕ). node_in (nodes ++ node ∷ []) i) (sym count) ∙ get_or-append_seam nodes node [] no_node in
+          ap (λ (i : ℕ). node_in (nodes ++ node ∷ []) i) (sym count) ∙ get_or-append_seam nodes node [] no_node in
           subst (λ i. P i (node_in (nodes ++ node ∷ []) i)) (sym same) (subst (P k) (sym at_last) last)
       | inr other ↦
           let earlier : j < length nodes = omega arith in

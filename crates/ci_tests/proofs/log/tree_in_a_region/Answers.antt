@@ -15,8 +15,8 @@ flatten-requires-clause-tree g c =
     let first = c.in_ok-below.ensures in
     let second = c.in_ok-root.ensures in
     let bare =
-        ap (λ (m : BoundedMap LogNode). map.remove m.values c.in_ok-root.root) second.holds
-        ∙ given_back _ c.in_ok-root.root _ second.was_free in (
+    ap (λ (m : BoundedMap LogNode). map.remove m.values c.in_ok-root.root) second.holds
+    ∙ given_back _ c.in_ok-root.root _ second.was_free in (
       _,
       _,
       at_inner second.live (at_leaf tt)

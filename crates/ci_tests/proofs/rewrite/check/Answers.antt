@@ -9,8 +9,8 @@ use Rattle.ci_tests.proofs.rewrite.check.Goals as goal
 pub fits-requires : goal.fits-requires
 fits-requires g c =
     let nodes =
-        ap (λ graph. length graph.nodes) c.in_ok-graph.ensures
-        ∙ length-nodes c.as_slice-insns.result.now c.args.live c.usual.result in
+    ap (λ graph. length graph.nodes) c.in_ok-graph.ensures
+    ∙ length-nodes c.as_slice-insns.result.now c.args.live c.usual.result in
     λ k is. let below = c.row-cut.ensures k is in omega (arith, below, nodes)
 
 pub fold-requires-clause-graph : goal.fold-requires-clause-graph
