@@ -25,7 +25,7 @@ use crate::touches::Touches;
 use ci_isa::{Cond, LoadKind, Reg, Width};
 use ci_machine::{Call, End, State};
 use ci_word::{Op, alu};
-use std::alloc::{AllocError, Global};
+use std::alloc::AllocError;
 
 /// Does what the action of the word does on the machine, and notes how it touches the text. Loads, stores and calls alone
 /// move bytes.
@@ -34,7 +34,6 @@ use std::alloc::{AllocError, Global};
 #[inline(always)]
 #[tactic(auto, using(crate::proofs::Touched::laws))]
 pub(crate) fn execute<M: Machine>(
-    alloc: Global,
     machine: &M,
     state: &mut State,
     word: u32,
@@ -121,7 +120,7 @@ pub(crate) fn execute<M: Machine>(
         Action::Fence { .. } => Ok(advance(state)),
         Action::Ecall => {
             touches.note_call(state);
-            call(alloc, state)
+            call(state)
         }
         Action::Ebreak => Ok(Outcome::Ended(End::Break)),
         Action::Illegal { word } => Ok(Outcome::Ended(End::Illegal(word))),
@@ -350,14 +349,14 @@ fn store(state: &mut State, width: Width, rs2: Reg, address: u32) -> Outcome
 }
 
 /// An environment call.
-fn call(alloc: Global, state: &mut State) -> Result<Outcome, AllocError>
+fn call(state: &mut State) -> Result<Outcome, AllocError>
     ensures outcome { IfOk result (LeadsTo (state_of state.old)
         (then_onward (state_of state.old).pc (call (program_of state.old) (state_of state.old).core))
         (state_of state.new)) }
     ensures refused { OnErr result (state_of state.new ≡ state_of state.old) }
     ensures program { program_of state.new ≡ program_of state.old }
 {
-    match state.environment_call(alloc)? {
+    match state.environment_call()? {
         Call::Goes => Ok(advance(state)),
         Call::Exit(code) => Ok(Outcome::Ended(End::Exit(code))),
     }

@@ -53,7 +53,7 @@ pub fn run_on<M: Machine>(
 {
     let mut tally = Tally::new(alloc, machine, table, state.text())?;
     for i in 0..n {
-        if let Outcome::Ended(end) = counted_step(alloc, machine, state, table, &mut tally)? {
+        if let Outcome::Ended(end) = counted_step(machine, state, table, &mut tally)? {
             return tally.profile(alloc, i + 1, Some(end));
         }
     }

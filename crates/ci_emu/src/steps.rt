@@ -12,7 +12,7 @@ use crate::machine::{Machine, PlainMachine};
 use crate::touches::Touches;
 use ci_isa::Width;
 use ci_machine::{End, State};
-use std::alloc::{AllocError, Global};
+use std::alloc::AllocError;
 
 /// What a step comes to: the run goes on, or ends.
 #[derive(Clone, Copy, Debug, PartialEq, Eq)]
@@ -24,22 +24,18 @@ pub enum Outcome {
 /// One step of the plain machine: the instruction at the pc is fetched, and acts.
 ///
 /// The state stays as it is where the step ends the run, and where memory runs out.
-pub fn step(alloc: Global, state: &mut State) -> Result<Outcome, AllocError>
+pub fn step(state: &mut State) -> Result<Outcome, AllocError>
     ensures stepped { IfOk result (IsPlainStep (program_of state.old) (state_of state.old) (state_of state.new)) }
     ensures refused { OnErr result (state_of state.new ≡ state_of state.old) }
     ensures program { program_of state.new ≡ program_of state.old }
 {
-    step_on(alloc, &PlainMachine, state)
+    step_on(&PlainMachine, state)
 }
 
 /// One step of the machine: the instruction at the pc is fetched, and acts.
 ///
 /// The state stays as it is where the step ends the run, and where memory runs out.
-pub fn step_on<M: Machine>(
-    alloc: Global,
-    machine: &M,
-    state: &mut State,
-) -> Result<Outcome, AllocError>
+pub fn step_on<M: Machine>(machine: &M, state: &mut State) -> Result<Outcome, AllocError>
     ensures stepped { IfOk result
         (IsStep (M.meanings machine.now) (program_of state.old) (state_of state.old) (state_of state.new)) }
     ensures refused { OnErr result (state_of state.new ≡ state_of state.old) }
@@ -49,7 +45,7 @@ pub fn step_on<M: Machine>(
         Some(word) => {
             let mut touches = Touches::new(state.text());
             let action = Action::of(reading(word));
-            execute(alloc, machine, state, word, &action, &mut touches)
+            execute(machine, state, word, &action, &mut touches)
         }
         None => Ok(Outcome::Ended(End::Fetch(state.pc()))),
     }

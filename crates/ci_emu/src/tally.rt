@@ -173,7 +173,6 @@ fn enter<M: Machine>(
 /// Where memory runs out, the state is as before the step or behind it.
 #[inline(always)]
 pub(crate) fn counted_step<M: Machine>(
-    alloc: Global,
     machine: &M,
     state: &mut State,
     table: &Table,
@@ -230,14 +229,7 @@ pub(crate) fn counted_step<M: Machine>(
     };
     let line = &tally.cache.words[place];
     tally.cost += u64::from(line.latency);
-    let outcome = execute(
-        alloc,
-        machine,
-        state,
-        line.word,
-        &line.action,
-        &mut tally.touches,
-    )?;
+    let outcome = execute(machine, state, line.word, &line.action, &mut tally.touches)?;
     note(&mut tally.targets, target(state, &line.action, outcome))?;
     Ok(outcome)
 }

@@ -5,7 +5,7 @@ ghost use Rattle.std.specs.Prelude.{◌≡◌};
 ghost use Rattle.ci_machine.specs.Calls.{is_output};
 
 use crate::state::{Call, State};
-use std::alloc::{AllocError, Global};
+use std::alloc::AllocError;
 
 /// The answer where the file number is not one that is open.
 const BAD_FILE: u32 = 0xfffffff7;
@@ -113,7 +113,7 @@ impl State {
 
     /// The environment call that the registers ask for: its number in x17, its arguments in x10, x11 and x12, its
     /// answer in x10. Only a write takes memory, for the output. Nothing changes where there is none.
-    pub fn environment_call(&mut self, _alloc: Global) -> Result<Call, AllocError>
+    pub fn environment_call(&mut self) -> Result<Call, AllocError>
         ensures state { OnOk result (state_of self.new
             ≡ record (state_of self.old) { core = (called (program_of self.old) (state_of self.old).core).state }) }
         ensures answer { IfOk result (λ answer. end_of answer

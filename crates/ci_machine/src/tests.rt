@@ -61,14 +61,9 @@ fn ask(state: &mut State, number: u32, arguments: (u32, u32, u32)) {
 }
 
 /// The answer of an environment call.
-fn call(
-    state: &mut State,
-    alloc: Global,
-    number: u32,
-    arguments: (u32, u32, u32),
-) -> Result<u32, AllocError> {
+fn call(state: &mut State, number: u32, arguments: (u32, u32, u32)) -> Result<u32, AllocError> {
     ask(state, number, arguments);
-    state.environment_call(alloc)?;
+    state.environment_call()?;
     Ok(state.register(x(10)))
 }
 
@@ -171,19 +166,13 @@ fn stores(rt: HostRuntime) -> Result<(), Fail> {
 fn reads(rt: HostRuntime) -> Result<(), Fail> {
     let alloc = rt.alloc();
     let mut state = sample(&rt, alloc)?;
-    assert_eq!(&rt;
-        call(&mut state, alloc, 63, (1, 0x7ff00000, 5))?,
-        0xfffffff7
-    );
-    assert_eq!(&rt;
-        call(&mut state, alloc, 63, (0, 0x7fffffff, 5))?,
-        0xfffffff2
-    );
-    assert_eq!(&rt; call(&mut state, alloc, 63, (0, 0x10006, 5))?, 5);
+    assert_eq!(&rt; call(&mut state, 63, (1, 0x7ff00000, 5))?, 0xfffffff7);
+    assert_eq!(&rt; call(&mut state, 63, (0, 0x7fffffff, 5))?, 0xfffffff2);
+    assert_eq!(&rt; call(&mut state, 63, (0, 0x10006, 5))?, 5);
     assert_eq!(&rt; state.load(0x10006, Width::Word), Ok(0x6c6c6568));
-    assert_eq!(&rt; call(&mut state, alloc, 63, (0, 0x7ffffff9, 100))?, 7);
+    assert_eq!(&rt; call(&mut state, 63, (0, 0x7ffffff9, 100))?, 7);
     assert_eq!(&rt; state.load(0x7ffffffc, Width::Word), Ok(0x646c726f));
-    assert_eq!(&rt; call(&mut state, alloc, 63, (0, 0, 100))?, 0);
+    assert_eq!(&rt; call(&mut state, 63, (0, 0, 100))?, 0);
     Ok(())
 }
 
@@ -191,11 +180,11 @@ fn reads(rt: HostRuntime) -> Result<(), Fail> {
 fn writes(rt: HostRuntime) -> Result<(), Fail> {
     let alloc = rt.alloc();
     let mut state = sample(&rt, alloc)?;
-    assert_eq!(&rt; call(&mut state, alloc, 64, (0, 0x10006, 3))?, 0xfffffff7);
-    assert_eq!(&rt; call(&mut state, alloc, 64, (1, 0x10006, 3))?, 3);
-    assert_eq!(&rt; call(&mut state, alloc, 64, (2, 0x10000, 1))?, 1);
-    assert_eq!(&rt; call(&mut state, alloc, 64, (1, 0x1000f, 2))?, 0xfffffff2);
-    assert_eq!(&rt; call(&mut state, alloc, 64, (1, 0xffffffff, 0))?, 0);
+    assert_eq!(&rt; call(&mut state, 64, (0, 0x10006, 3))?, 0xfffffff7);
+    assert_eq!(&rt; call(&mut state, 64, (1, 0x10006, 3))?, 3);
+    assert_eq!(&rt; call(&mut state, 64, (2, 0x10000, 1))?, 1);
+    assert_eq!(&rt; call(&mut state, 64, (1, 0x1000f, 2))?, 0xfffffff2);
+    assert_eq!(&rt; call(&mut state, 64, (1, 0xffffffff, 0))?, 0);
     assert!(&rt; state.output() == [7, 0x88, 0x99, 1].as_slice());
     Ok(())
 }
@@ -204,13 +193,13 @@ fn writes(rt: HostRuntime) -> Result<(), Fail> {
 fn moves_the_heap(rt: HostRuntime) -> Result<(), Fail> {
     let alloc = rt.alloc();
     let mut state = sample(&rt, alloc)?;
-    assert_eq!(&rt; call(&mut state, alloc, 214, (0, 0, 0))?, 0x20010);
-    assert_eq!(&rt; call(&mut state, alloc, 214, (0x20018, 0, 0))?, 0x20018);
+    assert_eq!(&rt; call(&mut state, 214, (0, 0, 0))?, 0x20010);
+    assert_eq!(&rt; call(&mut state, 214, (0x20018, 0, 0))?, 0x20018);
     assert_eq!(&rt; state.store(0x20014, Width::Word, 0xffffffff), Ok(()));
     assert_eq!(&rt; state.store(0x20015, Width::Word, 0), Err(Unmapped));
-    assert_eq!(&rt; call(&mut state, alloc, 214, (0x20016, 0, 0))?, 0x20016);
+    assert_eq!(&rt; call(&mut state, 214, (0x20016, 0, 0))?, 0x20016);
     assert_eq!(&rt; state.load(0x20014, Width::Word), Err(Unmapped));
-    assert_eq!(&rt; call(&mut state, alloc, 214, (0x20020, 0, 0))?, 0x20020);
+    assert_eq!(&rt; call(&mut state, 214, (0x20020, 0, 0))?, 0x20020);
     assert_eq!(&rt; state.load(0x20014, Width::Word), Ok(0x0000ffff));
     Ok(())
 }
@@ -227,10 +216,10 @@ fn small(rt: &impl Abort, alloc: Global) -> Result<State, Fail> {
 fn keeps_no_bytes_of_pages_that_went(rt: HostRuntime) -> Result<(), Fail> {
     let alloc = rt.alloc();
     let mut state = small(&rt, alloc)?;
-    assert_eq!(&rt; call(&mut state, alloc, 214, (0x12080, 0, 0))?, 0x12080);
+    assert_eq!(&rt; call(&mut state, 214, (0x12080, 0, 0))?, 0x12080);
     assert_eq!(&rt; state.store(0x11000, Width::Word, 0xffffffff), Ok(()));
-    assert_eq!(&rt; call(&mut state, alloc, 214, (0x10080, 0, 0))?, 0x10080);
-    assert_eq!(&rt; call(&mut state, alloc, 214, (0x12080, 0, 0))?, 0x12080);
+    assert_eq!(&rt; call(&mut state, 214, (0x10080, 0, 0))?, 0x10080);
+    assert_eq!(&rt; call(&mut state, 214, (0x12080, 0, 0))?, 0x12080);
     assert_eq!(&rt; state.load(0x11000, Width::Word), Ok(0));
     assert_eq!(&rt; state.load(0x1207d, Width::Word), Err(Unmapped));
     Ok(())
@@ -240,15 +229,15 @@ fn keeps_no_bytes_of_pages_that_went(rt: HostRuntime) -> Result<(), Fail> {
 fn loads_near_as_it_loads(rt: HostRuntime) -> Result<(), Fail> {
     let alloc = rt.alloc();
     let mut state = small(&rt, alloc)?;
-    assert_eq!(&rt; call(&mut state, alloc, 214, (0x11010, 0, 0))?, 0x11010);
+    assert_eq!(&rt; call(&mut state, 214, (0x11010, 0, 0))?, 0x11010);
     assert_eq!(&rt; state.store(0x1100c, Width::Word, 0x04030201), Ok(()));
     assert_eq!(&rt; state.load_near(0x1100c, Width::Word), Ok(0x04030201));
     assert_eq!(&rt; state.load_near(0x1100d, Width::Word), Err(Unmapped));
     assert_eq!(&rt; state.load_near(0x10ffe, Width::Word), Ok(0));
     // The bytes that were loaded go, and come again.
-    assert_eq!(&rt; call(&mut state, alloc, 214, (0x1100e, 0, 0))?, 0x1100e);
+    assert_eq!(&rt; call(&mut state, 214, (0x1100e, 0, 0))?, 0x1100e);
     assert_eq!(&rt; state.load_near(0x1100c, Width::Word), Err(Unmapped));
-    assert_eq!(&rt; call(&mut state, alloc, 214, (0x11010, 0, 0))?, 0x11010);
+    assert_eq!(&rt; call(&mut state, 214, (0x11010, 0, 0))?, 0x11010);
     assert_eq!(&rt; state.load_near(0x1100c, Width::Word), Ok(0x0201));
     Ok(())
 }
@@ -260,9 +249,9 @@ fn crosses_pages(rt: HostRuntime) -> Result<(), Fail> {
     assert_eq!(&rt; state.store(0x7ff00ffe, Width::Word, 0x04030201), Ok(()));
     assert_eq!(&rt; state.load(0x7ff01000, Width::Half), Ok(0x0403));
     assert_eq!(&rt; state.load(0x7ff00ffd, Width::Word), Ok(0x03020100));
-    assert_eq!(&rt; call(&mut state, alloc, 63, (0, 0x7ff01ff8, 12))?, 12);
+    assert_eq!(&rt; call(&mut state, 63, (0, 0x7ff01ff8, 12))?, 12);
     assert_eq!(&rt; state.load(0x7ff01ffe, Width::Word), Ok(0x726f7720));
-    assert_eq!(&rt; call(&mut state, alloc, 64, (1, 0x7ff01ffe, 3))?, 3);
+    assert_eq!(&rt; call(&mut state, 64, (1, 0x7ff01ffe, 3))?, 3);
     assert!(&rt; state.output() == b" wo".as_slice());
     Ok(())
 }
@@ -271,15 +260,15 @@ fn crosses_pages(rt: HostRuntime) -> Result<(), Fail> {
 fn bounds_the_heap(rt: HostRuntime) -> Result<(), Fail> {
     let alloc = rt.alloc();
     let mut state = sample(&rt, alloc)?;
-    assert_eq!(&rt; call(&mut state, alloc, 214, (0x2000f, 0, 0))?, 0x20010);
-    assert_eq!(&rt; call(&mut state, alloc, 214, (0x7ff00001, 0, 0))?, 0x20010);
+    assert_eq!(&rt; call(&mut state, 214, (0x2000f, 0, 0))?, 0x20010);
+    assert_eq!(&rt; call(&mut state, 214, (0x7ff00001, 0, 0))?, 0x20010);
     // 64 mebibytes less the stack and the 18 bytes of the segments
     assert_eq!(&rt;
-        call(&mut state, alloc, 214, (0x20010 + 0x3f00000 - 18, 0, 0))?,
+        call(&mut state, 214, (0x20010 + 0x3f00000 - 18, 0, 0))?,
         0x3f1fffe
     );
     assert_eq!(&rt;
-        call(&mut state, alloc, 214, (0x20010 + 0x3f00000 - 17, 0, 0))?,
+        call(&mut state, 214, (0x20010 + 0x3f00000 - 17, 0, 0))?,
         0x3f1fffe
     );
     Ok(())
@@ -289,10 +278,10 @@ fn bounds_the_heap(rt: HostRuntime) -> Result<(), Fail> {
 fn ends_and_refuses(rt: HostRuntime) -> Result<(), Fail> {
     let alloc = rt.alloc();
     let mut state = sample(&rt, alloc)?;
-    assert_eq!(&rt; call(&mut state, alloc, 1, (5, 6, 7))?, 0xffffffda);
+    assert_eq!(&rt; call(&mut state, 1, (5, 6, 7))?, 0xffffffda);
     assert_eq!(&rt; state.register(x(11)), 6);
     ask(&mut state, 93, (0x12345, 0, 0));
-    assert_eq!(&rt; state.environment_call(alloc)?, Call::Exit(0x12345));
+    assert_eq!(&rt; state.environment_call()?, Call::Exit(0x12345));
     assert_eq!(&rt; state.register(x(10)), 0x12345);
     Ok(())
 }

@@ -98,12 +98,11 @@ fn tells_the_first_touch(rt: HostRuntime) -> Result<(), Fail> {
 /// Makes a step, and fails where its outcome or the address behind it is another.
 fn check_step(
     rt: &impl Abort,
-    alloc: Global,
     state: &mut State,
     outcome: Outcome,
     pc: u32,
 ) -> Result<(), AllocError> {
-    assert_eq!(rt; step(alloc, state)?, outcome);
+    assert_eq!(rt; step(state)?, outcome);
     assert_eq!(rt; state.pc(), pc);
     Ok(())
 }
@@ -112,9 +111,9 @@ fn check_step(
 fn makes_one_step(rt: HostRuntime) -> Result<(), Fail> {
     let alloc = rt.alloc();
     let mut state = opening(&rt, alloc, &[0x00000013], &[], &[], b"")?;
-    let first = check_step(&rt, alloc, &mut state, Outcome::Next, 0x10078);
+    let first = check_step(&rt, &mut state, Outcome::Next, 0x10078);
     let end = Outcome::Ended(End::Fetch(0x10078));
-    let second = check_step(&rt, alloc, &mut state, end, 0x10078);
+    let second = check_step(&rt, &mut state, end, 0x10078);
     drop(state);
     first?;
     second?;

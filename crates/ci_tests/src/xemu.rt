@@ -84,10 +84,10 @@ fn makes_one_step(rt: HostRuntime) -> Result<(), Fail> {
     // cread x10, without modules
     let alloc = rt.alloc();
     let mut state = opening(&rt, alloc, &[0x0000052b], &[], &[], b"")?;
-    assert_eq!(&rt; step_x(alloc, &mut state, &[])?, Outcome::Next);
+    assert_eq!(&rt; step_x(&mut state, &[])?, Outcome::Next);
     assert_eq!(&rt; value(&rt, &state, 10), 0);
     assert_eq!(&rt;
-        step_x(alloc, &mut state, &[])?,
+        step_x(&mut state, &[])?,
         Outcome::Ended(End::Fetch(0x10078))
     );
     Ok(())

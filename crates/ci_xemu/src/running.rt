@@ -19,13 +19,13 @@ use std::alloc::{AllocError, Global};
 /// acts. Module k is the one at place k, from 0.
 ///
 /// The state stays as it is where the step ends the run, and where memory runs out.
-pub fn step_x(alloc: Global, state: &mut State, modules: &[Module]) -> Result<Outcome, AllocError>
+pub fn step_x(state: &mut State, modules: &[Module]) -> Result<Outcome, AllocError>
     ensures stepped { IfOk result
         (IsStep (IsExtended modules.now) (program_of state.old) (state_of state.old) (state_of state.new)) }
     ensures refused { OnErr result (state_of state.new ≡ state_of state.old) }
     ensures program { program_of state.new ≡ program_of state.old }
 {
-    step_on(alloc, &ExtendedMachine { modules }, state)
+    step_on(&ExtendedMachine { modules }, state)
 }
 
 /// Makes `n` steps of that machine, or fewer where one of them ends the run, and counts them by a latency table and the
