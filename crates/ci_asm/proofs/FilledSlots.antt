@@ -390,9 +390,6 @@ record TakesLabel (ct : Token) (slot : Slot) (shown : lex.Token) (p : Operands) 
   is_name : (bytes : List ℕ) × (shown ≡ name bytes)
   offset : IsOffsetSlot slot
 
-keeps_by : (o p : Operands) → o.label ≡ p.label → o.label ≡ None → p.label ≡ None
-keeps_by o p same none = sym same ∙ none
-
 number_keeps : (field : Field) (n : Option Number) (o p : Operands) → o.label ≡ None → number_in field n o ≡ Ok p → p.label ≡ None
 number_keeps field None o p none e = absurd (cc)
 number_keeps field (Some n) o p none e = let c = cond_ok (fits field n) (record o { number = n }) p OutOfField e in sym (ap (λ o. o.label) c.1) ∙ none

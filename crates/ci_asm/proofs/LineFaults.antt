@@ -28,7 +28,7 @@ use Rattle.ci_asm.specs.Statements.{with_statement, read_line}
 use Rattle.ci_asm.specs.Programs.{kind_of}
 use Rattle.ci_asm.specs.Lexicon as lex
 use Rattle.ci_reading.specs.Tokens.{text_end, stray_byte}
-use Rattle.ci_asm.specs.Lexicon.{name, decimal_number, hex_number, word, comma, open_bracket, close_bracket, colon, IsToken}
+use Rattle.ci_asm.specs.Lexicon.{name, decimal_number, hex_number, word, comma, open_bracket, close_bracket, colon}
 use Rattle.ci_asm.specs.Forms.{IsIn, IsRegister, IsNumber, HasNumber, Statement, IsStatement, IsMnemonic}
 use Rattle.ci_asm.specs.Assembly.{IsGoodFront, IsGoodNext, IsWhole, IsNumberDue, IsKind, no_token, no_statement, no_operand, too_short, out_of_field, surplus}
 use Rattle.ci_asm.specs.Assembly.{too_many, IsFaultOfLine}

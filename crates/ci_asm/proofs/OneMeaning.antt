@@ -25,8 +25,8 @@ use Rattle.ci_reading.specs.Tokens.{text_end}
 use Rattle.ci_asm.specs.Lexicon.{name, Stands}
 use Rattle.ci_asm.specs.Forms.{Field, Statement, plain, to_label, IsIn, IsStatement}
 use Rattle.ci_asm.specs.Assembly as asm
-use Rattle.ci_asm.specs.Assembly.{Line, label_tokens, StandsInLine, HasStatement, IsLine, AreLines, IsProgram, statements_of, Defines, IsOffset, IsNew}
-use Rattle.ci_asm.specs.Assembly.{IsResolved, AreResolved, IsGoodFront, IsFaultOfLine, IsFaultOfLabel, twice, undefined, too_far, HasFault, of_line, of_label}
+use Rattle.ci_asm.specs.Assembly.{Line, label_tokens, StandsInLine, HasStatement, IsLine, AreLines, statements_of, Defines, IsOffset}
+use Rattle.ci_asm.specs.Assembly.{IsResolved, IsGoodFront, IsFaultOfLine, IsFaultOfLabel, twice, undefined, too_far, HasFault, of_line, of_label}
 use Rattle.ci_asm.proofs.FilledSlots.{values_of, label_text}
 use Rattle.ci_asm.proofs.ReadStatements.{HasLabelFor, plain_says}
 use Rattle.ci_asm.proofs.SymbolsMet.{Meets, same_symbol, line_meets}

@@ -23,9 +23,9 @@ use Rattle.ci_asm.specs.Programs.{offset_between, reaching, resolved, statement_
 use Rattle.ci_asm.specs.Lines.{lines_of}
 use Rattle.ci_asm.specs.Lexicon.{name}
 use Rattle.ci_asm.specs.Forms as forms
-use Rattle.ci_asm.specs.Forms.{Statement, plain, to_label, IsIn, IsStatement}
+use Rattle.ci_asm.specs.Forms.{Statement, to_label, IsIn, IsStatement}
 use Rattle.ci_asm.specs.Assembly as asm
-use Rattle.ci_asm.specs.Assembly.{Line, StandsInLine, IsLine, AreLines, IsProgram, statements_of, Defines, IsOffset, IsNew, IsResolved, AreResolved}
+use Rattle.ci_asm.specs.Assembly.{Line, AreLines, IsProgram, statements_of, Defines, IsOffset, IsNew, AreResolved}
 use Rattle.ci_asm.specs.Assembly.{IsFaultOfLine, IsFaultOfLabel, twice, undefined, too_far, HasFault, of_line, of_label}
 use Rattle.ci_asm.proofs.FilledSlots.{values_of, label_text}
 use Rattle.ci_asm.proofs.ReadStatements.{HasLabelFor, TakesLabel, jal, branches, takes_label}

@@ -21,7 +21,7 @@ use Rattle.ci_asm.specs.Shapes.{name_of, mnemonics, mnemonic_of, is_named, is_st
 use Rattle.ci_asm.specs.Statements.{◌>>=◌, found, fault, at_place, no_operands, read_slots, mnemonic_in, read_statement, is_label, with_statement, read_line}
 use Rattle.ci_asm.specs.Lexicon as lex
 use Rattle.ci_reading.specs.Tokens.{text_end, stray_byte}
-use Rattle.ci_asm.specs.Lexicon.{IsLetter, name, decimal_number, hex_number, word, comma, open_bracket, close_bracket, colon, spelling, IsToken, Stands}
+use Rattle.ci_asm.specs.Lexicon.{name, word, comma, open_bracket, close_bracket, colon, spelling, IsToken, Stands}
 use Rattle.ci_asm.specs.Forms.{Statement, IsStatement}
 use Rattle.ci_asm.specs.Assembly.{Line, HasLabel, label_tokens, StandsInLine, HasStatement, IsLine}
 use Rattle.ci_asm.proofs.SoundStatements.{bind_ok, same_ok, at_place_ok, found_ok, unless_full, mnemonic_in-statement}

@@ -15,9 +15,9 @@ use Rattle.ci_asm.specs.Shapes.{lowest, highest, is_offset, fits, field_from}
 use Rattle.ci_asm.specs.Statements.{signed_value}
 use Rattle.ci_asm.specs.Shown.{register_name}
 use Rattle.ci_asm.specs.Lexicon as lex
-use Rattle.ci_asm.specs.Lexicon.{IsDigit, name, decimal_number, hex_number, word, comma, open_bracket, close_bracket, colon, spelling, IsToken}
+use Rattle.ci_asm.specs.Lexicon.{decimal_number, hex_number, spelling, IsToken}
 use Rattle.ci_asm.specs.Forms as forms
-use Rattle.ci_asm.specs.Forms.{IsBetween, IsEven, IsIn, IsRegister, IsNumber, Writes, HasNumber}
+use Rattle.ci_asm.specs.Forms.{IsBetween, IsEven, IsIn, IsNumber, Writes}
 use Rattle.ci_asm.proofs.TestLaws.{and_both, pick_false}
 use Rattle.ci_asm.proofs.LongestTokens.{no_x_behind}
 

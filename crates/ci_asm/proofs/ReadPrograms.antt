@@ -27,8 +27,8 @@ use Rattle.ci_asm.specs.Programs.{option_length, insns_of, assembled, AreWordsOf
 use Rattle.ci_asm.specs.Lines.{lines_of}
 use Rattle.ci_asm.specs.Forms.{Statement, IsIn}
 use Rattle.ci_asm.specs.Assembly as asm
-use Rattle.ci_asm.specs.Assembly.{Line, IsLine, AreLines, IsProgram, with_statement_of, statements_of, Defines, IsLabelOf, IsOffset, IsInsnOf, AreWords, IsNew}
-use Rattle.ci_asm.specs.Assembly.{IsResolved, AreResolved, IsAssembly, most_words}
+use Rattle.ci_asm.specs.Assembly.{Line, AreLines, with_statement_of, statements_of, Defines, IsLabelOf, IsOffset, IsInsnOf, AreWords, IsNew}
+use Rattle.ci_asm.specs.Assembly.{IsResolved, IsAssembly}
 use Rattle.ci_asm.proofs.SoundStatements.{bind_ok, same_ok, cond_ok}
 use Rattle.ci_asm.proofs.AssemblySteps.{all_read-nil, all_read-ok, definition_of-nil, definition_of-cons, insns_of-nil, insns_of-ok, assembled-read}
 use Rattle.ci_asm.proofs.FilledSlots.{values_of, label_text}
@@ -357,9 +357,6 @@ reaching_no program words s t label (Some d) z is offset within =
 abbrev statement_with : Mnemonic → ℕ → ℕ → ℕ → ℕ → Number → Option Token → code.Statement
 statement_with m rd rs1 rs2 rs3 number label =
     record { mnemonic = m; operands = record { rd = rd; rs1 = rs1; rs2 = rs2; rs3 = rs3; number = number; label = label } }
-
-no_label_for : (m : Mnemonic) (o : Operands) (line : List ℕ) (t : Token) → o.label ≡ Some t → (values_of line o).label ≢ None
-no_label_for m o line t e = λ none. let some : label_text line o.label ≡ Some (text_of line t) = ap (label_text line) e in absurd (cc)
 
 -- a line's instruction, if it has one
 abbrev pub IsInsnOfLine : List Line → ℕ → Option Statement → Option Insn → Type 0

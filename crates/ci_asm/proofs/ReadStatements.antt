@@ -16,7 +16,7 @@ use Rattle.ci_asm.specs.declared.slots.Slot.TheVariants.{Value}
 use Rattle.ci_asm.specs.Shapes.{name_of, is_statement, is_offset, form_name, form_field, immediate_name, immediate_field, slots_of}
 use Rattle.ci_asm.specs.Statements.{insn_of}
 use Rattle.ci_asm.specs.Lexicon as lex
-use Rattle.ci_asm.specs.Lexicon.{name, decimal_number, hex_number, word, comma, open_bracket, close_bracket, colon}
+use Rattle.ci_asm.specs.Lexicon.{name, word, comma}
 use Rattle.ci_asm.specs.Forms as forms
 use Rattle.ci_asm.specs.Forms.{register_immediate, IsIn, IsRegister, HasNumber, Statement, plain, to_label, IsStatement, on_registers, on_immediate, lui, auipc}
 use Rattle.ci_asm.specs.Forms.{jump, jump_label, jump_register, branch, branch_label, load, store, fence, ecall, ebreak, custom, cread, data_word}

@@ -13,7 +13,7 @@ use Rattle.ci_asm.specs.declared.scanner.Kind.TheVariants.{End, Bad}
 use Rattle.ci_asm.specs.declared.scanner.Token.{Token}
 use Rattle.ci_asm.specs.Tokens.{belongs, run_end, scan, kind_of, token, token_at, next_token, text_of}
 use Rattle.ci_asm.specs.Lexicon as lex
-use Rattle.ci_asm.specs.Lexicon.{name, decimal_number, hex_number, word, comma, open_bracket, close_bracket, colon, spelling, IsToken, Stands, line_format}
+use Rattle.ci_asm.specs.Lexicon.{name, spelling, IsToken, Stands, line_format}
 use Rattle.ci_asm.proofs.TestLaws.{by_test}
 use Rattle.ci_asm.proofs.LongestTokens.{same_spelling, line_lexer, is_lexer}
 

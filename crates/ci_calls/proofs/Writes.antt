@@ -7,7 +7,6 @@ use Rattle.std.specs.declared.alloc.Global.{Global}
 use Rattle.std.proofs.lemmas.List.{take_more, take-append-drop}
 use Rattle.ci_io.specs.Outcomes.{Files, Rises, ShelfState, with_file}
 use Rattle.ci_calls.specs.declared.refusals.Refusal.{Refusal}
-use Rattle.ci_calls.specs.declared.refusals.Refusal.TheVariants.{Write}
 use Rattle.ci_calls.specs.declared.refusals.Refusal.TheVariants as refusal
 use Rattle.ci_calls.specs.declared.success.Success.{Success}
 use Rattle.ci_calls.specs.declared.success.Written.{Written}

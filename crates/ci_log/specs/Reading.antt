@@ -6,7 +6,7 @@ use Rattle.std.specs.Ordering.{nat_cmp}
 use Rattle.std.specs.FinSet as set
 use Rattle.ci_reading.specs.declared.fields.Numbers.{Numbers}
 use Rattle.ci_reading.specs.LineReading as reading
-use Rattle.ci_reading.specs.LineReading.{◌>>=◌, view, stop, stop_of, begins_with, word, with_front, repetition}
+use Rattle.ci_reading.specs.LineReading.{◌>>=◌, view, stop, stop_of, begins_with, word, repetition}
 use Rattle.ci_reading.specs.Fields.{found_before, address, number, number_alone}
 use Rattle.ci_log.specs.declared.log.Item.{Item}
 use Rattle.ci_log.specs.declared.log.Item.TheVariants.{B, O, C, I, G, F}

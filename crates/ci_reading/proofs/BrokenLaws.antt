@@ -84,14 +84,6 @@ pub each_below_none : {A : Type 0} (f : ℕ → List A) → each_below 0 f ≡ [
 unfolding each_below
 each_below_none f = refl
 
--- f of the numbers that pass a test
-module _ {A : Type 0} (test : ℕ → Bool) (f : ℕ → A) where
-  pub those_below_with : (n : ℕ) → test n ≡ true → those_below (n + 1) test f ≡ those_below n test f ++ f n ∷ []
-  those_below_with n is = rw (each_below_more n (λ k. cond (test k) (f k ∷ []) []), is) refl
-
-  pub those_below_without : (n : ℕ) → test n ≡ false → those_below (n + 1) test f ≡ those_below n test f
-  those_below_without n is = rw (each_below_more n (λ k. cond (test k) (f k ∷ []) []), is, append-nil) refl
-
 -- one number more, of which is known what it adds
 pub those_below_step :
     {A : Type 0} (test : ℕ → Bool) (f : ℕ → A) (n : ℕ) (o : Option A) → o ≡ cond (test n) (Some (f n)) None

@@ -65,11 +65,6 @@ same_first test b (x ∷ front) other tail = refl
 abbrev pub Begins : {S K A : Type 0} → (S → Bool) → Bool → (List S → A → Option K → Type 0) → Type 0
 Begins {S = S} {K = K} {A = A} test is L = (ys : List S) (a : A) (far : Option K) → L ys a far → IsFirst test is ys
 
-pub plainly_begins : {S K A : Type 0} (test : S → Bool) (is : Bool) (L : List S → A → Type 0)
-    → ((ys : List S) (a : A) → L ys a → IsFirst test is ys) → Begins {K = K} test is (Plainly L)
-plainly_begins test is L begins ys a None l = begins ys a l
-plainly_begins test is L begins ys a (Some k) l = absurd l
-
 pub begins_either : {S K A : Type 0} (test : S → Bool) (is : Bool) {L M : List S → A → Option K → Type 0} → Begins test is L → Begins test is M
     → Begins test is (λ ys a far. L ys a far ⊎ M ys a far)
 begins_either test is first second ys a far (inl l) = first ys a far l

@@ -100,16 +100,6 @@ module _ {S K : Type 0} {Other : K → S → Type 0} {most : ℕ} where
       → ((ys : List S) (a : A) → Is ys a → r.Is ys a) → PlainReader S K A Other most
   said r Is to from = record { read = r.read; Is = Is; exact = λ n. also to from (r.exact n); some = (r.some.0, r.some.1, to r.some.0 r.some.1 r.some.2) }
 
-  abbrev pub said_any : {A : Type 0} (r : Reader S K A Other most) (Is : List S → A → Option K → Type 0)
-      → ((ys : List S) (a : A) (far : Option K) → r.Is ys a far → Is ys a far)
-      → ((ys : List S) (a : A) (far : Option K) → Is ys a far → r.Is ys a far) → Reader S K A Other most
-  said_any r Is to from = record {
-    read = r.read;
-    Is = Is;
-    exact = λ n. along to from (r.exact n);
-    some = (r.some.0, r.some.1, to r.some.0 r.some.1 None r.some.2);
-  }
-
 -- ---- bytes
 
 module _ {K : Type 0} {Other : K → ℕ → Type 0} {most : ℕ} where
@@ -124,15 +114,6 @@ module _ {K : Type 0} {Other : K → ℕ → Type 0} {most : ℕ} where
 
   abbrev pub an_address : PlainReader ℕ K ℕ Other most
   an_address = record { read = address 8 0; Is = IsAddress; exact = λ n. address_exact n; some = (eight_hex_digits 0, 0, zero_address) }
-
-  abbrev pub a_number : (numbers : Numbers) → numbers.low ≤ numbers.high → numbers.high ≤ 9999999
-      → is_ascii_digit numbers.end ≡ false → PlainReader ℕ K (ℕ × ℕ) Other most
-  a_number numbers range few no_digit = record {
-    read = number numbers;
-    Is = IsNumber numbers;
-    exact = λ n. number_exact numbers range few no_digit n;
-    some = (decimal numbers.low ++ numbers.end ∷ [], (numbers.low, numbers.end), least_number numbers range);
-  }
 
   abbrev pub a_number_alone : (numbers : Numbers) → numbers.low ≤ numbers.high → numbers.high ≤ 9999999
       → is_ascii_digit numbers.end ≡ false → numbers.listed ≡ false → PlainReader ℕ K ℕ Other most

@@ -18,10 +18,6 @@ use Rattle.ci_vemit.proofs.SignLaws.{extended, extended_low, extended_high, sign
 
 -- ---- the bits of terms
 
--- all of a vector's bits are its value
-whole_number : (n : ℕ) → n * 2 ^ 0 + 0 ≡ n
-whole_number n = omega arith
-
 low_bits : (n k : ℕ) → n / 2 ^ 0 % k ≡ n % k
 low_bits n k = ap (λ m. m % k) (div-one n)
 

@@ -67,10 +67,6 @@ module _ (known : List Known) (narrow : AllNarrow known) where
       let e : w ≤ 64 = narrow (vector n w) is in omega (arith, e)
   narrow_simple _ _ (IsSimple.number least most below) = most
 
-  pub narrow_item : (i : Item) (w : ℕ) → IsItem known i w → w ≤ 64
-  narrow_item _ _ (IsItem.plain {simple = s} {width = w} is) = narrow_simple s w is
-  narrow_item _ _ (IsItem.repeat some most is) = most
-
   pub narrow_term : (t : Term) (w : ℕ) → IsTerm known t w → w ≤ 64
   narrow_term _ _ (IsTerm.plain {simple = s} {width = w} is) = narrow_simple s w is
   narrow_term _ _ (IsTerm.repeat some most is) = most
@@ -142,13 +138,6 @@ module _ (known : List Known) where
       let e : p.0 ≡ v = some_is_one p.0 v (sym ((told p.0).1 p.1) ∙ is_v) in
       (p.2, subst (λ n. count * n ≤ 64) e p.3, p.4 ∙ ap (λ n. count * n) e))
 
-  pub no_repeat_tells : (Q : ℕ → Type 0) (count : ℕ) (simple : Simple) (o : Option ℕ) → o ≡ None
-      → Tells (IsSimple known simple) o
-      → ((w : ℕ) → Q w → (u : ℕ) × IsSimple known simple u × (1 ≤ count) × (count * u ≤ 64) × (w ≡ count * u))
-      → Tells Q None
-  no_repeat_tells Q count simple o is_none told parts =
-      none_tells Q (λ w is. let p = parts w is in let e : None ≡ Some p.0 = sym is_none ∙ (told p.0).1 p.1 in absurd cc)
-
   pub term_tells : (term : Term) (r : Option ℕ) → Tells (IsTerm known term) r → Tells (IsExpr known (One term)) r
   term_tells term r told =
       tells_too (IsTerm known term) (IsExpr known (One term)) r told (λ w is. IsExpr.one is) (one_parts known term)
@@ -208,9 +197,6 @@ module _ (known : List Known) where
   abbrev pub Leaves : List Item → List Item → ℕ → Type 0
   Leaves items rest so_far = (w : ℕ) → Sum items w ↔ ((r : ℕ) × Sum rest r × (w ≡ so_far + r))
 
-  pub leaves_all : (items : List Item) → Leaves items items 0
-  leaves_all items w = ((λ sum. (w, sum, omega arith)), (λ left. subst (Sum items) (let e : left.0 ≡ w = omega (arith, left.2) in e) left.1))
-
   first_of : (i : Item) (rest : List Item) (r : ℕ) → Sum (i ∷ rest) r
       → (v : ℕ) × (others : ℕ) × IsItem known i v × Sum rest others × (r ≡ v + others)
   first_of i rest r (more_items {width = v} {others = others} is sum) = (v, others, is, sum, refl)
@@ -242,9 +228,6 @@ module _ (known : List Known) where
   too_wide items rest so_far wide leaves =
       none_tells (λ w. AreItems known items w × (w ≤ 64))
       (λ w is. let left = (leaves w).0 (sum_of_items items w is.0) in absurd (omega (arith, left.2, is.1)))
-
-  pub no_items_tell : Tells (λ w. AreItems known [] w × (w ≤ 64)) None
-  no_items_tell = none_tells (λ w. AreItems known [] w × (w ≤ 64)) (λ w is. elim is.0 [ ])
 
   pub all_items_tell : (i : Item) (items : List Item) (so_far : ℕ) → so_far ≤ 64 → Leaves (i ∷ items) [] so_far
       → Tells (λ w. AreItems known (i ∷ items) w × (w ≤ 64)) (Some so_far)

@@ -19,7 +19,7 @@ use Rattle.ci_vread.specs.Lexicon.{Token, sign, operator, number}
 use Rattle.ci_vread.specs.Grammar.{Fits, its_use, a_use, input_a, input_b, input_c}
 use Rattle.ci_vread.specs.Rules.{bytes_of}
 use Rattle.ci_vread.specs.Spelling as spelling
-use Rattle.ci_vread.specs.Spelling.{SpellsSimple, whole_name, one_bit, some_bits, some_constant, repeated, SpellsItem, SpellsItems, last, more, SpellsTerm}
+use Rattle.ci_vread.specs.Spelling.{SpellsSimple, whole_name, one_bit, some_bits, some_constant, SpellsItem, SpellsItems, last, more, SpellsTerm}
 use Rattle.ci_vread.specs.Spelling.{SpellsExpr, SpellsWire, some_wire, SpellsWires, no_wires, more_wires, SpellsModule, some_module, SpellsModules, no_modules}
 use Rattle.ci_vread.specs.Spelling.{more_modules, result}
 use Rattle.ci_vread.specs.Building.{front, is_sign, is_number, is_cycles, number_in, cycles_in, operator_in, constant_in, name_in, begins_item, begins_wire}

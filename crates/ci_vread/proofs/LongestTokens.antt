@@ -331,9 +331,6 @@ is_lexer = record {
 pub are_symbols : (text : List ℕ) → AreSymbols unit_format 0 text (symbols_of unit_lexer text)
 are_symbols text = tokens.are_symbols unit_format unit_lexer is_lexer text
 
-pub listed_symbols : (text : List ℕ) (symbols : List (Placed Token)) → symbols ≡ symbols_of unit_lexer text → AreSymbols unit_format 0 text symbols
-listed_symbols text symbols e = subst (AreSymbols unit_format 0 text) (sym e) (are_symbols text)
-
 -- no other list is
 pub only_symbols : (text : List ℕ) (symbols : List (Placed Token)) → AreSymbols unit_format 0 text symbols → symbols ≡ symbols_of unit_lexer text
 only_symbols text symbols are = tokens.only_symbols unit_format unit_lexer is_lexer are

@@ -45,12 +45,6 @@ module _ (kinds : List Kind) (words : List (Bor Text)) (long : length words ≡ 
 
 -- ---- values of an option
 
--- values that are given are what it is set to
-pub sets_given : (option : OptionRow) (given : List Text) (values : List Value) → 1 ≤ length given
-    → AllZip (Says option.kind) given values → Sets option given values
-sets_given option [] values some all = absurd (omega arith)
-sets_given option (text ∷ more) values some all = all
-
 -- and the other way round
 pub given_sets : (option : OptionRow) (given : List Text) (values : List Value) → 1 ≤ length given
     → Sets option given values → AllZip (Says option.kind) given values
