@@ -31,7 +31,7 @@ use Rattle.ci_emu.specs.TableLatencies.{latencies_of}
 use Rattle.ci_log.specs.Books.{Book}
 use Rattle.ci_unit.specs.Units.{Unit}
 use Rattle.ci_vemit.specs.Templates.{modules_of}
-use Rattle.ci_rewrite.specs.SameSteps.{is_access_fault}
+use Rattle.ci_machine.specs.Outcomes.{is_access_fault}
 use Rattle.ci_select.specs.declared.plan.Plan.{Plan}
 use Rattle.ci_select.specs.Instances.{instance_of, Instance}
 use Rattle.ci_select.specs.Savings.{IsSaved}

@@ -10,7 +10,7 @@ use Rattle.ci_vemit.specs.Templates.{module_of, modules_from, modules_of}
 use Rattle.ci_vemit.proofs.BuildingLaws.{modules_are_in_order}
 use Rattle.ci_vemit.proofs.UnitModules.{module_is}
 use Rattle.ci_vemit.proofs.UnitValues.{modules_compute}
-use Rattle.ci_rewrite.specs.UnitModules.{ComputeUnit}
+use Rattle.ci_rewrite.specs.ComputedUnits.{ComputeUnit}
 use Rattle.ci_select.proofs.UnitLaws.{numbered_is_there}
 
 -- modules of units from any number on keep what every module keeps

@@ -17,7 +17,7 @@ use Rattle.ci_log.specs.Books.{Book}
 use Rattle.ci_unit.specs.Tables.{IsTable}
 use Rattle.ci_unit.specs.Units.{Unit}
 use Rattle.ci_vemit.specs.Templates.{modules_of}
-use Rattle.ci_rewrite.specs.Costs.{AreOfTable}
+use Rattle.ci_rewrite.specs.RunLatencies.{AreOfTable}
 use Rattle.ci_select.specs.Histories.{History, is_take}
 use Rattle.ci_select.specs.Instances.{Instance, AreBlocksOf}
 use Rattle.ci_select.specs.PresentBlocks.{HasPresentCut, graph_at}

@@ -10,7 +10,8 @@ use Rattle.ci_elf.specs.Executables.{Executable, has_in_file, place_of}
 use Rattle.ci_elf.specs.Rules.{KeepsRules, rules, file_header_rules, kind_rules}
 use Rattle.ci_elf.specs.Frames.{frame_of, text_address, values_address}
 use Rattle.ci_elf.specs.FrameImages.{FitFrame, FramesAreRead, FramesKeepRules, HoldsWords, framed_segments, text_range}
-use Rattle.ci_elf.specs.FrameImages.{text_segment, values_segment, values_offset, AreWords}
+use Rattle.ci_elf.specs.FrameImages.{text_segment, values_segment, values_offset}
+use Rattle.ci_elf.specs.WordLists.{AreWords}
 use Rattle.ci_elf.proofs.OneAnswer.{none_broken, only_memory}
 use Rattle.ci_elf.proofs.WordLaws.{StandAt}
 use Rattle.ci_elf.proofs.FrameHeaderLaws.{frame_headers, text_stands, constants_stand, values_stand}

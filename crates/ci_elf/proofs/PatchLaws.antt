@@ -12,7 +12,7 @@ use Rattle.ci_elf.specs.Executables.{Executable, InText, IsTextWord, IsWellForme
 use Rattle.ci_elf.specs.TextChanges.{with_word}
 use Rattle.ci_elf.specs.Fields.{field, p_filesz, p_offset, p_vaddr, sh_addr, sh_offset, sh_size}
 use Rattle.ci_elf.specs.Rules.{Apart, IsReadAs, Within}
-use Rattle.ci_elf.specs.TextChanges.{NoneWritten, OneMoreWritten, OtherWordsStay, TextIsLoadedOnce, WordIsRead}
+use Rattle.ci_elf.specs.TextChangeLaws.{NoneWritten, OneMoreWritten, OtherWordsStay, TextIsLoadedOnce, WordIsRead}
 use Rattle.ci_elf.proofs.ImageLaws.{length_with_word, only_loader, place_found, word_loader}
 use Rattle.ci_elf.proofs.RangeLaws.{range_holding, text_from}
 use Rattle.ci_elf.proofs.SameFields.{field_same}

@@ -10,7 +10,7 @@ use Rattle.ci_elf.specs.Rules.{HasSectionEntrySize, HasProgramTable, HasSectionT
 use Rattle.ci_elf.specs.Rules.{IsPlaced, MemoryIsApart, MemoryIsBounded, HasSymbols, TextIsLoaded, TextIsAlone}
 use Rattle.ci_elf.specs.Rules.{TextIsUnshared, TextIsBounded, EntryIsText, Holds, IsLoadedBy, IsAlone, KeepsRules}
 use Rattle.ci_elf.specs.Rules.{rules, segment_rules, memory_rules, section_rules, sharing_rules}
-use Rattle.ci_elf.specs.TextChanges.{TextMayChange}
+use Rattle.ci_elf.specs.TextChangeLaws.{TextMayChange}
 use Rattle.ci_reading.proofs.BrokenLaws.{kept_append, kept_each}
 use Rattle.ci_elf.proofs.ReadingLaws.{header_stage, last_stage}
 use Rattle.ci_elf.proofs.SameFields.{each_same, field_same, take_same}

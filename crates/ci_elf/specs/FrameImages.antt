@@ -8,9 +8,7 @@ use Rattle.ci_elf.specs.declared.ranges.Range.{Range}
 use Rattle.ci_elf.specs.Executables.{Executable, text_word}
 use Rattle.ci_elf.specs.Rules.{IsReadAs}
 use Rattle.ci_elf.specs.Frames.{frame_of, text_offset, text_address, values_address}
-
-abbrev pub AreWords : List ℕ → Type 0
-AreWords numbers = (k : ℕ) → slice_index numbers k < 2 ^ 32
+use Rattle.ci_elf.specs.WordLists.{AreWords}
 
 -- Words that fit a frame: some text, which fits the 64 KiB below the values with the headers before it and the
 -- constants behind it, and values of at most 1 MiB.

@@ -9,6 +9,8 @@ pub mod RangeChecks
 pub mod WordPlaces
 pub mod SymbolChecks
 pub mod Frames
+pub mod WordLists
 pub mod FrameImages
 pub mod Laws
 pub mod TextChanges
+pub mod TextChangeLaws

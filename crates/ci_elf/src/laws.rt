@@ -1,8 +1,8 @@
 //! What holds of all files and frames, as contracts of functions without effect.
 ghost use Rattle.ci_elf.specs.FrameImages.{FramesAreRead, FramesKeepRules};
 ghost use Rattle.ci_elf.specs.Laws.{AnswerIsOne, ImageIsOne, ImageIsWellFormed};
-ghost use Rattle.ci_elf.specs.TextChanges.{NoneWritten, OneMoreWritten, OtherWordsStay};
-ghost use Rattle.ci_elf.specs.TextChanges.{TextIsLoadedOnce, TextMayChange, WordIsRead};
+ghost use Rattle.ci_elf.specs.TextChangeLaws.{NoneWritten, OneMoreWritten, OtherWordsStay};
+ghost use Rattle.ci_elf.specs.TextChangeLaws.{TextIsLoadedOnce, TextMayChange, WordIsRead};
 
 /// Reading what `frame` makes gives back what went in: the entry, the segments, and the words of the
 /// text, of the constants and of the values at their addresses.

@@ -6,7 +6,7 @@
 //! places of the words of its text in `specs/WordPlaces.antt`, the smallest file with some text in
 //! `specs/Frames.antt`, and what reading it gives in `specs/FrameImages.antt`. The functions of `laws`
 //! have no effect: their contracts say what holds of all files and of all such smallest files, by
-//! `specs/Laws.antt`, and by `specs/TextChanges.antt` where words of the text are written over.
+//! `specs/Laws.antt`, and by `specs/TextChangeLaws.antt` where words of the text are written over.
 #![tactic(auto)]
 
 pub use faults::ElfFault;

@@ -33,7 +33,8 @@ use Rattle.ci_unit.specs.Units.{Unit}
 use Rattle.ci_vemit.specs.Templates.{modules_of}
 use Rattle.ci_select.specs.declared.plan.Plan.{Plan}
 use Rattle.ci_select.specs.Histories.{AreOneButLogs, without_log}
-use Rattle.ci_select.specs.Instances.{AreAlike, AreBlocksOf, AreOfSomeFile, Instance, instance_of}
+use Rattle.ci_select.specs.Instances.{AreBlocksOf, AreOfSomeFile, Instance, instance_of}
+use Rattle.ci_select.specs.AlikeInstances.{AreAlike}
 use Rattle.ci_select.specs.NewFiles.{IsNewFile, with_bytes}
 use Rattle.ci_select.proofs.AlikeLaws.{given_up_alike, legal_alike, like_back, new_file_alike, saved_alike, units_alike}
 use Rattle.ci_select.proofs.FreeLogs.{counts_alike, reversed_alike, rounds_alike, turned}

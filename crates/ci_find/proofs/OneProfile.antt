@@ -31,7 +31,8 @@ use Rattle.ci_emu.specs.declared.profile.Profile.{Profile}
 use Rattle.ci_emu.specs.Profiles.{IsProfileOf, IsTarget, IsTouch, targets_in}
 use Rattle.ci_emu.specs.TableLatencies.{latencies_of}
 use Rattle.ci_select.specs.declared.plan.Plan.{Plan}
-use Rattle.ci_select.specs.Instances.{AreAlike, instance_of}
+use Rattle.ci_select.specs.Instances.{instance_of}
+use Rattle.ci_select.specs.AlikeInstances.{AreAlike}
 use Rattle.ci_calls.specs.declared.refusals.Refusal.{Refusal}
 use Rattle.ci_calls.specs.Files.{AreLatencies, input_bytes, optional_bytes}
 use Rattle.ci_calls.specs.Refusals.{status_of}

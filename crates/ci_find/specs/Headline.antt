@@ -21,7 +21,7 @@ use Rattle.ci_verilog.specs.Modules.{Module}
 use Rattle.ci_vread.specs.Spelling.{Spell}
 use Rattle.ci_unit.specs.Units.{unit_of}
 use Rattle.ci_select.specs.declared.plan.Plan.{Plan}
-use Rattle.ci_rewrite.specs.UnitModules.{ComputeUnit}
+use Rattle.ci_rewrite.specs.ComputedUnits.{ComputeUnit}
 use Rattle.ci_select.specs.GivenUp.{GivesUpByNeed}
 use Rattle.ci_select.specs.Histories.{History, leader_of}
 use Rattle.ci_select.specs.Instances.{Instance}

@@ -14,7 +14,8 @@ use Rattle.ci_elf.specs.declared.faults.ElfFault.{ElfFault}
 use Rattle.ci_elf.specs.declared.faults.ElfFault.TheVariants.{NoMemory}
 use Rattle.ci_elf.specs.declared.ranges.Range.{Range}
 use Rattle.ci_elf.specs.Executables.{Executable, IsTextWord, text_word}
-use Rattle.ci_elf.specs.FrameImages.{AreWords, FitFrame, IsFramed, text_range}
+use Rattle.ci_elf.specs.FrameImages.{FitFrame, IsFramed, text_range}
+use Rattle.ci_elf.specs.WordLists.{AreWords}
 use Rattle.ci_elf.specs.Frames.{frame_of, text_address}
 use Rattle.ci_elf.specs.Rules.{IsReadAs}
 use Rattle.ci_elf.proofs.FrameHeaderLaws.{frame_headers}

@@ -15,7 +15,7 @@ use Rattle.ci_isa.specs.Table.{IsInsnAt, IsWordOf}
 use Rattle.ci_isa.proofs.RowCompleteness.{one_insn}
 use Rattle.ci_elf.specs.declared.ranges.Range.{Range}
 use Rattle.ci_elf.specs.declared.segments.Segment.{Segment}
-use Rattle.ci_elf.specs.Executables.{Executable, InText, IsTextWord, IsWellFormed, text_word}
+use Rattle.ci_elf.specs.Executables.{Executable, InText, IsTextWord, text_word}
 use Rattle.ci_elf.specs.Executables as elf
 use Rattle.ci_elf.specs.FrameImages.{IsFramed, text_range, text_segment, values_offset, values_segment}
 use Rattle.ci_elf.specs.Frames.{text_address}

@@ -1,5 +1,6 @@
 pub mod Draws
 pub mod Texts
 pub mod Programs
+pub mod Laws
 pub mod Pushed
 pub mod Runs

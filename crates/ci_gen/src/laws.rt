@@ -1,5 +1,5 @@
 //! What reading the file of a generated program gives, and what its run does, as contracts of functions without effect.
-ghost use Rattle.ci_gen.specs.Programs.{ProgramsAreRead, ProgramsArePlain, ProgramsKeepRules};
+ghost use Rattle.ci_gen.specs.Laws.{ProgramsAreRead, ProgramsArePlain, ProgramsKeepRules};
 ghost use Rattle.ci_gen.specs.Runs.{ProgramsExit};
 
 /// The file of a generated program keeps all rules, reads as the smallest file with its text and its

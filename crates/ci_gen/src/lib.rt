@@ -4,7 +4,7 @@
 //! from the seed, and an ending that writes x5 to the output and exits. The definitions stand in
 //! `specs/Draws.antt` (the numbers drawn), `specs/Texts.antt` (the instructions, by their places) and
 //! `specs/Programs.antt` (the file). The functions of `laws` have no effect: their contracts say what reading
-//! such a file gives, and that its run exits (`specs/Runs.antt`).
+//! such a file gives (`specs/Laws.antt`), and that its run exits (`specs/Runs.antt`).
 #![tactic(auto)]
 
 pub use file::program;

@@ -16,7 +16,7 @@ use Rattle.ci_isa.specs.Laws.{IsInsnAtX}
 use Rattle.ci_isa.specs.Table.{ReadsX, IsInsnAt}
 use Rattle.ci_isa.proofs.RowCompleteness.{only_extended}
 use Rattle.ci_isa.proofs.TableLaws.{one_insn_at_each_word}
-use Rattle.ci_elf.specs.FrameImages.{AreWords}
+use Rattle.ci_elf.specs.WordLists.{AreWords}
 use Rattle.ci_verilog.specs.Modules.{Module, IsModule, inputs}
 use Rattle.ci_verilog.specs.Values.{IsValueOf}
 use Rattle.ci_verilog.proofs.ValueLaws.{value_exists, value_is_one, values_are_words}

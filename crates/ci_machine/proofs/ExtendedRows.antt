@@ -9,7 +9,7 @@ use Rattle.ci_isa.specs.Table.{ReadsX}
 use Rattle.ci_isa.specs.Decoding.{environment_row, plain_row}
 use Rattle.ci_isa.proofs.RowCompleteness.{only_plain, one_insn}
 use Rattle.ci_elf.specs.Executables.{Executable}
-use Rattle.ci_elf.specs.FrameImages.{AreWords}
+use Rattle.ci_elf.specs.WordLists.{AreWords}
 use Rattle.ci_verilog.specs.declared.expressions.Simple.TheVariants.{Whole}
 use Rattle.ci_verilog.specs.declared.expressions.Term.TheVariants.{Plain}
 use Rattle.ci_verilog.specs.declared.expressions.Operator.TheVariants.{Plus}

@@ -24,7 +24,7 @@ use Rattle.ci_machine.specs.Outcomes.{Outcome, Next, Ended, Reached, reached, co
 use Rattle.ci_machine.specs.Agreement.{act_all}
 use Rattle.ci_machine.specs.Actions.{Units, act, address_from, loaded, stored}
 use Rattle.ci_machine.specs.Agreement.{acted}
-use Rattle.ci_elf.specs.FrameImages.{AreWords}
+use Rattle.ci_elf.specs.WordLists.{AreWords}
 use Rattle.ci_elf.specs.Executables.{Executable, InText, IsWellFormed}
 use Rattle.ci_elf.specs.declared.segments.Segment.{Segment}
 use Rattle.ci_isa.specs.Table.{IsInsnAt}

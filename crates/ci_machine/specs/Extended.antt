@@ -4,7 +4,7 @@ use Rattle.std.specs.Prelude.{◌≡◌, ℕ, ◌<◌, ⊤, List, [], length, ma
 use Rattle.ci_isa.specs.declared.instruction.Insn.{Insn}
 use Rattle.ci_isa.specs.declared.instruction.Insn.TheVariants.{Unit, Illegal}
 use Rattle.ci_isa.specs.Table.{ReadsX}
-use Rattle.ci_elf.specs.FrameImages.{AreWords}
+use Rattle.ci_elf.specs.WordLists.{AreWords}
 use Rattle.ci_verilog.specs.Modules.{Module, inputs}
 use Rattle.ci_verilog.specs.Values.{IsValueOf}
 use Rattle.ci_machine.specs.Actions.{Units}

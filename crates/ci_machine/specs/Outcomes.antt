@@ -1,6 +1,7 @@
 -- What comes of a step, and of several steps in a row.
-use Rattle.std.specs.Prelude.{Option, Some, None}
+use Rattle.std.specs.Prelude.{Bool, true, false, Option, Some, None}
 use Rattle.ci_machine.specs.declared.ends.End.{End}
+use Rattle.ci_machine.specs.declared.ends.End.TheVariants.{Access}
 
 -- the next state, or the end
 pub data Outcome (S : Type 0) : Type 0 where
@@ -28,3 +29,8 @@ continued step run = from_end step run run.end
 -- no step is made yet
 abbrev pub at_start : {S : Type 0} → S → Reached S
 at_start state = record { state = state; end = None }
+
+-- an access that the memory refuses
+abbrev pub is_access_fault : End → Bool
+is_access_fault (Access address width) = true
+is_access_fault end = false

@@ -22,7 +22,8 @@ use Rattle.ci_cut.specs.Ports.{size, outputs}
 use Rattle.ci_dfg.specs.BlockGraph.{graph_of}
 use Rattle.ci_dfg.proofs.BlockIsGraph.{node_at_within, length-nodes}
 use Rattle.ci_unit.specs.Uses as uses
-use Rattle.ci_rewrite.specs.Costs.{cost_of, AreOfTable, FoldingSaves}
+use Rattle.ci_rewrite.specs.Costs.{cost_of, FoldingSaves}
+use Rattle.ci_rewrite.specs.RunLatencies.{AreOfTable}
 use Rattle.ci_rewrite.specs.FoldedBlock.{no_op, places_left}
 use Rattle.ci_rewrite.proofs.CutNodes.{IsFolding, early_outside}
 use Rattle.ci_rewrite.proofs.FurtherWords.{further_are}

@@ -20,7 +20,8 @@ use Rattle.ci_machine.proofs.RelatedSteps.{related_steps}
 use Rattle.ci_machine.proofs.StandingLists.{length_first, stand_first, stands_last}
 use Rattle.ci_machine.proofs.StepLists.{leaving_alike}
 use Rattle.ci_rewrite.specs.Blocks.{IsBlock, live_behind}
-use Rattle.ci_rewrite.specs.SameSteps.{is_access_fault, FoldingKeepsSteps, LastIsFetched}
+use Rattle.ci_rewrite.specs.SameSteps.{FoldingKeepsSteps, LastIsFetched}
+use Rattle.ci_machine.specs.Outcomes.{is_access_fault}
 use Rattle.ci_rewrite.proofs.TwoCores.{actions_of, folding_keeps_agreement}
 
 -- ---- steps through the actions of one block

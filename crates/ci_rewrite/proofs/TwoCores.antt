@@ -11,7 +11,7 @@ use Rattle.ci_isa.specs.declared.instruction.Insn.{Insn}
 use Rattle.ci_isa.specs.FieldBounds.{FieldsFit}
 use Rattle.ci_isa.specs.Effects.{ends_block}
 use Rattle.ci_machine.specs.Agreement as machine
-use Rattle.ci_machine.specs.Agreement.{act_all, writes, AreActions, AreRelated, AllLeaveText}
+use Rattle.ci_machine.specs.Agreement.{act_all, writes, AreActions, AreRelated}
 use Rattle.ci_machine.specs.Cores.{first_hidden}
 use Rattle.ci_machine.specs.Outcomes.{at_start}
 use Rattle.ci_machine.proofs.LeavingLists.{leaves_alike}

@@ -2,9 +2,8 @@
 use Rattle.std.specs.Prelude.{◌≡◌, ℕ, Bool, pos, ◌+ℤ◌, List, sum_by}
 use Rattle.std.specs.FinSet as finite
 use Rattle.std.specs.Ordering.{nat_cmp}
-use Rattle.ci_word.specs.declared.arithmetic.Class.{Class}
 use Rattle.ci_isa.specs.declared.instruction.Insn.{Insn}
-use Rattle.ci_lat.specs.Latencies.{Latencies as Table, latency_of}
+use Rattle.ci_lat.specs.Latencies.{Latencies as Table}
 use Rattle.ci_machine.specs.Runs.{Latencies, latency}
 use Rattle.ci_cut.specs.declared.graph.Limits.{Limits}
 use Rattle.ci_cut.specs.Gain.{Fits, gain}
@@ -12,16 +11,11 @@ use Rattle.ci_cut.specs.Hardware.{hardware}
 use Rattle.ci_dfg.specs.BlockGraph.{graph_of}
 use Rattle.ci_rewrite.specs.FoldedBlock.{IsFolded}
 use Rattle.ci_rewrite.specs.Blocks.{IsBlock}
+use Rattle.ci_rewrite.specs.RunLatencies.{AreOfTable}
 
 -- what the instructions of a block cost, each made once
 abbrev pub cost_of : Latencies → List Insn → ℕ
 cost_of latencies insns = sum_by (latency latencies) insns
-
--- the latencies of a run are those of the table, whatever the units take
-pub record AreOfTable (table : Table) (latencies : Latencies) : Type 0 where
-  pub of_class : (c : Class) → latencies.of_class c ≡ latency_of table c
-  pub pad : latencies.pad ≡ table.pad
-  pub read : latencies.read ≡ table.read
 
 -- The folded block costs less by the gain of the cut.
 abbrev pub FoldingSaves : Type 0

@@ -12,7 +12,8 @@ use Rattle.ci_cut.specs.Hardware.{hardware}
 use Rattle.ci_dfg.specs.BlockGraph.{graph_of}
 use Rattle.ci_unit.specs.Units.{unit_of}
 use Rattle.ci_rewrite.specs.Blocks.{IsBlock, AreNamed}
-use Rattle.ci_rewrite.specs.Costs.{cost_of, AreOfTable}
+use Rattle.ci_rewrite.specs.Costs.{cost_of}
+use Rattle.ci_rewrite.specs.RunLatencies.{AreOfTable}
 use Rattle.ci_rewrite.specs.SameSteps.{KeepsRuns}
 
 module _ (insns : List Insn) (graph : FlowGraph) (cut : ℕ → Bool) (number : ℕ) (folded : List Insn) where

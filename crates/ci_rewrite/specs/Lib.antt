@@ -1,7 +1,9 @@
 pub mod FoldedBlock
 pub mod Blocks
 pub mod SameEffect
+pub mod ComputedUnits
 pub mod UnitModules
 pub mod SameSteps
+pub mod RunLatencies
 pub mod Costs
 pub mod Folds

@@ -9,7 +9,7 @@ use Rattle.ci_machine.specs.Cores.{Core}
 use Rattle.ci_machine.specs.Outcomes.{at_start}
 use Rattle.ci_machine.specs.Actions.{Units}
 use Rattle.ci_machine.specs.Agreement.{act_all, AgreeOutside, AgreeOn, AreRelated, AllLeaveText}
-use Rattle.ci_elf.specs.FrameImages.{AreWords}
+use Rattle.ci_elf.specs.WordLists.{AreWords}
 use Rattle.ci_machine.specs.Words.{AreTaken, HoldsWords, MakesWords}
 use Rattle.ci_cut.specs.declared.graph.Limits.{Limits}
 use Rattle.ci_cut.specs.Gain.{Fits}

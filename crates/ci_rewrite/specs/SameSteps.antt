@@ -1,5 +1,5 @@
 -- A folded block that stands in the text makes the steps of the block, for everybody.
-use Rattle.std.specs.Prelude.{◌≡◌, ℕ, ◌<◌, Bool, true, false, List, length, take, Some, None}
+use Rattle.std.specs.Prelude.{◌≡◌, ℕ, ◌<◌, Bool, true, List, length, take, Some, None}
 use Rattle.std.specs.FinSet as finite
 use Rattle.std.specs.Ordering.{nat_cmp}
 use Rattle.ci_isa.specs.declared.instruction.Insn.{Insn}
@@ -7,10 +7,10 @@ use Rattle.ci_isa.specs.Sequences.{nth_insn}
 use Rattle.ci_lat.specs.Latencies.{Latencies}
 use Rattle.ci_verilog.specs.Modules.{Module}
 use Rattle.ci_machine.specs.declared.ends.End.{End}
-use Rattle.ci_machine.specs.declared.ends.End.TheVariants.{Access}
 use Rattle.ci_machine.specs.Agreement.{AgreeOutside, AgreeOn}
 use Rattle.ci_machine.specs.Programs.{Program, State, in_text}
 use Rattle.ci_machine.specs.Steps.{Meaning, fetched}
+use Rattle.ci_machine.specs.Outcomes.{is_access_fault}
 use Rattle.ci_machine.specs.Runs.{after}
 use Rattle.ci_machine.specs.Touches.{LeavesTextFor}
 use Rattle.ci_machine.specs.Blocks.{StandAt, IsMapped, behind, AreRelatedAt}
@@ -38,11 +38,6 @@ pub record StandAlike
   pub words : HoldsWords right.core
   pub outside : AgreeOutside (in_text program) left.core right.core
   pub registers : AgreeOn set left.core right.core
-
--- an access that the memory refuses
-abbrev pub is_access_fault : End → Bool
-is_access_fault (Access address width) = true
-is_access_fault end = false
 
 -- Of two runs the first n steps end by one refused access, or neither run ends in them, and both stand at one pc. They
 -- are related, and the second leaves the text alone.

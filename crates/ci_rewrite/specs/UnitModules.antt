@@ -1,28 +1,16 @@
 -- Modules that compute the unit of a cut, and serve the unit words of a block, for everybody.
-use Rattle.std.specs.Prelude.{◌≡◌, ℕ, ◌^◌, ◌<◌, ◌↔◌, List, [], ◌∷◌, All, length, slice_get, Some}
+use Rattle.std.specs.Prelude.{ℕ, ◌<◌, List, All, length}
 use Rattle.ci_isa.specs.declared.instruction.Insn.{Insn}
 use Rattle.ci_isa.specs.FieldBounds.{FieldsFit}
 use Rattle.ci_isa.specs.Sequences.{nth_insn}
 use Rattle.ci_verilog.specs.Modules.{Module, IsModule}
-use Rattle.ci_verilog.specs.Values.{IsValueOf}
 use Rattle.ci_machine.specs.Extended.{HasModule, IsExtended}
 use Rattle.ci_machine.specs.Steps.{Meaning}
-use Rattle.ci_unit.specs.Units.{Unit, IsPairOf}
+use Rattle.ci_unit.specs.Units.{Unit}
 use Rattle.ci_rewrite.specs.SameEffect.{Serve, ComputesUnit}
+use Rattle.ci_rewrite.specs.ComputedUnits.{ComputeUnit}
 
 -- ---- modules
-
--- at all words the module has the unit's value
-abbrev pub HasUnitValue : Module → Unit → Type 0
-HasUnitValue m unit =
-    (a b c y z : ℕ) → a < 2 ^ 32 → b < 2 ^ 32 → c < 2 ^ 32
-    → IsValueOf m (a ∷ b ∷ c ∷ []) (y ∷ z ∷ []) ↔ IsPairOf unit (a ∷ b ∷ c ∷ []) y z
-
--- so does the module of this number
-pub record ComputeUnit (modules : List Module) (number : ℕ) (unit : Unit) : Type 0 where
-  pub computing : Module
-  pub there : slice_get modules number ≡ Some computing
-  pub value : HasUnitValue computing unit
 
 -- there is a module for each unit word of the list
 abbrev pub HaveModules : List Module → List Insn → Type 0

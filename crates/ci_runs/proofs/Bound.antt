@@ -7,7 +7,7 @@ use Rattle.ci_machine.specs.Outcomes.{Reached}
 use Rattle.ci_machine.specs.Agreement.{AgreeOutside}
 use Rattle.ci_machine.specs.Programs.{State}
 use Rattle.ci_machine.proofs.TestLaws.{no_end, some_is}
-use Rattle.ci_rewrite.specs.SameSteps.{is_access_fault}
+use Rattle.ci_machine.specs.Outcomes.{is_access_fault}
 use Rattle.ci_runs.specs.WholeRuns.{AreAlikeAt}
 use Rattle.ci_runs.specs.Fronts.{Passage, onward, together, inside, AreQuiet}
 

@@ -37,7 +37,8 @@ use Rattle.ci_machine.proofs.ExtendedMeaning.{one_stands}
 use Rattle.ci_machine.proofs.OpeningLaws.{insns_stand}
 use Rattle.ci_machine.proofs.TextChanges.{opens_alike}
 use Rattle.ci_rewrite.specs.Blocks.{AllFieldsFit, AreActionsOf, AreBundled, AreNamed, Covers, IsBlock}
-use Rattle.ci_rewrite.specs.Costs.{AreOfTable, cost_of}
+use Rattle.ci_rewrite.specs.Costs.{cost_of}
+use Rattle.ci_rewrite.specs.RunLatencies.{AreOfTable}
 use Rattle.ci_rewrite.specs.SameEffect.{Serve}
 use Rattle.ci_rewrite.proofs.ModuleUnits.{modules_serve}
 use Rattle.ci_runs.specs.WholeRuns.{Rewriting, Saving, is_among, text}

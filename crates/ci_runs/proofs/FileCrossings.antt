@@ -10,7 +10,8 @@ use Rattle.ci_live.specs.Sets.{after_block}
 use Rattle.ci_machine.specs.Extended.{IsExtended, latencies_with}
 use Rattle.ci_machine.specs.Runs.{Latencies}
 use Rattle.ci_machine.specs.Steps.{Meaning}
-use Rattle.ci_rewrite.specs.Costs.{AreOfTable, cost_of}
+use Rattle.ci_rewrite.specs.Costs.{cost_of}
+use Rattle.ci_rewrite.specs.RunLatencies.{AreOfTable}
 use Rattle.ci_runs.specs.WholeRuns.{Rewriting, Saving, is_among}
 use Rattle.ci_runs.specs.FoldedFiles.{IsFoldedFile, saved_at}
 use Rattle.ci_runs.specs.CrossedFiles.{AreCrossed, SaveAtLeaders, two_runs}

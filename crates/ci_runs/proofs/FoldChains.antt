@@ -29,7 +29,8 @@ use Rattle.ci_dfg.proofs.BlockIsGraph.{node_at_within}
 use Rattle.ci_unit.specs.Units.{unit_of}
 use Rattle.ci_unit.specs.Uses.{use_of}
 use Rattle.ci_rewrite.specs.Blocks.{IsBlock, AreNamed}
-use Rattle.ci_rewrite.specs.Costs.{cost_of, AreOfTable}
+use Rattle.ci_rewrite.specs.Costs.{cost_of}
+use Rattle.ci_rewrite.specs.RunLatencies.{AreOfTable}
 use Rattle.ci_rewrite.specs.FoldedBlock.{IsFolded, no_op, places_left, those}
 use Rattle.ci_rewrite.specs.SameEffect.{Serve, KeepsBlock}
 use Rattle.ci_rewrite.proofs.Chains.{block_keeps_itself, keeping_joins}

@@ -20,7 +20,7 @@ use Rattle.ci_machine.proofs.OpeningLaws.{opening_text}
 use Rattle.ci_machine.proofs.RunLaws.{ends_stay}
 use Rattle.ci_machine.proofs.TestLaws.{no_end}
 use Rattle.ci_machine.proofs.WordLaws.{opening_words}
-use Rattle.ci_rewrite.specs.SameSteps.{is_access_fault}
+use Rattle.ci_machine.specs.Outcomes.{is_access_fault}
 use Rattle.ci_runs.specs.WholeRuns.{Rewriting, Saving, AreAlikeAt, AreAtFront, AreMachines, IsTameFor, is_among, new_run, old_run, saved, text}
 use Rattle.ci_runs.specs.Crossings.{TwoRuns, old, new, Meet, AtLeader, GoBy}
 use Rattle.ci_runs.specs.CrossedFiles.{AreCrossed, SaveAtLeaders, two_runs}

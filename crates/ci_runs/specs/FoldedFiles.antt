@@ -23,7 +23,7 @@ use Rattle.ci_cut.specs.Hardware.{hardware}
 use Rattle.ci_dfg.specs.BlockGraph.{graph_of}
 use Rattle.ci_unit.specs.Units.{unit_of}
 use Rattle.ci_rewrite.specs.FoldedBlock.{IsFolded}
-use Rattle.ci_rewrite.specs.UnitModules.{ComputeUnit}
+use Rattle.ci_rewrite.specs.ComputedUnits.{ComputeUnit}
 use Rattle.ci_runs.specs.WholeRuns.{Rewriting, Saving}
 
 -- the numbers together

@@ -4,7 +4,7 @@ use Rattle.ci_machine.specs.declared.ends.End.{End}
 use Rattle.ci_machine.specs.Outcomes.{Reached}
 use Rattle.ci_machine.specs.Agreement.{AgreeOutside}
 use Rattle.ci_machine.specs.Programs.{State}
-use Rattle.ci_rewrite.specs.SameSteps.{is_access_fault}
+use Rattle.ci_machine.specs.Outcomes.{is_access_fault}
 
 -- `At` says where the old run stands at a listed leader, and `GoBy` what both runs go by from a front, in so many
 -- steps.

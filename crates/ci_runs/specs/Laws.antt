@@ -2,7 +2,7 @@
 use Rattle.std.specs.Prelude.{List}
 use Rattle.ci_lat.specs.Latencies.{Latencies as Table}
 use Rattle.ci_machine.specs.Runs.{Latencies}
-use Rattle.ci_rewrite.specs.Costs.{AreOfTable}
+use Rattle.ci_rewrite.specs.RunLatencies.{AreOfTable}
 use Rattle.ci_runs.specs.WholeRuns.{Rewriting, Saving, RunAlike, MeetAtLeaders, CostLess}
 use Rattle.ci_runs.specs.FoldedFiles.{IsFoldedFile}
 

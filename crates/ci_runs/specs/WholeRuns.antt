@@ -15,7 +15,7 @@ use Rattle.ci_machine.specs.RunEvents.{IsTame, entries}
 use Rattle.ci_machine.specs.Runs.{Latencies, after, cost}
 use Rattle.ci_machine.specs.Steps.{Meaning, IsPlain}
 use Rattle.ci_machine.specs.Words.{AreBytes}
-use Rattle.ci_rewrite.specs.SameSteps.{is_access_fault}
+use Rattle.ci_machine.specs.Outcomes.{is_access_fault}
 
 -- ---- two runs, each by what its first n steps reach
 

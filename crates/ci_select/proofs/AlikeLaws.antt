@@ -22,7 +22,8 @@ use Rattle.ci_rewrite.specs.FoldedBlock.{IsFolded}
 use Rattle.ci_unit.specs.Units.{Unit, unit_of}
 use Rattle.ci_select.specs.declared.rounds.Due.{Due}
 use Rattle.ci_select.specs.Histories.{AreOneButLogs, History, leader_of}
-use Rattle.ci_select.specs.Instances.{AreAlike, Instance, entered}
+use Rattle.ci_select.specs.Instances.{Instance, entered}
+use Rattle.ci_select.specs.AlikeInstances.{AreAlike}
 use Rattle.ci_select.specs.PresentBlocks.{HasPresentCut, IsPresent, folded, graph_at, original, unchanged}
 use Rattle.ci_select.specs.Candidates.{IsCandidate}
 use Rattle.ci_select.specs.UnitNumbers.{AreUnits, IsUnitAt}

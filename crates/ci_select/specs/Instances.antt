@@ -1,11 +1,9 @@
 -- What a choice of cuts is about: an instance of the selection problem.
-use Rattle.std.specs.Prelude.{◌≡◌, ℕ, nat_lt, List, map, filter}
-use Rattle.std.specs.List.{Contains}
+use Rattle.std.specs.Prelude.{ℕ, nat_lt, List, map, filter}
 use Rattle.ci_lat.specs.Latencies.{Latencies}
 use Rattle.ci_elf.specs.Executables.{Executable, IsWellFormed}
 use Rattle.ci_block.specs.declared.blocks.Block.{Block}
-use Rattle.ci_block.specs.Laws.{contents_of}
-use Rattle.ci_live.specs.Sets.{Sets, after_block}
+use Rattle.ci_live.specs.Sets.{Sets}
 use Rattle.ci_live.specs.Analyses.{IsAnalysis}
 use Rattle.ci_machine.specs.Words.{AreBytes}
 use Rattle.ci_emu.specs.declared.profile.Profile.{Profile}
@@ -40,15 +38,3 @@ AreBlocksOf file blocks live =
 abbrev pub AreOfSomeFile : List Block → Sets → Type 0
 AreOfSomeFile blocks live =
     (file : Executable) × AreBlocksOf file blocks live × IsWellFormed file × AreBytes file.bytes
-
--- Both say the same of each block: its instructions, what is live after it and how often it was entered; with the same
--- latencies and limits. So do two instances that are made of the same files.
-pub record AreAlike (left right : Instance) : Type 0 where
-  pub blocks : map contents_of left.blocks ≡ map contents_of right.blocks
-  pub live :
-      (block : Block) → Contains left.blocks block
-      → after_block left.live block.leader ≡ after_block right.live block.leader
-  pub entries :
-      (block : Block) → Contains left.blocks block → left.entries block.leader ≡ right.entries block.leader
-  pub table : left.table ≡ right.table
-  pub plan : left.plan ≡ right.plan

@@ -18,7 +18,8 @@ use Rattle.ci_verilog.specs.Modules.{Module}
 use Rattle.ci_select.specs.declared.acceptance.Verdict.{Verdict}
 use Rattle.ci_select.specs.declared.rounds.Due.{Due}
 use Rattle.ci_select.specs.Histories.{AreOneButLogs, History, is_search_of, leader_of}
-use Rattle.ci_select.specs.Instances.{Instance, AreAlike, AreBlocksOf, AreOfSomeFile, entered}
+use Rattle.ci_select.specs.Instances.{Instance, AreBlocksOf, AreOfSomeFile, entered}
+use Rattle.ci_select.specs.AlikeInstances.{AreAlike}
 use Rattle.ci_select.specs.PresentBlocks.{HasPresentCut, IsPresent, graph_at}
 use Rattle.ci_select.specs.UnitNumbers.{AreUnits, IsUnitAt}
 use Rattle.ci_select.specs.Savings.{IsSaved}

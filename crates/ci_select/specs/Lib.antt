@@ -1,4 +1,5 @@
 pub mod Instances
+pub mod AlikeInstances
 pub mod Histories
 pub mod PresentBlocks
 pub mod UnitNumbers

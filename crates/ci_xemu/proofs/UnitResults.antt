@@ -1,7 +1,7 @@
 -- A unit gives what its module has as its value.
 use Rattle.std.proofs.Common.{◌≡◌, ℕ, zero, suc, ◌<◌, ◌^◌, List, [], ◌∷◌, Some, refl, lit<}
 use Rattle.std.specs.Prelude.{slice_get}
-use Rattle.ci_elf.specs.FrameImages.{AreWords}
+use Rattle.ci_elf.specs.WordLists.{AreWords}
 use Rattle.ci_verilog.specs.Modules.{Module, IsModule}
 use Rattle.ci_verilog.specs.Values.{IsValueOf}
 use Rattle.ci_verilog.proofs.ValueLaws.{value_is_one}
