@@ -45,7 +45,7 @@ impl<T: Drop> From<AllocFailed<T>> for AsmFault {
 }
 
 /// What may be wrong with a line.
-#[derive(Clone, Copy, Debug, PartialEq, Eq)]
+#[derive(Clone, Copy)]
 pub(crate) enum Rule {
     /// A byte that begins no token.
     NoToken,
@@ -81,7 +81,7 @@ impl Rule {
 }
 
 /// A rule, and how many bytes of the line stand before the place where it is broken.
-#[derive(Clone, Copy, Debug, PartialEq, Eq)]
+#[derive(Clone, Copy)]
 pub(crate) struct Fault {
     pub rule: Rule,
     pub place: usize,

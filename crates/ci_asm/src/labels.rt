@@ -7,7 +7,7 @@ use std::alloc::AllocError;
 use std::collections::BTreeMap;
 
 /// Where a label is defined: its line, from 1 on, and how many words stand before it.
-#[derive(Clone, Copy, Debug, PartialEq, Eq)]
+#[derive(Clone, Copy)]
 pub(crate) struct Definition {
     pub line: u32,
     pub words: u32,

@@ -7,7 +7,7 @@ use crate::scanner::{Kind, Token, next_token};
 use crate::statements::{Statement, read_statement};
 
 /// What a line has, but for its comment.
-#[derive(Clone, Copy, Debug, PartialEq, Eq)]
+#[derive(Clone, Copy)]
 pub(crate) struct Line {
     /// The name of the label that is defined.
     pub label: Option<Token>,

@@ -7,7 +7,7 @@ use ci_isa::{Cond, LoadKind, Width};
 use ci_word::Op;
 
 /// What a statement says, but for its operands.
-#[derive(Clone, Copy, Debug, PartialEq, Eq)]
+#[derive(Clone, Copy)]
 pub(crate) enum Mnemonic {
     /// A register-register form.
     RegisterRegister(Op),

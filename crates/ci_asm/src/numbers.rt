@@ -7,7 +7,7 @@ use crate::scanner::{behind, byte_at};
 use ci_reading::digit_value;
 
 /// A number: its sign and how far it is from 0. Zero may have either sign.
-#[derive(Clone, Copy, Debug, PartialEq, Eq)]
+#[derive(Clone, Copy)]
 pub(crate) struct Number {
     pub negative: bool,
     pub magnitude: u64,

@@ -5,7 +5,7 @@ ghost use Rattle.ci_asm.specs.Tokens.{is_negative_start, is_directive, kind_and_
 ghost use Rattle.ci_asm.specs.Tokens.{next_token, text_of};
 
 /// A class of bytes.
-#[derive(Clone, Copy, Debug, PartialEq, Eq)]
+#[derive(Clone, Copy)]
 pub(crate) enum ByteClass {
     Blank,
     NameByte,
@@ -16,7 +16,7 @@ pub(crate) enum ByteClass {
 }
 
 /// What a token is.
-#[derive(Clone, Copy, Debug, PartialEq, Eq)]
+#[derive(Clone, Copy)]
 pub(crate) enum Kind {
     /// A letter or `_`, and then letters, digits and `_`.
     Name,
@@ -33,7 +33,7 @@ pub(crate) enum Kind {
 }
 
 /// A token, and the bytes of the line that it has: from `start` to before `end`.
-#[derive(Clone, Copy, Debug, PartialEq, Eq)]
+#[derive(Clone, Copy)]
 pub(crate) struct Token {
     pub kind: Kind,
     pub start: usize,

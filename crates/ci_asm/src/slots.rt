@@ -7,7 +7,7 @@ use crate::numbers::Number;
 use ci_word::Op;
 
 /// A field of a word that holds a number.
-#[derive(Clone, Copy, Debug, PartialEq, Eq)]
+#[derive(Clone, Copy)]
 pub(crate) enum Field {
     /// Twelve bits with a sign.
     Immediate,
@@ -28,7 +28,7 @@ pub(crate) enum Field {
 }
 
 /// What is due at a place of a statement.
-#[derive(Clone, Copy, Debug, PartialEq, Eq)]
+#[derive(Clone, Copy)]
 pub(crate) enum Slot {
     Rd,
     Rs1,

@@ -12,7 +12,7 @@ use crate::slots::{Field, Slot};
 use ci_isa::Reg;
 
 /// The operands of a statement. What the statement doesn't have is 0.
-#[derive(Clone, Copy, Debug, PartialEq, Eq)]
+#[derive(Clone, Copy)]
 pub(crate) struct Operands {
     pub rd: Reg,
     pub rs1: Reg,
@@ -24,7 +24,7 @@ pub(crate) struct Operands {
 }
 
 /// A statement.
-#[derive(Clone, Copy, Debug, PartialEq, Eq)]
+#[derive(Clone, Copy)]
 pub(crate) struct Statement {
     pub mnemonic: Mnemonic,
     pub operands: Operands,
