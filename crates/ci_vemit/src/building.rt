@@ -31,9 +31,24 @@ fn module(alloc: Global, number: u8, unit: &Unit) -> Result<Module, AllocError>
 {
     let wires = wires_of(alloc, unit)?;
     let outputs = unit.outputs();
-    let y = output(alloc, &wires, outputs, 0)?;
-    let z = output(alloc, &wires, outputs, 1)?;
+    let (y, z) = results(alloc, &wires, outputs)?;
     Ok(Module::new(number, unit.cycles(), Wires::from_vec(wires), y, z))
+}
+
+/// The results of the first two outputs.
+fn results(alloc: Global, wires: &[Wire], outputs: &[u8]) -> Result<(Expr, Expr), AllocError>
+    ensures y { IfOk result (λ both. both.0 ≡ output_at outputs.now 0) }
+    ensures z { IfOk result (λ both. both.1 ≡ output_at outputs.now 1) }
+{
+    let y = output(alloc, wires, outputs, 0)?;
+    match output(alloc, wires, outputs, 1) {
+        Ok(z) => Ok((y, z)),
+        // At a `?` the proof would walk through all that an expression can be.
+        Err(error) => {
+            drop(y);
+            Err(error)
+        }
+    }
 }
 
 /// The wires of a unit's operations.

@@ -58,7 +58,14 @@ fn push(
 ) -> Result<(), AllocError>
     ensures { OnOk result (wires.new.items ≡ wires.old.items ++ wire (numbered number letter.now) width value ∷ []) }
 {
-    let name = name(alloc, letter, number)?;
+    let name = match name(alloc, letter, number) {
+        Ok(name) => name,
+        // At a `?` the proof would walk through all that an expression can be.
+        Err(error) => {
+            drop(value);
+            return Err(error);
+        }
+    };
     wires.push(Wire { name, width, value })?;
     Ok(())
 }

@@ -13,9 +13,9 @@ from_vec-requires-clause-few c = wires_few c.args.unit.now c.cycles.ensures.kept
 pub new-requires-clause-y_is_word : goal.new-requires-clause-y_is_word
 new-requires-clause-y_is_word c =
     output_allowed c.args.unit.now c.cycles.ensures.kept c.from_vec.result (c.from_vec.ensures ∙ c.in_ok-wires.ensures) 0
-    c.in_ok-y.y (c.in_ok-y.ensures ∙ ap (λ outputs. output_at outputs 0) c.outputs-outputs.ensures.value)
+    c.in_ok-y.y (c.in_ok-y.ensures.y ∙ ap (λ outputs. output_at outputs 0) c.outputs-outputs.ensures.value)
 
 pub new-requires-clause-z_is_word : goal.new-requires-clause-z_is_word
 new-requires-clause-z_is_word c =
     output_allowed c.args.unit.now c.cycles.ensures.kept c.from_vec.result (c.from_vec.ensures ∙ c.in_ok-wires.ensures) 1
-    c.in_ok-z.z (c.in_ok-z.ensures ∙ ap (λ outputs. output_at outputs 1) c.outputs-outputs.ensures.value)
+    c.in_ok-y.z (c.in_ok-y.ensures.z ∙ ap (λ outputs. output_at outputs 1) c.outputs-outputs.ensures.value)
