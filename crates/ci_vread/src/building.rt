@@ -58,6 +58,7 @@ fn name_bytes<'a>(text: &'a [u8], token: Token) -> &'a [u8]
     }
 }
 
+// A term or an expression that was read is let go by `drop`: at a `?` the proof would walk through all that it can be.
 impl<'a> Builder<'a> {
     /// The next token.
     fn front(&self) -> Token
@@ -283,6 +284,23 @@ impl<'a> Builder<'a> {
         self.inside()
     }
 
+    /// The second and the third term of a choice.
+    fn branches(&mut self) -> Result<(Term, Term), AllocError>
+        ensures second { IfOk result (λ both. both.0 ≡ (term_of (left self.old)).0) }
+        ensures third { IfOk result (λ both. both.1 ≡ (term_of (drop 1 (term_of (left self.old)).1)).0) }
+        ensures rest { OnOk result (left self.new ≡ (term_of (drop 1 (term_of (left self.old)).1)).1) }
+    {
+        let second = self.term()?;
+        self.pass(1);
+        match self.term() {
+            Ok(third) => Ok((second, third)),
+            Err(error) => {
+                drop(second);
+                Err(error)
+            }
+        }
+    }
+
     /// The expression that begins with the term.
     #[tactic(auto, unfolding(crate::specs::Building::others_of))]
     fn others(&mut self, first: Term) -> Result<Expr, AllocError>
@@ -291,15 +309,25 @@ impl<'a> Builder<'a> {
     {
         if let Some(operator) = self.operator() {
             self.pass(1);
-            return Ok(Expr::Two(operator, first, self.term()?));
+            return match self.term() {
+                Ok(second) => Ok(Expr::Two(operator, first, second)),
+                Err(error) => {
+                    drop(first);
+                    Err(error)
+                }
+            };
         }
         if !self.begins(Sign::Question) {
             return Ok(Expr::One(first));
         }
         self.pass(1);
-        let second = self.term()?;
-        self.pass(1);
-        Ok(Expr::Choose(first, second, self.term()?))
+        match self.branches() {
+            Ok((second, third)) => Ok(Expr::Choose(first, second, third)),
+            Err(error) => {
+                drop(first);
+                Err(error)
+            }
+        }
     }
 
     /// An expression.
@@ -374,7 +402,13 @@ impl<'a> Builder<'a> {
         self.places.clear();
         let wires = Wires::from_vec(self.wires()?);
         let y = self.assigned()?;
-        let z = self.assigned()?;
+        let z = match self.assigned() {
+            Ok(z) => z,
+            Err(error) => {
+                drop(y);
+                return Err(error);
+            }
+        };
         self.pass(1);
         Ok(Module::new(number, cycles, wires, y, z))
     }

@@ -17,7 +17,7 @@ use crate::tokens::{Kind, Token};
 use std::alloc::{AllocError, Global};
 
 /// Where a text breaks a rule first: the kind of the rule, and how many bytes stand before the token that breaks it.
-#[derive(Clone, Copy, Debug, PartialEq, Eq)]
+#[derive(Clone, Copy)]
 pub(crate) struct Fault {
     pub kind: u8,
     pub place: u32,

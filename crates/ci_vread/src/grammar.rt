@@ -8,7 +8,7 @@ ghost use Rattle.ci_vread.specs.Tables.{IsOperator, part_of, phrase_of, needs_ne
 use crate::tokens::{Kind, Sign};
 
 /// What a token is there for.
-#[derive(Clone, Copy, Debug, PartialEq, Eq)]
+#[derive(Clone, Copy)]
 pub(crate) enum Role {
     /// This word or mark.
     Sign(Sign),
@@ -28,7 +28,7 @@ pub(crate) enum Role {
 }
 
 /// What ends behind a token.
-#[derive(Clone, Copy, Debug, PartialEq, Eq)]
+#[derive(Clone, Copy)]
 pub(crate) enum End {
     Simple,
     Term,
@@ -46,7 +46,7 @@ pub(crate) enum End {
 }
 
 /// A phrase of the grammar.
-#[derive(Clone, Copy, Debug, PartialEq, Eq)]
+#[derive(Clone, Copy)]
 pub(crate) enum Phrase {
     Units,
     Wires,
@@ -68,7 +68,7 @@ pub(crate) enum Phrase {
 }
 
 /// What is due at a place of a text.
-#[derive(Clone, Copy, Debug, PartialEq, Eq)]
+#[derive(Clone, Copy)]
 pub(crate) enum Part {
     Reads(Role),
     Ends(End),

@@ -50,7 +50,7 @@ pub(crate) enum Kind {
 
 /// A token of a text, or what ends its tokens. Names, numbers, constants and cycles are so many bytes from `start` on;
 /// of other kinds `size` says nothing.
-#[derive(Clone, Copy, Debug, PartialEq, Eq)]
+#[derive(Clone, Copy)]
 pub(crate) struct Token {
     pub kind: Kind,
     pub size: u8,
