@@ -1,9 +1,16 @@
--- A row that a loop fills with the numbers that pass a test, from the first number to the last.
-use Rattle.std.proofs.Common.{◌≡◌, ℕ, ◌+◌, ◌<◌, Bool, false, ◌&&◌, ◌||◌, nat_lt, inl, inr, IsTrue, sym, ap, ◌∙◌, arith, eq-eqb}
-use Rattle.std.proofs.lemmas.Bool.{cases_order, lt-ltb, le-ltb, ne_eqb, and_from, and_parts, and_right}
+-- Rows that a loop fills with the numbers that pass a test, from the first number to the last.
+use Rattle.std.proofs.Common.{◌≡◌, ℕ, ◌+◌, ◌<◌, Bool, true, false, not, ◌&&◌, ◌||◌, nat_lt, nat_eq, inl, inr, IsTrue, List, length, replicate}
+use Rattle.std.proofs.Common.{get_or-set_other, get_or-set_same, refl, sym, ap, ◌∙◌, arith, eq-eqb, eqb-true}
+use Rattle.std.proofs.Math.Bool.{or_comm, or-false}
+use Rattle.std.proofs.Math.ListN.{set as list_set}
+use Rattle.std.proofs.lemmas.Bool.{cases_Bool, cases_eq, cases_order, lt-ltb, le-ltb, ne_eqb, and_from, and_parts, and_right}
+use Rattle.std.proofs.lemmas.List.{get_or-replicate}
+use Rattle.std.specs.Cmp.{nat_cmp_total}
 use Rattle.std.specs.Ordering.{nat_cmp}
 use Rattle.std.specs.FinSet as set
-use Rattle.ci_word.proofs.NumberLaws.{contains-insert_nat}
+use Rattle.ci_word.proofs.NumberLaws.{contains-insert_nat, contains-remove_nat}
+use Rattle.ci_cut.specs.Representation.{row_at}
+use Rattle.ci_cut.specs.AddedRows.{AreAdded}
 use Rattle.ci_cut.proofs.PrefixLaws.{same_test}
 
 module _ (test : ℕ → Bool) where
@@ -47,3 +54,93 @@ module _ (test : ℕ → Bool) where
       ∙ same_test (nat_lt j end && test j) (test j)
       (λ both. (and_parts _ _ both).1)
       (λ passes. and_from (nat_lt j end) (test j) (lt-ltb j end (below j passes)) passes)
+
+-- ---- rows beside each other, each with a test of its own
+
+-- the rows at the places have the numbers below k that pass
+abbrev pub AreFilled : (ℕ → ℕ → Bool) → List (set.FinSet nat_cmp) → ℕ → Type 0
+AreFilled test rows k = (j m : ℕ) → j < 256 → set.contains (row_at rows j) m ≡ (nat_lt m k && test j m)
+
+pub all_filled_none : (test : ℕ → ℕ → Bool) (none : set.FinSet nat_cmp) → none ≡ set.empty → AreFilled test (replicate 256 none) 0
+all_filled_none test none is j m below =
+    filled_none (test j) (row_at (replicate 256 none) j) (get_or-replicate 256 j none set.empty below ∙ is) m
+
+-- with the next number in the rows whose tests it passes
+pub all_filled_more : (test : ℕ → ℕ → Bool) (before after : List (set.FinSet nat_cmp)) (places : ℕ → Bool) (number : set.FinSet nat_cmp) (k : ℕ)
+    → ((j : ℕ) → places j ≡ test j k) → number ≡ set.insert set.empty k → AreAdded before after places (set.contains number)
+    → AreFilled test before k → AreFilled test after (k + 1)
+all_filled_more test before after places number k here is more so_far j m below =
+    let old = set.contains (row_at before j) m in
+    more j m
+    ∙ (λ i. (here j i && alone i) || old)
+    ∙ elim (cases_Bool (test j k)) [
+      | inl passes ↦
+          ap (λ b. (b && nat_eq m k) || old) passes
+          ∙ sym (contains-insert_nat (row_at before j) k m)
+          ∙ filled_in (test j) (row_at before j) k m (so_far j m below) passes
+      | inr fails ↦
+          ap (λ b. (b && nat_eq m k) || old) fails
+          ∙ filled_out (test j) (row_at before j) k m (so_far j m below) fails
+    ]
+  where
+    alone : set.contains number m ≡ nat_eq m k
+    alone =
+        ap (λ s. set.contains s m) is
+        ∙ contains-insert_nat set.empty k m
+        ∙ ap (λ b. nat_eq m k || b) (set.contains-empty nat_cmp m)
+        ∙ or-false (nat_eq m k)
+
+-- ---- numbers that are put into some of the rows, one place after the other
+
+pub added_here : (rows : List (set.FinSet nat_cmp)) (place : ℕ) (row numbers : set.FinSet nat_cmp) → place < length rows → row_at rows place ≡ row
+    → AreAdded rows (list_set rows place (set.union row numbers)) (λ j. nat_eq j place) (set.contains numbers)
+added_here rows place row numbers room is j k = elim (cases_eq j place) [
+  | inl same ↦
+      ap (λ (i : ℕ). set.contains (row_at (list_set rows place (set.union row numbers)) i) k) same
+      ∙ ap (λ s. set.contains s k) (get_or-set_same rows place (set.union row numbers) set.empty room)
+      ∙ set.contains-union nat_cmp_total row numbers k
+      ∙ or_comm (set.contains row k) (set.contains numbers k)
+      ∙ (λ i. (sym (eq-eqb j place same) i && set.contains numbers k) || set.contains (sym is i) k)
+      ∙ ap (λ (i : ℕ). (nat_eq j place && set.contains numbers k) || set.contains (row_at rows i) k) (sym same)
+  | inr other ↦
+      ap (λ s. set.contains s k) (get_or-set_other rows place j (set.union row numbers) set.empty other)
+      ∙ ap (λ b. (b && set.contains numbers k) || set.contains (row_at rows j) k) (sym (ne_eqb j place other))
+]
+
+pub added_more : (before rows after : List (set.FinSet nat_cmp)) (places also numbers : ℕ → Bool)
+    → AreAdded before rows places numbers → AreAdded rows after also numbers
+    → AreAdded before after (λ j. places j || also j) numbers
+added_more before rows after places also numbers first second j m =
+    second j m ∙ ap (λ b. (also j && numbers m) || b) (first j m)
+    ∙ joined (places j) (also j) (numbers m) (set.contains (row_at before j) m)
+  where
+    joined : (p a e o : Bool) → ((a && e) || ((p && e) || o)) ≡ (((p || a) && e) || o)
+    joined true true true o = refl
+    joined true true false o = refl
+    joined true false e o = refl
+    joined false a e o = refl
+
+-- once they are in the rows at the rest of the places too, they are in the rows at all
+abbrev pub AreAddedBut : List (set.FinSet nat_cmp) → List (set.FinSet nat_cmp) → set.FinSet nat_cmp → (ℕ → Bool) → (ℕ → Bool) → Type 0
+AreAddedBut before rows rest places numbers =
+    (j m : ℕ) → ((set.contains rest j && numbers m) || set.contains (row_at rows j) m)
+    ≡ ((places j && numbers m) || set.contains (row_at before j) m)
+
+pub one_added : (before rows after : List (set.FinSet nat_cmp)) (rest : set.FinSet nat_cmp) (place : ℕ) (places numbers : ℕ → Bool)
+    → IsTrue (set.contains rest place) → AreAdded rows after (λ j. nat_eq j place) numbers
+    → AreAddedBut before rows rest places numbers → AreAddedBut before after (set.remove rest place) places numbers
+one_added before rows after rest place places numbers among more so_far j m =
+    (λ i. (contains-remove_nat rest place j i && numbers m) || more j m i)
+    ∙ passed (nat_eq j place) (set.contains rest j) (numbers m) (set.contains (row_at rows j) m)
+    (λ same. ap (set.contains rest) (eqb-true j place same) ∙ among)
+    ∙ so_far j m
+  where
+    passed : (s r e o : Bool) → (IsTrue s → IsTrue r) → (((not s && r) && e) || ((s && e) || o)) ≡ ((r && e) || o)
+    passed true r e o within = ap (λ b. (b && e) || o) (sym (within refl))
+    passed false r e o within = refl
+
+pub all_added : (before rows : List (set.FinSet nat_cmp)) (rest : set.FinSet nat_cmp) (places numbers : ℕ → Bool)
+    → rest ≡ set.empty → AreAddedBut before rows rest places numbers → AreAdded before rows places numbers
+all_added before rows rest places numbers none so_far j m =
+    ap (λ b. (b && numbers m) || set.contains (row_at rows j) m) (sym (ap (λ s. set.contains s j) none ∙ set.contains-empty nat_cmp j))
+    ∙ so_far j m

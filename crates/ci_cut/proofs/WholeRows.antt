@@ -1,22 +1,24 @@
 -- The rows of a graph, as they are filled from the first node to the last.
-use Rattle.std.proofs.Common.{◌≡◌, ◌≢◌, ℕ, ◌+◌, ◌<◌, ◌≤◌, Bool, false, ◌||◌, ◌⊎◌, ◌↔◌, inl, inr, IsTrue, List, length, Option, Some, None, slice_index_or, replicate, get_or-set_other, get_or-set_same, add-one, sym, ap, ◌∙◌, arith, true≢false, subst}
-use Rattle.std.proofs.lemmas.Bool.{cases_lt, cases_eq, or_cases, or_left, or_right}
+use Rattle.std.proofs.Common.{◌≡◌, ◌≢◌, ℕ, ◌+◌, ◌<◌, ◌≤◌, false, not, ◌&&◌, ◌||◌, nat_eq, ◌⊎◌, ◌↔◌, inl, inr, IsTrue, List, length}
+use Rattle.std.proofs.Common.{Option, Some, None, slice_index_or, replicate, get_or-set_other, get_or-set_same}
+use Rattle.std.proofs.Common.{add-one, sym, ap, ◌∙◌, arith, true≢false, subst}
+use Rattle.std.proofs.lemmas.Bool.{cases_lt, cases_eq, cases_Bool, or_cases, or_left, or_right, and_from, and_parts, ne_eqb}
 use Rattle.std.proofs.lemmas.List.{get_or-replicate}
+use Rattle.std.specs.Cmp.{nat_cmp_total}
 use Rattle.std.specs.Ordering.{nat_cmp}
 use Rattle.std.proofs.Math.ListN.{set as list_set}
 use Rattle.std.specs.List.{list_any}
 use Rattle.std.specs.FinSet as set
 use Rattle.ci_word.specs.Numbers.{count_below}
-use Rattle.ci_word.proofs.NumberLaws.{count_below-zero}
+use Rattle.ci_word.proofs.NumberLaws.{count_below-zero, contains-remove_nat}
 use Rattle.ci_cut.specs.declared.graph.Source.TheVariants.{Made}
-use Rattle.ci_cut.specs.FlowGraph.{FlowGraph, HasArc, is_source, reads}
-use Rattle.ci_cut.specs.GraphRules.{IsFlowGraph}
+use Rattle.ci_cut.specs.FlowGraph.{FlowGraph, HasArc, node_at, is_source, reads}
 use Rattle.ci_cut.specs.Walks.{Walk, arc, onward}
 use Rattle.ci_cut.specs.Prefixes.{is_eligible}
 use Rattle.ci_cut.specs.Representation.{IsLastBelow}
 use Rattle.ci_cut.proofs.NodeLaws.{node_in-past}
 use Rattle.ci_cut.proofs.RisingCounts.{count_below-one, count_below-skip}
-use Rattle.ci_cut.proofs.WalkLaws.{last_arc}
+use Rattle.ci_cut.proofs.WalkLaws.{last_arc, walk_on}
 
 -- one element more of an array is written, and what holds of those before it holds of it too
 pub written_more : {X : Type 0} (P : ℕ → X → Type 0) (none : X) (items : List X) (k : ℕ) (new : X) → k < length items
@@ -46,52 +48,73 @@ module _ (graph : FlowGraph) (j k : ℕ) where
 
 -- ---- the nodes from which walks lead to one
 
+-- walks lead to the node from those of a row, and from no others but where they go on from the rest
+pub record LeadsTo (graph : FlowGraph) (node : ℕ) (row rest : set.FinSet nat_cmp) : Type 0 where
+  pub walks : (j : ℕ) → IsTrue (set.contains row j) → Walk graph j node
+  pub all : (j : ℕ) → Walk graph j node → IsTrue (set.contains row j) ⊎ ((m : ℕ) × IsTrue (set.contains rest m) × Walk graph j m)
+  pub arcs : (m : ℕ) → IsTrue (set.contains rest m) → HasArc graph m node
+
 module _ (graph : FlowGraph) (node : ℕ) where
-  -- by an arc, or by a walk to one of the nodes below k that has an arc
-  abbrev pub LeadsBelow : ℕ → ℕ → Type 0
-  LeadsBelow k j = HasArc graph j node ⊎ ((m : ℕ) × (m < k) × Walk graph j m × HasArc graph m node)
-
-  pub leads_more : (k j : ℕ) → LeadsBelow k j → LeadsBelow (k + 1) j
-  leads_more k j (inl has) = inl has
-  leads_more k j (inr (m, below, walk, has)) = inr (m, omega arith, walk, has)
-
-  pub leads_same : (k j : ℕ) → ¬ (HasArc graph k node) → LeadsBelow (k + 1) j → LeadsBelow k j
-  leads_same k j no_arc (inl has) = inl has
-  leads_same k j no_arc (inr (m, below, walk, has)) = elim (cases_eq m k) [
-    | inl same ↦ absurd (no_arc (subst (λ (i : ℕ). HasArc graph i node) same has))
-    | inr other ↦ inr (m, omega arith, walk, has)
-  ]
-
-  -- with the walks to node k, which has an arc
-  pub leads_joined : (k j : ℕ) → HasArc graph k node → (leads walks joined : Bool) → joined ≡ (leads || walks)
-      → IsTrue leads ↔ LeadsBelow k j → IsTrue walks ↔ Walk graph j k → IsTrue joined ↔ LeadsBelow (k + 1) j
-  leads_joined k j has leads walks joined is are_led are_walks = (there, back)
+  pub leads_start : (before : set.FinSet nat_cmp) → (node_at graph node).before ≡ before → LeadsTo graph node before before
+  leads_start before here = record {
+    walks = λ j in_. arc (has_arc j in_);
+    all = λ j walk. elim (last_arc walk) [
+      | inl has ↦ inl (in_before j has)
+      | inr (m, first, has) ↦ inr (m, in_before m has, first)
+    ];
+    arcs = has_arc;
+  }
     where
-      there : IsTrue joined → LeadsBelow (k + 1) j
-      there in_ = elim (or_cases leads walks (sym is ∙ in_)) [
-        | inl earlier ↦ leads_more k j (are_led.0 earlier)
-        | inr now ↦ inr (k, omega arith, are_walks.0 now, has)
-      ]
+      has_arc : (j : ℕ) → IsTrue (set.contains before j) → HasArc graph j node
+      has_arc j in_ = subst (λ (b : set.FinSet nat_cmp). IsTrue (set.contains b j)) (sym here) in_
 
-      back : LeadsBelow (k + 1) j → IsTrue joined
-      back (inl direct) = is ∙ or_left leads walks (are_led.1 (inl direct))
-      back (inr (m, below, walk, last)) = is ∙ elim (cases_eq m k) [
-        | inl same ↦ or_right leads walks (are_walks.1 (subst (Walk graph j) same walk))
-        | inr other ↦ or_left leads walks (are_led.1 (inr (m, omega arith, walk, last)))
-      ]
+      in_before : (j : ℕ) → HasArc graph j node → IsTrue (set.contains before j)
+      in_before j has = subst (λ (b : set.FinSet nat_cmp). IsTrue (set.contains b j)) here has
 
-  pub leads_all : IsFlowGraph graph → (j : ℕ) → LeadsBelow node j ↔ Walk graph j node
-  leads_all flows j = (there, back)
+  -- with the walks to one of the rest, which stands for all of the rest from which walks lead to it
+  pub leads_more : (row rest further : set.FinSet nat_cmp) (last : ℕ) → LeadsTo graph node row rest → IsTrue (set.contains rest last)
+      → ((j : ℕ) → IsTrue (set.contains further j) ↔ Walk graph j last)
+      → LeadsTo graph node (set.union row further) (set.difference (set.remove rest last) further)
+  leads_more row rest further last so_far among leads = record {
+    walks = λ j in_. elim (or_cases _ _ (sym (in_union j) ∙ in_)) [
+      | inl earlier ↦ so_far.walks j earlier
+      | inr now ↦ onward ((leads j).0 now) (so_far.arcs last among)
+    ];
+    all = λ j walk. elim (so_far.all j walk) [
+      | inl earlier ↦ inl (in_union j ∙ or_left _ _ earlier)
+      | inr (m, waits, first) ↦ elim (cases_eq m last) [
+        | inl same ↦ inl (through j (subst (Walk graph j) same first))
+        | inr other ↦ elim (cases_Bool (set.contains further m)) [
+          | inl known ↦ inl (through j (walk_on first ((leads m).0 known)))
+          | inr unknown ↦ inr (m, in_rest m ∙ and_from _ _ (and_from _ _ (ap not (ne_eqb m last other)) waits) (ap not unknown), first)
+        ]
+      ]
+    ];
+    arcs = λ m in_. so_far.arcs m (and_parts _ _ (and_parts _ _ (sym (in_rest m) ∙ in_)).0).1;
+  }
     where
-      there : LeadsBelow node j → Walk graph j node
-      there (inl has) = arc has
-      there (inr (m, below, walk, has)) = onward walk has
+      in_union : (j : ℕ) → set.contains (set.union row further) j ≡ (set.contains row j || set.contains further j)
+      in_union = set.contains-union nat_cmp_total row further
 
-      back : Walk graph j node → LeadsBelow node j
-      back walk = elim (last_arc walk) [
-        | inl has ↦ inl has
-        | inr (b, rest, has) ↦ inr (b, flows.arcs_rise b node has, rest, has)
-      ]
+      in_rest : (j : ℕ) → set.contains (set.difference (set.remove rest last) further) j
+          ≡ ((not (nat_eq j last) && set.contains rest j) && not (set.contains further j))
+      in_rest j =
+          set.contains-difference nat_cmp_total (set.remove rest last) further j
+          ∙ ap (λ b. b && not (set.contains further j)) (contains-remove_nat rest last j)
+
+      through : (j : ℕ) → Walk graph j last → IsTrue (set.contains (set.union row further) j)
+      through j walk = in_union j ∙ or_right _ _ ((leads j).1 walk)
+
+  -- once none are left
+  pub leads_all : (row rest : set.FinSet nat_cmp) → LeadsTo graph node row rest → rest ≡ set.empty → (j : ℕ)
+      → IsTrue (set.contains row j) ↔ Walk graph j node
+  leads_all row rest so_far none j = (
+    so_far.walks j,
+    λ walk. elim (so_far.all j walk) [
+      | inl in_ ↦ in_
+      | inr (m, waits, first) ↦ absurd (true≢false (sym waits ∙ ap (λ s. set.contains s m) none ∙ set.contains-empty nat_cmp m))
+    ],
+  )
 
 -- ---- the last eligible node below a place
 

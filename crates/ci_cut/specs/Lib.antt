@@ -15,3 +15,4 @@ pub mod Incumbents
 pub mod Tried
 pub mod Reached
 pub mod Representation
+pub mod AddedRows

@@ -1,12 +1,13 @@
 //! What a graph tells of its nodes once, for all prefixes.
-ghost use Rattle.std.specs.Prelude.{◌≡◌, ◌↔◌, ℕ, ◌<◌, ◌≤◌, length, slice_index_or, IsTrue, None};
+ghost use Rattle.std.specs.Prelude.{◌≡◌, ◌↔◌, ℕ, ◌<◌, ◌≤◌, nat_eq, length, slice_index_or, IsTrue, None};
 ghost use Rattle.std.specs.List.{list_any};
 ghost use Rattle.std.specs.FinSet as set;
 ghost use Rattle.ci_cut.specs.declared.graph.Source.TheVariants.{Made};
-ghost use Rattle.ci_cut.specs.FlowGraph.{node_at, is_source, reads};
+ghost use Rattle.ci_cut.specs.FlowGraph.{is_source};
 ghost use Rattle.ci_cut.specs.Walks.{Walk};
 ghost use Rattle.ci_cut.specs.Prefixes.{is_eligible};
 ghost use Rattle.ci_cut.specs.Representation.{row_at, IsLastBelow, AreRowsOf};
+ghost use Rattle.ci_cut.specs.AddedRows.{AreAdded};
 
 use crate::graph::{Graph, Source};
 use ci_word::Row;
@@ -32,9 +33,11 @@ impl GraphRows {
         let mut successors = [Row::empty(); 256];
         let mut ancestors = [Row::empty(); 256];
         let mut readers = [Row::empty(); 256];
-        for k in 0..graph.nodes().len() {
-            successors[k] = successors_of(graph, k as u8);
-            readers[k] = readers_of(graph, k as u8);
+        for (k, node) in graph.nodes().iter().enumerate() {
+            let mut this = Row::empty();
+            this.insert(k as u8);
+            add_at_members(&mut successors, &node.before, &this);
+            add_at_makers(&mut readers, node.sources.as_slice(), &this);
             ancestors[k] = ancestors_of(graph, &ancestors, k);
         }
         GraphRows {
@@ -59,52 +62,41 @@ pub(crate) fn eligible_nodes(graph: &Graph) -> Row
     row
 }
 
-/// The nodes into which this node has an arc.
-fn successors_of(graph: &Graph, node: u8) -> Row
-    ensures { (k : ℕ) → set.contains result k ≡ set.contains (node_at graph.now k).before node }
+/// Puts the numbers into the rows at these places.
+fn add_at_members(rows: &mut [Row; 256], places: &Row, numbers: &Row)
+    ensures { AreAdded rows.old rows.new (set.contains places.now) (set.contains numbers.now) }
 {
-    let mut row = Row::empty();
-    for (k, other) in graph.nodes().iter().enumerate() {
-        if other.before.has(node) {
-            row.insert(k as u8);
-        }
+    let mut rest = *places;
+    while let Some(place) = rest.greatest() {
+        add_at(rows, place, numbers);
+        rest.remove(place);
     }
-    row
 }
 
-/// The nodes that read this node's value.
-fn readers_of(graph: &Graph, node: u8) -> Row
-    ensures { (k : ℕ) → set.contains result k ≡ reads graph.now k (Made node) }
-{
-    let mut row = Row::empty();
-    for (k, other) in graph.nodes().iter().enumerate() {
-        if has_maker(other.sources.as_slice(), node) {
-            row.insert(k as u8);
-        }
-    }
-    row
-}
-
-/// Whether the node is among the sources.
-fn has_maker(sources: &[Source], node: u8) -> bool
-    ensures { result ≡ list_any (is_source (Made node)) sources.now }
+/// Puts the numbers into the rows at the nodes among the sources.
+fn add_at_makers(rows: &mut [Row; 256], sources: &[Source], numbers: &Row)
+    ensures { AreAdded rows.old rows.new (λ j. list_any (is_source (Made j)) sources.now) (set.contains numbers.now) }
 {
     for source in sources {
-        if is_maker(source, node) {
-            return true;
-        }
+        add_at_maker(rows, source, numbers);
     }
-    false
 }
 
-/// Whether the source is the node.
-fn is_maker(source: &Source, node: u8) -> bool
-    ensures { result ≡ is_source (Made node) source.now }
+/// Puts the numbers into the row at the source where that is a node.
+fn add_at_maker(rows: &mut [Row; 256], source: &Source, numbers: &Row)
+    ensures { AreAdded rows.old rows.new (λ j. is_source (Made j) source.now) (set.contains numbers.now) }
 {
     match source {
-        Source::Entry(_) => false,
-        Source::Made(maker) => *maker == node,
+        Source::Entry(_) => {}
+        Source::Made(maker) => add_at(rows, *maker, numbers),
     }
+}
+
+/// Puts the numbers into the row at the place.
+fn add_at(rows: &mut [Row; 256], place: u8, numbers: &Row)
+    ensures { AreAdded rows.old rows.new (λ j. nat_eq j place) (set.contains numbers.now) }
+{
+    rows[place as usize] = rows[place as usize].union(numbers);
 }
 
 /// The nodes from which a walk leads to this node, where those of the earlier nodes are known.
@@ -113,12 +105,14 @@ fn ancestors_of(graph: &Graph, earlier: &[Row; 256], node: usize) -> Row
     requires earlier { (j k : ℕ) → k < node → IsTrue (set.contains (row_at earlier.now k) j) ↔ Walk graph.now j k }
     ensures { (j : ℕ) → IsTrue (set.contains result j) ↔ Walk graph.now j node }
 {
-    let before = &graph.nodes()[node].before;
-    let mut row = *before;
-    for k in 0..node {
-        if before.has(k as u8) {
-            row = row.union(&earlier[k]);
-        }
+    let mut row = graph.nodes()[node].before;
+    // The nodes with an arc into this one that aren't known to lead to a later one of them.
+    let mut rest = row;
+    while let Some(last) = rest.greatest() {
+        let further = &earlier[last as usize];
+        row = row.union(further);
+        rest.remove(last);
+        rest = rest.minus(further);
     }
     row
 }

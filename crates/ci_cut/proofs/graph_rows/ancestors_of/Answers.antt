@@ -1,43 +1,38 @@
-use Rattle.std.proofs.Common.{◌≡◌, ◌↔◌, IsTrue, ℕ, length, sym, ap, ◌∙◌, arith, true≢false, subst}
-use Rattle.std.specs.Cmp.{nat_cmp_total}
+use Rattle.std.proofs.Common.{◌<◌, ◌↔◌, IsTrue, ap, ◌∙◌, length, arith, subst}
 use Rattle.std.specs.Ordering.{nat_cmp}
 use Rattle.std.specs.FinSet as set
 use Rattle.std.proofs.lemmas.List.{get_or_default}
 use Rattle.ci_cut.specs.Walks.{Walk}
 use Rattle.ci_cut.proofs.NodeLaws.{node_there}
-use Rattle.ci_cut.proofs.WholeRows.{LeadsBelow, leads_more, leads_same, leads_joined, leads_all}
+use Rattle.ci_cut.proofs.SetLaws.{fewer_left_without}
+use Rattle.ci_cut.proofs.WholeRows.{leads_start, leads_more, leads_all}
 use Rattle.ci_cut.proofs.graph_rows.ancestors_of.Goals as goal
-use Rattle.ci_cut.proofs.graph_rows.ancestors_of.Goals.{then-has, else-has}
 
-pub loop-k-preserved : goal.loop-k-preserved
-loop-k-preserved c j =
+pub loop-last-init : goal.loop-last-init
+loop-last-init c =
     let graph = c.args.graph.now in
-    let node = c.args.node in
-    let k = c.loop-k.k in
-    let here = ap (λ n. set.contains n.before k)
-    (node_there graph _ node _ c.nodes.ensures.value (omega (arith, c.requires.node, ap length c.nodes.ensures.value)) c.index-nodes-node.is ∙ c.index-nodes-node.is)
-    ∙ sym c.has.ensures.value in
-    let so_far = c.loop-k.invariant j in
-    elim c.if-has.branch [
-      | then-has w ↦
-          leads_joined graph node k j (here ∙ w.if-has.true) (set.contains c.loop-k.row j) _ _
-          (ap (λ s. set.contains s j) (w.row-is ∙ w.union-row.ensures.value) ∙ set.contains-union nat_cmp_total c.loop-k.row _ j)
-          so_far
-          (subst (λ (row : set.FinSet nat_cmp). IsTrue (set.contains row j) ↔ Walk graph j k)
-          (get_or_default c.args.earlier.now k set.empty _ (omega (arith, c.told-earlier, c.requires.node, c.nodes.ensures.kept.few)))
-          (c.requires.earlier j k (omega arith)))
-      | else-has w ↦
-          rw w.row-is (
-            λ in_. leads_more graph node k j (so_far.0 in_),
-            λ leads. so_far.1 (leads_same graph node k j (λ has. true≢false (sym has ∙ here ∙ w.if-has.false)) leads),
-          )
-    ]
+    let below : c.args.node < length c.nodes.result.now = omega (arith, c.requires.node, ap length c.nodes.ensures.value) in
+    leads_start graph c.args.node _
+    (ap (λ n. n.before) (node_there graph _ c.args.node _ c.nodes.ensures.value below c.index-nodes-node.is ∙ c.index-nodes-node.is))
+
+pub loop-last-smaller : goal.loop-last-smaller
+loop-last-smaller c =
+    rw (c.minus-rest.ensures.value, c.remove.ensures)
+    (fewer_left_without c.loop-last.rest _ c.in-Some.last c.args.node
+    (λ j waits. c.nodes.ensures.kept.arcs_rise j c.args.node (c.loop-last.invariant.arcs j waits)) c.in-Some.ensures.0)
+
+pub loop-last-preserved : goal.loop-last-preserved
+loop-last-preserved c =
+    let graph = c.args.graph.now in
+    let last = c.in-Some.last in
+    let below : last < c.args.node =
+    c.nodes.ensures.kept.arcs_rise last c.args.node (c.loop-last.invariant.arcs last c.in-Some.ensures.0) in
+    rw (c.union-row.ensures.value, c.minus-rest.ensures.value, c.remove.ensures)
+    (leads_more graph c.args.node c.loop-last.row c.loop-last.rest _ last c.loop-last.invariant c.in-Some.ensures.0
+    (λ j. subst (λ (row : set.FinSet nat_cmp). IsTrue (set.contains row j) ↔ Walk graph j last)
+    (get_or_default c.args.earlier.now last set.empty c.index-earlier-last.result
+    (omega (arith, below, c.told-earlier, c.requires.node, c.nodes.ensures.kept.few)))
+    (c.requires.earlier j last below)))
 
 pub returns : goal.returns
-returns c j =
-    let node = c.args.node in
-    let all = leads_all c.args.graph.now node c.nodes.ensures.kept j in
-    let end : c.loop-k.k ≡ node = omega arith in (
-      λ in_. all.0 (subst (λ (k : ℕ). LeadsBelow c.args.graph.now node k j) end ((c.loop-k.invariant j).0 in_)),
-      λ walk. (c.loop-k.invariant j).1 (subst (λ (k : ℕ). LeadsBelow c.args.graph.now node k j) (sym end) (all.1 walk)),
-    )
+returns c = leads_all c.args.graph.now c.args.node c.loop-last.row c.loop-last.rest c.loop-last.invariant c.in_default.ensures

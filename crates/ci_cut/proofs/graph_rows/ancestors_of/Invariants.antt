@@ -1,10 +1,9 @@
-use Rattle.std.proofs.Common.{ℕ, ◌<◌, ◌⊎◌, ◌↔◌, IsTrue}
 use Rattle.std.specs.FinSet as set
-use Rattle.ci_cut.specs.FlowGraph.{HasArc}
-use Rattle.ci_cut.specs.Walks.{Walk}
+use Rattle.ci_cut.proofs.WholeRows.{LeadsTo}
 use Rattle.ci_cut.proofs.graph_rows.ancestors_of.Given as goal
 
-abbrev pub invariant-loop-k : goal.invariant-loop-k
-invariant-loop-k l =
-    (j : ℕ) → IsTrue (set.contains l.row j)
-    ↔ (HasArc l.graph j l.node ⊎ ((m : ℕ) × (m < l.k) × Walk l.graph j m × HasArc l.graph m l.node))
+abbrev pub invariant-loop-last : goal.invariant-loop-last
+invariant-loop-last l = LeadsTo l.graph l.node l.row l.rest
+
+abbrev pub decreases-loop-last : goal.decreases-loop-last
+decreases-loop-last l = set.len l.rest
