@@ -1,5 +1,6 @@
 -- The terms of a prefix with one decision more.
-use Rattle.std.proofs.Common.{◌≡◌, ◌≢◌, ℕ, suc, ◌+◌, ◌<◌, ◌≤◌, Bool, true, false, not, ◌&&◌, ◌||◌, nat_eq, cond, ◌⊎◌, inl, inr, ◌↔◌, IsTrue, List, ◌∷◌, length, refl, sym, ap, ◌∙◌, arith, true≢false, subst, eqb-true, eq-eqb}
+use Rattle.std.proofs.Common.{◌≡◌, ◌≢◌, ℕ, suc, ◌+◌, ◌<◌, ◌≤◌, Bool, true, false, not, ◌&&◌, ◌||◌, nat_eq, cond, ◌⊎◌, inl, inr, ◌↔◌, IsTrue}
+use Rattle.std.proofs.Common.{List, ◌∷◌, length, refl, sym, ap, ◌∙◌, arith, true≢false, subst, eqb-true, eq-eqb}
 use Rattle.std.proofs.lemmas.Bool.{cases_eq, cases_Bool, ne_eqb, and_parts, and_from, or_cases, or_left, or_right, not-true, not_from_false, false_from_ne_true}
 use Rattle.std.specs.List.{list_any}
 use Rattle.std.specs.FinSet as set
@@ -65,7 +66,8 @@ module _ (graph : FlowGraph) (prefix : Prefix) (node : ℕ) (next : IsTrue (is_n
   taken_out = λ i k. (is_decided-more graph (λ b. b) false prefix k ∙ newest_other (is_next graph prefix k) (taken graph prefix k)) i
 
   pub possible_in : possible graph (true ∷ prefix) ≡ possible graph prefix
-  possible_in = λ i k. is_eligible graph k && not ((is_decided-more graph not true prefix k ∙ newest_other (is_next graph prefix k) (left_out graph prefix k)) i)
+  possible_in = λ i k. is_eligible graph k
+      && not ((is_decided-more graph not true prefix k ∙ newest_other (is_next graph prefix k) (left_out graph prefix k)) i)
 
   pub possible_out : (k : ℕ) → possible graph (false ∷ prefix) k ≡ (not (nat_eq k node) && possible graph prefix k)
   possible_out k =
@@ -229,13 +231,19 @@ module _ (graph : FlowGraph) (prefix : Prefix) (node : ℕ) (next : IsTrue (is_n
         by_output : (output : Bool) → is_output graph (taken graph (true ∷ prefix)) node ≡ output
             → outputs graph (taken graph (true ∷ prefix)) ≡ outputs graph (taken graph prefix) + cond output 1 0
         by_output true now =
-            omega (arith, count_one_more (is_output graph (taken graph prefix)) (is_output graph (taken graph (true ∷ prefix))) node was_out now output_other (length graph.nodes) node_below)
+            omega (
+              arith,
+              count_one_more (is_output graph (taken graph prefix)) (is_output graph (taken graph (true ∷ prefix))) node was_out now
+                  output_other (length graph.nodes) node_below,
+            )
         by_output false now =
             omega (
               arith,
               count_below-same (length graph.nodes) (is_output graph (taken graph (true ∷ prefix))) (is_output graph (taken graph prefix))
                   (λ k below. elim (cases_eq k node) [
-                    | inl same ↦ ap (is_output graph (taken graph (true ∷ prefix))) same ∙ now ∙ sym was_out ∙ ap (is_output graph (taken graph prefix)) (sym same)
+                    | inl same ↦
+                        ap (is_output graph (taken graph (true ∷ prefix))) same ∙ now
+                        ∙ sym was_out ∙ ap (is_output graph (taken graph prefix)) (sym same)
                     | inr other ↦ output_other k other
                   ]),
             )
@@ -278,7 +286,8 @@ module _ (graph : FlowGraph) (prefix : Prefix) (node : ℕ) (next : IsTrue (is_n
           → settled_inputs graph (true ∷ prefix) ≡ settled_inputs graph prefix + count
       settled_in count counted =
           let outside = is_outside (possible graph prefix) in
-          let before = sources_same graph (λ source. outside source && is_read_by graph (taken graph prefix) source) (λ source. outside source && holds old source)
+          let before = sources_same graph (λ source. outside source && is_read_by graph (taken graph prefix) source)
+          (λ source. outside source && holds old source)
           (λ source. ap (λ b. outside source && b) (was source)) in
           let now = sources_same graph (λ source. is_outside (possible graph (true ∷ prefix)) source && is_read_by graph (taken graph (true ∷ prefix)) source)
           (λ source. outside source && holds new source)

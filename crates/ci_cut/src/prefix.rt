@@ -75,6 +75,7 @@ impl PrefixTerms {
         requires within { self.now.place ≤ length graph.now.nodes }
         ensures { IsLastBelow graph.now self.now.place result }
     {
+        // Its contract tells that there are no more nodes than rows.
         let _nodes = graph.nodes();
         rows.last_below[self.place]
     }
@@ -198,6 +199,7 @@ impl PrefixTerms {
         ensures { (prefix : prefixes.Prefix) (delays : List ℕ) → Represents graph.now prefix self.now delays
             → result ≡ prefixes.bound graph.now prefix }
     {
+        // Its contract tells what bounds latencies and delays.
         let _nodes = graph.nodes();
         saved_cycles(
             graph,
