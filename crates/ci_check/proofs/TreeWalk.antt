@@ -204,3 +204,21 @@ pub record Goes (graph : FlowGraph) (limits : Limits) (best : Given) (items : Li
   pub is_split : drop place items ≡ here ++ rest
   pub judged : (result : Result ℕ Wrong) → IsJudged graph limits best (stations here_tree now) place result
       → IsJudged graph limits best (stations tree prefix) start result
+
+-- where the first tree below a branch is right and ends, the walk goes on where the node is left out
+pub goes_left : {graph : FlowGraph} {limits : Limits} {best : Given} {items : List Item} {terms : PrefixTerms} {delays : List ℕ}
+    {prefix : Prefix} {one : List Item} {tree : IsTree one} {start place : ℕ} {rest : List Item}
+    (goes : Goes graph limits best items terms delays prefix tree start place rest)
+    (parts : SubTrees goes.here_tree goes.now (drop (place + 1) items) rest) → IsRight graph limits best goes.now B
+    → (end : ℕ) → IsJudged graph limits best (stations parts.first_tree (true ∷ goes.now)) (place + 1) (Ok end)
+    → (terms_left : PrefixTerms) (delays_left : List ℕ) → Represents graph (false ∷ goes.now) terms_left delays_left
+    → Goes graph limits best items terms_left delays_left prefix tree start end rest
+goes_left {graph = graph} {limits = limits} {best = best} {items = items} {place = place} {rest = rest} goes parts right end first terms_left delays_left represents = record {
+  now = false ∷ goes.now;
+  here = parts.second;
+  here_tree = parts.second_tree;
+  represents = represents;
+  is_split = behind_first items rest (place + 1) end parts first.1;
+  judged = λ result second. goes.judged result
+      (judged_by_second graph limits best goes.here_tree goes.now _ rest parts right place end result first second);
+}

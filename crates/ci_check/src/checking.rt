@@ -93,7 +93,12 @@ fn check_tree(
         let Some(node) = branch_on(graph, rows, terms, item) else {
             return Ok(place + 1);
         };
-        let end = check_first(
+        if is_right_with(graph, rows, limits, terms, node, items[place + 1]) {
+            terms.leave_out(graph, node);
+            place += 2;
+            continue;
+        }
+        let end = check_with(
             graph,
             rows,
             limits,
@@ -110,37 +115,6 @@ fn check_tree(
 }
 
 /// Checks the items of the tree that begins at `place`, where the next node is taken in.
-#[cycle(trees)]
-fn check_first(
-    graph: &Graph,
-    rows: &GraphRows,
-    limits: &Limits,
-    best: &Incumbent,
-    items: &[Item],
-    place: usize,
-    terms: &PrefixTerms,
-    delays: &mut Delays,
-    node: u8,
-) -> Result<usize, Wrong>
-    requires rows { AreRowsOf graph.now rows.now }
-    requires next { (prefix : Prefix) × Represents graph.now prefix terms.now delays.old
-        × IsTrue (is_next graph.now prefix node) }
-    requires measured { IsMeasured graph.now limits.now best.now }
-    requires few { length items.now < 2 ^ 32 }
-    requires tree { IsTreeAt items.now place }
-    ensures kept { AreKeptFrom (suc node) delays.old delays.new }
-    ensures judged { (prefix : Prefix) (one rest : List Item) (tree : IsTree one)
-        → Represents graph.now prefix terms.now delays.old → IsTrue (is_next graph.now prefix node)
-        → drop place items.now ≡ one ++ rest
-        → IsJudged graph.now limits.now best.now.cut (stations tree (true ∷ prefix)) place result }
-{
-    if is_right_with(graph, rows, limits, terms, node, items[place]) {
-        return Ok(place + 1);
-    }
-    check_with(graph, rows, limits, best, items, place, terms, delays, node)
-}
-
-/// The same with the terms of the prefix that takes the node in.
 // A frame of its own holds them, since few items need them.
 #[cycle(trees)]
 #[inline(never)]

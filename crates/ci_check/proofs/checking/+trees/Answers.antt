@@ -5,12 +5,13 @@ use Rattle.ci_log.specs.declared.log.Item.{Item}
 use Rattle.ci_log.specs.declared.log.Item.TheVariants.{B}
 use Rattle.ci_log.specs.Trees.{IsTree}
 use Rattle.ci_cut.specs.Prefixes.{Prefix, is_next}
-use Rattle.ci_check.specs.Rules.{IsRight}
+use Rattle.ci_check.specs.Rules.{IsRight, stations}
+use Rattle.ci_check.specs.Representation.{IsTreeAt, IsJudged}
 use Rattle.ci_cut.specs.Representation.{Represents, AreKeptFrom}
 use Rattle.ci_cut.proofs.Represented.{next_from_below, all_decided, represents_kept}
-use Rattle.ci_check.proofs.TreeWalk.{tree_within, first_item, wrong_here, right_alone, SubTrees, sub_trees, behind_first, judged_by_first, judged_by_second}
+use Rattle.ci_check.proofs.TreeWalk.{tree_within, first_item, wrong_here, right_alone, SubTrees, sub_trees, behind_first, judged_by_first, goes_left}
 use Rattle.ci_check.proofs.checking.+trees.Goals as goal
-use Rattle.ci_check.proofs.checking.+trees.Goals.{check_tree-In-Some, check_tree-In_ok-end}
+use Rattle.ci_check.proofs.checking.+trees.Goals.{check_tree-In-Some, check_tree-Then-is_right_with, check_tree-In_ok-end}
 
 pub check_tree-prefixes-init : goal.check_tree-prefixes-init
 check_tree-prefixes-init t c = record {
@@ -90,28 +91,48 @@ here_at t c =
     let inv = c.prefixes.invariant in
     branch_at t c inv.represents.0 inv.tree.one inv.tree.rest inv.tree.tree inv.represents.1 inv.tree.is_split
 
-pub check_tree-check_first-requires : goal.check_tree-check_first-requires
-check_tree-check_first-requires t c =
+-- the tree where the node is taken in
+first_at : (t : ℕ) (c : check_tree-In-Some t) → IsTreeAt c.args.items.now (c.prefixes.place + 1)
+first_at t c =
+    let b = here_at t c in
+    record { one = b.parts.first; rest = b.parts.second ++ c.prefixes.invariant.tree.rest; is_split = b.parts.is_tail; tree = b.parts.first_tree }
+
+pub check_tree-bounds-items-place-in-prefixes : goal.check_tree-bounds-items-place-in-prefixes
+check_tree-bounds-items-place-in-prefixes t c =
+    tree_within c.args.items.now (c.prefixes.place + 1) (first_at t (goal.at.check_tree-bounds-items-place-in-prefixes t c).In-Some)
+
+pub check_tree-overflow_add-place-in-prefixes : goal.check_tree-overflow_add-place-in-prefixes
+check_tree-overflow_add-place-in-prefixes t c = omega (arith, tree_within c.args.items.now c.prefixes.place c.prefixes.invariant.tree)
+
+pub check_tree-overflow_add-place-then-is_right_with : goal.check_tree-overflow_add-place-then-is_right_with
+check_tree-overflow_add-place-then-is_right_with t c = omega (arith, tree_within c.args.items.now c.prefixes.place c.prefixes.invariant.tree)
+
+pub check_tree-is_right_with-requires-clause-next : goal.check_tree-is_right_with-requires-clause-next
+check_tree-is_right_with-requires-clause-next t c =
     let inv = c.prefixes.invariant in
-    let b = here_at t (goal.at.check_tree-check_first-requires t c).In-Some in (
-      omega (arith, c.in-Some.ensures.1.below, inv.below),
-      (
-        c.requires.rows,
-        (
-          (inv.represents.0, inv.represents.1, b.next),
-          (
-            c.requires.measured,
-            (c.requires.few, record { one = b.parts.first; rest = b.parts.second ++ inv.tree.rest; is_split = b.parts.is_tail; tree = b.parts.first_tree }),
-          ),
-        ),
-      ),
-    )
+    let b = here_at t (goal.at.check_tree-is_right_with-requires-clause-next t c).In-Some in
+    (inv.represents.0, c.prefixes.delays, inv.represents.1, b.next)
 
 pub check_tree-leave_out-requires : goal.check_tree-leave_out-requires
 check_tree-leave_out-requires t c =
     let inv = c.prefixes.invariant in
     let b = here_at t (goal.at.check_tree-leave_out-requires t c).In-Some in
     record { next = (inv.represents.0, c.prefixes.delays, inv.represents.1, b.next) }
+
+pub check_tree-leave_out-requires-in-prefixes : goal.check_tree-leave_out-requires-in-prefixes
+check_tree-leave_out-requires-in-prefixes t c =
+    let inv = c.prefixes.invariant in
+    let b = here_at t (goal.at.check_tree-leave_out-requires-in-prefixes t c).In-Some in
+    record { next = (inv.represents.0, c.prefixes.delays, inv.represents.1, b.next) }
+
+pub check_tree-check_with-requires : goal.check_tree-check_with-requires
+check_tree-check_with-requires t c =
+    let inv = c.prefixes.invariant in
+    let some = (goal.at.check_tree-check_with-requires t c).In-Some in
+    let b = here_at t some in (
+      omega (arith, c.in-Some.ensures.1.below, inv.below),
+      (c.requires.rows, ((inv.represents.0, inv.represents.1, b.next), (c.requires.measured, (c.requires.few, first_at t some)))),
+    )
 
 pub check_tree-returns-in_err-end-clause-judged : goal.check_tree-returns-in_err-end-clause-judged
 check_tree-returns-in_err-end-clause-judged t c prefix one rest tree represents splits =
@@ -123,72 +144,92 @@ check_tree-returns-in_err-end-clause-judged t c prefix one rest tree represents 
     (goes.judged (Err c.in_err-end.field-0.0) (judged_by_first c.args.graph.now c.args.limits.now c.args.best.now.cut goes.here_tree goes.now _ rest b.parts b.right
     c.prefixes.place c.in_err-end.field-0.0 first))
 
--- the delays of the nodes taken in are the same behind the first tree
-between : (t : ℕ) (c : check_tree-In_ok-end t) → AreKeptFrom c.prefixes.terms.place c.prefixes.delays c.check_first.new.delays
+-- ---- an item that is right at once where the next node is taken in
+
+-- the item is right, and is a tree by itself
+judged_at : (t : ℕ) (c : check_tree-Then-is_right_with t) (prefix : Prefix) (one rest : List Item) (tree : IsTree one)
+    → Represents c.args.graph.now prefix c.prefixes.terms c.prefixes.delays → IsTrue (is_next c.args.graph.now prefix c.in-Some.node)
+    → drop (c.prefixes.place + 1) c.args.items.now ≡ one ++ rest
+    → IsJudged c.args.graph.now c.args.limits.now c.args.best.now.cut (stations tree (true ∷ prefix)) (c.prefixes.place + 1) (Ok (c.prefixes.place + 2))
+judged_at t c prefix one rest tree represents next splits =
+    let graph = c.args.graph.now in
+    let items = c.args.items.now in
+    let place = c.prefixes.place + 1 in
+    let best = c.args.best.now.cut in
+    let right = c.is_right_with.ensures best prefix c.prefixes.delays represents next c.if-is_right_with.true in
+    let within = tree_within items place (record { one = one; rest = rest; is_split = splits; tree = tree }) in
+    let judged = right_alone graph c.args.limits.now best tree (true ∷ prefix)
+    (get_or items place B) (drop (place + 1) items) rest (length graph.nodes)
+    (first_item items one rest place within splits) right.1 (inl right.0) (λ none. omega (arith, none)) in
+    (judged.0, omega (arith, judged.1))
+
+pub check_tree-prefixes-preserved-then-is_right_with : goal.check_tree-prefixes-preserved-then-is_right_with
+check_tree-prefixes-preserved-then-is_right_with t c =
+    let inv = c.prefixes.invariant in
+    let some = (goal.at.check_tree-prefixes-preserved-then-is_right_with t c).In-Some in
+    let right = (goal.at.check_tree-prefixes-preserved-then-is_right_with t c).Then-is_right_with in
+    let b = here_at t some in
+    let first = judged_at t right inv.represents.0 b.parts.first (b.parts.second ++ inv.tree.rest) b.parts.first_tree inv.represents.1 b.next b.parts.is_tail in
+    record {
+      represents = (false ∷ inv.represents.0, c.leave_out.ensures.represents inv.represents.0 c.prefixes.delays inv.represents.1 b.next);
+      tree = record {
+        one = b.parts.second;
+        rest = inv.tree.rest;
+        is_split = behind_first c.args.items.now inv.tree.rest (c.prefixes.place + 1) (c.prefixes.place + 2) b.parts first.1;
+        tree = b.parts.second_tree;
+      };
+      below = omega (arith, inv.below, c.in-Some.ensures.1.below, c.leave_out.ensures.place);
+      kept = inv.kept;
+      goes = λ prefix one rest tree represents splits.
+          let goes = inv.goes prefix one rest tree represents splits in
+          let b = branch_at t some goes.now goes.here rest goes.here_tree goes.represents goes.is_split in
+          goes_left goes b.parts b.right (c.prefixes.place + 2)
+          (judged_at t right goes.now b.parts.first (b.parts.second ++ rest) b.parts.first_tree goes.represents b.next b.parts.is_tail)
+          c.leave_out.new.self c.prefixes.delays (c.leave_out.ensures.represents goes.now c.prefixes.delays goes.represents b.next);
+    }
+
+pub check_tree-prefixes-smaller-then-is_right_with : goal.check_tree-prefixes-smaller-then-is_right_with
+check_tree-prefixes-smaller-then-is_right_with t c = omega (arith, c.in-Some.ensures.1.below, c.leave_out.ensures.place)
+
+-- ---- behind the tree where it is taken in
+
+-- the delays of the nodes taken in are the same
+between : (t : ℕ) (c : check_tree-In_ok-end t) → AreKeptFrom c.prefixes.terms.place c.prefixes.delays c.check_with.new.delays
 between t c k from = c.in_ok-end.ensures.kept k (omega (arith, from, c.in-Some.ensures.1.below))
 
 pub check_tree-prefixes-preserved : goal.check_tree-prefixes-preserved
 check_tree-prefixes-preserved t c =
     let inv = c.prefixes.invariant in
     let graph = c.args.graph.now in
-    let limits = c.args.limits.now in
-    let best = c.args.best.now.cut in
     let some = (goal.at.check_tree-prefixes-preserved t c).In-Some in
     let later = λ (prefix : Prefix) (represents : Represents graph prefix c.prefixes.terms c.prefixes.delays).
-    represents_kept graph prefix c.prefixes.terms c.prefixes.delays represents c.check_first.new.delays (between t (goal.at.check_tree-prefixes-preserved t c).In_ok-end) in
+    represents_kept graph prefix c.prefixes.terms c.prefixes.delays represents c.check_with.new.delays (between t (goal.at.check_tree-prefixes-preserved t c).In_ok-end) in
     let b = here_at t some in
     let first = c.in_ok-end.ensures.judged inv.represents.0 b.parts.first (b.parts.second ++ inv.tree.rest) b.parts.first_tree inv.represents.1 b.next b.parts.is_tail in
     record {
-      represents = (false ∷ inv.represents.0, c.leave_out.ensures.represents inv.represents.0 c.check_first.new.delays (later inv.represents.0 inv.represents.1) b.next);
+      represents = (false ∷ inv.represents.0, c.leave_out-in-prefixes.ensures.represents inv.represents.0 c.check_with.new.delays (later inv.represents.0 inv.represents.1) b.next);
       tree = record {
         one = b.parts.second;
         rest = inv.tree.rest;
         is_split = behind_first c.args.items.now inv.tree.rest (c.prefixes.place + 1) c.in_ok-end.end b.parts first.1;
         tree = b.parts.second_tree;
       };
-      below = omega (arith, inv.below, c.in-Some.ensures.1.below, c.leave_out.ensures.place);
+      below = omega (arith, inv.below, c.in-Some.ensures.1.below, c.leave_out-in-prefixes.ensures.place);
       kept = λ k from.
           c.in_ok-end.ensures.kept k (omega (arith, from, inv.below, c.in-Some.ensures.1.below)) ∙ inv.kept k from;
       goes = λ prefix one rest tree represents splits.
           let goes = inv.goes prefix one rest tree represents splits in
           let b = branch_at t some goes.now goes.here rest goes.here_tree goes.represents goes.is_split in
-          let first = c.in_ok-end.ensures.judged goes.now b.parts.first (b.parts.second ++ rest) b.parts.first_tree goes.represents b.next b.parts.is_tail in
-          record {
-            now = false ∷ goes.now;
-            here = b.parts.second;
-            here_tree = b.parts.second_tree;
-            represents = c.leave_out.ensures.represents goes.now c.check_first.new.delays (later goes.now goes.represents) b.next;
-            is_split = behind_first c.args.items.now rest (c.prefixes.place + 1) c.in_ok-end.end b.parts first.1;
-            judged = λ result second. goes.judged result
-                (judged_by_second graph limits best goes.here_tree goes.now _ rest b.parts b.right c.prefixes.place c.in_ok-end.end result first second);
-          };
+          goes_left goes b.parts b.right c.in_ok-end.end
+          (c.in_ok-end.ensures.judged goes.now b.parts.first (b.parts.second ++ rest) b.parts.first_tree goes.represents b.next b.parts.is_tail)
+          c.leave_out-in-prefixes.new.self c.check_with.new.delays
+          (c.leave_out-in-prefixes.ensures.represents goes.now c.check_with.new.delays (later goes.now goes.represents) b.next);
     }
 
 pub check_tree-prefixes-smaller : goal.check_tree-prefixes-smaller
-check_tree-prefixes-smaller t c = omega (arith, c.in-Some.ensures.1.below, c.leave_out.ensures.place)
+check_tree-prefixes-smaller t c = omega (arith, c.in-Some.ensures.1.below, c.leave_out-in-prefixes.ensures.place)
 
 -- ---- where the next node is taken in
-
-pub check_first-bounds-items-place : goal.check_first-bounds-items-place
-check_first-bounds-items-place t c = tree_within c.args.items.now c.args.place c.requires.tree
-
-pub check_first-is_right_with-requires-clause-next : goal.check_first-is_right_with-requires-clause-next
-check_first-is_right_with-requires-clause-next t c = let next = c.requires.next in (next.0, c.args.delays.now, next.1, next.2)
-
-pub check_first-overflow_add-result : goal.check_first-overflow_add-result
-check_first-overflow_add-result t c = omega (arith, tree_within c.args.items.now c.args.place c.requires.tree)
-
-pub check_first-returns-then-is_right_with-clause-judged : goal.check_first-returns-then-is_right_with-clause-judged
-check_first-returns-then-is_right_with-clause-judged t c prefix one rest tree represents next splits =
-    let graph = c.args.graph.now in
-    let items = c.args.items.now in
-    let place = c.args.place in
-    let best = c.args.best.now.cut in
-    let right = c.is_right_with.ensures best prefix c.args.delays.now represents next c.if-is_right_with.true in
-    let judged = right_alone graph c.args.limits.now best tree (true ∷ prefix)
-    (get_or items place B) (drop (place + 1) items) rest (length graph.nodes)
-    (first_item items one rest place (tree_within items place c.requires.tree) splits) right.1 (inl right.0) (λ none. omega (arith, none)) in
-    (judged.0, omega (arith, judged.1))
 
 pub check_with-take_in-with_node-requires-clause-next : goal.check_with-take_in-with_node-requires-clause-next
 check_with-take_in-with_node-requires-clause-next t c = c.requires.next

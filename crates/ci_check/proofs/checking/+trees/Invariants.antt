@@ -8,13 +8,10 @@ use Rattle.ci_check.proofs.TreeWalk.{Goes}
 use Rattle.ci_check.proofs.checking.+trees.Given as goal
 
 abbrev pub decreases-check_tree : goal.decreases-check_tree
-decreases-check_tree l = 3 * l.terms.now.place
-
-abbrev pub decreases-check_first : goal.decreases-check_first
-decreases-check_first l = 3 * l.node + 2
+decreases-check_tree l = 2 * l.terms.now.place
 
 abbrev pub decreases-check_with : goal.decreases-check_with
-decreases-check_with l = 3 * l.node + 1
+decreases-check_with l = 2 * l.node + 1
 
 abbrev pub invariant-check_tree-prefixes : goal.invariant-check_tree-prefixes
 invariant-check_tree-prefixes l = record {
