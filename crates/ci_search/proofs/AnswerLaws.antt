@@ -1,6 +1,7 @@
 -- What a search answers once it has passed all sets.
-use Rattle.std.proofs.Common.{◌≡◌, ℕ, suc, ◌-◌, ◌↔◌, inl, List, [], Option, Some, None, MatchOption, refl, sym, ap, subst, arith, pos}
+use Rattle.std.proofs.Common.{◌≡◌, ℕ, suc, ◌-◌, ◌↔◌, inl, List, [], Option, Some, None, MatchOption, refl, sym, ap, ◌∙◌, subst, arith, pos}
 use Rattle.std.specs.FinMap as map
+use Rattle.std.specs.FinMap.{empty_of_len}
 use Rattle.std.specs.FinSet as set
 use Rattle.ci_region.specs.BoundedMap.{BoundedMap, used}
 use Rattle.ci_cut.specs.declared.graph.Limits.{Limits}
@@ -20,7 +21,7 @@ use Rattle.ci_cut.specs.Representation.{Represents}
 use Rattle.ci_check.proofs.Acceptance.{accepted_is_best}
 use Rattle.ci_cut.proofs.NeedLaws.{reached_none}
 use Rattle.ci_search.specs.Answered.{free, HasLog, IsAnswer, IsSpent, IsOptimal}
-use Rattle.ci_search.specs.Searched.{undecided, IsReady, IsSpentAt}
+use Rattle.ci_search.specs.Searched.{undecided, IsReady, IsGivenUp}
 use Rattle.ci_search.specs.Trees.{IsSearched, found_at, answer_of}
 
 module _ (graph : FlowGraph) (flows : IsFlowGraph graph) (limits : Limits) where
@@ -28,10 +29,24 @@ module _ (graph : FlowGraph) (flows : IsFlowGraph graph) (limits : Limits) where
       → IsReady graph limits terms delays (record { cut = None; gain = pos 0 }) []
   none_ready terms delays represents = record { represents = represents; after_best = tt; reached = reached_none graph limits }
 
+  all_undecided : undecided graph [] ≡ eligible_nodes graph
+  all_undecided = omega arith
+
+  -- what is open from the beginning on is all that is open
+  pub needed : (budget : ℕ) → AtLeast (IsOpen graph limits) (suc budget) (continuations (undecided graph []) []) → NeedExceeds graph limits budget
+  needed budget = subst (λ (n : ℕ). AtLeast (IsOpen graph limits) (suc budget) (continuations n [])) all_undecided
+
   module _ (before after : BoundedMap LogNode) where
+    -- a region that held nothing holds nothing again
+    pub emptied : used before ≡ 0 → after.capacity ≡ before.capacity → (last : BoundedMap LogNode)
+        → last ≡ record after { values = map.empty } → last ≡ before
+    emptied none same last cleared =
+        let bare = empty_of_len before.values none in
+        cleared ∙ (λ i. record { values = sym bare i; capacity = same i })
+
     -- the search of all sets ended so, with this best cut
     abbrev Ended : Option Child → Incumbent → Type 0
-    Ended root best = MatchOption root (IsSpentAt graph limits [] before after)
+    Ended root best = MatchOption root (IsGivenUp graph limits before after)
         (IsSearched graph limits [] (record { cut = None; gain = pos 0 }) best before after)
 
     log_of : (root : Child) (best : Incumbent) → IsSearched graph limits [] (record { cut = None; gain = pos 0 }) best before after root
@@ -55,20 +70,13 @@ module _ (graph : FlowGraph) (flows : IsFlowGraph graph) (limits : Limits) where
     answer_is None best budget is_free (same, found) = (is_free, same)
     answer_is (Some root) best budget is_free is = answer_at best.cut root (log_of root best is)
 
-    all_undecided : undecided graph [] ≡ eligible_nodes graph
-    all_undecided = omega arith
-
     not_spent : (cut : Given) (root : Child) → ¬ IsSpent (found_at cut root)
     not_spent None root is = is
     not_spent (Some cut) root is = is
 
     pub spent_is : (root : Option Child) (best : Incumbent) (budget : ℕ) → Ended root best
         → IsSpent (answer_of root best.cut budget) ↔ NeedExceeds graph limits (free before)
-    spent_is None best budget (same, found) = (
-      λ _. subst (λ (n : ℕ). AtLeast (IsOpen graph limits) (suc (free before))
-          (continuations n [])) all_undecided found,
-      λ _. tt,
-    )
+    spent_is None best budget (same, found) = (λ _. found, λ _. tt)
     spent_is (Some root) best budget is = (
       λ spent. absurd (not_spent best.cut root spent),
       λ needed.

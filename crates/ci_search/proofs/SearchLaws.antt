@@ -1,5 +1,5 @@
 -- What a search has found at a prefix, from what it has found behind it.
-use Rattle.std.proofs.Common.{◌≡◌, ℕ, suc, ◌+◌, ◌<◌, ◌≤◌, true, false, IsTrue, List, [], ◌∷◌, ◌++◌, length, refl, sym, ◌∙◌, subst, arith, ℤ}
+use Rattle.std.proofs.Common.{◌≡◌, ℕ, suc, ◌+◌, ◌<◌, ◌≤◌, true, false, IsTrue, List, [], ◌∷◌, ◌++◌, length, refl, sym, ap, ◌∙◌, subst, arith, ℤ}
 use Rattle.std.specs.Ordering.{nat_cmp}
 use Rattle.std.specs.FinSet as set
 use Rattle.ci_region.specs.BoundedMap.{BoundedMap, used}
@@ -123,17 +123,10 @@ module _ (graph : FlowGraph) (limits : Limits) (prefix : Prefix) (terms : Prefix
             (first.walked.reached (omega (arith, first.within, first.same_capacity)));
       }
 
-      -- what is left once the first tree is given back
-      pub given_in : (after last : BoundedMap LogNode) → after ≡ between → last ≡ record after { values = region.values } → last ≡ region
-      given_in after last same given =
-          given
-          ∙ (λ i. record { values = region.values; capacity = (same i).capacity })
-          ∙ (λ i. record { values = region.values; capacity = first.same_capacity i })
-
-      pub spent_out : (after last : BoundedMap LogNode) → IsSpentAt graph limits (false ∷ prefix) between after
-          → last ≡ region → IsSpentAt graph limits prefix region last
-      spent_out after last (same, found) back = (
-        back,
+      pub spent_out : (after : BoundedMap LogNode) → IsSpentAt graph limits (false ∷ prefix) between after
+          → IsSpentAt graph limits prefix region after
+      spent_out after (same, found) = (
+        same ∙ first.same_capacity,
         more_open _ (passed (AtLeast-fewer (IsOpen graph limits)
             (AtLeast-both (IsOpen graph limits) (continuations (undecided graph (false ∷ prefix)) (false ∷ prefix))
             first.walked.found found)
@@ -145,16 +138,10 @@ module _ (graph : FlowGraph) (limits : Limits) (prefix : Prefix) (terms : Prefix
         pub trees : AreTreesOf after in_root out_root first.items second.items region.values
         trees = record { between = between.values; out_tree = second.tree; in_tree = first.tree }
 
-        pub given_both : (last : BoundedMap LogNode) → last ≡ record after { values = region.values } → last ≡ region
-        given_both last given =
-            given
-            ∙ (λ i. record { values = region.values; capacity = second.same_capacity i })
-            ∙ (λ i. record { values = region.values; capacity = first.same_capacity i })
-
         pub spent_here : IsOpen graph limits prefix → used after ≡ after.capacity → (last : BoundedMap LogNode)
-            → last ≡ region → IsSpentAt graph limits prefix region last
-        spent_here is_open full last back = (
-          back,
+            → last ≡ after → IsSpentAt graph limits prefix region last
+        spent_here is_open full last same = (
+          ap (λ (m : BoundedMap LogNode). m.capacity) same ∙ second.same_capacity ∙ first.same_capacity,
           more_open _ (AtLeast-fewer (IsOpen graph limits)
               (counted is_open (AtLeast-both (IsOpen graph limits)
               (continuations (undecided graph (false ∷ prefix)) (false ∷ prefix)) first.walked.found

@@ -15,17 +15,6 @@ pub record AreTreesOf (region : BoundedMap LogNode) (taken left_out : Child)
   pub out_tree : IsTreeIn region.values left_out out_items between
   pub in_tree : IsTreeIn between taken in_items rest
 
-abbrev pub AreTrees : BoundedMap LogNode → Child → Child → Type 0
-AreTrees region taken left_out =
-    (in_items : List Item) × (out_items : List Item) × (rest : Slots)
-    × AreTreesOf region taken left_out in_items out_items rest
-
--- all slots were live, and both trees are given back
-pub record IsUndone (before after : BoundedMap LogNode) (taken left_out : Child) : Type 0 where
-  pub full : used before ≡ before.capacity
-  pub given : (in_items out_items : List Item) (rest : Slots)
-      → AreTreesOf before taken left_out in_items out_items rest → after ≡ record before { values = rest }
-
 -- both are below one root, in one slot more
 pub record IsBranch (before after : BoundedMap LogNode) (taken left_out root : Child) : Type 0 where
   pub one_more : used after ≡ used before + 1

@@ -13,7 +13,7 @@ use Rattle.ci_cut.specs.declared.prefix.PrefixTerms.{PrefixTerms}
 use Rattle.ci_cut.specs.declared.incumbent.Incumbent.{Incumbent}
 use Rattle.ci_cut.specs.Prefixes.{Prefix, eligible_nodes, IsBefore}
 use Rattle.ci_cut.specs.ListCounts.{AtLeast}
-use Rattle.ci_cut.specs.Need.{IsOpen, continuations}
+use Rattle.ci_cut.specs.Need.{IsOpen, NeedExceeds, continuations}
 use Rattle.ci_check.specs.Rules.{Given, best_gain, IsAfterBest, IsRight, stations, IsRightAt}
 use Rattle.ci_cut.specs.Representation.{Represents}
 use Rattle.ci_check.specs.Representation.{IsMeasured}
@@ -74,4 +74,9 @@ pub record IsLogged (graph : FlowGraph) (limits : Limits) (prefix : Prefix) (bef
 -- more prefixes are open from this one on than slots were free
 abbrev pub IsSpentAt : FlowGraph → Limits → Prefix → BoundedMap LogNode → BoundedMap LogNode → Type 0
 IsSpentAt graph limits prefix before after =
-    (after ≡ before) × AtLeast (IsOpen graph limits) (suc (free before)) (continuations (undecided graph prefix) prefix)
+    (after.capacity ≡ before.capacity)
+    × AtLeast (IsOpen graph limits) (suc (free before)) (continuations (undecided graph prefix) prefix)
+
+-- more prefixes are open than slots were free, and the region holds what it held
+abbrev pub IsGivenUp : FlowGraph → Limits → BoundedMap LogNode → BoundedMap LogNode → Type 0
+IsGivenUp graph limits before after = (after ≡ before) × NeedExceeds graph limits (free before)

@@ -1,5 +1,6 @@
 //! The search.
-ghost use Rattle.std.specs.Prelude.{◌≡◌, ◌↔◌, ℕ, suc, ◌≤◌, ◌-◌, ◌^◌, true, IsTrue, ◌∷◌, MatchOption, Some};
+ghost use Rattle.std.specs.Prelude.{◌≡◌, ◌≢◌, ◌↔◌, ℕ, suc, ◌≤◌, ◌-◌, ◌^◌, true, IsTrue, [], ◌∷◌, MatchOption, Some, None};
+ghost use Rattle.std.specs.Prelude.{pos};
 ghost use Rattle.std.specs.FinMap as map;
 ghost use Rattle.ci_region.specs.BoundedMap.{used};
 ghost use Rattle.ci_cut.specs.Prefixes.{Prefix, eligible_nodes, is_next};
@@ -8,11 +9,12 @@ ghost use Rattle.ci_cut.specs.Representation.{AreRowsOf, AreKeptFrom};
 ghost use Rattle.ci_check.specs.Representation.{IsMeasured};
 ghost use Rattle.ci_log.specs.declared.flattening.LogNode.{LogNode};
 ghost use Rattle.ci_search.specs.Answered.{free, IsAnswer, IsSpent, IsOptimal};
-ghost use Rattle.ci_search.specs.Searched.{IsReady, IsSpentAt};
+ghost use Rattle.ci_search.specs.Searched.{IsReady, IsSpentAt, IsGivenUp};
 ghost use Rattle.ci_search.specs.Trees.{IsSearched, answer_of};
 
 use crate::leaves::{improve, pruning_item, pruning_with};
-use crate::trees::{branch, give_back};
+use crate::trees::branch;
+use ci_check::needs_more;
 use ci_cut::{Delays, Graph, GraphRows, Incumbent, Limits, PrefixTerms};
 use ci_log::{Child, Item, LogNode};
 use ci_region::Region;
@@ -55,21 +57,45 @@ pub fn search(graph: &Graph, limits: &Limits, region: &mut Region<LogNode>) -> F
     ensures capacity { region.new.capacity ≡ region.old.capacity }
     ensures slots { ¬ IsSpent result → IsNeed graph.now limits.now (used region.new - used region.old) }
 {
+    let _nodes = graph.nodes();
     let budget = region.capacity() - region.used();
     let mut best = Incumbent { cut: None, gain: 0 };
+    let root = search_all(graph, limits, region, &mut best);
+    answer_of(root, best.cut, budget)
+}
+
+/// Searches among all sets, and answers the tree of all prefixes. `None` where slots are wanting, and then the region
+/// holds what it held.
+fn search_all(
+    graph: &Graph,
+    limits: &Limits,
+    region: &mut Region<LogNode>,
+    best: &mut Incumbent,
+) -> Option<Child>
+    requires none { best.old ≡ record { cut = None; gain = pos 0 } }
+    requires within { used region.old ≤ region.old.capacity }
+    ensures { MatchOption result (IsGivenUp graph.now limits.now region.old region.new)
+        (IsSearched graph.now limits.now [] best.old best.new region.old region.new) }
+{
+    // Else the region holds nothing where slots are wanting later, and is cleared as a whole.
+    if needs_more_beside_others(graph, limits, region) {
+        return None;
+    }
     let rows = GraphRows::of(graph);
     let mut delays = [0; 256];
     let mut first = PrefixTerms::none(graph);
-    let root = search_from(
-        graph,
-        &rows,
-        limits,
-        region,
-        &mut first,
-        &mut delays,
-        &mut best,
-    );
-    answer_of(root, best.cut, budget)
+    let Some(root) = search_from(graph, &rows, limits, region, &mut first, &mut delays, best) else {
+        region.clear();
+        return None;
+    };
+    Some(root)
+}
+
+/// Whether more branches are needed than slots are free, in a region that holds others.
+fn needs_more_beside_others(graph: &Graph, limits: &Limits, region: &Region<LogNode>) -> bool
+    ensures { IsTrue result ↔ ((used region.now ≢ 0) × NeedExceeds graph.now limits.now (free region.now)) }
+{
+    region.used() != 0 && needs_more(graph, limits, region.capacity() - region.used())
 }
 
 /// What a search answers that has passed all sets with this best cut, or that spent this budget.
@@ -115,10 +141,7 @@ fn search_from(
     }
     let taken = search_first(graph, rows, limits, region, terms, delays, best, node)?;
     terms.leave_out(graph, node);
-    let Some(left_out) = search_from(graph, rows, limits, region, terms, delays, best) else {
-        give_back(region, taken);
-        return None;
-    };
+    let left_out = search_from(graph, rows, limits, region, terms, delays, best)?;
     branch(region, taken, left_out)
 }
 

@@ -1,7 +1,4 @@
-use Rattle.std.proofs.Common.{ℕ, ◌<◌, true, false, ◌∷◌, length, IsTrue, Option, None, Some, MatchOption, sym, ◌∙◌, subst, arith}
-use Rattle.ci_region.specs.BoundedMap.{BoundedMap}
-use Rattle.ci_log.specs.declared.flattening.LogNode.{LogNode}
-use Rattle.ci_log.specs.RegionTrees.{IsTreeIn}
+use Rattle.std.proofs.Common.{ℕ, ◌<◌, true, false, ◌∷◌, length, IsTrue, Option, None, Some, MatchOption, ◌∙◌, arith}
 use Rattle.ci_cut.specs.Prefixes.{Prefix, eligible_nodes, is_next}
 use Rattle.ci_search.specs.Searched.{IsReady}
 use Rattle.ci_search.specs.Trees.{IsSearched}
@@ -9,10 +6,10 @@ use Rattle.ci_cut.specs.Representation.{Represents, AreKeptFrom}
 use Rattle.ci_cut.proofs.Represented.{all_decided, next_from_below, some_undecided, represents_kept, same_taken}
 use Rattle.ci_cut.proofs.NeedLaws.{reached_in}
 use Rattle.ci_search.proofs.LogLaws.{open_unless_pruned, after_in}
-use Rattle.ci_search.proofs.SearchLaws.{searched_whole, searched_bar, ready_in, spent_in, ready_out, given_in}
-use Rattle.ci_search.proofs.SearchLaws.{spent_out, trees, given_both, spent_here, searched_branch}
+use Rattle.ci_search.proofs.SearchLaws.{searched_whole, searched_bar, ready_in, spent_in, ready_out}
+use Rattle.ci_search.proofs.SearchLaws.{spent_out, spent_here, searched_branch}
 use Rattle.ci_search.proofs.searching.+search.Goals as goal
-use Rattle.ci_search.proofs.searching.+search.Goals.{search_from-In-Some, search_from-In_ok-taken, search_from-In-Some-search_from}
+use Rattle.ci_search.proofs.searching.+search.Goals.{search_from-In-Some, search_from-In_ok-taken, search_from-In_ok-left_out}
 
 -- ---- search_from: leaves
 
@@ -119,71 +116,37 @@ search_from-search_from-requires t c =
       ),
     )
 
-pub search_from-give_back-requires : goal.search_from-give_back-requires
-search_from-give_back-requires t c =
-    let ready = c.requires.ready in
-    let here = at_node t (goal.at.search_from-give_back-requires t c).In-Some ready.0 ready.1 in
-    let first = first_at t (goal.at.search_from-give_back-requires t c).In_ok-taken ready.0 ready.1 here.next in
-    let spent = c.in_default-search_from.ensures.searched (false ∷ ready.0)
-    (ready_out c.args.graph.now c.args.limits.now ready.0 c.args.terms.now c.args.delays.now c.args.best.now ready.1 c.requires.measured
-    c.args.region.now c.in-Some.node here.next here.some
-    c.search_first.new.region c.search_first.new.best c.in_ok-taken.taken first c.leave_out.new.self c.search_first.new.delays
-    (c.leave_out.ensures.represents ready.0 c.search_first.new.delays (later t (goal.at.search_from-give_back-requires t c).In_ok-taken ready.0 ready.1.represents) here.next)) in (
-      first.items,
-      c.args.region.now.values,
-      subst
-          (λ (m : BoundedMap LogNode). IsTreeIn m.values c.in_ok-taken.taken first.items
-          c.args.region.now.values) (sym spent.0) first.tree,
-    )
-
-pub search_from-returns-in_default-search_from-clause-searched : goal.search_from-returns-in_default-search_from-clause-searched
-search_from-returns-in_default-search_from-clause-searched t c prefix ready =
+pub search_from-returns-in_err-left_out-clause-searched : goal.search_from-returns-in_err-left_out-clause-searched
+search_from-returns-in_err-left_out-clause-searched t c prefix ready =
     let graph = c.args.graph.now in
     let limits = c.args.limits.now in
-    let here = at_node t (goal.at.search_from-returns-in_default-search_from-clause-searched t c).In-Some prefix ready in
-    let first = first_at t (goal.at.search_from-returns-in_default-search_from-clause-searched t c).In_ok-taken prefix ready here.next in
-    let spent = c.in_default-search_from.ensures.searched (false ∷ prefix)
+    let here = at_node t (goal.at.search_from-returns-in_err-left_out-clause-searched t c).In-Some prefix ready in
+    let taken = (goal.at.search_from-returns-in_err-left_out-clause-searched t c).In_ok-taken in
+    let first = first_at t taken prefix ready here.next in
+    let spent = c.in_err-left_out.ensures.searched (false ∷ prefix)
     (ready_out graph limits prefix c.args.terms.now c.args.delays.now c.args.best.now ready c.requires.measured
     c.args.region.now c.in-Some.node here.next here.some
     c.search_first.new.region c.search_first.new.best c.in_ok-taken.taken first c.leave_out.new.self c.search_first.new.delays
-    (c.leave_out.ensures.represents prefix c.search_first.new.delays (later t (goal.at.search_from-returns-in_default-search_from-clause-searched t c).In_ok-taken prefix ready.represents) here.next)) in
-    let given = c.give_back.ensures first.items c.args.region.now.values
-    (subst (λ (m : BoundedMap LogNode). IsTreeIn m.values c.in_ok-taken.taken first.items c.args.region.now.values) (sym spent.0) first.tree) in
-    let back = given_in graph limits prefix c.args.terms.now c.args.delays.now c.args.best.now ready c.requires.measured c.args.region.now c.in-Some.node here.next here.some
-    c.search_first.new.region c.search_first.new.best c.in_ok-taken.taken first c.search_from.new.region c.give_back.new.region spent.0 given in
-    spent_out graph limits prefix c.args.terms.now c.args.delays.now c.args.best.now ready c.requires.measured c.args.region.now c.in-Some.node here.next here.some
-    c.search_first.new.region c.search_first.new.best c.in_ok-taken.taken first c.search_from.new.region c.give_back.new.region spent back
+    (c.leave_out.ensures.represents prefix c.search_first.new.delays (later t taken prefix ready.represents) here.next)) in
+    rw c.from_residual-in_err-left_out.ensures
+    (spent_out graph limits prefix c.args.terms.now c.args.delays.now c.args.best.now ready c.requires.measured c.args.region.now c.in-Some.node here.next here.some
+    c.search_first.new.region c.search_first.new.best c.in_ok-taken.taken first c.search_from.new.region spent)
 
 -- ---- search_from: once all sets were passed
 
-second_at : (t : ℕ) (c : search_from-In-Some-search_from t) (prefix : Prefix) (ready : IsReady c.args.graph.now c.args.limits.now c.args.terms.now c.args.delays.now c.args.best.now prefix)
+second_at : (t : ℕ) (c : search_from-In_ok-left_out t) (prefix : Prefix) (ready : IsReady c.args.graph.now c.args.limits.now c.args.terms.now c.args.delays.now c.args.best.now prefix)
     → (next : IsTrue (is_next c.args.graph.now prefix c.in-Some.node)) → (some : length prefix < eligible_nodes c.args.graph.now)
     → (first : IsSearched c.args.graph.now c.args.limits.now (true ∷ prefix) c.args.best.now c.search_first.new.best c.args.region.now c.search_first.new.region c.in_ok-taken.taken)
     → Represents c.args.graph.now prefix c.args.terms.now c.search_first.new.delays
     → IsSearched c.args.graph.now c.args.limits.now
     (false ∷ prefix) c.search_first.new.best c.search_from.new.best c.search_first.new.region c.search_from.new.region
-    c.in-Some-search_from.left_out
+    c.in_ok-left_out.left_out
 second_at t c prefix ready next some first again =
-    c.in-Some-search_from.ensures.searched (false ∷ prefix)
+    c.in_ok-left_out.ensures.searched (false ∷ prefix)
     (ready_out c.args.graph.now c.args.limits.now prefix c.args.terms.now c.args.delays.now c.args.best.now ready
     c.requires.measured c.args.region.now c.in-Some.node next some
     c.search_first.new.region c.search_first.new.best c.in_ok-taken.taken first c.leave_out.new.self c.search_first.new.delays
     (c.leave_out.ensures.represents prefix c.search_first.new.delays again next))
-
-pub search_from-branch-region-requires : goal.search_from-branch-region-requires
-search_from-branch-region-requires t c =
-    let ready = c.requires.ready in
-    let here = at_node t (goal.at.search_from-branch-region-requires t c).In-Some ready.0 ready.1 in
-    let first = first_at t (goal.at.search_from-branch-region-requires t c).In_ok-taken ready.0 ready.1 here.next in
-    let second = second_at t (goal.at.search_from-branch-region-requires t c).In-Some-search_from ready.0 ready.1 here.next here.some first
-    (later t (goal.at.search_from-branch-region-requires t c).In_ok-taken ready.0 ready.1.represents) in (
-      first.items,
-      second.items,
-      c.args.region.now.values,
-      trees c.args.graph.now c.args.limits.now ready.0 c.args.terms.now c.args.delays.now c.args.best.now ready.1
-          c.requires.measured c.args.region.now c.in-Some.node here.next here.some
-          c.search_first.new.region c.search_first.new.best c.in_ok-taken.taken first c.search_from.new.region c.search_from.new.best c.in-Some-search_from.left_out second,
-    )
 
 -- what holds of an answer, from what holds of the same one
 carried : {A : Type 0} (answer : Option A) {P Q : Type 0} {R S : A → Type 0} → MatchOption answer P R → (P → Q) → ((x : A) → R x → S x) → MatchOption answer Q S
@@ -196,34 +159,29 @@ search_from-returns-clause-searched t c prefix ready =
     let limits = c.args.limits.now in
     let here = at_node t (goal.at.search_from-returns-clause-searched t c).In-Some prefix ready in
     let first = first_at t (goal.at.search_from-returns-clause-searched t c).In_ok-taken prefix ready here.next in
-    let second = second_at t (goal.at.search_from-returns-clause-searched t c).In-Some-search_from prefix ready here.next here.some first
+    let second = second_at t (goal.at.search_from-returns-clause-searched t c).In_ok-left_out prefix ready here.next here.some first
     (later t (goal.at.search_from-returns-clause-searched t c).In_ok-taken prefix ready.represents) in
     let is_open = open_unless_pruned graph ready.represents.kept limits c.args.best.now c.requires.measured prefix
     ready.reached ready.after_best (c.in_default-pruning_item.ensures prefix c.args.delays.now ready.represents) in
     carried c.branch-region.result c.branch-region.ensures
-    (λ undone. spent_here graph limits prefix c.args.terms.now c.args.delays.now c.args.best.now ready c.requires.measured
+    (λ (full, same). spent_here graph limits prefix c.args.terms.now c.args.delays.now c.args.best.now ready c.requires.measured
     c.args.region.now c.in-Some.node here.next here.some
-    c.search_first.new.region c.search_first.new.best c.in_ok-taken.taken first c.search_from.new.region c.search_from.new.best c.in-Some-search_from.left_out
-    second is_open undone.full c.branch-region.new.region
-    (given_both graph limits prefix c.args.terms.now c.args.delays.now c.args.best.now ready c.requires.measured c.args.region.now c.in-Some.node here.next here.some
-    c.search_first.new.region c.search_first.new.best c.in_ok-taken.taken first c.search_from.new.region c.search_from.new.best c.in-Some-search_from.left_out
-    second c.branch-region.new.region (undone.given _ _ _
-    (trees graph limits prefix c.args.terms.now c.args.delays.now c.args.best.now ready c.requires.measured c.args.region.now c.in-Some.node here.next here.some
-    c.search_first.new.region c.search_first.new.best c.in_ok-taken.taken first c.search_from.new.region c.search_from.new.best c.in-Some-search_from.left_out second))))
+    c.search_first.new.region c.search_first.new.best c.in_ok-taken.taken first c.search_from.new.region c.search_from.new.best c.in_ok-left_out.left_out
+    second is_open full c.branch-region.new.region same)
     (λ root joined. searched_branch graph limits prefix c.args.terms.now c.args.delays.now c.args.best.now ready c.requires.measured c.args.region.now c.in-Some.node here.next here.some
-    c.search_first.new.region c.search_first.new.best c.in_ok-taken.taken first c.search_from.new.region c.search_from.new.best c.in-Some-search_from.left_out
+    c.search_first.new.region c.search_first.new.best c.in_ok-taken.taken first c.search_from.new.region c.search_from.new.best c.in_ok-left_out.left_out
     second is_open c.branch-region.new.region root joined)
 
 -- ---- search_from: the delays are kept from the place on
 
-pub search_from-returns-in_default-search_from-clause-kept : goal.search_from-returns-in_default-search_from-clause-kept
-search_from-returns-in_default-search_from-clause-kept t c k from =
-    c.in_default-search_from.ensures.kept k (omega (arith, from, c.in-Some.ensures.below, c.leave_out.ensures.place))
-    ∙ kept t (goal.at.search_from-returns-in_default-search_from-clause-kept t c).In_ok-taken k from
+pub search_from-returns-in_err-left_out-clause-kept : goal.search_from-returns-in_err-left_out-clause-kept
+search_from-returns-in_err-left_out-clause-kept t c k from =
+    c.in_err-left_out.ensures.kept k (omega (arith, from, c.in-Some.ensures.below, c.leave_out.ensures.place))
+    ∙ kept t (goal.at.search_from-returns-in_err-left_out-clause-kept t c).In_ok-taken k from
 
 pub search_from-returns-clause-kept : goal.search_from-returns-clause-kept
 search_from-returns-clause-kept t c k from =
-    c.in-Some-search_from.ensures.kept k (omega (arith, from, c.in-Some.ensures.below, c.leave_out.ensures.place))
+    c.in_ok-left_out.ensures.kept k (omega (arith, from, c.in-Some.ensures.below, c.leave_out.ensures.place))
     ∙ kept t (goal.at.search_from-returns-clause-kept t c).In_ok-taken k from
 
 -- ---- search_first

@@ -1,5 +1,0 @@
-use Rattle.ci_region.specs.BoundedMap.{used}
-use Rattle.ci_search.proofs.trees.+give_back.Given as goal
-
-abbrev pub decreases-give_back : goal.decreases-give_back
-decreases-give_back l = used l.region.now
