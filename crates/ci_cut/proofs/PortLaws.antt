@@ -1,14 +1,18 @@
 -- What is read by the nodes below a number, and what is counted over them.
-use Rattle.std.proofs.Common.{◌≡◌, ℕ, ◌+◌, ◌≤◌, IsTrue, Bool, true, false, not, ◌&&◌, ◌||◌, if◌then◌else◌, refl, ap, sym, arith, add-one, length}
-use Rattle.std.proofs.Math.Bool.{beq, or-false}
+use Rattle.std.proofs.Common.{◌≡◌, ℕ, ◌+◌, ◌≤◌, IsTrue, Bool, true, false, not, ◌&&◌, ◌||◌, if◌then◌else◌, ◌<◌, refl, ap, sym, ◌∙◌, arith, add-one, length}
+use Rattle.std.proofs.Math.Bool.{beq, or-false, and_comm}
+use Rattle.std.specs.Cmp.{nat_cmp_total}
+use Rattle.std.specs.Ordering.{nat_cmp}
+use Rattle.std.specs.FinSet as set
 use Rattle.std.specs.List.{list_any}
 use Rattle.ci_word.specs.Numbers.{count_below, some_below}
 use Rattle.std.proofs.lemmas.Bool.{and_parts, and_from}
-use Rattle.ci_word.proofs.NumberLaws.{count_below-suc, count_below-mono, some_below-suc, some_below_iff}
+use Rattle.ci_word.proofs.NumberLaws.{count_below-suc, count_below-mono, count_below-same, len-count_below, some_below-suc, some_below_iff}
 use Rattle.ci_cut.specs.declared.graph.Source.{Source}
 use Rattle.ci_cut.specs.declared.graph.Source.TheVariants.{Entry, Made}
 use Rattle.ci_cut.specs.declared.graph.Node.{Node}
 use Rattle.ci_cut.specs.FlowGraph.{FlowGraph, node_at, is_source, reads}
+use Rattle.ci_cut.specs.GraphRules.{IsFlowGraph}
 use Rattle.ci_cut.specs.SourceSets.{is_reader, is_read_below}
 use Rattle.ci_cut.specs.Ports.{is_read_by, inputs_from, is_outside, is_output}
 
@@ -51,15 +55,30 @@ module _ (graph : FlowGraph) (cut : ℕ → Bool) (members : Bool) (k : ℕ) (ha
 abbrev pub is_input : FlowGraph → (ℕ → Bool) → (ℕ → Bool) → Source → Bool
 is_input graph inside readers source = is_outside inside source && is_read_by graph readers source
 
--- whether a node is an input or an output, by what is read
-pub is_input-made : (graph : FlowGraph) (inside readers : ℕ → Bool) (k : ℕ) (read : Bool) → read ≡ is_read_by graph readers (Made k) →
-    is_input graph inside readers (Made k) ≡ (not (inside k) && read)
-is_input-made graph inside readers k read read_is = ap (λ r. not (inside k) && r) (sym read_is)
-
+-- whether a node is an output, by what is read
 pub is_output-at : (graph : FlowGraph) (cut : ℕ → Bool) (k : ℕ) (node : Node) (read wanted : Bool) → node_at graph k ≡ node →
     read ≡ is_read_by graph (λ j. not (cut j)) (Made k) → wanted ≡ (node.live || read) →
     is_output graph cut k ≡ (cut k && wanted)
 is_output-at graph cut k node read wanted here read_is wanted_is = rw (here, ← read_is, ← wanted_is)
+
+-- how many nodes are inputs, by a set of those that are read
+pub made_inputs : (graph : FlowGraph) (cut nodes : set.FinSet nat_cmp) → IsFlowGraph graph
+    → ((k : ℕ) → set.contains nodes k ≡ is_read_by graph (set.contains cut) (Made k))
+    → set.len (set.difference nodes cut) ≡ count_below (length graph.nodes) (λ k. is_input graph (set.contains cut) (set.contains cut) (Made k))
+made_inputs graph cut nodes flows read =
+    len-count_below (length graph.nodes) (set.difference nodes cut) below
+    ∙ count_below-same (length graph.nodes) (set.contains (set.difference nodes cut)) (λ k. is_input graph (set.contains cut) (set.contains cut) (Made k))
+    (λ k _.
+    set.contains-difference nat_cmp_total nodes cut k
+    ∙ and_comm (set.contains nodes k) (not (set.contains cut k))
+    ∙ ap (λ b. not (set.contains cut k) && b) (read k))
+  where
+    below : (k : ℕ) → IsTrue (set.contains (set.difference nodes cut) k) → k < length graph.nodes
+    below k in_ =
+        let is_read = (and_parts _ _ (sym (set.contains-difference nat_cmp_total nodes cut k) ∙ in_)).0 in
+        let found = (some_below_iff (length graph.nodes) (λ j. set.contains cut j && reads graph j (Made k))).0 (sym (read k) ∙ is_read) in
+        let rises = flows.sources_rise k found.0 (and_parts (set.contains cut found.0) (reads graph found.0 (Made k)) found.2).1 in
+        omega (arith, rises, found.1)
 
 -- ---- more sources and readers
 

@@ -176,13 +176,9 @@ pub fn inputs(graph: &Graph, cut: &Row) -> u32
     ensures { result ≡ terms.inputs graph.now (set.contains cut.now) }
 {
     let read = read_by(graph, cut, true);
-    let mut nodes = 0;
-    for k in 0..graph.nodes().len() {
-        if read.nodes.has(k as u8) && !cut.has(k as u8) {
-            nodes += 1;
-        }
-    }
-    read.registers.count() + nodes
+    // Its contract tells that nodes read nodes alone.
+    let _nodes = graph.nodes();
+    read.registers.count() + read.nodes.minus(cut).count()
 }
 
 /// How many members have a value that a node outside reads or that is live after the block.
