@@ -43,12 +43,21 @@ pub fn compare_blocks(alloc: Global, seed: u32, count: u32) -> Result<Tally, All
 
 /// The same of one block.
 fn compare_block(alloc: Global, random: &mut Random, tally: &mut Tally) -> Result<(), AllocError> {
-    let live = made::registers(random);
-    let words = made::block(alloc, random)?;
-    let mut insns = insns_of(alloc, words.as_slice())?;
     let mut units = first_unit(alloc)?;
+    compare_folds(alloc, random, &mut units, tally)
+}
+
+/// The same, where these units are known before.
+fn compare_folds(
+    alloc: Global,
+    random: &mut Random,
+    units: &mut UnitTable,
+    tally: &mut Tally,
+) -> Result<(), AllocError> {
+    let live = made::registers(random);
+    let mut insns = made_insns(alloc, random)?;
     for _ in 0..FOLDS {
-        let found = compare_fold(alloc, random, insns.as_slice(), live, &mut units, tally)?;
+        let found = compare_fold(alloc, random, insns.as_slice(), live, units, tally)?;
         if let Some(folded) = found {
             if random.below(2) == 0 {
                 insns = folded;
@@ -58,10 +67,19 @@ fn compare_block(alloc: Global, random: &mut Random, tally: &mut Tally) -> Resul
     Ok(())
 }
 
+/// The instructions of a block that is made up.
+fn made_insns(alloc: Global, random: &mut Random) -> Result<Vec<Insn>, AllocError>
+    ensures { IfOk result (λ insns. AllFieldsFit insns.items) }
+{
+    let words = made::block(alloc, random)?;
+    insns_of(alloc, words.as_slice())
+}
+
 /// A table with the unit that unit words of blocks name.
 fn first_unit(alloc: Global) -> Result<UnitTable, AllocError> {
+    let unit = unit_of_line(alloc, FIRST_UNIT)?;
     let mut units = UnitTable::new(alloc);
-    if let Some(unit) = unit_of_line(alloc, FIRST_UNIT)? {
+    if let Some(unit) = unit {
         number_of(&mut units, unit)?;
     }
     Ok(units)
@@ -82,14 +100,9 @@ fn compare_fold(
     if insns.len() > MOST_WORDS {
         return Ok(None);
     }
-    let graph = graph(alloc, insns, live, &Table::usual())?;
-    let Some(cut) = some_cut(random, &graph) else {
+    let Some(folded) = folded_by_some_cut(alloc, random, insns, live, units)? else {
         return Ok(None);
     };
-    let Some(number) = number_of(units, unit_of(alloc, insns, &graph, &cut)?)? else {
-        return Ok(None);
-    };
-    let folded = fold(alloc, insns, &graph, &cut, number)?;
     let modules = modules(alloc, units)?;
     let verdict = compare_runs(
         alloc,
@@ -101,6 +114,28 @@ fn compare_fold(
     )?;
     tally.count(verdict);
     Ok(Some(folded))
+}
+
+/// Folds the block by some cut, if one is found, whose unit is put into the table.
+fn folded_by_some_cut(
+    alloc: Global,
+    random: &mut Random,
+    insns: &[Insn],
+    live: Row,
+    units: &mut UnitTable,
+) -> Result<Option<Vec<Insn>>, AllocError>
+    requires few { length insns.now ≤ 256 }
+    requires fit { AllFieldsFit insns.now }
+    ensures { IfOk result (λ found. IfSome found (λ folded. AllFieldsFit folded.items)) }
+{
+    let graph = graph(alloc, insns, live, &Table::usual())?;
+    let Some(cut) = some_cut(random, &graph) else {
+        return Ok(None);
+    };
+    let Some(number) = number_of(units, unit_of(alloc, insns, &graph, &cut)?)? else {
+        return Ok(None);
+    };
+    Ok(Some(fold(alloc, insns, &graph, &cut, number)?))
 }
 
 /// A cut of the graph that fits, if one is found.

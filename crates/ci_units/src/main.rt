@@ -37,24 +37,54 @@ fn main(rt: HostRuntime) -> io::Result<ExitCode> {
     let mut units = UnitTable::new(rt.alloc());
     for line in rt.lines(rt.alloc()) {
         let line = line?;
-        if let Some((seed, count)) = made_of_line(line.as_str()) {
-            let tally = compare_blocks(rt.alloc(), seed, count)?;
-            print!(rt; "{} pass alike, {} end alike, ", tally.passed, tally.ended)?;
-            print!(rt;
-                "{} end by the same access, {} touch the text, ",
-                tally.refused, tally.touched
-            )?;
-            println!(rt; "{} differ", tally.different)?;
-        } else if let Some(folded) = folded_of_line(rt.alloc(), line.as_str())? {
-            println!(rt; "{}", text_of(rt.alloc(), folded.as_slice())?)?;
-        } else if !add_unit_of(rt.alloc(), line.as_str(), &mut units)? {
-            println!(rt; "no block with a cut, or a unit too many: {line}")?;
+        if !answer(&rt, line.as_str(), &mut units)? {
             return Ok(ExitCode::from(1));
         }
     }
-    let text = emit(rt.alloc(), &units)?;
-    io::writer(&rt).write_all(text.as_slice())?;
+    write_modules(&rt, &units)?;
     Ok(ExitCode::SUCCESS)
+}
+
+/// Writes what the line asks for, or puts its unit into the table. Answers whether the line asks for one of these.
+fn answer(rt: &HostRuntime, line: &str, units: &mut UnitTable) -> io::Result<bool> {
+    if let Some((seed, count)) = made_of_line(line) {
+        write_tally(rt, seed, count)?;
+        return Ok(true);
+    }
+    if let Some(folded) = folded_of_line(rt.alloc(), line)? {
+        write_block(rt, folded.as_slice())?;
+        return Ok(true);
+    }
+    if add_unit_of(rt.alloc(), line, units)? {
+        return Ok(true);
+    }
+    println!(rt; "no block with a cut, or a unit too many: {line}")?;
+    Ok(false)
+}
+
+/// Writes how the runs of blocks that are made up compare.
+fn write_tally(rt: &HostRuntime, seed: u32, count: u32) -> io::Result<()> {
+    let tally = compare_blocks(rt.alloc(), seed, count)?;
+    print!(rt; "{} pass alike, {} end alike, ", tally.passed, tally.ended)?;
+    print!(rt;
+        "{} end by the same access, {} touch the text, ",
+        tally.refused, tally.touched
+    )?;
+    println!(rt; "{} differ", tally.different)
+}
+
+/// Writes the words of a block.
+fn write_block(rt: &HostRuntime, insns: &[Insn]) -> io::Result<()>
+    requires { AllFieldsFit insns.now }
+{
+    let text = text_of(rt.alloc(), insns)?;
+    println!(rt; "{text}")
+}
+
+/// Writes the Verilog of the units.
+fn write_modules(rt: &HostRuntime, units: &UnitTable) -> io::Result<()> {
+    let text = emit(rt.alloc(), units)?;
+    io::writer(rt).write_all(text.as_slice())
 }
 
 /// The words of instructions in hex digits.

@@ -4,7 +4,7 @@ ghost use Rattle.ci_rewrite.specs.Blocks.{AllFieldsFit};
 
 use crate::instructions::words_of;
 use crate::random::Random;
-use ci_elf::{frame, read_vec};
+use ci_elf::{Image, frame, read_vec};
 use ci_isa::{Insn, Reg, Width, is_terminator, reads, writes};
 use ci_lat::Table;
 use ci_machine::State;
@@ -100,18 +100,25 @@ pub fn compare_runs(
     let Some(mut right) = opened(alloc, folded, values.as_slice(), &second)? else {
         return Ok(Verdict::Different);
     };
+    compare_from(alloc, &mut left, &mut right, modules, block, live)
+}
+
+/// Runs both from these states.
+fn compare_from(
+    alloc: Global,
+    left: &mut State,
+    right: &mut State,
+    modules: &[Module],
+    block: &[Insn],
+    live: &Row,
+) -> Result<Verdict, AllocError>
+    requires { length block.now ≤ 256 }
+{
     let actions = actions(block);
     let behind = needed(&block[actions..], live);
-    let verdict = run_both(alloc, &mut left, &mut right, modules, actions, &behind)?;
+    let verdict = run_both(alloc, left, right, modules, actions, &behind)?;
     match verdict {
-        Verdict::Passed => run_both(
-            alloc,
-            &mut left,
-            &mut right,
-            modules,
-            block.len() - actions,
-            live,
-        ),
+        Verdict::Passed => run_both(alloc, left, right, modules, block.len() - actions, live),
         // Only an access may end a run before the block's last instruction.
         Verdict::Ended => Ok(Verdict::Different),
         _ => Ok(verdict),
@@ -220,6 +227,19 @@ fn opened(
     requires block { AllFieldsFit block.now }
     requires values { length values.now ≤ 262144 }
 {
+    let Some(image) = image_of(alloc, block, values)? else {
+        return Ok(None);
+    };
+    let mut state = State::start(alloc, &image, &[])?;
+    set_registers(&mut state, registers);
+    Ok(Some(state))
+}
+
+/// The executable of the block with these values of data, if the block has an instruction and isn't too long.
+fn image_of(alloc: Global, block: &[Insn], values: &[u32]) -> Result<Option<Image>, AllocError>
+    requires block { AllFieldsFit block.now }
+    requires values { length values.now ≤ 262144 }
+{
     if block.is_empty() || block.len() > 256 {
         return Ok(None);
     }
@@ -228,17 +248,17 @@ fn opened(
     if file.len() > MOST_BYTES {
         return Ok(None);
     }
-    let Ok(image) = read_vec(alloc, file) else {
-        return Ok(None);
-    };
-    let mut state = State::start(alloc, &image, &[])?;
-    for k in 0..registers.len() {
+    Ok(read_vec(alloc, file).ok())
+}
+
+/// Gives the registers these values, and the hidden register that of x0.
+fn set_registers(state: &mut State, values: &[u32; 32]) {
+    for k in 0..values.len() {
         if let Some(register) = Reg::new(k as u8) {
-            state.set_register(register, registers[k]);
+            state.set_register(register, values[k]);
         }
     }
-    state.set_hidden(registers[0]);
-    Ok(Some(state))
+    state.set_hidden(values[0]);
 }
 
 /// Whether pc and the registers of the set are the same.
