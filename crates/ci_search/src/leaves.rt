@@ -1,6 +1,6 @@
 //! The leaves of a log.
-ghost use Rattle.std.specs.Prelude.{ℕ, true, List, ◌∷◌, IfSome, IsTrue};
-ghost use Rattle.ci_cut.specs.Prefixes.{Prefix, is_next};
+ghost use Rattle.std.specs.Prelude.{ℕ, suc, ◌<◌, true, List, ◌∷◌, length, IfSome, IsTrue};
+ghost use Rattle.ci_cut.specs.Prefixes.{Prefix, eligible_nodes, is_next};
 ghost use Rattle.ci_cut.specs.Incumbents.{IsImproved};
 ghost use Rattle.ci_cut.specs.Representation.{AreRowsOf, Represents, RepresentsSome, RepresentsWhole};
 ghost use Rattle.ci_check.specs.Representation.{IsMeasured};
@@ -40,8 +40,8 @@ pub fn pruning_item(
     None
 }
 
-/// The item that shows at once, by the outputs or the way back, that no set that goes on from where the next node is
-/// taken in is a better cut, if one does and a node is undecided there.
+/// An item that shows at once, by the outputs or the way back, that no set that goes on from where the next node is
+/// taken in is a better cut. It is only given where a node is undecided there.
 pub fn pruning_with(
     graph: &Graph,
     rows: &GraphRows,
@@ -54,7 +54,8 @@ pub fn pruning_with(
         × IsTrue (is_next graph.now prefix node) }
     ensures { (best : Given) (prefix : Prefix) (delays : List ℕ) → Represents graph.now prefix terms.now delays
         → IsTrue (is_next graph.now prefix node)
-        → IfSome result (λ item. Prunes item × IsRight graph.now limits.now best (true ∷ prefix) item) }
+        → IfSome result (λ item. Prunes item × IsRight graph.now limits.now best (true ∷ prefix) item
+        × (suc (length prefix) < eligible_nodes graph.now)) }
 {
     if rows.last_below[node as usize].is_none() {
         return None;

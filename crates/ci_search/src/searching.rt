@@ -1,16 +1,16 @@
 //! The search.
-ghost use Rattle.std.specs.Prelude.{◌≡◌, ◌≢◌, ◌↔◌, ℕ, suc, ◌≤◌, ◌-◌, ◌^◌, true, IsTrue, [], ◌∷◌, MatchOption, Some, None};
+ghost use Rattle.std.specs.Prelude.{◌≡◌, ◌≢◌, ◌↔◌, ℕ, suc, ◌≤◌, ◌-◌, ◌^◌, IsTrue, [], MatchOption, Some, None};
 ghost use Rattle.std.specs.Prelude.{pos};
 ghost use Rattle.std.specs.FinMap as map;
 ghost use Rattle.ci_region.specs.BoundedMap.{used};
-ghost use Rattle.ci_cut.specs.Prefixes.{Prefix, eligible_nodes, is_next};
+ghost use Rattle.ci_cut.specs.Prefixes.{Prefix, eligible_nodes};
 ghost use Rattle.ci_cut.specs.Need.{IsNeed, NeedExceeds};
 ghost use Rattle.ci_cut.specs.Representation.{AreRowsOf, AreKeptFrom};
 ghost use Rattle.ci_check.specs.Representation.{IsMeasured};
 ghost use Rattle.ci_log.specs.declared.flattening.LogNode.{LogNode};
 ghost use Rattle.ci_search.specs.Answered.{free, IsAnswer, IsSpent, IsOptimal};
-ghost use Rattle.ci_search.specs.Searched.{IsReady, IsSpentAt, IsGivenUp};
-ghost use Rattle.ci_search.specs.Trees.{IsSearched, answer_of};
+ghost use Rattle.ci_search.specs.Searched.{IsReady, IsGivenUp};
+ghost use Rattle.ci_search.specs.Trees.{IsSearched, IsSearchOf, IsReadyFor, IsSearchWith, answer_of};
 
 use crate::leaves::{improve, pruning_item, pruning_with};
 use crate::trees::branch;
@@ -129,8 +129,7 @@ fn search_from(
     requires within { used region.old ≤ region.old.capacity }
     ensures kept { AreKeptFrom terms.old.place delays.old delays.new }
     ensures searched { (prefix : Prefix) → IsReady graph.now limits.now terms.old delays.old best.old prefix
-        → MatchOption result (IsSpentAt graph.now limits.now prefix region.old region.new)
-        (IsSearched graph.now limits.now prefix best.old best.new region.old region.new) }
+        → IsSearchOf graph.now limits.now prefix best.old best.new region.old region.new result }
 {
     let Some(node) = terms.next(graph, rows) else {
         improve(graph, limits, best, terms);
@@ -159,14 +158,11 @@ fn search_first(
 ) -> Option<Child>
     requires rows { AreRowsOf graph.now rows.now }
     requires measured { IsMeasured graph.now limits.now best.old }
-    requires ready { (prefix : Prefix) × IsReady graph.now limits.now terms.now delays.old best.old prefix
-        × IsTrue (is_next graph.now prefix node) }
+    requires ready { IsReadyFor graph.now limits.now terms.now delays.old best.old node }
     requires within { used region.old ≤ region.old.capacity }
     ensures kept { AreKeptFrom (suc node) delays.old delays.new }
-    ensures searched { (prefix : Prefix) → IsReady graph.now limits.now terms.now delays.old best.old prefix
-        → IsTrue (is_next graph.now prefix node)
-        → MatchOption result (IsSpentAt graph.now limits.now (true ∷ prefix) region.old region.new)
-        (IsSearched graph.now limits.now (true ∷ prefix) best.old best.new region.old region.new) }
+    ensures searched { IsSearchWith graph.now limits.now terms.now delays.old node best.old best.new
+        region.old region.new result }
 {
     if let Some(item) = pruning_with(graph, rows, limits, terms, node) {
         return Some(Child::Leaf(item));
@@ -190,14 +186,11 @@ fn search_with(
 ) -> Option<Child>
     requires rows { AreRowsOf graph.now rows.now }
     requires measured { IsMeasured graph.now limits.now best.old }
-    requires ready { (prefix : Prefix) × IsReady graph.now limits.now terms.now delays.old best.old prefix
-        × IsTrue (is_next graph.now prefix node) }
+    requires ready { IsReadyFor graph.now limits.now terms.now delays.old best.old node }
     requires within { used region.old ≤ region.old.capacity }
     ensures kept { AreKeptFrom (suc node) delays.old delays.new }
-    ensures searched { (prefix : Prefix) → IsReady graph.now limits.now terms.now delays.old best.old prefix
-        → IsTrue (is_next graph.now prefix node)
-        → MatchOption result (IsSpentAt graph.now limits.now (true ∷ prefix) region.old region.new)
-        (IsSearched graph.now limits.now (true ∷ prefix) best.old best.new region.old region.new) }
+    ensures searched { IsSearchWith graph.now limits.now terms.now delays.old node best.old best.new
+        region.old region.new result }
 {
     let mut with_node = terms.take_in(graph, rows, delays, node);
     search_from(graph, rows, limits, region, &mut with_node, delays, best)
