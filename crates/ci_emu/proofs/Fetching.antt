@@ -88,7 +88,8 @@ module _ (program : Program) (state : State) where
 
   module _ (Means : Meaning → Type 0) (after : State) (insn : Insn)
       (is : (meaning : Meaning) → Means meaning → fetched meaning program state ≡ Some insn) where
-    made : (outcome : Outcome)
+    -- a step makes what is fetched
+    pub made : (outcome : Outcome)
         → ((meaning : Meaning) → Means meaning → LeadsTo state (execute meaning.units program insn state) after outcome)
         → IsStep Means program state after outcome
     made outcome executed meaning means = rw (is meaning means) (executed meaning means)

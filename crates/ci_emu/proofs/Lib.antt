@@ -1,3 +1,4 @@
+pub mod SameStart
 pub mod Touched
 pub mod Fetching
 pub mod CountLaws

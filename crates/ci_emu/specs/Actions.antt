@@ -1,12 +1,15 @@
 -- The instructions that actions stand for. For private contracts.
 use Rattle.ci_word.specs.declared.arithmetic.Op.TheVariants as op
 use Rattle.ci_isa.specs.declared.instruction.Cond.TheVariants as cond
+use Rattle.ci_isa.specs.declared.instruction.LoadKind.TheVariants as kind
+use Rattle.ci_isa.specs.declared.instruction.Width.TheVariants as width
 use Rattle.ci_isa.specs.declared.instruction.Insn.{Insn}
 use Rattle.ci_isa.specs.declared.instruction.Insn.TheVariants as insn
 use Rattle.ci_emu.specs.declared.actions.Action.{Action}
 use Rattle.ci_emu.specs.declared.actions.Action.TheVariants.{Add, Sub, Sll, Slt, Sltu, Xor, Srl, Sra, Or, And, Mul}
 use Rattle.ci_emu.specs.declared.actions.Action.TheVariants.{Addi, Slli, Slti, Sltiu, Xori, Srli, Srai, Ori, Andi}
-use Rattle.ci_emu.specs.declared.actions.Action.TheVariants.{Beq, Bne, Blt, Bge, Bltu, Bgeu, Lui, Jal, Load, Store}
+use Rattle.ci_emu.specs.declared.actions.Action.TheVariants.{Beq, Bne, Blt, Bge, Bltu, Bgeu, Lui, Jal}
+use Rattle.ci_emu.specs.declared.actions.Action.TheVariants.{Lb, Lh, Lw, Lbu, Lhu, Sb, Sh, Sw}
 use Rattle.ci_emu.specs.declared.actions.Action.TheVariants.{Jalr, Auipc, Registers, Constant, Fence, Ecall, Ebreak}
 use Rattle.ci_emu.specs.declared.actions.Action.TheVariants.{Unit, Cread, Illegal}
 
@@ -40,8 +43,14 @@ insn_of (Bltu rs1 rs2 offset) = insn.Branch cond.Ltu rs1 rs2 offset
 insn_of (Bgeu rs1 rs2 offset) = insn.Branch cond.Geu rs1 rs2 offset
 insn_of (Lui rd upper) = insn.Lui rd upper
 insn_of (Jal rd offset) = insn.Jal rd offset
-insn_of (Load kind rd rs1 offset) = insn.Load kind rd rs1 offset
-insn_of (Store width rs1 rs2 offset) = insn.Store width rs1 rs2 offset
+insn_of (Lb rd rs1 offset) = insn.Load kind.B rd rs1 offset
+insn_of (Lh rd rs1 offset) = insn.Load kind.H rd rs1 offset
+insn_of (Lw rd rs1 offset) = insn.Load kind.W rd rs1 offset
+insn_of (Lbu rd rs1 offset) = insn.Load kind.Bu rd rs1 offset
+insn_of (Lhu rd rs1 offset) = insn.Load kind.Hu rd rs1 offset
+insn_of (Sb rs1 rs2 offset) = insn.Store width.Byte rs1 rs2 offset
+insn_of (Sh rs1 rs2 offset) = insn.Store width.Half rs1 rs2 offset
+insn_of (Sw rs1 rs2 offset) = insn.Store width.Word rs1 rs2 offset
 insn_of (Jalr rd rs1 offset) = insn.Jalr rd rs1 offset
 insn_of (Auipc rd upper) = insn.Auipc rd upper
 insn_of (Registers o rd rs1 rs2) = insn.Alu o rd rs1 rs2

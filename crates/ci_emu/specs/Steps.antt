@@ -1,5 +1,5 @@
 -- What one step comes to.
-use Rattle.std.specs.Prelude.{◌≡◌, ℕ, ◌≤◌, Option, Some, None}
+use Rattle.std.specs.Prelude.{◌≡◌, ℕ, ◌≤◌, Bool, true, false, Option, Some, None}
 use Rattle.ci_machine.specs.declared.ends.End.{End}
 use Rattle.ci_machine.specs.Outcomes as machine
 use Rattle.ci_machine.specs.Programs.{Program, State}
@@ -12,6 +12,11 @@ use Rattle.ci_emu.specs.declared.steps.Outcome.TheVariants.{Next, Ended}
 abbrev pub end_of : Outcome → Option End
 end_of Next = None
 end_of (Ended end) = Some end
+
+-- the run goes on, or else ends so
+abbrev pub next_or : Bool → End → Outcome
+next_or true end = Next
+next_or false end = Ended end
 
 -- What is due leads from one state to the other, and comes to this: a step that ends changes nothing.
 abbrev pub LeadsTo : State → machine.Outcome State → State → Outcome → Type 0

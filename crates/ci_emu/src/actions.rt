@@ -1,12 +1,13 @@
 //! Instructions by one look: what a step does is told by the variant alone, where it is frequent.
 ghost use Rattle.std.specs.Prelude.{◌≡◌};
-ghost use Rattle.ci_isa.specs.declared.instruction.Insn.TheVariants.{Alu, AluImm, Branch};
+ghost use Rattle.ci_isa.specs.declared.instruction.Insn.TheVariants.{Alu, AluImm, Branch, Load, Store};
 ghost use Rattle.ci_emu.specs.Actions.{insn_of};
 
 use ci_isa::{Cond, Insn, LoadKind, Reg, Width};
 use ci_word::Op;
 
-/// What an instruction does. A frequent operation, and each condition of a branch, has a variant of its own.
+/// What an instruction does. A frequent operation, each condition of a branch, and each kind of load and width of a store
+/// has a variant of its own.
 #[derive(Clone, Copy)]
 pub(crate) enum Action {
     Add {
@@ -147,14 +148,42 @@ pub(crate) enum Action {
         rd: Reg,
         offset: i32,
     },
-    Load {
-        kind: LoadKind,
+    Lb {
         rd: Reg,
         rs1: Reg,
         offset: i32,
     },
-    Store {
-        width: Width,
+    Lh {
+        rd: Reg,
+        rs1: Reg,
+        offset: i32,
+    },
+    Lw {
+        rd: Reg,
+        rs1: Reg,
+        offset: i32,
+    },
+    Lbu {
+        rd: Reg,
+        rs1: Reg,
+        offset: i32,
+    },
+    Lhu {
+        rd: Reg,
+        rs1: Reg,
+        offset: i32,
+    },
+    Sb {
+        rs1: Reg,
+        rs2: Reg,
+        offset: i32,
+    },
+    Sh {
+        rs1: Reg,
+        rs2: Reg,
+        offset: i32,
+    },
+    Sw {
         rs1: Reg,
         rs2: Reg,
         offset: i32,
@@ -223,23 +252,13 @@ impl Action {
                 rd,
                 rs1,
                 offset,
-            } => Action::Load {
-                kind,
-                rd,
-                rs1,
-                offset,
-            },
+            } => by_kind(kind, rd, rs1, offset),
             Insn::Store {
                 width,
                 rs1,
                 rs2,
                 offset,
-            } => Action::Store {
-                width,
-                rs1,
-                rs2,
-                offset,
-            },
+            } => by_width(width, rs1, rs2, offset),
             Insn::Jalr { rd, rs1, offset } => Action::Jalr { rd, rs1, offset },
             Insn::Auipc { rd, upper } => Action::Auipc { rd, upper },
             Insn::Fence { bits, rs1, rd } => Action::Fence { bits, rs1, rd },
@@ -313,5 +332,29 @@ fn by_condition(cond: Cond, rs1: Reg, rs2: Reg, offset: i32) -> Action
         Cond::Ge => Action::Bge { rs1, rs2, offset },
         Cond::Ltu => Action::Bltu { rs1, rs2, offset },
         Cond::Geu => Action::Bgeu { rs1, rs2, offset },
+    }
+}
+
+/// The action of a load.
+fn by_kind(kind: LoadKind, rd: Reg, rs1: Reg, offset: i32) -> Action
+    ensures { insn_of result ≡ Load kind rd rs1 offset }
+{
+    match kind {
+        LoadKind::B => Action::Lb { rd, rs1, offset },
+        LoadKind::H => Action::Lh { rd, rs1, offset },
+        LoadKind::W => Action::Lw { rd, rs1, offset },
+        LoadKind::Bu => Action::Lbu { rd, rs1, offset },
+        LoadKind::Hu => Action::Lhu { rd, rs1, offset },
+    }
+}
+
+/// The action of a store.
+fn by_width(width: Width, rs1: Reg, rs2: Reg, offset: i32) -> Action
+    ensures { insn_of result ≡ Store width rs1 rs2 offset }
+{
+    match width {
+        Width::Byte => Action::Sb { rs1, rs2, offset },
+        Width::Half => Action::Sh { rs1, rs2, offset },
+        Width::Word => Action::Sw { rs1, rs2, offset },
     }
 }

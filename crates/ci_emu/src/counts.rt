@@ -1,5 +1,5 @@
 //! Counts of steps by the address at which they began.
-ghost use Rattle.std.specs.Prelude.{◌≡◌, ◌+◌, ◌<◌, ◌^◌, length, IfOk, IfSome, slice_index, slice_set};
+ghost use Rattle.std.specs.Prelude.{◌≡◌, Some, ◌+◌, ◌<◌, ◌^◌, length, IfOk, IfSome, slice_index, slice_set};
 ghost use Rattle.ci_elf.specs.WordPlaces.{word_count, word_place};
 ghost use Rattle.ci_emu.specs.Alignment.{are_aligned};
 
@@ -90,6 +90,22 @@ impl Counts {
         ensures { result ≡ are_aligned self.now.places }
     {
         self.aligned
+    }
+
+    /// The place of the word at the address, where that is a multiple of four in the range.
+    #[inline(always)]
+    pub(crate) fn at_hand(&self, nearby: &PlacedRange, address: u32) -> Option<usize>
+        requires { ArePlaced self.now.places nearby.now }
+        ensures value { IfSome result (λ place. word_place self.now.places address ≡ Some place) }
+        ensures within { IfSome result (λ place. place < length self.now.by_place.items) }
+    {
+        if address % 4 != 0 {
+            return None;
+        }
+        if nearby.has(address) {
+            return Some(nearby.first + ((address - nearby.range.start) / 4) as usize);
+        }
+        None
     }
 
     /// The place of the word at the address, where that is a multiple of four in the text. Where `nearby` has no such

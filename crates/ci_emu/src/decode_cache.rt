@@ -92,6 +92,13 @@ impl Decoded {
         }
     }
 
+    /// The instruction of the word.
+    pub(crate) fn insn(&self) -> Insn
+        ensures { result ≡ insn_of self.now.action }
+    {
+        reading(self.word)
+    }
+
     /// What was decoded of the word, anew where it was of another word, and seen now.
     fn refreshed<M: Machine>(&mut self, machine: &M, table: &Table, word: u32, seen: u64) -> Decoded
         requires { IsTimed (cycles_on (M.has_unit machine.now) (M.has_cread machine.now)
@@ -145,7 +152,7 @@ impl DecodeCache {
 
     /// Whether the line of a place was seen since the text may have changed so often.
     #[inline(always)]
-    fn is_known(&self, place: usize, changes: u64) -> bool
+    pub(crate) fn is_known(&self, place: usize, changes: u64) -> bool
         requires { place < length self.now.words.items }
         ensures { IsTrue result → (d : Decoded) → (slice_index_or self.now.words.items place d).seen ≡ changes }
     {

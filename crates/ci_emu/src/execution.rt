@@ -1,103 +1,98 @@
 //! What each instruction does.
-ghost use Rattle.std.specs.Prelude.{◌≡◌, ◌+◌, ◌*◌, ◌<◌, ◌≤◌, ◌^◌, None, is_some, IfOk, OnErr, nat_lt, if◌then◌else◌, pos, ◌-ℤ◌, find};
+ghost use Rattle.std.specs.Prelude.{◌≡◌, ℕ, ◌+◌, ◌*◌, ◌<◌, ◌≤◌, ◌^◌, ◌-ℤ◌, pos, nat_lt, if◌then◌else◌, IfOk, OnErr, find};
+ghost use Rattle.std.specs.Prelude.{true, false};
 ghost use Rattle.ci_word.specs.Arithmetic.{operation, word_of};
-ghost use Rattle.ci_isa.specs.declared.instruction.Insn.TheVariants.{Branch, Load, Store};
-ghost use Rattle.ci_isa.specs.Effects.{width_bytes};
-ghost use Rattle.ci_machine.specs.Accesses.{extended, load_width, addresses, bytes_at};
-ghost use Rattle.ci_machine.specs.Actions.{act, address_from, loaded, stored};
+ghost use Rattle.ci_word.specs.declared.arithmetic.Op.TheVariants.{Add};
+ghost use Rattle.ci_isa.specs.declared.instruction.Insn.TheVariants.{Branch, Cread, Unit};
+ghost use Rattle.ci_machine.specs.declared.ends.End.TheVariants.{Access, Illegal, Misaligned};
+ghost use Rattle.ci_machine.specs.Accesses.{extended, load_width};
+ghost use Rattle.ci_machine.specs.Actions.{address_from, loaded, stored};
 ghost use Rattle.ci_machine.specs.Calls.{call};
 ghost use Rattle.ci_machine.specs.Cores.{first_hidden, register, with_register};
 ghost use Rattle.ci_machine.specs.States.{bytes_of, program_of, state_of};
 ghost use Rattle.ci_machine.specs.Steps.{control, directed, even, execute, following, is_taken, onward, then_onward};
 ghost use Rattle.ci_machine.specs.Steps.{Meaning};
-ghost use Rattle.ci_emu.specs.Machines.{standing};
 ghost use Rattle.ci_machine.specs.Programs.{in_text};
 ghost use Rattle.ci_machine.specs.Touches.{moved};
-ghost use Rattle.ci_emu.specs.Actions.{insn_of};
-ghost use Rattle.ci_emu.specs.Steps.{LeadsTo};
+ghost use Rattle.ci_emu.specs.declared.steps.Outcome.TheVariants.{Next};
+ghost use Rattle.ci_emu.specs.Machines.{standing};
+ghost use Rattle.ci_emu.specs.Steps.{next_or, LeadsTo};
 ghost use Rattle.ci_emu.specs.Counting.{first_touch};
 ghost use Rattle.ci_emu.specs.Fetched.{may_change, IsTextBelow};
 
-use crate::actions::Action;
 use crate::machine::Machine;
 use crate::steps::Outcome;
 use crate::touches::Touches;
-use ci_isa::{Cond, LoadKind, Reg, Width};
+use ci_isa::{Cond, Insn, LoadKind, Reg, Width};
 use ci_machine::{Call, End, State};
 use ci_word::{Op, alu};
 use std::alloc::AllocError;
 
-/// Does what the action of the word does on the machine, and notes how it touches the text. Loads, stores and calls alone
-/// move bytes.
+/// Does what the instruction of the word does on the machine, and notes how it touches the text. Loads, stores and calls
+/// alone move bytes.
 ///
 /// The state stays as it is where that ends the run, and where memory runs out.
-#[inline(always)]
 #[tactic(auto, using(crate::proofs::Touched::laws))]
 pub(crate) fn execute<M: Machine>(
     machine: &M,
     state: &mut State,
     word: u32,
-    action: &Action,
+    insn: Insn,
     touches: &mut Touches,
 ) -> Result<Outcome, AllocError>
     requires few { touches.old.changes ≤ 2 ^ 33 }
     requires behind { IsTextBelow (in_text (program_of state.old)) touches.old.end }
     ensures executed { IfOk result (λ outcome. (meaning : Meaning) → M.meanings machine.now meaning
         → LeadsTo (state_of state.old) (execute meaning.units (program_of state.old)
-        (standing (M.has_unit machine.now) (M.has_cread machine.now) word (insn_of action.now)) (state_of state.old))
+        (standing (M.has_unit machine.now) (M.has_cread machine.now) word insn) (state_of state.old))
         (state_of state.new) outcome) }
     ensures refused { OnErr result (state_of state.new ≡ state_of state.old) }
     ensures program { program_of state.new ≡ program_of state.old }
     ensures touched { touches.new.first ≡ first_touch touches.old.first (state_of state.old).pc
-        (find (in_text (program_of state.old)) (moved (insn_of action.now) (state_of state.old).core)) }
+        (find (in_text (program_of state.old)) (moved insn (state_of state.old).core)) }
     ensures changes { touches.new.changes ≡ touches.old.changes
-        + (if may_change (in_text (program_of state.old)) (insn_of action.now) (state_of state.old).core then 1
-        else 0) }
+        + (if may_change (in_text (program_of state.old)) insn (state_of state.old).core then 1 else 0) }
     ensures end { touches.new.end ≡ touches.old.end }
 {
-    match *action {
-        Action::Add { rd, rs1, rs2 } => Ok(by_registers(state, Op::Add, rd, rs1, rs2)),
-        Action::Sub { rd, rs1, rs2 } => Ok(by_registers(state, Op::Sub, rd, rs1, rs2)),
-        Action::Sll { rd, rs1, rs2 } => Ok(by_registers(state, Op::Sll, rd, rs1, rs2)),
-        Action::Slt { rd, rs1, rs2 } => Ok(by_registers(state, Op::Slt, rd, rs1, rs2)),
-        Action::Sltu { rd, rs1, rs2 } => Ok(by_registers(state, Op::Sltu, rd, rs1, rs2)),
-        Action::Xor { rd, rs1, rs2 } => Ok(by_registers(state, Op::Xor, rd, rs1, rs2)),
-        Action::Srl { rd, rs1, rs2 } => Ok(by_registers(state, Op::Srl, rd, rs1, rs2)),
-        Action::Sra { rd, rs1, rs2 } => Ok(by_registers(state, Op::Sra, rd, rs1, rs2)),
-        Action::Or { rd, rs1, rs2 } => Ok(by_registers(state, Op::Or, rd, rs1, rs2)),
-        Action::And { rd, rs1, rs2 } => Ok(by_registers(state, Op::And, rd, rs1, rs2)),
-        Action::Mul { rd, rs1, rs2 } => Ok(by_registers(state, Op::Mul, rd, rs1, rs2)),
-        Action::Addi { rd, rs1, imm } => Ok(by_constant(state, Op::Add, rd, rs1, imm)),
-        Action::Slli { rd, rs1, imm } => Ok(by_constant(state, Op::Sll, rd, rs1, imm)),
-        Action::Slti { rd, rs1, imm } => Ok(by_constant(state, Op::Slt, rd, rs1, imm)),
-        Action::Sltiu { rd, rs1, imm } => Ok(by_constant(state, Op::Sltu, rd, rs1, imm)),
-        Action::Xori { rd, rs1, imm } => Ok(by_constant(state, Op::Xor, rd, rs1, imm)),
-        Action::Srli { rd, rs1, imm } => Ok(by_constant(state, Op::Srl, rd, rs1, imm)),
-        Action::Srai { rd, rs1, imm } => Ok(by_constant(state, Op::Sra, rd, rs1, imm)),
-        Action::Ori { rd, rs1, imm } => Ok(by_constant(state, Op::Or, rd, rs1, imm)),
-        Action::Andi { rd, rs1, imm } => Ok(by_constant(state, Op::And, rd, rs1, imm)),
-        Action::Beq { rs1, rs2, offset } => Ok(branch(state, Cond::Eq, rs1, rs2, offset)),
-        Action::Bne { rs1, rs2, offset } => Ok(branch(state, Cond::Ne, rs1, rs2, offset)),
-        Action::Blt { rs1, rs2, offset } => Ok(branch(state, Cond::Lt, rs1, rs2, offset)),
-        Action::Bge { rs1, rs2, offset } => Ok(branch(state, Cond::Ge, rs1, rs2, offset)),
-        Action::Bltu { rs1, rs2, offset } => Ok(branch(state, Cond::Ltu, rs1, rs2, offset)),
-        Action::Bgeu { rs1, rs2, offset } => Ok(branch(state, Cond::Geu, rs1, rs2, offset)),
-        Action::Lui { rd, upper } => Ok(write_back(state, rd, upper)),
-        Action::Jal { rd, offset } => {
-            let target = state.pc().wrapping_add(word_of(offset));
-            Ok(jump(state, rd, target))
+    match insn {
+        Insn::Alu { op, rd, rs1, rs2 } => {
+            by_registers(state, op, rd, rs1, rs2);
+            Ok(Outcome::Next)
         }
-        Action::Load {
+        Insn::AluImm { op, rd, rs1, imm } => {
+            by_constant(state, op, rd, rs1, imm);
+            Ok(Outcome::Next)
+        }
+        Insn::Branch {
+            cond,
+            rs1,
+            rs2,
+            offset,
+        } => {
+            let target = state.pc().wrapping_add(word_of(offset));
+            let goes = branch(state, cond, rs1, rs2, offset);
+            Ok(next_or(goes, End::Misaligned(target)))
+        }
+        Insn::Lui { rd, upper } => {
+            write_back(state, rd, upper);
+            Ok(Outcome::Next)
+        }
+        Insn::Jal { rd, offset } => {
+            let target = state.pc().wrapping_add(word_of(offset));
+            Ok(next_or(jump(state, rd, target), End::Misaligned(target)))
+        }
+        Insn::Load {
             kind,
             rd,
             rs1,
             offset,
         } => {
             let from = address(state, rs1, offset);
-            touches.note_load(state, from, width_of(kind));
-            Ok(load(state, kind, rd, from))
+            let width = width_of(kind);
+            touches.note_load(state, from, width);
+            Ok(next_or(load(state, kind, rd, from), End::Access(from, width)))
         }
-        Action::Store {
+        Insn::Store {
             width,
             rs1,
             rs2,
@@ -105,153 +100,218 @@ pub(crate) fn execute<M: Machine>(
         } => {
             let to = address(state, rs1, offset);
             touches.note_store(state, to, width);
-            Ok(store(state, width, rs2, to))
+            Ok(next_or(store(state, width, rs2, to), End::Access(to, width)))
         }
-        Action::Jalr { rd, rs1, offset } => {
-            let target = address(state, rs1, offset);
-            Ok(jump(state, rd, target - target % 2))
+        Insn::Jalr { rd, rs1, offset } => {
+            let target = even(address(state, rs1, offset));
+            Ok(next_or(jump(state, rd, target), End::Misaligned(target)))
         }
-        Action::Auipc { rd, upper } => {
+        Insn::Auipc { rd, upper } => {
             let value = state.pc().wrapping_add(upper);
-            Ok(write_back(state, rd, value))
+            write_back(state, rd, value);
+            Ok(Outcome::Next)
         }
-        Action::Registers { op, rd, rs1, rs2 } => Ok(by_registers(state, op, rd, rs1, rs2)),
-        Action::Constant { op, rd, rs1, imm } => Ok(by_constant(state, op, rd, rs1, imm)),
-        Action::Fence { .. } => Ok(advance(state)),
-        Action::Ecall => {
+        Insn::Fence { .. } => {
+            advance(state);
+            Ok(Outcome::Next)
+        }
+        Insn::Ecall => {
             touches.note_call(state);
             call(state)
         }
-        Action::Ebreak => Ok(Outcome::Ended(End::Break)),
-        Action::Illegal { word } => Ok(Outcome::Ended(End::Illegal(word))),
-        Action::Unit {
+        Insn::Ebreak => Ok(Outcome::Ended(End::Break)),
+        Insn::Illegal { word } => Ok(Outcome::Ended(End::Illegal(word))),
+        Insn::Unit {
             number,
             rd,
             rs1,
             rs2,
             rs3,
         } => {
-            let (a, b, c) = (
-                state.register(rs1),
-                state.register(rs2),
-                state.register(rs3),
-            );
-            match machine.unit(number, a, b, c) {
-                Some((first, second)) => Ok(write_both(state, rd, first, second)),
-                None => Ok(Outcome::Ended(End::Illegal(word))),
-            }
+            let goes = unit(machine, state, number, rd, rs1, rs2, rs3);
+            Ok(next_or(goes, End::Illegal(word)))
         }
-        Action::Cread { rd } => {
-            if !machine.has_cread() {
-                return Ok(Outcome::Ended(End::Illegal(word)));
-            }
-            let value = state.hidden();
-            Ok(write_back(state, rd, value))
+        Insn::Cread { rd } => {
+            let goes = read_hidden(machine, state, rd);
+            Ok(next_or(goes, End::Illegal(word)))
         }
     }
 }
 
+/// The run goes on, or else ends so.
+fn next_or(goes: bool, end: End) -> Outcome
+    ensures { result ≡ next_or goes end }
+{
+    if goes {
+        Outcome::Next
+    } else {
+        Outcome::Ended(end)
+    }
+}
+
 /// The word of a constant or an offset.
-fn word_of(constant: i32) -> u32
+pub(crate) fn word_of(constant: i32) -> u32
     ensures { result ≡ word_of constant }
 {
     constant.cast_unsigned()
 }
 
 /// The address that is this offset from the one in the register.
-fn address(state: &State, rs1: Reg, offset: i32) -> u32
+pub(crate) fn address(state: &State, rs1: Reg, offset: i32) -> u32
     ensures { result ≡ address_from (state_of state.now).core rs1 offset }
 {
     state.register(rs1).wrapping_add(word_of(offset))
 }
 
+/// A target with its lowest bit cleared.
+pub(crate) fn even(target: u32) -> u32
+    ensures { result ≡ even target }
+{
+    target - target % 2
+}
+
 /// On at the next instruction.
-fn advance(state: &mut State) -> Outcome
+pub(crate) fn advance(state: &mut State)
     ensures outcome { LeadsTo (state_of state.old) (onward (state_of state.old).pc (state_of state.old).core)
-        (state_of state.new) result }
+        (state_of state.new) Next }
     ensures program { program_of state.new ≡ program_of state.old }
 {
     let next = state.pc().wrapping_add(4);
     state.set_pc(next);
-    Outcome::Next
 }
 
 /// The register takes the value, and on at the next instruction.
-fn write_back(state: &mut State, rd: Reg, value: u32) -> Outcome
+pub(crate) fn write_back(state: &mut State, rd: Reg, value: u32)
     ensures outcome { LeadsTo (state_of state.old)
         (onward (state_of state.old).pc (with_register (state_of state.old).core rd value))
-        (state_of state.new) result }
+        (state_of state.new) Next }
     ensures program { program_of state.new ≡ program_of state.old }
 {
     state.set_register(rd, value);
-    advance(state)
+    advance(state);
 }
 
-/// An operation on two registers.
+/// An operation on two registers. Says that the run goes on.
 #[inline(always)]
-fn by_registers(state: &mut State, op: Op, rd: Reg, rs1: Reg, rs2: Reg) -> Outcome
+pub(crate) fn by_registers(state: &mut State, op: Op, rd: Reg, rs1: Reg, rs2: Reg) -> bool
     ensures outcome { LeadsTo (state_of state.old)
         (onward (state_of state.old).pc (with_register (state_of state.old).core rd
         (operation op (register (state_of state.old).core rs1) (register (state_of state.old).core rs2))))
-        (state_of state.new) result }
+        (state_of state.new) Next }
+    ensures goes { result ≡ true }
     ensures program { program_of state.new ≡ program_of state.old }
 {
     let value = alu(op, state.register(rs1), state.register(rs2));
-    write_back(state, rd, value)
+    write_back(state, rd, value);
+    true
 }
 
-/// An operation on a register and a constant.
+/// An operation on a register and a constant. Says that the run goes on.
 #[inline(always)]
-fn by_constant(state: &mut State, op: Op, rd: Reg, rs1: Reg, imm: i32) -> Outcome
+pub(crate) fn by_constant(state: &mut State, op: Op, rd: Reg, rs1: Reg, imm: i32) -> bool
     ensures outcome { LeadsTo (state_of state.old)
         (onward (state_of state.old).pc (with_register (state_of state.old).core rd
         (operation op (register (state_of state.old).core rs1) (word_of imm))))
-        (state_of state.new) result }
+        (state_of state.new) Next }
+    ensures goes { result ≡ true }
     ensures program { program_of state.new ≡ program_of state.old }
 {
     let value = alu(op, state.register(rs1), word_of(imm));
-    write_back(state, rd, value)
+    write_back(state, rd, value);
+    true
 }
 
 /// The register and the hidden one take the results of a unit, and on at the next instruction.
-fn write_both(state: &mut State, rd: Reg, first: u32, second: u32) -> Outcome
+fn write_both(state: &mut State, rd: Reg, first: u32, second: u32)
     ensures outcome { LeadsTo (state_of state.old) (onward (state_of state.old).pc
         (with_register (with_register (state_of state.old).core first_hidden second) rd first))
-        (state_of state.new) result }
+        (state_of state.new) Next }
     ensures program { program_of state.new ≡ program_of state.old }
 {
     state.set_hidden(second);
-    write_back(state, rd, first)
+    write_back(state, rd, first);
 }
 
-/// On at the target, where that is a multiple of four.
-fn go_to(state: &mut State, target: u32) -> Outcome
+/// Runs the unit of a number, where the machine has it. Says whether it has.
+pub(crate) fn unit<M: Machine>(
+    machine: &M,
+    state: &mut State,
+    number: u8,
+    rd: Reg,
+    rs1: Reg,
+    rs2: Reg,
+    rs3: Reg,
+) -> bool
+    ensures outcome { (word : ℕ) (meaning : Meaning) → M.meanings machine.now meaning
+        → LeadsTo (state_of state.old) (execute meaning.units (program_of state.old)
+        (standing (M.has_unit machine.now) (M.has_cread machine.now) word (Unit number rd rs1 rs2 rs3))
+        (state_of state.old)) (state_of state.new) (next_or result (Illegal word)) }
+    ensures stayed { result ≡ false → state_of state.new ≡ state_of state.old }
+    ensures program { program_of state.new ≡ program_of state.old }
+{
+    let (a, b, c) = (
+        state.register(rs1),
+        state.register(rs2),
+        state.register(rs3),
+    );
+    match machine.unit(number, a, b, c) {
+        Some((first, second)) => {
+            write_both(state, rd, first, second);
+            true
+        }
+        None => false,
+    }
+}
+
+/// The register takes the hidden one's value, where the machine has `cread`. Says whether it has.
+pub(crate) fn read_hidden<M: Machine>(machine: &M, state: &mut State, rd: Reg) -> bool
+    ensures outcome { (word : ℕ) (meaning : Meaning) → M.meanings machine.now meaning
+        → LeadsTo (state_of state.old) (execute meaning.units (program_of state.old)
+        (standing (M.has_unit machine.now) (M.has_cread machine.now) word (Cread rd))
+        (state_of state.old)) (state_of state.new) (next_or result (Illegal word)) }
+    ensures stayed { result ≡ false → state_of state.new ≡ state_of state.old }
+    ensures program { program_of state.new ≡ program_of state.old }
+{
+    if !machine.has_cread() {
+        return false;
+    }
+    let value = state.hidden();
+    write_back(state, rd, value);
+    true
+}
+
+/// On at the target, where that is a multiple of four. Says whether it is.
+fn go_to(state: &mut State, target: u32) -> bool
     ensures outcome { LeadsTo (state_of state.old) (directed target (state_of state.old).core)
-        (state_of state.new) result }
+        (state_of state.new) (next_or result (Misaligned target)) }
+    ensures stayed { result ≡ false → state_of state.new ≡ state_of state.old }
     ensures program { program_of state.new ≡ program_of state.old }
 {
     if target % 4 == 0 {
         state.set_pc(target);
-        Outcome::Next
+        true
     } else {
-        Outcome::Ended(End::Misaligned(target))
+        false
     }
 }
 
-/// The register takes the address of the next instruction, and on at the target, where that is a multiple of four.
-fn jump(state: &mut State, rd: Reg, target: u32) -> Outcome
+/// The register takes the address of the next instruction, and on at the target, where that is a multiple of four. Says
+/// whether it is.
+pub(crate) fn jump(state: &mut State, rd: Reg, target: u32) -> bool
     ensures outcome { LeadsTo (state_of state.old)
         (directed target (with_register (state_of state.old).core rd (following (state_of state.old).pc)))
-        (state_of state.new) result }
+        (state_of state.new) (next_or result (Misaligned target)) }
+    ensures there { result ≡ true → (state_of state.new).pc ≡ target }
+    ensures stayed { result ≡ false → state_of state.new ≡ state_of state.old }
     ensures program { program_of state.new ≡ program_of state.old }
 {
     if target % 4 != 0 {
-        return Outcome::Ended(End::Misaligned(target));
+        return false;
     }
     let link = state.pc().wrapping_add(4);
     state.set_register(rd, link);
     state.set_pc(target);
-    Outcome::Next
+    true
 }
 
 /// Whether a branch on these values is taken.
@@ -268,20 +328,21 @@ fn taken(cond: Cond, a: u32, b: u32) -> bool
     }
 }
 
-/// A branch.
+/// A branch. Says whether the run goes on.
 #[inline(always)]
-fn branch(state: &mut State, cond: Cond, rs1: Reg, rs2: Reg, offset: i32) -> Outcome
+pub(crate) fn branch(state: &mut State, cond: Cond, rs1: Reg, rs2: Reg, offset: i32) -> bool
     ensures outcome { LeadsTo (state_of state.old)
         (control (program_of state.old) (Branch cond rs1 rs2 offset) (state_of state.old).pc (state_of state.old).core)
-        (state_of state.new) result }
+        (state_of state.new) (next_or result (Misaligned (operation Add (state_of state.old).pc (word_of offset)))) }
+    ensures stayed { result ≡ false → state_of state.new ≡ state_of state.old }
     ensures program { program_of state.new ≡ program_of state.old }
 {
     if taken(cond, state.register(rs1), state.register(rs2)) {
         let target = state.pc().wrapping_add(word_of(offset));
-        go_to(state, target)
-    } else {
-        advance(state)
+        return go_to(state, target);
     }
+    advance(state);
+    true
 }
 
 /// The word with the sign of a number whose highest bit is this one.
@@ -303,8 +364,8 @@ fn extend(kind: LoadKind, n: u32) -> u32
     }
 }
 
-/// How many bytes a load reads.
-fn width_of(kind: LoadKind) -> Width
+/// The width of the access of a load.
+pub(crate) fn width_of(kind: LoadKind) -> Width
     ensures { result ≡ load_width kind }
 {
     match kind {
@@ -314,37 +375,44 @@ fn width_of(kind: LoadKind) -> Width
     }
 }
 
-/// A load from an address.
+/// A load from an address. Says whether its bytes are mapped.
 #[inline(always)]
-fn load(state: &mut State, kind: LoadKind, rd: Reg, address: u32) -> Outcome
+pub(crate) fn load(state: &mut State, kind: LoadKind, rd: Reg, address: u32) -> bool
     ensures outcome { LeadsTo (state_of state.old)
         (then_onward (state_of state.old).pc
         (loaded (state_of state.old).core kind rd address
         (bytes_of (state_of state.old).core address (load_width kind))))
-        (state_of state.new) result }
+        (state_of state.new) (next_or result (Access address (load_width kind))) }
+    ensures stayed { result ≡ false → state_of state.new ≡ state_of state.old }
     ensures program { program_of state.new ≡ program_of state.old }
 {
-    let width = width_of(kind);
-    match state.load_near(address, width) {
-        Ok(n) => write_back(state, rd, extend(kind, n)),
-        Err(_) => Outcome::Ended(End::Access(address, width)),
+    match state.load_near(address, width_of(kind)) {
+        Ok(n) => {
+            write_back(state, rd, extend(kind, n));
+            true
+        }
+        Err(_) => false,
     }
 }
 
-/// A store to an address.
+/// A store to an address. Says whether its bytes are mapped.
 #[inline(always)]
-fn store(state: &mut State, width: Width, rs2: Reg, address: u32) -> Outcome
+pub(crate) fn store(state: &mut State, width: Width, rs2: Reg, address: u32) -> bool
     ensures outcome { LeadsTo (state_of state.old)
         (then_onward (state_of state.old).pc
         (stored (state_of state.old).core width address (register (state_of state.old).core rs2)
         (bytes_of (state_of state.old).core address width)))
-        (state_of state.new) result }
+        (state_of state.new) (next_or result (Access address width)) }
+    ensures stayed { result ≡ false → state_of state.new ≡ state_of state.old }
     ensures program { program_of state.new ≡ program_of state.old }
 {
     let value = state.register(rs2);
     match state.store(address, width, value) {
-        Ok(()) => advance(state),
-        Err(_) => Outcome::Ended(End::Access(address, width)),
+        Ok(()) => {
+            advance(state);
+            true
+        }
+        Err(_) => false,
     }
 }
 
@@ -357,7 +425,10 @@ fn call(state: &mut State) -> Result<Outcome, AllocError>
     ensures program { program_of state.new ≡ program_of state.old }
 {
     match state.environment_call()? {
-        Call::Goes => Ok(advance(state)),
+        Call::Goes => {
+            advance(state);
+            Ok(Outcome::Next)
+        }
         Call::Exit(code) => Ok(Outcome::Ended(End::Exit(code))),
     }
 }

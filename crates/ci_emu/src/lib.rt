@@ -19,6 +19,7 @@ mod ends;
 mod execution;
 mod machine;
 mod profile;
+mod quick;
 mod runs;
 mod steps;
 mod tally;

@@ -5,7 +5,6 @@ ghost use Rattle.ci_machine.specs.Steps.{Meaning, fetched, word_at};
 ghost use Rattle.std.specs.Option.{option_map};
 ghost use Rattle.ci_emu.specs.Steps.{IsStep, IsPlainStep};
 
-use crate::actions::Action;
 use crate::decode_cache::reading;
 use crate::execution::execute;
 use crate::machine::{Machine, PlainMachine};
@@ -44,8 +43,7 @@ pub fn step_on<M: Machine>(machine: &M, state: &mut State) -> Result<Outcome, Al
     match fetch(state) {
         Some(word) => {
             let mut touches = Touches::new(state.text());
-            let action = Action::of(reading(word));
-            execute(machine, state, word, &action, &mut touches)
+            execute(machine, state, word, reading(word), &mut touches)
         }
         None => Ok(Outcome::Ended(End::Fetch(state.pc()))),
     }

@@ -1,6 +1,6 @@
 //! What is counted while a run is made.
 ghost use Rattle.std.specs.Prelude.{◌≡◌, ◌+◌, ◌-◌, ◌<◌, ◌≤◌, ◌^◌, ◌==◌, ◌⊎◌, ◌↔◌, ℕ, Some, find};
-ghost use Rattle.std.specs.Prelude.{if◌then◌else◌, IfOk, IfSome, OnOk, OnErr, MatchOption, None, false, [], length, slice_index_or};
+ghost use Rattle.std.specs.Prelude.{if◌then◌else◌, IfOk, IfSome, OnOk, OnErr, MatchOption, None, true, false, [], length, slice_index_or};
 ghost use Rattle.std.specs.BTreeSet.{IsOrdered};
 ghost use Rattle.std.specs.Ordering.{nat_cmp};
 ghost use Rattle.ci_emu.specs.Actions.{insn_of};
@@ -15,6 +15,7 @@ ghost use Rattle.ci_emu.specs.Profiles.{count_at};
 ghost use Rattle.ci_emu.specs.TableLatencies.{latencies_on};
 ghost use Rattle.ci_emu.specs.Lines.{AreKept, AreKnown};
 ghost use Rattle.ci_emu.specs.PlacedRanges.{ArePlaced};
+ghost use Rattle.ci_emu.specs.declared.steps.Outcome.TheVariants.{Next};
 ghost use Rattle.ci_emu.specs.Steps.{IsStep, IsReached};
 
 use crate::actions::Action;
@@ -23,6 +24,7 @@ use crate::decode_cache::{DecodeCache, Decoded};
 use crate::execution::execute;
 use crate::machine::Machine;
 use crate::profile::Profile;
+use crate::quick::perform;
 use crate::steps::Outcome;
 use crate::touches::Touches;
 use ci_elf::Range;
@@ -100,7 +102,6 @@ impl Tally {
 }
 
 /// Where the action led, if it is a JALR and did not end.
-#[inline(always)]
 fn target(state: &State, action: &Action, outcome: Outcome) -> Option<u32>
     ensures { result ≡ target_of (insn_of action.now) outcome (state_of state.now).pc }
 {
@@ -168,6 +169,136 @@ fn enter<M: Machine>(
     }
 }
 
+/// One step, counted, where its line is at hand and nothing else has to be noted. Says whether it was made: nothing
+/// changes where it was not.
+#[inline(always)]
+fn quick_step<M: Machine>(machine: &M, state: &mut State, table: &Table, tally: &mut Tally) -> bool
+    requires text { tally.old.counts.places ≡ (program_of state.old).text }
+    requires room { IsTextWord (program_of state.old).text (state_of state.old).pc
+        → count_at tally.old.counts (state_of state.old).pc < 2 ^ 32 }
+    requires cheap { tally.old.cost ≤ 2 ^ 64 - 2 ^ 32 }
+    requires nearby { ArePlaced tally.old.counts.places tally.old.nearby }
+    requires many { length tally.old.cache.words.items ≡ length tally.old.counts.by_place.items }
+    requires behind { IsTextBelow (in_text (program_of state.old)) tally.old.touches.end }
+    requires kept { AreKept (cycles_on (M.has_unit machine.now) (M.has_cread machine.now)
+        (M.unit_cycles machine.now) table.now) tally.old.touches.changes tally.old.cache.words.items }
+    requires known { (meaning : Meaning) → M.meanings machine.now meaning
+        → AreKnown meaning (program_of state.old) (state_of state.old).core.memory
+        tally.old.touches.changes tally.old.cache.words.items }
+    ensures stepped { result ≡ true
+        → IsStep (M.meanings machine.now) (program_of state.old) (state_of state.old) (state_of state.new) Next }
+    ensures counted { result ≡ true → (meaning : Meaning) → M.meanings machine.now meaning
+        → IsStepCounted meaning (program_of state.old) (latencies_on table.now (M.unit_cycles machine.now))
+        (state_of state.old) tally.old tally.new }
+    ensures entered { result ≡ true → (address : ℕ) → IsTextWord (program_of state.old).text address
+        → count_at tally.new.counts address
+        ≡ count_at tally.old.counts address + (if (state_of state.old).pc == address then 1 else 0) }
+    ensures known { result ≡ true → (meaning : Meaning) → M.meanings machine.now meaning
+        → AreKnown meaning (program_of state.old) (state_of state.new).core.memory
+        tally.old.touches.changes tally.old.cache.words.items }
+    ensures stayed { result ≡ false → state_of state.new ≡ state_of state.old }
+    ensures uncounted { result ≡ false → tally.new ≡ tally.old }
+    ensures program { program_of state.new ≡ program_of state.old }
+    ensures cost { tally.new.cost < tally.old.cost + 2 ^ 32 }
+    ensures text { tally.new.counts.places ≡ tally.old.counts.places }
+    ensures many { length tally.new.counts.by_place.items ≡ length tally.old.counts.by_place.items }
+    ensures cache { tally.new.cache ≡ tally.old.cache }
+    ensures nearby { tally.new.nearby ≡ tally.old.nearby }
+    ensures touches { tally.new.touches ≡ tally.old.touches }
+{
+    let Some(place) = tally.counts.at_hand(&tally.nearby, state.pc()) else {
+        return false;
+    };
+    if !tally.cache.is_known(place, tally.touches.changes) {
+        return false;
+    }
+    let line = &tally.cache.words[place];
+    if !perform(machine, state, &line.action, &tally.touches, &tally.targets) {
+        return false;
+    }
+    tally.cost += u64::from(line.latency);
+    tally.counts.add(place);
+    true
+}
+
+/// One step, counted, whatever has to be noted of it.
+///
+/// Where memory runs out, the state is as before the step or behind it.
+#[cold]
+#[inline(never)]
+fn noted_step<M: Machine>(
+    machine: &M,
+    state: &mut State,
+    table: &Table,
+    tally: &mut Tally,
+) -> Result<Outcome, AllocError>
+    requires text { tally.old.counts.places ≡ (program_of state.old).text }
+    requires room { IsTextWord (program_of state.old).text (state_of state.old).pc
+        → count_at tally.old.counts (state_of state.old).pc < 2 ^ 32 }
+    requires cheap { tally.old.cost ≤ 2 ^ 64 - 2 ^ 32 }
+    requires nearby { ArePlaced tally.old.counts.places tally.old.nearby }
+    requires many { length tally.old.cache.words.items ≡ length tally.old.counts.by_place.items }
+    requires behind { IsTextBelow (in_text (program_of state.old)) tally.old.touches.end }
+    requires begun { 0 < tally.old.touches.changes }
+    requires few { tally.old.touches.changes ≤ 2 ^ 33 }
+    requires kept { AreKept (cycles_on (M.has_unit machine.now) (M.has_cread machine.now)
+        (M.unit_cycles machine.now) table.now) tally.old.touches.changes tally.old.cache.words.items }
+    requires known { (meaning : Meaning) → M.meanings machine.now meaning
+        → AreKnown meaning (program_of state.old) (state_of state.old).core.memory
+        tally.old.touches.changes tally.old.cache.words.items }
+    ensures stepped { IfOk result
+        (IsStep (M.meanings machine.now) (program_of state.old) (state_of state.old) (state_of state.new)) }
+    ensures counted { OnOk result ((meaning : Meaning) → M.meanings machine.now meaning
+        → IsStepCounted meaning (program_of state.old) (latencies_on table.now (M.unit_cycles machine.now))
+        (state_of state.old) tally.old tally.new) }
+    ensures cost { tally.new.cost < tally.old.cost + 2 ^ 32 }
+    ensures entered { (address : ℕ) → IsTextWord (program_of state.old).text address → count_at tally.new.counts address
+        ≡ count_at tally.old.counts address + (if (state_of state.old).pc == address then 1 else 0) }
+    ensures refused { OnErr result
+        (IsReached (M.meanings machine.now) (program_of state.old) (state_of state.old) 1 (state_of state.new)) }
+    ensures program { program_of state.new ≡ program_of state.old }
+    ensures text { tally.new.counts.places ≡ tally.old.counts.places }
+    ensures nearby { ArePlaced tally.old.counts.places tally.new.nearby }
+    ensures many { length tally.new.cache.words.items ≡ length tally.new.counts.by_place.items }
+    ensures end { tally.new.touches.end ≡ tally.old.touches.end }
+    ensures later { tally.old.touches.changes ≤ tally.new.touches.changes }
+    ensures few { tally.new.touches.changes ≤ tally.old.touches.changes + 1 }
+    ensures kept { AreKept (cycles_on (M.has_unit machine.now) (M.has_cread machine.now)
+        (M.unit_cycles machine.now) table.now) tally.new.touches.changes tally.new.cache.words.items }
+    ensures known { OnOk result ((meaning : Meaning) → M.meanings machine.now meaning
+        → AreKnown meaning (program_of state.old) (state_of state.new).core.memory
+        tally.new.touches.changes tally.new.cache.words.items) }
+{
+    let Some(place) = enter(
+        machine,
+        table,
+        &mut tally.counts,
+        &mut tally.cache,
+        &mut tally.nearby,
+        tally.touches.changes,
+        state,
+    ) else {
+        return Ok(Outcome::Ended(End::Fetch(state.pc())));
+    };
+    let line = &tally.cache.words[place];
+    tally.cost += u64::from(line.latency);
+    let outcome = execute(machine, state, line.word, line.insn(), &mut tally.touches)?;
+    note(&mut tally.targets, target(state, &line.action, outcome))?;
+    Ok(outcome)
+}
+
+/// The same answer, made anew: so that of a quick step is known in the code, and no look at it is left.
+#[inline(always)]
+fn retold(answer: Result<Outcome, AllocError>) -> Result<Outcome, AllocError>
+    ensures { result ≡ answer }
+{
+    match answer {
+        Ok(Outcome::Next) => Ok(Outcome::Next),
+        Ok(Outcome::Ended(end)) => Ok(Outcome::Ended(end)),
+        Err(error) => Err(error),
+    }
+}
+
 /// One step, counted.
 ///
 /// Where memory runs out, the state is as before the step or behind it.
@@ -215,23 +346,10 @@ pub(crate) fn counted_step<M: Machine>(
         → AreKnown meaning (program_of state.old) (state_of state.new).core.memory
         tally.new.touches.changes tally.new.cache.words.items) }
 {
-    // Two machines share these functions: without the hints at them each would be called out of line in every step.
-    let Some(place) = enter(
-        machine,
-        table,
-        &mut tally.counts,
-        &mut tally.cache,
-        &mut tally.nearby,
-        tally.touches.changes,
-        state,
-    ) else {
-        return Ok(Outcome::Ended(End::Fetch(state.pc())));
-    };
-    let line = &tally.cache.words[place];
-    tally.cost += u64::from(line.latency);
-    let outcome = execute(machine, state, line.word, &line.action, &mut tally.touches)?;
-    note(&mut tally.targets, target(state, &line.action, outcome))?;
-    Ok(outcome)
+    if quick_step(machine, state, table, tally) {
+        return Ok(Outcome::Next);
+    }
+    retold(noted_step(machine, state, table, tally))
 }
 
 /// The targets in ascending order.

@@ -1,5 +1,5 @@
 //! What is noted of the text that steps touch.
-ghost use Rattle.std.specs.Prelude.{◌≡◌, ◌+◌, ◌≤◌, ◌^◌, None, Some, is_some, if◌then◌else◌, find};
+ghost use Rattle.std.specs.Prelude.{◌≡◌, false, ◌+◌, ◌≤◌, ◌^◌, None, Some, is_some, if◌then◌else◌, find};
 ghost use Rattle.ci_elf.specs.Executables.{end_of, in_text as has_text, IsAscending};
 ghost use Rattle.ci_isa.specs.Effects.{width_bytes};
 ghost use Rattle.ci_machine.specs.Accesses.{addresses};
@@ -62,7 +62,7 @@ impl Touches {
 
     /// The first byte of the text that an access moves. One behind the text moves none.
     #[inline(always)]
-    fn touched(&self, state: &State, address: u32, width: Width) -> Option<u32>
+    pub(crate) fn touched(&self, state: &State, address: u32, width: Width) -> Option<u32>
         requires { IsTextBelow (in_text (program_of state.now)) self.now.end }
         ensures { result ≡ find (in_text (program_of state.now)) (addresses (width_bytes width) address) }
     {
@@ -70,6 +70,20 @@ impl Touches {
             return None;
         }
         state.touched_by_access(address, width)
+    }
+
+    /// Whether a load by the instruction at the pc touches the text first of a run.
+    #[inline(always)]
+    #[tactic(auto, using(crate::proofs::Touched::laws))]
+    pub(crate) fn is_first(&self, state: &State, address: u32, width: Width) -> bool
+        requires { IsTextBelow (in_text (program_of state.now)) self.now.end }
+        ensures { result ≡ false → first_touch self.now.first (state_of state.now).pc
+            (find (in_text (program_of state.now)) (addresses (width_bytes width) address)) ≡ self.now.first }
+    {
+        if self.first.is_some() {
+            return false;
+        }
+        self.touched(state, address, width).is_some()
     }
 
     /// Notes that the instruction at the pc moves this byte of the text first, where it is the first of a run.

@@ -1,6 +1,4 @@
-use Rattle.std.proofs.Common.{sym, subst}
-use Rattle.ci_isa.specs.Laws.{IsInsnAtX}
-use Rattle.ci_emu.specs.Actions.{insn_of}
+use Rattle.std.proofs.Common.{subst}
 use Rattle.ci_elf.specs.Executables.{in_text as has_text}
 use Rattle.ci_machine.specs.States.{program_of, state_of}
 use Rattle.ci_emu.specs.Fetched.{IsTextBelow}
@@ -12,7 +10,7 @@ returns-in-Some-clause-stepped g c =
     executed_is (program_of c.args.state.now) (state_of c.args.state.now) (g.M.Machine.meanings c.args.machine.now) _ _
     (fetched_as (g.M.Machine.meanings c.args.machine.now) (g.M.Machine.has_unit c.args.machine.now) (g.M.Machine.has_cread c.args.machine.now)
     (g.met.M.Machine.stands c.args.machine.now) (program_of c.args.state.now) (state_of c.args.state.now)
-    c.in-Some.word (insn_of c.of-action.result) (subst (IsInsnAtX c.in-Some.word) (sym c.of-action.ensures) c.reading.ensures) (λ meaning means. c.in-Some.ensures meaning))
+    c.in-Some.word c.reading.result c.reading.ensures (λ meaning means. c.in-Some.ensures meaning))
     _ c.execute.ensures.executed
 
 pub execute-requires-clause-behind : goal.execute-requires-clause-behind

@@ -1,84 +1,114 @@
-use Rattle.std.proofs.Common.{◌≡◌, ◌∙◌, ℕ, Some, ap, rules, sym, subst}
+-- A step that was not made quickly begins where this one does.
+use Rattle.std.proofs.Common.{◌≡◌, ◌+◌, ◌<◌, ◌^◌, ℕ, sym, subst}
+use Rattle.std.specs.Prelude.{◌==◌, if◌then◌else◌, IfOk, OnOk, OnErr}
+use Rattle.ci_elf.specs.Executables.{IsTextWord}
+use Rattle.ci_machine.specs.Programs.{in_text, Program, State}
 use Rattle.ci_machine.specs.States.{program_of, state_of}
-use Rattle.ci_machine.specs.Steps.{Meaning, fetched}
-use Rattle.ci_emu.specs.Machines.{standing}
-use Rattle.ci_emu.proofs.Fetching.{behind_one, fetched_as, stands_at, same_change, same_moved, same_target}
-use Rattle.ci_machine.specs.Programs.{in_text}
-use Rattle.ci_isa.specs.declared.instruction.Insn.{Insn}
-use Rattle.ci_emu.specs.Actions.{insn_of}
-use Rattle.ci_emu.specs.declared.decode_cache.Decoded.{Decoded}
-use Rattle.ci_emu.specs.Fetched.{cycles_on, may_change}
-use Rattle.ci_emu.specs.Lines.{AreKnown, IsTimed}
-use Rattle.ci_emu.proofs.KnownLines.{behind_step}
-use Rattle.ci_emu.proofs.tally.counted_step.Given.{Over}
+use Rattle.ci_machine.specs.Steps.{Meaning}
+use Rattle.ci_emu.specs.declared.decode_cache.DecodeCache.{DecodeCache}
+use Rattle.ci_emu.specs.declared.tally.Tally.{Tally}
+use Rattle.ci_emu.specs.declared.touches.Touches.{Touches}
+use Rattle.ci_emu.specs.Counting.{IsStepCounted}
+use Rattle.ci_emu.specs.Fetched.{cycles_on, IsTextBelow}
+use Rattle.ci_emu.specs.Lines.{AreKept, AreKnown}
+use Rattle.ci_emu.specs.PlacedRanges.{ArePlaced}
+use Rattle.ci_emu.specs.Profiles.{count_at}
+use Rattle.ci_emu.specs.Steps.{IsStep, IsReached}
+use Rattle.ci_emu.specs.TableLatencies.{latencies_on}
+use Rattle.ci_emu.proofs.SameStart.{same_start}
 use Rattle.ci_emu.proofs.tally.counted_step.Goals as goal
-use Rattle.ci_emu.proofs.tally.counted_step.Goals.{After-index-line}
 
-abbrev line : (g : Over) (c : After-index-line g) → Decoded
-line g c = c.index-line.result.now
+pub noted_step-requires-clause-room : goal.noted_step-requires-clause-room
+noted_step-requires-clause-room g c =
+    same_start (λ p s (t : Tally). IsTextWord p.text s.pc → count_at t.counts s.pc < 2 ^ 32) _ _ _ _ _ _
+    (sym c.quick_step.ensures.program) (sym (c.quick_step.ensures.stayed c.if-quick_step.false)) (sym (c.quick_step.ensures.uncounted c.if-quick_step.false))
+    c.requires.room
 
-fetches : (g : Over) (c : After-index-line g) (meaning : Meaning) → g.M.Machine.meanings c.args.machine.now meaning
-    → fetched meaning (program_of c.args.state.now) (state_of c.args.state.now)
-    ≡ Some (standing (g.M.Machine.has_unit c.args.machine.now) (g.M.Machine.has_cread c.args.machine.now) (line g c).word (insn_of (line g c).action))
-fetches g c =
-    fetched_as (g.M.Machine.meanings c.args.machine.now) (g.M.Machine.has_unit c.args.machine.now) (g.M.Machine.has_cread c.args.machine.now)
-    (g.met.M.Machine.stands c.args.machine.now) (program_of c.args.state.now) (state_of c.args.state.now)
-    (line g c).word (insn_of (line g c).action) (stands_at _ _ (line g c).decoded)
-    (λ meaning means. c.in-Some.ensures.fetched (line g c) meaning (c.requires.known meaning means)
-    ∙ ap (λ (l : Decoded). Some (meaning.insn l.word)) (sym c.index-line.ensures))
+pub noted_step-requires-clause-nearby : goal.noted_step-requires-clause-nearby
+noted_step-requires-clause-nearby g c =
+    subst (λ (t : Tally). ArePlaced t.counts.places t.nearby) (sym (c.quick_step.ensures.uncounted c.if-quick_step.false)) c.requires.nearby
 
-abbrev cycles : (g : Over) (c : After-index-line g) → ℕ → Insn → ℕ
-cycles g c =
-    cycles_on (g.M.Machine.has_unit c.args.machine.now) (g.M.Machine.has_cread c.args.machine.now) (g.M.Machine.unit_cycles c.args.machine.now) c.args.table.now
+pub noted_step-requires-clause-behind : goal.noted_step-requires-clause-behind
+noted_step-requires-clause-behind g c =
+    same_start (λ p s (t : Tally). IsTextBelow (in_text p) t.touches.end) _ _ _ _ _ _
+    (sym c.quick_step.ensures.program) (sym (c.quick_step.ensures.stayed c.if-quick_step.false)) (sym (c.quick_step.ensures.uncounted c.if-quick_step.false))
+    c.requires.behind
 
-takes : (g : Over) (c : After-index-line g) → IsTimed (cycles g c) (line g c)
-takes g c = subst (IsTimed (cycles g c)) (sym c.index-line.ensures) (c.in-Some.ensures.kept c.in-Some.place (line g c) c.in-Some.ensures.within).0
+pub noted_step-requires-clause-kept : goal.noted_step-requires-clause-kept
+noted_step-requires-clause-kept g c =
+    subst (λ (t : Tally). AreKept (cycles_on (g.M.Machine.has_unit c.args.machine.now) (g.M.Machine.has_cread c.args.machine.now)
+    (g.M.Machine.unit_cycles c.args.machine.now) c.args.table.now) t.touches.changes t.cache.words.items)
+    (sym (c.quick_step.ensures.uncounted c.if-quick_step.false)) c.requires.kept
+
+pub noted_step-requires-clause-known : goal.noted_step-requires-clause-known
+noted_step-requires-clause-known g c =
+    same_start (λ p s (t : Tally). (meaning : Meaning) → g.M.Machine.meanings c.args.machine.now meaning
+    → AreKnown meaning p s.core.memory t.touches.changes t.cache.words.items) _ _ _ _ _ _
+    (sym c.quick_step.ensures.program) (sym (c.quick_step.ensures.stayed c.if-quick_step.false)) (sym (c.quick_step.ensures.uncounted c.if-quick_step.false))
+    c.requires.known
+
+-- ---- a quick step
+
+pub returns-then-quick_step-clause-stepped : goal.returns-then-quick_step-clause-stepped
+returns-then-quick_step-clause-stepped g c = c.quick_step.ensures.stepped c.if-quick_step.true
+
+pub returns-then-quick_step-clause-counted : goal.returns-then-quick_step-clause-counted
+returns-then-quick_step-clause-counted g c = c.quick_step.ensures.counted c.if-quick_step.true
+
+pub returns-then-quick_step-clause-entered : goal.returns-then-quick_step-clause-entered
+returns-then-quick_step-clause-entered g c = c.quick_step.ensures.entered c.if-quick_step.true
+
+pub returns-then-quick_step-clause-known : goal.returns-then-quick_step-clause-known
+returns-then-quick_step-clause-known g c meaning means =
+    let program = program_of c.args.state.now in
+    let memory = (state_of c.quick_step.new.state).core.memory in
+    subst (λ (touches : Touches). AreKnown meaning program memory touches.changes c.quick_step.new.tally.cache.words.items)
+    (sym c.quick_step.ensures.touches)
+    (subst (λ (cache : DecodeCache). AreKnown meaning program memory c.args.tally.now.touches.changes cache.words.items)
+    (sym c.quick_step.ensures.cache) (c.quick_step.ensures.known c.if-quick_step.true meaning means))
+
+-- ---- another one
 
 pub returns-clause-stepped : goal.returns-clause-stepped
-returns-clause-stepped g c meaning means =
-    let is = fetches g (goal.at.returns-clause-stepped g c).After-index-line meaning means in search rules
-
-pub returns-in_err-note-clause-refused : goal.returns-in_err-note-clause-refused
-returns-in_err-note-clause-refused g c =
-    behind_one (program_of c.args.state.now) (state_of c.args.state.now) (g.M.Machine.meanings c.args.machine.now) _ _
-    (fetches g (goal.at.returns-in_err-note-clause-refused g c).After-index-line)
-    _ _ c.in_ok-outcome.ensures.executed
+returns-clause-stepped g c =
+    rw c.retold.ensures (same_start (λ p s (t : Tally). IfOk c.noted_step.result (IsStep (g.M.Machine.meanings c.args.machine.now) p s (state_of c.noted_step.new.state)))
+    _ _ _ _ _ _
+    c.quick_step.ensures.program (c.quick_step.ensures.stayed c.if-quick_step.false) (c.quick_step.ensures.uncounted c.if-quick_step.false)
+    c.noted_step.ensures.stepped)
 
 pub returns-clause-counted : goal.returns-clause-counted
-returns-clause-counted g c meaning means =
-    let is = fetches g (goal.at.returns-clause-counted g c).After-index-line meaning means in
-    let cost = takes g (goal.at.returns-clause-counted g c).After-index-line in
-    let moves = same_moved (g.M.Machine.has_unit c.args.machine.now) (g.M.Machine.has_cread c.args.machine.now) (line g (goal.at.returns-clause-counted g c).After-index-line).word
-    (state_of c.args.state.now).core (insn_of (line g (goal.at.returns-clause-counted g c).After-index-line).action) in
-    let leads = same_target (g.M.Machine.has_unit c.args.machine.now) (g.M.Machine.has_cread c.args.machine.now) (line g (goal.at.returns-clause-counted g c).After-index-line).word
-    c.in_ok-outcome.outcome (state_of c.execute.new.state).pc (insn_of (line g (goal.at.returns-clause-counted g c).After-index-line).action) in
-    search rules
+returns-clause-counted g c =
+    rw c.retold.ensures (same_start (λ p s (t : Tally). OnOk c.noted_step.result ((meaning : Meaning) → g.M.Machine.meanings c.args.machine.now meaning
+    → IsStepCounted meaning p (latencies_on c.args.table.now (g.M.Machine.unit_cycles c.args.machine.now)) s t c.noted_step.new.tally))
+    _ _ _ _ _ _
+    c.quick_step.ensures.program (c.quick_step.ensures.stayed c.if-quick_step.false) (c.quick_step.ensures.uncounted c.if-quick_step.false)
+    c.noted_step.ensures.counted)
+
+pub returns-clause-entered : goal.returns-clause-entered
+returns-clause-entered g c =
+    same_start (λ p s (t : Tally). (address : ℕ) → IsTextWord p.text address → count_at c.noted_step.new.tally.counts address
+    ≡ count_at t.counts address + (if s.pc == address then 1 else 0))
+    _ _ _ _ _ _
+    c.quick_step.ensures.program (c.quick_step.ensures.stayed c.if-quick_step.false) (c.quick_step.ensures.uncounted c.if-quick_step.false)
+    c.noted_step.ensures.entered
+
+pub returns-clause-refused : goal.returns-clause-refused
+returns-clause-refused g c =
+    rw c.retold.ensures (same_start (λ p s (t : Tally). OnErr c.noted_step.result
+    (IsReached (g.M.Machine.meanings c.args.machine.now) p s 1 (state_of c.noted_step.new.state)))
+    _ _ _ _ _ _
+    c.quick_step.ensures.program (c.quick_step.ensures.stayed c.if-quick_step.false) (c.quick_step.ensures.uncounted c.if-quick_step.false)
+    c.noted_step.ensures.refused)
 
 pub returns-clause-known : goal.returns-clause-known
-returns-clause-known g c meaning means =
-    let program = program_of c.args.state.now in
-    let state = state_of c.args.state.now in
-    let insn = insn_of c.index-line.result.now.action in
-    let changes = same_change (g.M.Machine.has_unit c.args.machine.now) (g.M.Machine.has_cread c.args.machine.now) c.index-line.result.now.word
-    (in_text program) state.core insn in
-    subst (λ (n : ℕ). AreKnown meaning program (state_of c.execute.new.state).core.memory n c.enter.new.cache.words.items)
-    (sym c.execute.ensures.changes)
-    (behind_step meaning program (cycles g (goal.at.returns-clause-known g c).After-index-line) c.enter.new.cache.words.items
-    c.args.tally.now.touches.changes state (state_of c.execute.new.state)
-    (standing (g.M.Machine.has_unit c.args.machine.now) (g.M.Machine.has_cread c.args.machine.now) c.index-line.result.now.word insn)
-    c.in_ok-outcome.outcome (may_change (in_text program) insn state.core) changes
-    c.in-Some.ensures.kept (c.in_ok-outcome.ensures.executed meaning means)
-    (c.in-Some.ensures.known meaning (c.requires.known meaning means)))
+returns-clause-known g c =
+    rw c.retold.ensures (same_start (λ p s (t : Tally). OnOk c.noted_step.result ((meaning : Meaning) → g.M.Machine.meanings c.args.machine.now meaning
+    → AreKnown meaning p (state_of c.noted_step.new.state).core.memory c.noted_step.new.tally.touches.changes c.noted_step.new.tally.cache.words.items))
+    _ _ _ _ _ _
+    c.quick_step.ensures.program (c.quick_step.ensures.stayed c.if-quick_step.false) (c.quick_step.ensures.uncounted c.if-quick_step.false)
+    c.noted_step.ensures.known)
 
--- ---- where no word is fetched
-
-pub returns-in_default-clause-stepped : goal.returns-in_default-clause-stepped
-returns-in_default-clause-stepped g c meaning means =
-    let is = c.in_default.ensures.fetched meaning in search rules
-
-pub returns-in_default-clause-counted : goal.returns-in_default-clause-counted
-returns-in_default-clause-counted g c meaning means =
-    let is = c.in_default.ensures.fetched meaning in search rules
-
-pub returns-in_default-clause-known : goal.returns-in_default-clause-known
-returns-in_default-clause-known g c meaning means = c.enter.ensures.known meaning (c.requires.known meaning means)
+pub returns-clause-nearby : goal.returns-clause-nearby
+returns-clause-nearby g c =
+    subst (λ (t : Tally). ArePlaced t.counts.places c.noted_step.new.tally.nearby) (c.quick_step.ensures.uncounted c.if-quick_step.false)
+    c.noted_step.ensures.nearby
