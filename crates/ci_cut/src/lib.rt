@@ -22,7 +22,5 @@ mod graph_rows;
 mod incumbent;
 mod ports;
 mod prefix;
-#[cfg(test)]
-mod tests;
 mod timing;
 mod value;

@@ -10,6 +10,8 @@ mod block;
 #[cfg(test)]
 mod common;
 #[cfg(test)]
+mod cut;
+#[cfg(test)]
 mod dfg;
 #[cfg(test)]
 mod elf;
@@ -17,6 +19,8 @@ mod elf;
 mod emu;
 #[cfg(test)]
 mod generated;
+#[cfg(test)]
+mod graphs;
 #[cfg(test)]
 mod io;
 #[cfg(test)]
@@ -30,6 +34,8 @@ mod log;
 #[cfg(test)]
 mod reading;
 #[cfg(test)]
+mod region;
+#[cfg(test)]
 mod report;
 #[cfg(test)]
 mod rewrite;
@@ -37,5 +43,9 @@ mod rewrite;
 mod unit;
 #[cfg(test)]
 mod verilog;
+#[cfg(test)]
+mod word;
+#[cfg(test)]
+mod words;
 #[cfg(test)]
 mod xemu;

@@ -36,23 +36,3 @@ fn push_if_member(text: &mut String, number: u8, numbers: &Row) -> Result<(), Al
     }
     Ok(())
 }
-
-#[cfg(test)]
-mod tests {
-    use super::*;
-    use std::test::Fail;
-
-    #[test]
-    fn members_behind_a_text(rt: HostRuntime) -> Result<(), Fail> {
-        let mut text = String::from_str(rt.alloc(), "cut")?;
-        push_members(&mut text, &Row::empty())?;
-        assert_eq!(rt; text.as_str(), "cut");
-        let mut numbers = Row::empty();
-        numbers.insert(255);
-        numbers.insert(10);
-        numbers.insert(0);
-        push_members(&mut text, &numbers)?;
-        assert_eq!(rt; text.as_str(), "cut 0 10 255");
-        Ok(())
-    }
-}

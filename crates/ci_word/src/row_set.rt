@@ -137,6 +137,3 @@ impl Row {
             + self.words[3].count_ones()
     }
 }
-
-#[cfg(test)]
-mod tests;

@@ -9,6 +9,4 @@ mod parse;
 mod reader;
 mod said;
 mod tables;
-#[cfg(test)]
-mod tests;
 mod values;

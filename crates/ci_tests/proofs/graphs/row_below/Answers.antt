@@ -1,6 +1,6 @@
 use Rattle.std.proofs.Common.{arith}
 use Rattle.ci_cut.proofs.SetLaws.{below_empty, below_insert}
-use Rattle.ci_cut.proofs.tests.row_below.Goals as goal
+use Rattle.ci_tests.proofs.graphs.row_below.Goals as goal
 
 pub loop-number-init : goal.loop-number-init
 loop-number-init g c = rw c.empty-row.ensures (below_empty _)

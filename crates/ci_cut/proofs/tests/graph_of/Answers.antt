@@ -1,5 +1,0 @@
-use Rattle.ci_cut.proofs.GraphLaws.{flow_graph_none}
-use Rattle.ci_cut.proofs.tests.graph_of.Goals as goal
-
-pub loop-part-init : goal.loop-part-init
-loop-part-init g c = rw c.new-nodes.ensures.items (flow_graph_none c.args.charges.read c.args.charges.pad c.requires)
