@@ -44,6 +44,8 @@ mod unit;
 #[cfg(test)]
 mod verilog;
 #[cfg(test)]
+mod vread;
+#[cfg(test)]
 mod word;
 #[cfg(test)]
 mod words;

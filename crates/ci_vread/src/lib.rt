@@ -16,7 +16,5 @@ mod reading;
 mod roles;
 mod scanning;
 mod seen;
-#[cfg(test)]
-mod tests;
 mod tokens;
 mod values;

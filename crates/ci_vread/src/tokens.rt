@@ -2,6 +2,7 @@
 ghost use Rattle.std.specs.Prelude.{◌≡◌};
 
 use ci_verilog::Operator;
+use std::mem::size_of;
 
 /// The words of the grammar, which are no names, and its marks, but operators (IEEE 1364-2005, sections 3.7.1 and A.1).
 #[derive(Clone, Copy, Debug, PartialEq, Eq)]
@@ -56,3 +57,6 @@ pub(crate) struct Token {
     pub size: u8,
     pub start: u32,
 }
+
+// A text may have as many tokens as bytes.
+const _: () = prove!(size_of::<Token>() == 8);

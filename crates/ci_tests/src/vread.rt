@@ -1,51 +1,7 @@
-//! Tokens of a text, and the fault of texts by its kind and place: for each kind one that has it, and some that have none.
-use crate::scanning::symbols;
-use crate::tokens::{Kind, Sign, Token};
-use crate::values::{constant_of, cycles_of, name_of, number_of};
-use crate::{VFault, read};
-use ci_verilog::Operator;
+//! The fault of texts by its kind and place: for each kind one that has it, and some that have none.
+use ci_vread::{VFault, read};
 use std::alloc::AllocError;
-use std::mem::size_of;
 use std::process::Abort;
-use std::test::Fail;
-
-/// Tokens that could be longer or shorter, with blanks between them and without.
-const TEXT: &[u8; 42] = b"// cycles 12\nmodules<<b [31:007] 8'hFf 31'";
-
-#[test]
-fn tokens_are_small(rt: HostRuntime) {
-    assert_eq!(rt; size_of::<Token>(), 8);
-}
-
-#[test]
-fn symbols_are_the_longest(rt: HostRuntime) -> Result<(), Fail> {
-    let text = TEXT.as_slice();
-    let tokens = symbols(rt.alloc(), text)?;
-    let expected = [
-        (Kind::Cycles, 0),
-        (Kind::Name, 13),
-        (Kind::Operator(Operator::Left), 20),
-        (Kind::Sign(Sign::NameB), 22),
-        (Kind::Sign(Sign::LeftBracket), 24),
-        (Kind::Number, 25),
-        (Kind::Sign(Sign::Colon), 27),
-        (Kind::Never, 28),
-        (Kind::Sign(Sign::RightBracket), 31),
-        (Kind::Constant, 33),
-        (Kind::Number, 39),
-        (Kind::Stray, 41),
-    ];
-    assert_eq!(rt; tokens.len(), expected.len());
-    for (token, (kind, start)) in tokens.iter().zip(expected) {
-        assert_eq!(rt; token.kind, kind);
-        assert_eq!(rt; token.start, start);
-    }
-    assert_eq!(rt; cycles_of(text, tokens[0]), 12);
-    assert_eq!(rt; name_of(text, tokens[1]), b"modules".as_slice());
-    assert_eq!(rt; number_of(text, tokens[5]), 31);
-    assert_eq!(rt; constant_of(text, tokens[9]), (8, 255));
-    Ok(())
-}
 
 /// The ports of a module, behind its name.
 const PORTS: &str =
@@ -54,7 +10,8 @@ const PORTS: &str =
 /// Behind the assignment of y.
 const REST: &str = "assign z = a;\nendmodule\n";
 
-// Long tables are the answers of functions, so that the proof of a test looks at none of them.
+// Long tables are the answers of functions, so that the proof of a test looks at none of them, and what owns memory is
+// let go by a call of `drop`.
 
 /// Texts, and the kind and the offset of their fault: twice 0 where a text has none.
 fn texts() -> &'static [(&'static str, u8, u32)] {
@@ -66,6 +23,7 @@ fn texts() -> &'static [(&'static str, u8, u32)] {
         ("// cycles 12345678\n", 1, 0),
         ("x", 2, 0),
         ("// cycles 0\n moduleci_0(", 2, 13),
+        ("// cycles 0\nmodules ci_0(", 2, 12),
         ("// cycles 1\nmodule 0", 2, 19),
         ("// cycles 1\nmodule ci_0(input [30:0] a", 2, 31),
         ("// cycles 1\nmodule ci_1(", 9, 19),
@@ -118,7 +76,10 @@ fn head(rt: &impl AllocGlobal, number: u8) -> Result<String, AllocError> {
 fn has_fault(rt: &(impl AllocGlobal + Abort), text: &str, due: (u8, u32)) {
     assert!(rt; text.len() <= 268_435_456);
     match read(rt.alloc(), text.as_bytes()) {
-        Ok(_) => assert_eq!(rt; (0, 0), due, "{text}"),
+        Ok(modules) => {
+            drop(modules);
+            assert_eq!(rt; (0, 0), due, "{text}");
+        }
         Err(VFault::Bad { kind, offset }) => assert_eq!(rt; (kind, offset), due, "{text}"),
         Err(VFault::NoMemory) => assert!(rt; false, "{text}"),
     }
@@ -131,12 +92,23 @@ fn the_first_fault_of_texts(rt: HostRuntime) {
     }
 }
 
+/// A module with so much behind its first two lines has this fault.
+fn has_fault_behind(
+    rt: &(impl AllocGlobal + Abort),
+    body: &str,
+    due: (u8, u32),
+) -> Result<(), AllocError> {
+    let mut text = head(rt, 0)?;
+    text.push_str(body)?;
+    has_fault(rt, text.as_str(), due);
+    drop(text);
+    Ok(())
+}
+
 #[test]
-fn the_first_fault_of_a_module(rt: HostRuntime) -> Result<(), Fail> {
+fn the_first_fault_of_a_module(rt: HostRuntime) -> Result<(), AllocError> {
     for (body, kind, offset) in bodies() {
-        let mut text = head(&rt, 0)?;
-        text.push_str(body)?;
-        has_fault(&rt, text.as_str(), (*kind, *offset));
+        has_fault_behind(&rt, body, (*kind, *offset))?;
     }
     Ok(())
 }
@@ -145,36 +117,52 @@ fn the_first_fault_of_a_module(rt: HostRuntime) -> Result<(), Fail> {
 fn modules(rt: &impl AllocGlobal, count: u8) -> Result<String, AllocError> {
     let mut text = String::new(rt.alloc());
     for number in 0..count {
-        text.push_str(head(rt, number)?.as_str())?;
+        let head = head(rt, number)?;
+        text.push_str(head.as_str())?;
+        drop(head);
         text.push_str("assign y = a;\n")?;
         text.push_str(REST)?;
     }
     Ok(text)
 }
 
-#[test]
-fn at_most_32_modules(rt: HostRuntime) -> Result<(), Fail> {
-    has_fault(&rt, modules(&rt, 32)?.as_str(), (0, 0));
-    has_fault(&rt, modules(&rt, 33)?.as_str(), (9, 4_681));
+/// So many modules have this fault.
+fn has_fault_in_all(
+    rt: &(impl AllocGlobal + Abort),
+    count: u8,
+    due: (u8, u32),
+) -> Result<(), AllocError> {
+    let text = modules(rt, count)?;
+    has_fault(rt, text.as_str(), due);
+    drop(text);
     Ok(())
+}
+
+#[test]
+fn at_most_32_modules(rt: HostRuntime) -> Result<(), AllocError> {
+    has_fault_in_all(&rt, 32, (0, 0))?;
+    has_fault_in_all(&rt, 33, (9, 4_681))
 }
 
 /// The beginning of a module of so many wires.
 fn wires(rt: &impl AllocGlobal, count: u16) -> Result<String, AllocError> {
     let mut text = head(rt, 0)?;
     for number in 0..count {
-        text.push_str(format!(in rt.alloc(); "wire [0:0] w{number};\n")?.as_str())?;
-        text.push_str(format!(in rt.alloc(); "assign w{number} = 1'h1;\n")?.as_str())?;
+        write!(text, "wire [0:0] w{number};\n")?;
+        write!(text, "assign w{number} = 1'h1;\n")?;
     }
     Ok(text)
 }
 
 #[test]
-fn at_most_2048_wires(rt: HostRuntime) -> Result<(), Fail> {
+fn at_most_2048_wires(rt: HostRuntime) -> Result<(), AllocError> {
     let mut text = wires(&rt, 2048)?;
     text.push_str("assign y = a;\n")?;
     text.push_str(REST)?;
     has_fault(&rt, text.as_str(), (0, 0));
-    has_fault(&rt, wires(&rt, 2049)?.as_str(), (8, 77_770));
+    drop(text);
+    let text = wires(&rt, 2049)?;
+    has_fault(&rt, text.as_str(), (8, 77_770));
+    drop(text);
     Ok(())
 }
