@@ -1,11 +1,9 @@
 -- Rows that a loop fills with the numbers that pass a test, from the first number to the last.
 use Rattle.std.proofs.Common.{◌≡◌, ℕ, ◌+◌, ◌<◌, Bool, true, false, not, ◌&&◌, ◌||◌, nat_lt, nat_eq, inl, inr, IsTrue, List, length, replicate}
 use Rattle.std.proofs.Common.{get_or-set_other, get_or-set_same, refl, sym, ap, ◌∙◌, arith, eq-eqb, eqb-true}
-use Rattle.std.proofs.Math.Bool.{or_comm, or-false}
 use Rattle.std.proofs.Math.ListN.{set as list_set}
 use Rattle.std.proofs.lemmas.Bool.{cases_Bool, cases_eq, cases_order, lt-ltb, le-ltb, ne_eqb, and_from, and_parts, and_right}
 use Rattle.std.proofs.lemmas.List.{get_or-replicate}
-use Rattle.std.specs.Cmp.{nat_cmp_total}
 use Rattle.std.specs.Ordering.{nat_cmp}
 use Rattle.std.specs.FinSet as set
 use Rattle.ci_word.proofs.NumberLaws.{contains-insert_nat, contains-remove_nat}
@@ -66,14 +64,12 @@ all_filled_none test none is j m below =
     filled_none (test j) (row_at (replicate 256 none) j) (get_or-replicate 256 j none set.empty below ∙ is) m
 
 -- with the next number in the rows whose tests it passes
-pub all_filled_more : (test : ℕ → ℕ → Bool) (before after : List (set.FinSet nat_cmp)) (places : ℕ → Bool) (number : set.FinSet nat_cmp) (k : ℕ)
-    → ((j : ℕ) → places j ≡ test j k) → number ≡ set.insert set.empty k → AreAdded before after places (set.contains number)
+pub all_filled_more : (test : ℕ → ℕ → Bool) (before after : List (set.FinSet nat_cmp)) (places : ℕ → Bool) (k : ℕ)
+    → ((j : ℕ) → places j ≡ test j k) → AreAdded before after places (λ m. nat_eq m k)
     → AreFilled test before k → AreFilled test after (k + 1)
-all_filled_more test before after places number k here is more so_far j m below =
+all_filled_more test before after places k here more so_far j m below =
     let old = set.contains (row_at before j) m in
-    more j m
-    ∙ (λ i. (here j i && alone i) || old)
-    ∙ elim (cases_Bool (test j k)) [
+    more j m ∙ ap (λ b. (b && nat_eq m k) || old) (here j) ∙ elim (cases_Bool (test j k)) [
       | inl passes ↦
           ap (λ b. (b && nat_eq m k) || old) passes
           ∙ sym (contains-insert_nat (row_at before j) k m)
@@ -82,29 +78,21 @@ all_filled_more test before after places number k here is more so_far j m below 
           ap (λ b. (b && nat_eq m k) || old) fails
           ∙ filled_out (test j) (row_at before j) k m (so_far j m below) fails
     ]
-  where
-    alone : set.contains number m ≡ nat_eq m k
-    alone =
-        ap (λ s. set.contains s m) is
-        ∙ contains-insert_nat set.empty k m
-        ∙ ap (λ b. nat_eq m k || b) (set.contains-empty nat_cmp m)
-        ∙ or-false (nat_eq m k)
 
 -- ---- numbers that are put into some of the rows, one place after the other
 
-pub added_here : (rows : List (set.FinSet nat_cmp)) (place : ℕ) (row numbers : set.FinSet nat_cmp) → place < length rows → row_at rows place ≡ row
-    → AreAdded rows (list_set rows place (set.union row numbers)) (λ j. nat_eq j place) (set.contains numbers)
-added_here rows place row numbers room is j k = elim (cases_eq j place) [
+pub added_here : (rows : List (set.FinSet nat_cmp)) (place : ℕ) (row new : set.FinSet nat_cmp) (number : ℕ) → place < length rows → row_at rows place ≡ row
+    → new ≡ set.insert row number → AreAdded rows (list_set rows place new) (λ j. nat_eq j place) (λ k. nat_eq k number)
+added_here rows place row new number room is more j k = elim (cases_eq j place) [
   | inl same ↦
-      ap (λ (i : ℕ). set.contains (row_at (list_set rows place (set.union row numbers)) i) k) same
-      ∙ ap (λ s. set.contains s k) (get_or-set_same rows place (set.union row numbers) set.empty room)
-      ∙ set.contains-union nat_cmp_total row numbers k
-      ∙ or_comm (set.contains row k) (set.contains numbers k)
-      ∙ (λ i. (sym (eq-eqb j place same) i && set.contains numbers k) || set.contains (sym is i) k)
-      ∙ ap (λ (i : ℕ). (nat_eq j place && set.contains numbers k) || set.contains (row_at rows i) k) (sym same)
+      ap (λ (i : ℕ). set.contains (row_at (list_set rows place new) i) k) same
+      ∙ ap (λ s. set.contains s k) (get_or-set_same rows place new set.empty room ∙ more)
+      ∙ contains-insert_nat row number k
+      ∙ (λ i. (sym (eq-eqb j place same) i && nat_eq k number) || set.contains (sym is i) k)
+      ∙ ap (λ (i : ℕ). (nat_eq j place && nat_eq k number) || set.contains (row_at rows i) k) (sym same)
   | inr other ↦
-      ap (λ s. set.contains s k) (get_or-set_other rows place j (set.union row numbers) set.empty other)
-      ∙ ap (λ b. (b && set.contains numbers k) || set.contains (row_at rows j) k) (sym (ne_eqb j place other))
+      ap (λ s. set.contains s k) (get_or-set_other rows place j new set.empty other)
+      ∙ ap (λ b. (b && nat_eq k number) || set.contains (row_at rows j) k) (sym (ne_eqb j place other))
 ]
 
 pub added_more : (before rows after : List (set.FinSet nat_cmp)) (places also numbers : ℕ → Bool)

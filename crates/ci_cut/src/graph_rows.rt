@@ -34,10 +34,8 @@ impl GraphRows {
         let mut ancestors = [Row::empty(); 256];
         let mut readers = [Row::empty(); 256];
         for (k, node) in graph.nodes().iter().enumerate() {
-            let mut this = Row::empty();
-            this.insert(k as u8);
-            add_at_members(&mut successors, &node.before, &this);
-            add_at_makers(&mut readers, node.sources.as_slice(), &this);
+            add_at_members(&mut successors, &node.before, k as u8);
+            add_at_makers(&mut readers, node.sources.as_slice(), k as u8);
             ancestors[k] = ancestors_of(graph, &ancestors, k);
         }
         GraphRows {
@@ -62,41 +60,41 @@ pub(crate) fn eligible_nodes(graph: &Graph) -> Row
     row
 }
 
-/// Puts the numbers into the rows at these places.
-fn add_at_members(rows: &mut [Row; 256], places: &Row, numbers: &Row)
-    ensures { AreAdded rows.old rows.new (set.contains places.now) (set.contains numbers.now) }
+/// Puts the number into the rows at these places.
+fn add_at_members(rows: &mut [Row; 256], places: &Row, number: u8)
+    ensures { AreAdded rows.old rows.new (set.contains places.now) (λ k. nat_eq k number) }
 {
     let mut rest = *places;
     while let Some(place) = rest.greatest() {
-        add_at(rows, place, numbers);
+        add_at(rows, place, number);
         rest.remove(place);
     }
 }
 
-/// Puts the numbers into the rows at the nodes among the sources.
-fn add_at_makers(rows: &mut [Row; 256], sources: &[Source], numbers: &Row)
-    ensures { AreAdded rows.old rows.new (λ j. list_any (is_source (Made j)) sources.now) (set.contains numbers.now) }
+/// Puts the number into the rows at the nodes among the sources.
+fn add_at_makers(rows: &mut [Row; 256], sources: &[Source], number: u8)
+    ensures { AreAdded rows.old rows.new (λ j. list_any (is_source (Made j)) sources.now) (λ k. nat_eq k number) }
 {
     for source in sources {
-        add_at_maker(rows, source, numbers);
+        add_at_maker(rows, source, number);
     }
 }
 
-/// Puts the numbers into the row at the source where that is a node.
-fn add_at_maker(rows: &mut [Row; 256], source: &Source, numbers: &Row)
-    ensures { AreAdded rows.old rows.new (λ j. is_source (Made j) source.now) (set.contains numbers.now) }
+/// Puts the number into the row at the source where that is a node.
+fn add_at_maker(rows: &mut [Row; 256], source: &Source, number: u8)
+    ensures { AreAdded rows.old rows.new (λ j. is_source (Made j) source.now) (λ k. nat_eq k number) }
 {
     match source {
         Source::Entry(_) => {}
-        Source::Made(maker) => add_at(rows, *maker, numbers),
+        Source::Made(maker) => add_at(rows, *maker, number),
     }
 }
 
-/// Puts the numbers into the row at the place.
-fn add_at(rows: &mut [Row; 256], place: u8, numbers: &Row)
-    ensures { AreAdded rows.old rows.new (λ j. nat_eq j place) (set.contains numbers.now) }
+/// Puts the number into the row at the place.
+fn add_at(rows: &mut [Row; 256], place: u8, number: u8)
+    ensures { AreAdded rows.old rows.new (λ j. nat_eq j place) (λ k. nat_eq k number) }
 {
-    rows[place as usize] = rows[place as usize].union(numbers);
+    rows[place as usize].insert(number);
 }
 
 /// The nodes from which a walk leads to this node, where those of the earlier nodes are known.

@@ -6,6 +6,6 @@ use Rattle.ci_cut.proofs.graph_rows.add_at.Goals as goal
 
 pub returns : goal.returns
 returns c =
-    rw c.union.ensures.value
-    (added_here c.args.rows.now c.args.place _ c.args.numbers.now (omega (arith, c.told-rows, c.ranges.place.fits))
-    (get_or_default c.args.rows.now c.args.place set.empty c.index-rows-place.result (omega (arith, c.told-rows, c.ranges.place.fits))))
+    added_here c.args.rows.now c.args.place _ _ c.args.number (omega (arith, c.told-rows, c.ranges.place.fits))
+    (get_or_default c.args.rows.now c.args.place set.empty c.index-rows-place.result (omega (arith, c.told-rows, c.ranges.place.fits)))
+    c.insert.ensures

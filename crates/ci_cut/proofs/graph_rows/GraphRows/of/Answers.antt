@@ -27,21 +27,20 @@ loop-k-preserved c =
     let so_far = c.loop-k.invariant in
     let room : k < 256 = omega (arith, c.loop-k-test.true, c.nodes-node-items.ensures.kept.few, ap length c.nodes-node-items.ensures.value) in
     let here = node_there graph _ k _ c.nodes-node-items.ensures.value c.loop-k-test.true c.node-item.is in
-    let alone = c.insert.ensures ∙ ap (λ s. set.insert s k) c.empty-this.ensures in
     record {
       size = length-set c.loop-k.ancestors k _ ∙ so_far.size;
       successors =
-          all_filled_more (λ j m. set.contains (node_at graph m).before j) c.loop-k.successors _ _ _ k
+          all_filled_more (λ j m. set.contains (node_at graph m).before j) c.loop-k.successors _ _ k
           (λ j. ap (λ node. set.contains node.before j) (sym here))
-          alone c.add_at_members.ensures
+          c.add_at_members.ensures
           so_far.successors;
       ancestors = λ other j below.
           written_more (λ i row. (m : ℕ) → IsTrue (set.contains row m) ↔ Walk graph m i) set.empty c.loop-k.ancestors k _
           (omega (arith, room, so_far.size)) (λ i less m. so_far.ancestors m i less) c.ancestors_of.ensures j below other;
       readers =
-          all_filled_more (λ j m. reads graph m (Made j)) c.loop-k.readers _ _ _ k
+          all_filled_more (λ j m. reads graph m (Made j)) c.loop-k.readers _ _ k
           (λ j. ap (list_any (is_source (Made j))) c.as_slice.ensures ∙ ap (λ node. list_any (is_source (Made j)) node.sources) (sym here))
-          alone c.add_at_makers.ensures
+          c.add_at_makers.ensures
           so_far.readers;
     }
 
