@@ -2,7 +2,7 @@
 use Rattle.std.proofs.Common.{◌≡◌, ◌+◌, ◌<◌, ◌^◌, ℕ, sym, subst}
 use Rattle.std.specs.Prelude.{◌==◌, if◌then◌else◌, IfOk, OnOk, OnErr}
 use Rattle.ci_elf.specs.Executables.{IsTextWord}
-use Rattle.ci_machine.specs.Programs.{in_text, Program, State}
+use Rattle.ci_machine.specs.Programs.{in_text}
 use Rattle.ci_machine.specs.States.{program_of, state_of}
 use Rattle.ci_machine.specs.Steps.{Meaning}
 use Rattle.ci_emu.specs.declared.decode_cache.DecodeCache.{DecodeCache}
