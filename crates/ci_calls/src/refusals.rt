@@ -4,7 +4,8 @@ ghost use Rattle.std.specs.String.{string_bytes};
 ghost use Rattle.ci_calls.specs.Finishing.{IsPut};
 ghost use Rattle.ci_calls.specs.RefusedCalls.{IsRefused};
 ghost use Rattle.ci_calls.specs.Refusals.{elf_fault_numbers, elf_text, line_of, log_fault_numbers, log_text};
-ghost use Rattle.ci_calls.specs.Refusals.{numbers_text, pair_text, rejected_text, status_of, table_text, text_of, words_text};
+ghost use Rattle.ci_calls.specs.Refusals.{numbers_text, pair_text, rejected_text, status_of, table_text, text_of};
+ghost use Rattle.ci_calls.specs.Refusals.{words_text};
 
 use ci_asm::AsmFault;
 use ci_elf::ElfFault;

@@ -1,5 +1,7 @@
 -- Chains that end at a node: the greatest sums of delays along them, as a search holds them at members.
-use Rattle.std.proofs.Common.{◌≡◌, ◌≢◌, ℕ, ◌+◌, ◌*◌, ◌<◌, ◌≤◌, max, Bool, not, ◌&&◌, nat_eq, ◌⊎◌, inl, inr, IsTrue, List, [], ◌∷◌, length, slice_index, refl, sym, ap, ◌∙◌, arith, subst, get_or-set_other, get_or-set_same}
+use Rattle.std.proofs.Common.{◌≡◌, ◌≢◌, ℕ, ◌+◌, ◌*◌, ◌<◌, ◌≤◌, max, Bool, not, ◌&&◌, nat_eq, ◌⊎◌, inl, inr, IsTrue}
+use Rattle.std.proofs.Common.{List, [], ◌∷◌, length, slice_index, refl, sym, ap, ◌∙◌, arith, subst, get_or-set_other}
+use Rattle.std.proofs.Common.{get_or-set_same}
 use Rattle.std.proofs.lemmas.Bool.{cases_lt, cases_eq, and_parts, and_from, ne_eqb}
 use Rattle.std.proofs.Math.ListN.{set as list_set}
 use Rattle.ci_cut.specs.declared.graph.Source.TheVariants.{Made}

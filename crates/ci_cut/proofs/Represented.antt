@@ -1,5 +1,6 @@
 -- What is known of the terms that represent a prefix.
-use Rattle.std.proofs.Common.{◌≡◌, ℕ, ◌+◌, ◌/◌, max, ◌≤◌, ◌<◌, not, ◌&&◌, ◌||◌, Bool, true, false, ◌⊎◌, inl, inr, IsTrue, List, [], length, refl, sym, ap, ◌∙◌, arith, true≢false}
+use Rattle.std.proofs.Common.{◌≡◌, ℕ, ◌+◌, ◌/◌, max, ◌≤◌, ◌<◌, not, ◌&&◌, ◌||◌, Bool, true, false, ◌⊎◌, inl, inr}
+use Rattle.std.proofs.Common.{IsTrue, List, [], length, refl, sym, ap, ◌∙◌, arith, true≢false}
 use Rattle.std.proofs.lemmas.Bool.{cases_lt, and_parts, and_right, false_from_ne_true}
 use Rattle.std.specs.Ordering.{nat_cmp}
 use Rattle.std.specs.FinSet as set

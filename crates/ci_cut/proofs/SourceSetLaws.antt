@@ -1,5 +1,7 @@
 -- What a set of sources holds after a change.
-use Rattle.std.proofs.Common.{◌≡◌, ◌≢◌, ℕ, ◌+◌, ◌≤◌, Bool, true, false, not, ◌&&◌, ◌||◌, inl, inr, IsTrue, if◌then◌else◌, List, length, refl, sym, ap, ◌∙◌, subst, eq-eqb, eqb-true, true≢false, arith}
+use Rattle.std.proofs.Common.{◌≡◌, ◌≢◌, ℕ, ◌+◌, ◌≤◌, Bool, true, false, not, ◌&&◌, ◌||◌, inl, inr, IsTrue}
+use Rattle.std.proofs.Common.{if◌then◌else◌, List, length, refl, sym, ap, ◌∙◌, subst, eq-eqb, eqb-true, true≢false}
+use Rattle.std.proofs.Common.{arith}
 use Rattle.std.proofs.Math.Bool.{or-true}
 use Rattle.std.proofs.lemmas.Bool.{cases_Bool, false_from_ne_true, and_parts, not-true}
 use Rattle.std.specs.Ordering.{nat_cmp}

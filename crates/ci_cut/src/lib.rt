@@ -1,8 +1,8 @@
 //! Graphs of basic blocks, convex cuts of them, and the best cut.
 //!
 //! What a search has decided, and what bounds the cuts that go on from there, is defined here too
-//! (`specs/Prefixes.antt`), and how many branches a search needs (`specs/Need.antt`). `PrefixTerms` keeps what a search or
-//! a checker asks of it, from one decision to the next; their walks are in crates above.
+//! (`specs/Prefixes.antt`), and how many branches a search needs (`specs/Need.antt`). `PrefixTerms` keeps what a search
+//! or a checker asks of it, from one decision to the next; their walks are in crates above.
 #![tactic(auto)]
 
 pub use choice::best_of_all;

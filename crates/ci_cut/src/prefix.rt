@@ -3,7 +3,8 @@
 //! A recursion over prefixes holds the terms in the frame of a call that takes a node in, and writes over them where
 //! it then leaves the node out, so that no decision is taken back, and no memory is taken. The frames are at most one
 //! more than there are nodes.
-ghost use Rattle.std.specs.Prelude.{◌≡◌, ◌↔◌, ℕ, suc, ◌<◌, ◌≤◌, true, false, List, [], ◌∷◌, length, IsTrue, MatchOption};
+ghost use Rattle.std.specs.Prelude.{◌≡◌, ◌↔◌, ℕ, suc, ◌<◌, ◌≤◌, true, false, List, [], ◌∷◌, length, IsTrue};
+ghost use Rattle.std.specs.Prelude.{MatchOption};
 ghost use Rattle.std.specs.Prelude.{slice_index};
 ghost use Rattle.std.specs.FinSet as set;
 ghost use Rattle.ci_cut.specs.FlowGraph.{FlowGraph};

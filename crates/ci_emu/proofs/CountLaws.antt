@@ -1,5 +1,6 @@
 -- Counts of steps by their address.
-use Rattle.std.proofs.Common.{arith, ◌≡◌, ℕ, ◌+◌, ◌-◌, ◌/◌, ◌%◌, ◌<◌, ◌≤◌, get_or, subst, take, ap, sym, ◌∙◌, refl, List, length, Option, Some, None, replicate, inl, inr, eq-eqb, add-zero}
+use Rattle.std.proofs.Common.{arith, ◌≡◌, ℕ, ◌+◌, ◌-◌, ◌/◌, ◌%◌, ◌<◌, ◌≤◌, get_or, subst, take, ap, sym, ◌∙◌, refl}
+use Rattle.std.proofs.Common.{List, length, Option, Some, None, replicate, inl, inr, eq-eqb, add-zero}
 use Rattle.std.specs.Prelude.{false, ◌==◌, ◌&&◌, IfSome, if◌then◌else◌, slice_index, slice_set}
 use Rattle.std.proofs.lemmas.Bool.{cases_Bool, cases_eq, cases_lt, eqb-true, ne_eqb}
 use Rattle.std.proofs.lemmas.List.{get_or_default, get_or-replicate, get_or_past, length-replicate, get_or-set_same, get_or-set_other}

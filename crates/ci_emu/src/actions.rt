@@ -6,8 +6,8 @@ ghost use Rattle.ci_emu.specs.Actions.{insn_of};
 use ci_isa::{Cond, Insn, LoadKind, Reg, Width};
 use ci_word::Op;
 
-/// What an instruction does. A frequent operation, each condition of a branch, and each kind of load and width of a store
-/// has a variant of its own.
+/// What an instruction does. A frequent operation, each condition of a branch, and each kind of load and width of a
+/// store has a variant of its own.
 #[derive(Clone, Copy)]
 pub(crate) enum Action {
     Add {

@@ -1,5 +1,6 @@
 //! Decoded words.
-ghost use Rattle.std.specs.Prelude.{◌≡◌, ◌<◌, ◌^◌, ℕ, None, Some, IfOk, IfSome, IsTrue, MatchOption, if◌then◌else◌, length, slice_index_or, slice_set};
+ghost use Rattle.std.specs.Prelude.{◌≡◌, ◌<◌, ◌^◌, ℕ, None, Some, IfOk, IfSome, IsTrue, MatchOption, if◌then◌else◌};
+ghost use Rattle.std.specs.Prelude.{length, slice_index_or, slice_set};
 ghost use Rattle.std.specs.Option.{option_map};
 ghost use Rattle.ci_elf.specs.WordPlaces.{word_place};
 ghost use Rattle.ci_isa.specs.Effects.{class_of};

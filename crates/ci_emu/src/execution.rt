@@ -1,5 +1,6 @@
 //! What each instruction does.
-ghost use Rattle.std.specs.Prelude.{◌≡◌, ℕ, ◌+◌, ◌*◌, ◌<◌, ◌≤◌, ◌^◌, ◌-ℤ◌, pos, nat_lt, if◌then◌else◌, IfOk, OnErr, find};
+ghost use Rattle.std.specs.Prelude.{◌≡◌, ℕ, ◌+◌, ◌*◌, ◌<◌, ◌≤◌, ◌^◌, ◌-ℤ◌, pos, nat_lt, if◌then◌else◌, IfOk, OnErr};
+ghost use Rattle.std.specs.Prelude.{find};
 ghost use Rattle.std.specs.Prelude.{true, false};
 ghost use Rattle.ci_word.specs.Arithmetic.{operation, word_of};
 ghost use Rattle.ci_word.specs.declared.arithmetic.Op.TheVariants.{Add};
@@ -28,8 +29,8 @@ use ci_machine::{Call, End, State};
 use ci_word::{Op, alu};
 use std::alloc::AllocError;
 
-/// Does what the instruction of the word does on the machine, and notes how it touches the text. Loads, stores and calls
-/// alone move bytes.
+/// Does what the instruction of the word does on the machine, and notes how it touches the text. Loads, stores and
+/// calls alone move bytes.
 ///
 /// The state stays as it is where that ends the run, and where memory runs out.
 #[tactic(auto, using(crate::proofs::Touched::laws))]

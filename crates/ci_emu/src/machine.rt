@@ -6,8 +6,8 @@ ghost use Rattle.ci_emu.specs.PlainLaws.{plain_stands};
 
 /// A machine: which instructions of its own it has beside those of the plain table, and what its units give and take.
 ///
-/// None of its methods takes memory. All else is the same of every machine. What is said of a machine is said of all its
-/// meanings: of one that has none, nothing is said.
+/// None of its methods takes memory. All else is the same of every machine. What is said of a machine is said of all
+/// its meanings: of one that has none, nothing is said.
 pub trait Machine {
     /// The meanings that are this machine's.
     ghost meanings: { Self → Meaning → Type 0 };

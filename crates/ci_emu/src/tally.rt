@@ -1,6 +1,7 @@
 //! What is counted while a run is made.
 ghost use Rattle.std.specs.Prelude.{◌≡◌, ◌+◌, ◌-◌, ◌<◌, ◌≤◌, ◌^◌, ◌==◌, ◌⊎◌, ◌↔◌, ℕ, Some, find};
-ghost use Rattle.std.specs.Prelude.{if◌then◌else◌, IfOk, IfSome, OnOk, OnErr, MatchOption, None, true, false, [], length, slice_index_or};
+ghost use Rattle.std.specs.Prelude.{if◌then◌else◌, IfOk, IfSome, OnOk, OnErr, MatchOption, None, true, false, []};
+ghost use Rattle.std.specs.Prelude.{length, slice_index_or};
 ghost use Rattle.std.specs.BTreeSet.{IsOrdered};
 ghost use Rattle.std.specs.Ordering.{nat_cmp};
 ghost use Rattle.ci_emu.specs.Actions.{insn_of};
@@ -123,7 +124,8 @@ fn note(targets: &mut BTreeSet<u32>, target: Option<u32>) -> Result<(), AllocErr
     Ok(())
 }
 
-/// Counts the step that begins at the pc, and gives the place of the line of the word that it fetches, if it fetches one.
+/// Counts the step that begins at the pc, and gives the place of the line of the word that it fetches, if it fetches
+/// one.
 #[inline(always)]
 fn enter<M: Machine>(
     machine: &M,

@@ -1,5 +1,6 @@
 -- For every reader: the command `find`, a whole choice of cuts.
-use Rattle.std.specs.Prelude.{◌≡◌, ℕ, Bool, true, false, List, [], ◌∷◌, ◌++◌, codes, filter, length, map, reverse, Option}
+use Rattle.std.specs.Prelude.{◌≡◌, ℕ, Bool, true, false, List, [], ◌∷◌, ◌++◌, codes, filter, length, map, reverse}
+use Rattle.std.specs.Prelude.{Option}
 use Rattle.std.specs.Fmt.{decimal}
 use Rattle.ci_reading.specs.Lines.{line}
 use Rattle.ci_elf.specs.Executables.{Executable}

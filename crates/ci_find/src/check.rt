@@ -44,9 +44,9 @@ pub struct ChoiceFiles {
 /// # Errors
 ///
 /// The first fault of the executable, then of the new file, the units, the log book, the table and the input, as
-/// [`ci_calls`] says. Then `Unsupported` where the text has a word of a custom opcode: the first of these, at its address.
-/// Then `TextTouched` where the run touches the text: the first touch. Then `Rejected` where the files are those of no
-/// choice: the first place that is wrong. `NoMemory`: memory ran out.
+/// [`ci_calls`] says. Then `Unsupported` where the text has a word of a custom opcode: the first of these, at its
+/// address. Then `TextTouched` where the run touches the text: the first touch. Then `Rejected` where the files are
+/// those of no choice: the first place that is wrong. `NoMemory`: memory ran out.
 pub fn evaluate<'a, F: Shelf>(
     alloc: Global,
     file: &'a str,

@@ -53,8 +53,8 @@ pub struct Profiled {
 /// # Errors
 ///
 /// The first fault of the table, then of the input: `Read` where no file has the name, or reading it failed; `TooLarge`
-/// where the table has more than 65,536 bytes, or the input more than 16,777,216; `BadTable` where the table is no latency
-/// table. `NoMemory`: memory ran out.
+/// where the table has more than 65,536 bytes, or the input more than 16,777,216; `BadTable` where the table is no
+/// latency table. `NoMemory`: memory ran out.
 pub fn read_run_files<'a, F: Shelf>(
     alloc: Global,
     table: Option<&'a str>,
@@ -95,8 +95,8 @@ fn refuse_custom_words<'a>(image: &Image) -> Result<(), Refusal<'a>>
     }
 }
 
-/// The profile of the run of the executable, and its blocks by the leaders that the file, the run and the call give. The
-/// steps are at most 4,294,967,296.
+/// The profile of the run of the executable, and its blocks by the leaders that the file, the run and the call give.
+/// The steps are at most 4,294,967,296.
 ///
 /// # Errors
 ///

@@ -36,9 +36,9 @@ pub struct FindNames<'a> {
 ///
 /// # Errors
 ///
-/// The first fault of the executable, then of the table, and of the input, as [`ci_calls`] says. Then `Unsupported` where
-/// the text has a word of a custom opcode: the first of these, at its address. Then `TextTouched` where the run touches the
-/// text: the first touch. `NoMemory`: memory ran out.
+/// The first fault of the executable, then of the table, and of the input, as [`ci_calls`] says. Then `Unsupported`
+/// where the text has a word of a custom opcode: the first of these, at its address. Then `TextTouched` where the run
+/// touches the text: the first touch. `NoMemory`: memory ran out.
 pub fn evaluate<'a, F: Shelf>(
     alloc: Global,
     file: &'a str,

@@ -40,9 +40,9 @@ mod tests;
 /// - `dis FILE`: puts a line for each whole word of FILE.
 /// - `eval UNITS K A B C`: puts a line with the results y and z of module K of UNITS at the words A, B and C.
 /// - `find OLD NEW UNITS LOGS REPORT`, with the options `--in N`, `--out N`, `--count N`, `--budget N`, `--steps N`,
-///   `--table FILE`, `--input FILE` and `--leader ADDR`: chooses cuts of the basic blocks of the executable OLD, by a run
-///   of it. It writes the modules of their units to UNITS, the log book of the choice to LOGS, its report to REPORT and
-///   the executable that uses the units to NEW, in this order, and then puts a line of numbers.
+///   `--table FILE`, `--input FILE` and `--leader ADDR`: chooses cuts of the basic blocks of the executable OLD, by a
+///   run of it. It writes the modules of their units to UNITS, the log book of the choice to LOGS, its report to REPORT
+///   and the executable that uses the units to NEW, in this order, and then puts a line of numbers.
 /// - `check OLD NEW UNITS LOGS`, with the same options: puts `accepted` where NEW, UNITS and LOGS are those of such a
 ///   choice.
 /// - `load SEED`: makes the program of the seed, runs it, chooses cuts of its blocks by the default options, runs the
@@ -64,8 +64,8 @@ mod tests;
 ///   that word, or the address of `--at`, where no block begins, and 0; in a file of words, its length, where that is
 ///   no multiple of four, and 0, or the offset of the first word of a custom opcode or of a terminator that isn't last,
 ///   and that word; of `eval` the number of the module, where the file has none of it, and 0.
-/// - 8, `fault 8 text touched PC ADDR`: the profiled run of `find` or `check` touches the text: the pc of the first step
-///   that does, and the first byte of the text that it moves.
+/// - 8, `fault 8 text touched PC ADDR`: the profiled run of `find` or `check` touches the text: the pc of the first
+///   step that does, and the first byte of the text that it moves.
 /// - 9, `fault 9 units KIND OFFSET`: the file spells no modules, by its first fault.
 /// - 10, `fault 10 log KIND OFFSET`: the file spells no log book, by its first fault.
 /// - 11, `fault 11 rejected ROUND LEADER ITEM REASON`: the files are those of no choice: their first wrong place.

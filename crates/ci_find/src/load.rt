@@ -4,7 +4,8 @@ ghost use Rattle.std.specs.String.{string_bytes};
 ghost use Rattle.ci_elf.specs.Rules.{IsReadAs};
 ghost use Rattle.ci_gen.specs.Programs.{IsProgramOf};
 ghost use Rattle.ci_lat.specs.Latencies.{usual};
-ghost use Rattle.ci_find.specs.LoadCommand.{byte_digits, load_line, IsExtendedCost, IsLoadMade, IsPlainRun, IsPlanOfLoad};
+ghost use Rattle.ci_find.specs.LoadCommand.{byte_digits, load_line, IsExtendedCost, IsLoadMade, IsPlainRun};
+ghost use Rattle.ci_find.specs.LoadCommand.{IsPlanOfLoad};
 
 use crate::choice::bytes_are_small;
 use crate::find::summary;
@@ -43,8 +44,8 @@ struct Figures {
     new_cost: u64,
 }
 
-/// Makes the line of the seed: it chooses cuts for the program that the seed generates, by the options as they are where
-/// none is given, and runs it and the program that uses the units of the cuts.
+/// Makes the line of the seed: it chooses cuts for the program that the seed generates, by the options as they are
+/// where none is given, and runs it and the program that uses the units of the cuts.
 ///
 /// # Errors
 ///

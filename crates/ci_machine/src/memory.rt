@@ -275,8 +275,8 @@ impl Memory {
         true
     }
 
-    /// Writes the low bytes of a number at an address, where all are mapped, on the page whose number stands there in the
-    /// table.
+    /// Writes the low bytes of a number at an address, where all are mapped, on the page whose number stands there in
+    /// the table.
     #[inline(always)]
     fn store_at(&mut self, place: usize, address: u32, width: Width, value: u32)
         requires there { IsPlace self.old.pages.table.items (address / 4096) place }

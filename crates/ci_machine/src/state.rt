@@ -139,7 +139,8 @@ impl State {
 
     /// The same. A further access beside it is made faster.
     pub fn load_near(&mut self, address: u32, width: Width) -> Result<u32, Unmapped>
-        ensures value { result_ok result ≡ option_map number_of_bytes (bytes_of (state_of self.old).core address width) }
+        ensures value { result_ok result
+            ≡ option_map number_of_bytes (bytes_of (state_of self.old).core address width) }
         ensures state { state_of self.new ≡ state_of self.old }
         ensures program { program_of self.new ≡ program_of self.old }
     {

@@ -1,5 +1,6 @@
 -- Instances that say the same have the same books, and histories that are one but for their logs say the same.
-use Rattle.std.proofs.Common.{◌≡◌, ℕ, suc, ◌+◌, ◌*◌, ◌<◌, ◌≤◌, ℤ, pos, ◌*ℤ◌, ◌↔◌, Bool, cond, List, [], ◌∷◌, ◌++◌, length, map, reverse, refl, sym, ap, ◌∙◌, subst, arith}
+use Rattle.std.proofs.Common.{◌≡◌, ℕ, suc, ◌+◌, ◌*◌, ◌<◌, ◌≤◌, ℤ, pos, ◌*ℤ◌, ◌↔◌, Bool, cond, List, [], ◌∷◌, ◌++◌}
+use Rattle.std.proofs.Common.{length, map, reverse, refl, sym, ap, ◌∙◌, subst, arith}
 use Rattle.std.specs.Prelude.{filter, nat_lt, slice_get}
 use Rattle.std.specs.FinSet as finite
 use Rattle.std.specs.List.{Contains}
@@ -34,7 +35,8 @@ use Rattle.ci_select.specs.GivenUp.{GivesUpByNeed, IsGivenUp, IsGivenUpByNeed}
 use Rattle.ci_select.specs.LegalBooks.{IsLegal, IsLegalHistory, IsRight, IsSearched, searched, taken}
 use Rattle.ci_select.specs.NewFiles.{IsNewFile, with_bytes}
 use Rattle.ci_select.specs.Laws.{AcceptableAlike, LogsDecideNothing}
-use Rattle.ci_select.proofs.FreeLogs.{cut_alike, first_alike, itself, lengths_alike, none_alike, rest_alike, rounds_alike, same_take, take_alike, take_of_alike, turned}
+use Rattle.ci_select.proofs.FreeLogs.{cut_alike, first_alike, itself, lengths_alike, none_alike, rest_alike}
+use Rattle.ci_select.proofs.FreeLogs.{rounds_alike, same_take, take_alike, take_of_alike, turned}
 use Rattle.ci_select.proofs.PresentIsOne.{block_of_present}
 
 -- what is the same at each block is so at the leader of one

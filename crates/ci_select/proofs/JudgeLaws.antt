@@ -1,5 +1,7 @@
 -- From what is found of an entry, or of the end of a book, to what is right and what is wrong of it.
-use Rattle.std.proofs.Common.{◌≡◌, ℕ, ◌+◌, ◌<◌, ◌≤◌, false, List, [], ◌∷◌, ◌++◌, length, map, reverse, take, drop, get_or, Option, Some, None, MatchOption, IfNone, refl, sym, ap, ◌∙◌, subst, inl, inr, append_assoc}
+use Rattle.std.proofs.Common.{◌≡◌, ℕ, ◌+◌, ◌<◌, ◌≤◌, false, List, [], ◌∷◌, ◌++◌, length, map, reverse, take, drop}
+use Rattle.std.proofs.Common.{get_or, Option, Some, None, MatchOption, IfNone, refl, sym, ap, ◌∙◌, subst, inl, inr}
+use Rattle.std.proofs.Common.{append_assoc}
 use Rattle.std.specs.FinSet as finite
 use Rattle.std.specs.Ordering.{nat_cmp}
 use Rattle.std.proofs.lemmas.List.{drop_more, map-append, take-append-drop, take_all}
@@ -21,7 +23,8 @@ use Rattle.ci_select.specs.Instances.{Instance}
 use Rattle.ci_select.specs.PresentBlocks.{IsPresent, graph_at}
 use Rattle.ci_select.specs.Dues.{IsDue}
 use Rattle.ci_select.specs.LegalBooks.{IsLegal, IsLegalHistory, IsRight}
-use Rattle.ci_select.specs.WrongPlaces.{IsFirstWrongPart, IsWrongPart, Place, entry as part_of, finish as finish_of, no_end, no_search, no_take, place, wrong_log}
+use Rattle.ci_select.specs.WrongPlaces.{IsFirstWrongPart, IsWrongPart, Place, entry as part_of, finish as finish_of}
+use Rattle.ci_select.specs.WrongPlaces.{no_end, no_search, no_take, place, wrong_log}
 use Rattle.ci_select.specs.Followed.{Follows, IsDueGraph, instance_in}
 use Rattle.ci_select.specs.Judged.{IsEndJudged, IsJudged, IsSearchJudged, is_at}
 use Rattle.ci_select.proofs.PresentLaws.{due_search}

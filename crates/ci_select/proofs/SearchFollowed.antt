@@ -1,6 +1,7 @@
 -- Behind the entry of a search the rounds hold what the entries say: the block is searched, and a cut that was found is a
 -- candidate more.
-use Rattle.std.proofs.Common.{◌≡◌, ℕ, ◌^◌, ◌<◌, inl, inr, ◌↔◌, false, true≢false, refl, sym, ap, ◌∙◌, subst, List, [], ◌∷◌, ◌++◌, length, map, reverse, Option, Some, None, ℤ, pos, ◌*ℤ◌, ◌<ℤ◌, arith}
+use Rattle.std.proofs.Common.{◌≡◌, ℕ, ◌^◌, ◌<◌, inl, inr, ◌↔◌, false, true≢false, refl, sym, ap, ◌∙◌, subst, List, []}
+use Rattle.std.proofs.Common.{◌∷◌, ◌++◌, length, map, reverse, Option, Some, None, ℤ, pos, ◌*ℤ◌, ◌<ℤ◌, arith}
 use Rattle.std.specs.Prelude.{IsSome, slice_index_or}
 use Rattle.std.specs.FinSet as finite
 use Rattle.std.specs.Global.{Vec}

@@ -34,7 +34,10 @@ use Rattle.ci_select.specs.Followed.{Follows, instance_in}
 use Rattle.ci_select.specs.PresentBlocks.{IsPresent, graph_at}
 use Rattle.ci_select.specs.Dues.{IsDue}
 use Rattle.ci_select.specs.LegalBooks.{IsLegal, IsLegalHistory, IsRight, IsSearched, searched, taken}
-use Rattle.ci_select.specs.WrongPlaces.{Part, entry as part_of, finish as finish_of, HasWrongLog, IsOtherSearch, IsWrongPart, wrong_log, no_search, no_take, no_end, Place, place, IsFirstWrongPart, IsAcceptable, IsFirstWrongPlace, in_book, other_modules, other_file, IsVerdict}
+use Rattle.ci_select.specs.WrongPlaces.{Part, entry as part_of, finish as finish_of, HasWrongLog, IsOtherSearch}
+use Rattle.ci_select.specs.WrongPlaces.{IsWrongPart, wrong_log, no_search, no_take, no_end, Place, place}
+use Rattle.ci_select.specs.WrongPlaces.{IsFirstWrongPart, IsAcceptable, IsFirstWrongPlace, in_book, other_modules}
+use Rattle.ci_select.specs.WrongPlaces.{other_file, IsVerdict}
 use Rattle.ci_select.specs.Laws.{VerdictIsOne}
 use Rattle.ci_select.proofs.PresentIsOne.{blocks_in_order, present_is_one}
 use Rattle.ci_select.proofs.UnitLaws.{units_are_one}

@@ -35,8 +35,8 @@ pub fn book_is_judged_once()
 {}
 
 /// An instance has one legal book in which each search was given up exactly by need, but for the logs of its searches,
-/// and these make no difference: what is due, the present blocks, the units, what is saved and the new file are the same
-/// behind entries that are one but for their logs.
+/// and these make no difference: what is due, the present blocks, the units, what is saved and the new file are the
+/// same behind entries that are one but for their logs.
 pub fn choice_is_one()
     ensures book { ChoiceIsOne }
     ensures logs { LogsDecideNothing }

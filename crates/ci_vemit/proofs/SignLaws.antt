@@ -1,5 +1,7 @@
 -- Words in two's complement: their 64 bits, and shifts, products and comparisons of these.
-use Rattle.std.proofs.Common.{◌≡◌, ℕ, ◌+◌, ◌-◌, ◌*◌, ◌/◌, ◌%◌, ◌^◌, ◌<◌, ◌≤◌, nat_lt, if◌then◌else◌, ℤ, pos, negsuc, ◌*ℤ◌, int_lt, bit_xor, refl, sym, ap, ◌∙◌, subst, arith, inl, inr, FitsSigned, w64, to_z, of_z, unsigned_abs, lit<}
+use Rattle.std.proofs.Common.{◌≡◌, ℕ, ◌+◌, ◌-◌, ◌*◌, ◌/◌, ◌%◌, ◌^◌, ◌<◌, ◌≤◌, nat_lt, if◌then◌else◌, ℤ, pos, negsuc}
+use Rattle.std.proofs.Common.{◌*ℤ◌, int_lt, bit_xor, refl, sym, ap, ◌∙◌, subst, arith, inl, inr, FitsSigned, w64, to_z}
+use Rattle.std.proofs.Common.{of_z, unsigned_abs, lit<}
 use Rattle.std.proofs.lemmas.Bool.{cases_lt}
 use Rattle.std.proofs.lemmas.Bool.Decides.{nat_tests}
 use Rattle.std.proofs.lemmas.Int.{ints, of_z-to_z, wrapping_mul-bits, int_wrap_fits, fits_signed_mul}

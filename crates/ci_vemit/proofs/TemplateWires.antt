@@ -1,5 +1,6 @@
 -- The templates' wires, by letters: each is one that the letters before it allow.
-use Rattle.std.proofs.Common.{◌≡◌, ℕ, zero, suc, ◌<◌, ◌≤◌, ◌==◌, ◌&&◌, not, Bool, true, false, List, [], ◌∷◌, ◌++◌, map, length, Contains, slice_index, refl, ap, arith, lit<}
+use Rattle.std.proofs.Common.{◌≡◌, ℕ, zero, suc, ◌<◌, ◌≤◌, ◌==◌, ◌&&◌, not, Bool, true, false, List, [], ◌∷◌, ◌++◌, map}
+use Rattle.std.proofs.Common.{length, Contains, slice_index, refl, ap, arith, lit<}
 use Rattle.std.proofs.lemmas.Bool.{and_parts, eq-eqb}
 use Rattle.ci_word.specs.declared.arithmetic.Op.{Op}
 use Rattle.ci_word.specs.declared.arithmetic.Op.TheVariants.{Add, Sub, Sll, Slt, Sltu, Xor, Srl, Sra, Or, And, Mul, Mulh, Mulhsu, Mulhu, Div, Divu, Rem, Remu}
@@ -17,7 +18,8 @@ use Rattle.ci_verilog.specs.declared.expressions.Expr.TheVariants.{One, Two}
 use Rattle.std.proofs.lemmas.List.Elements.{Contains-push}
 use Rattle.ci_verilog.specs.declared.expressions.Wire.{Wire}
 use Rattle.ci_verilog.specs.Modules.{Known, vector, declared_by, Makes, IsSimple, IsItem, AreItems, IsTerm, IsExpr, IsNew, IsWire, AreWires}
-use Rattle.ci_vemit.specs.Templates.{wire, whole, bits, constant, signed, unsigned, widened, p, q, t, u, v, w, direct, shift, comparison, turned, high_half, template}
+use Rattle.ci_vemit.specs.Templates.{wire, whole, bits, constant, signed, unsigned, widened, p, q, t, u, v, w, direct}
+use Rattle.ci_vemit.specs.Templates.{shift, comparison, turned, high_half, template}
 
 -- ---- letters
 

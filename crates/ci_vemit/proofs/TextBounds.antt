@@ -1,5 +1,6 @@
 -- How long the text of the modules of units is: no longer than a file of modules that is read.
-use Rattle.std.proofs.Common.{◌≡◌, ℕ, zero, suc, ◌+◌, ◌-◌, ◌*◌, ◌<◌, ◌≤◌, true, List, [], ◌∷◌, ◌++◌, map, length, Contains, decimal, refl, ap, arith, length-append, lit<}
+use Rattle.std.proofs.Common.{◌≡◌, ℕ, zero, suc, ◌+◌, ◌-◌, ◌*◌, ◌<◌, ◌≤◌, true, List, [], ◌∷◌, ◌++◌, map, length}
+use Rattle.std.proofs.Common.{Contains, decimal, refl, ap, arith, length-append, lit<}
 use Rattle.std.specs.Prelude.{All, codes, nat_le}
 use Rattle.std.specs.List.{flat_map, join_by}
 use Rattle.std.specs.Fmt.{digits}
@@ -24,8 +25,11 @@ use Rattle.ci_unit.specs.declared.operations.Arg.TheVariants.{Input, Earlier, Co
 use Rattle.ci_unit.specs.declared.operations.UnitOp.{UnitOp}
 use Rattle.ci_unit.specs.Units.{Unit, IsArg, IsUnit}
 use Rattle.ci_unit.specs.Tables.{IsTable}
-use Rattle.ci_vemit.specs.Templates.{input_name, module_of, modules_from, modules_of, numbered, numbered_expr, numbered_item, numbered_simple, numbered_term, numbered_wire, op_wires, operand, output_at, p, q, t, template, wires_from}
-use Rattle.ci_vemit.specs.Texts.{assign_text, cycles_text, expr_text, header_text, item_text, module_text, ports_text, range_text, repeat_text, simple_text, term_text, text_of, wire_text}
+use Rattle.ci_vemit.specs.Templates.{input_name, module_of, modules_from, modules_of, numbered, numbered_expr}
+use Rattle.ci_vemit.specs.Templates.{numbered_item, numbered_simple, numbered_term, numbered_wire, op_wires, operand}
+use Rattle.ci_vemit.specs.Templates.{output_at, p, q, t, template, wires_from}
+use Rattle.ci_vemit.specs.Texts.{assign_text, cycles_text, expr_text, header_text, item_text, module_text, ports_text}
+use Rattle.ci_vemit.specs.Texts.{range_text, repeat_text, simple_text, term_text, text_of, wire_text}
 use Rattle.ci_vemit.proofs.UnitModules.{AreOps, ops_of_unit}
 
 -- ---- a bound of each part of a template, whose letters get a number of three digits at most

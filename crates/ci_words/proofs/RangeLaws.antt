@@ -1,6 +1,7 @@
 -- The numbers among the positional words of a command, and those that its options are set to, lie in the ranges of
 -- their kinds.
-use Rattle.std.proofs.Common.{◌≡◌, ◌∙◌, ◌≤◌, ◌&&◌, ◌+◌, ℕ, zero, suc, Bool, true, false, List, [], ◌∷◌, ◌++◌, length, map, refl, sym, ap, subst, arith, length-append}
+use Rattle.std.proofs.Common.{◌≡◌, ◌∙◌, ◌≤◌, ◌&&◌, ◌+◌, ℕ, zero, suc, Bool, true, false, List, [], ◌∷◌, ◌++◌, length}
+use Rattle.std.proofs.Common.{map, refl, sym, ap, subst, arith, length-append}
 use Rattle.std.specs.Prelude.{All, if◌then◌else◌, nat_le, option_map, slice_get, unwrap_or, zip}
 use Rattle.std.specs.List.{AllZip, list_all, list_any}
 use Rattle.std.proofs.lemmas.Bool.Decides.{nat_tests}

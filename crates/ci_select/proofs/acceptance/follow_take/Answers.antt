@@ -2,7 +2,9 @@ use Rattle.std.proofs.Common.{◌≡◌}
 use Rattle.ci_log.specs.declared.book.Entry.TheVariants.{Take}
 use Rattle.ci_select.specs.WrongPlaces.{entry as part_of, no_take}
 use Rattle.ci_select.proofs.acceptance.follow_take.Goals as goal
-use Rattle.ci_select.proofs.acceptance.follow_take.Goals.{in_default-via-in-Take+then-l-leader+else-k-unit, in_default-via-in-Take+else-l-leader, in_default-via-in_default}
+use Rattle.ci_select.proofs.acceptance.follow_take.Goals.{in_default-via-in-Take+then-l-leader+else-k-unit}
+use Rattle.ci_select.proofs.acceptance.follow_take.Goals.{in_default-via-in-Take+else-l-leader}
+use Rattle.ci_select.proofs.acceptance.follow_take.Goals.{in_default-via-in_default}
 
 -- the entry isn't the take that is due
 not_take : (c : goal.After-another) → ¬ (part_of c.args.entry.now ≡ part_of (Take c.args.leader c.args.unit))

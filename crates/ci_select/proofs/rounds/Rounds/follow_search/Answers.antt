@@ -6,7 +6,8 @@ use Rattle.ci_unit.specs.Units.{unit_of}
 use Rattle.ci_select.specs.declared.rounds.Rank.{Rank}
 use Rattle.ci_select.specs.Followed.{instance_in}
 use Rattle.ci_select.specs.LegalBooks.{IsRight}
-use Rattle.ci_select.proofs.SearchFollowed.{IsMade, cut_is_made, follows_entry, follows_search_best, follows_search_without, new_is_ranked, search_is_due, search_leaves_fewer}
+use Rattle.ci_select.proofs.SearchFollowed.{IsMade, cut_is_made, follows_entry, follows_search_best}
+use Rattle.ci_select.proofs.SearchFollowed.{follows_search_without, new_is_ranked, search_is_due, search_leaves_fewer}
 use Rattle.ci_select.proofs.rounds.Rounds.follow_search.Goals as goal
 use Rattle.ci_select.proofs.rounds.Rounds.follow_search.Goals.{After-as_slice-insns}
 

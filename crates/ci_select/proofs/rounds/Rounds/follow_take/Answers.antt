@@ -5,7 +5,9 @@ use Rattle.ci_rewrite.specs.Blocks.{AllFieldsFit}
 use Rattle.ci_rewrite.specs.FoldedBlock.{IsFolded, IsGraphOf}
 use Rattle.ci_select.proofs.DuePlaces.{some_candidate}
 use Rattle.ci_select.proofs.PresentLaws.{due_take}
-use Rattle.ci_select.proofs.TakeFollowed.{IsTaken, fields_fit, first_is_taken, follows_take, follows_take_of, graph_of_taken, number_is, number_is_small, saved_fits, take_leaves_fewer, taken_fits, taken_within}
+use Rattle.ci_select.proofs.TakeFollowed.{IsTaken, fields_fit, first_is_taken, follows_take, follows_take_of}
+use Rattle.ci_select.proofs.TakeFollowed.{graph_of_taken, number_is, number_is_small, saved_fits, take_leaves_fewer}
+use Rattle.ci_select.proofs.TakeFollowed.{taken_fits, taken_within}
 use Rattle.ci_select.proofs.rounds.Rounds.follow_take.Goals as goal
 use Rattle.ci_select.proofs.rounds.Rounds.follow_take.Goals.{In-Some}
 
