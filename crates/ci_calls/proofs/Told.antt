@@ -11,11 +11,6 @@ some_and : {X : Type 0} (option : Option X) (P : X → Type 0) → IsSomeAnd opt
 some_and None P h = absurd h
 some_and (Some x) P h = (x, refl, h)
 
--- bytes that are those of the file of a shelf that tells its files may be those of the file
-pub MayHold-told : (told : Option Files) (name bytes : List ℕ) → IfSome told (λ held. map.get held name ≡ Some bytes) → MayHold told name bytes
-MayHold-told None name bytes is = tt
-MayHold-told (Some held) name bytes is = is
-
 -- a shelf that answers so tells its files
 pub IsAbsent-told : (told : Option Files) (name : List ℕ) → IfSome told (λ held. map.get held name ≡ None) → told ≢ None → IsAbsent told name
 IsAbsent-told None name none tells = absurd (tells refl)

@@ -5,7 +5,7 @@ use Rattle.std.proofs.lemmas.Bool.{and_parts, and_from, cases_Bool, cases_eq, ca
 use Rattle.ci_cut.specs.declared.graph.Source.TheVariants.{Made}
 use Rattle.ci_cut.specs.FlowGraph.{FlowGraph, reads}
 use Rattle.ci_cut.specs.GraphRules.{IsFlowGraph}
-use Rattle.ci_cut.specs.Hardware.{descending_lists, is_chain, delay_along, maximum, critical_path_delay, hardware}
+use Rattle.ci_cut.specs.Hardware.{descending_lists, is_chain, delay_along, maximum, critical_path_delay}
 
 -- ---- the maximum value of a function on the elements that pass a test
 
@@ -160,6 +160,3 @@ pub critical_path_delay-mono : (graph : FlowGraph) (cut other : ℕ → Bool)
 critical_path_delay-mono graph cut other more =
     maximum_of-mono (is_chain graph cut) (is_chain graph other) (delay_along graph)
     (is_chain-more graph cut other more) (descending_lists (length graph.nodes))
-
-pub hardware-mono : (graph : FlowGraph) (cut other : ℕ → Bool) → ((k : ℕ) → IsTrue (cut k) → IsTrue (other k)) → hardware graph cut ≤ hardware graph other
-hardware-mono graph cut other more = omega (arith, critical_path_delay-mono graph cut other more)

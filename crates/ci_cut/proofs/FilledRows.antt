@@ -95,19 +95,6 @@ added_here rows place row new number room is more j k = elim (cases_eq j place) 
       ∙ ap (λ b. (b && nat_eq k number) || set.contains (row_at rows j) k) (sym (ne_eqb j place other))
 ]
 
-pub added_more : (before rows after : List (set.FinSet nat_cmp)) (places also numbers : ℕ → Bool)
-    → AreAdded before rows places numbers → AreAdded rows after also numbers
-    → AreAdded before after (λ j. places j || also j) numbers
-added_more before rows after places also numbers first second j m =
-    second j m ∙ ap (λ b. (also j && numbers m) || b) (first j m)
-    ∙ joined (places j) (also j) (numbers m) (set.contains (row_at before j) m)
-  where
-    joined : (p a e o : Bool) → ((a && e) || ((p && e) || o)) ≡ (((p || a) && e) || o)
-    joined true true true o = refl
-    joined true true false o = refl
-    joined true false e o = refl
-    joined false a e o = refl
-
 -- once they are in the rows at the rest of the places too, they are in the rows at all
 abbrev pub AreAddedBut : List (set.FinSet nat_cmp) → List (set.FinSet nat_cmp) → set.FinSet nat_cmp → (ℕ → Bool) → (ℕ → Bool) → Type 0
 AreAddedBut before rows rest places numbers =

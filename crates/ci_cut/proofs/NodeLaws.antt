@@ -1,11 +1,11 @@
 -- The nodes of a list by their numbers.
-use Rattle.std.proofs.Common.{◌≡◌, ℕ, ◌<◌, ◌≤◌, ◌⊎◌, inl, inr, true, List, [], ◌∷◌, ◌++◌, length, map, get_or, sym, ap, ◌∙◌, subst, arith}
+use Rattle.std.proofs.Common.{◌≡◌, ℕ, ◌<◌, ◌≤◌, ◌⊎◌, inl, inr, List, [], ◌∷◌, ◌++◌, length, get_or, sym, ap, ◌∙◌, subst, arith}
 use Rattle.std.proofs.lemmas.Bool.{cases_lt, cases_order}
-use Rattle.std.proofs.lemmas.List.{get_or_default, get_or-map, length-append, length-map}
+use Rattle.std.proofs.lemmas.List.{get_or_default, length-append}
 use Rattle.std.proofs.Math.ListN.{get_or-append, get_or-eq_default}
 use Rattle.std.proofs.Math.Seq.{get_or-append_seam}
-use Rattle.ci_word.specs.Numbers.{count_below, numbers_below}
-use Rattle.ci_word.proofs.NumberLaws.{count_below-le, length-all_below, get_or-all_below}
+use Rattle.ci_word.specs.Numbers.{count_below}
+use Rattle.ci_word.proofs.NumberLaws.{count_below-le}
 use Rattle.ci_cut.specs.declared.graph.Node.{Node}
 use Rattle.ci_cut.specs.FlowGraph.{FlowGraph, no_node, node_in, node_at}
 
@@ -36,16 +36,6 @@ each_node nodes P within none k = elim (cases_lt k (length nodes)) [
   | inl below ↦ within k below
   | inr past ↦ subst (P k) (sym (node_in-past nodes k past)) (none k)
 ]
-
--- ---- nodes made by their numbers
-
-module _ (node_of : ℕ → Node) (n : ℕ) where
-  pub length-made : length (map node_of (numbers_below n (λ _. true))) ≡ n
-  length-made = length-map (numbers_below n (λ _. true)) node_of ∙ length-all_below n
-
-  pub node_in-made : (k : ℕ) → k < n → node_in (map node_of (numbers_below n (λ _. true))) k ≡ node_of k
-  node_in-made k below =
-      get_or-map node_of (numbers_below n (λ _. true)) k k no_node (rw length-all_below below) ∙ ap node_of (get_or-all_below n k k below)
 
 -- ---- what code reads
 

@@ -1,8 +1,8 @@
 -- Windows: what an access that lies in one meets, and windows that are made, put in and forgotten.
-use Rattle.std.proofs.Common.{◌≡◌, ℕ, ◌+◌, ◌-◌, ◌/◌, ◌%◌, ◌<◌, ◌≤◌, inl, inr, Bool, true, List, length, get_or, set, replicate, max, min}
+use Rattle.std.proofs.Common.{◌≡◌, ℕ, ◌+◌, ◌-◌, ◌/◌, ◌%◌, ◌<◌, ◌≤◌, inl, inr, Bool, true, List, set, replicate, max, min}
 use Rattle.std.proofs.Common.{sym, ap, subst, ◌∙◌, arith}
 use Rattle.std.proofs.lemmas.Bool.{cases_eq}
-use Rattle.std.proofs.lemmas.List.{get_or_default, get_or-set_same, get_or-set_other, length-set, length-replicate, get_or-replicate}
+use Rattle.std.proofs.lemmas.List.{get_or-set_same, get_or-set_other, length-set, length-replicate, get_or-replicate}
 use Rattle.ci_machine.specs.declared.memory.Memory.{Memory}
 use Rattle.ci_machine.specs.declared.pages.Entry.{Entry}
 use Rattle.ci_machine.specs.declared.spans.Span.{Span}
@@ -53,11 +53,6 @@ part_on_page table mapped span a base place all begins there = record {
     same lt = omega arith
 
 -- ---- all windows
-
--- the window that was read at a place
-pub window_read : (windows : List Window) (i : ℕ) (window : Window) → i < length windows → window ≡ get_or windows i window
-    → window ≡ window_at windows i
-window_read windows i window lt is = is ∙ get_or_default windows i window (record { start = 0; end = 0; place = 0 }) lt
 
 module _ (table : List Entry) (spans : List Span) (start end : ℕ) where
   pub no_windows : (window : Window) → window ≡ record { start = 0; end = 0; place = 0 }

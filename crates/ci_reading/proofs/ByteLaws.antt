@@ -7,11 +7,6 @@ use Rattle.std.proofs.lemmas.List.Elements.{All-head, All-tail}
 use Rattle.std.proofs.lemmas.Nat.{from_le_bytes-to_le_bytes_4}
 use Rattle.ci_reading.specs.Bytes.{bytes_of_words, words_of_bytes}
 
--- a word has four bytes
-pub length-bytes_of_words : (words : List ℕ) → length (bytes_of_words words) ≡ 4 * length words
-length-bytes_of_words [] = refl
-length-bytes_of_words (word ∷ words) = omega (arith, length-bytes_of_words words)
-
 -- four bytes are a word
 pub length-words_of_bytes : (bytes : List ℕ) → length (words_of_bytes bytes) ≡ length bytes / 4
 length-words_of_bytes [] = refl

@@ -4,13 +4,13 @@ use Rattle.std.specs.Char.{is_ascii_digit}
 use Rattle.std.specs.Fmt.{decimal}
 use Rattle.ci_reading.specs.declared.fields.Numbers.{Numbers}
 use Rattle.ci_reading.specs.LineReading.{Read, ◌>>=◌, view, first_passes, word, with_items, repetition}
-use Rattle.ci_reading.specs.Fields.{address, number, number_alone}
+use Rattle.ci_reading.specs.Fields.{address, number_alone}
 use Rattle.ci_reading.specs.Hex.{eight_hex_digits}
 use Rattle.ci_reading.proofs.Languages.{Plainly, Then, joined, Mapped, mapped, SeenBy, IsFirst, first_on, Begins}
-use Rattle.ci_reading.proofs.Exact.{IsExact, along, also, follows, and_then, seen, seen_plainly, either}
+use Rattle.ci_reading.proofs.Exact.{IsExact, also, follows, and_then, seen, seen_plainly, either}
 use Rattle.ci_reading.proofs.WordReading.{IsWord, is_word, word_exact}
 use Rattle.ci_reading.proofs.AddressReading.{IsAddress, zero_address, address_exact}
-use Rattle.ci_reading.proofs.NumberReading.{IsNumber, least_number, number_exact, IsAlone, least_alone, number_alone_exact}
+use Rattle.ci_reading.proofs.NumberReading.{IsAlone, least_alone, number_alone_exact}
 use Rattle.ci_reading.proofs.Repetitions.{AreMany, no_more, repetition_exact}
 
 -- what is read, the language of what is read, and that there is a text

@@ -1,5 +1,5 @@
 -- The lines of each operation as text, for operation 7.
-use Rattle.std.proofs.Common.{◌≡◌, ℕ, List, [], ◌++◌, map, refl}
+use Rattle.std.proofs.Common.{◌≡◌, ℕ, List, ◌++◌, map, refl}
 use Rattle.std.specs.Prelude.{codes}
 use Rattle.std.specs.List.{flat_map}
 use Rattle.std.specs.Fmt.{digits}

@@ -6,7 +6,7 @@ use Rattle.std.specs.Cmp.{nat_cmp_total, unsigned_tied}
 use Rattle.std.specs.FinSet as set
 use Rattle.std.proofs.Common.{refl, sym, ap, ◌∙◌, inl, inr, arith, lit<, zero-le, le_refl, lt-suc_self, add-zero}
 use Rattle.std.proofs.Common.{add-one, add-suc, add_assoc, get_or, append-nil, length-append, true≢false}
-use Rattle.std.proofs.lemmas.Bool.{le-ltb, lt-ltb, ltb-true, and_parts, and_from, cases_eq, cond_both, false_from_ne_true, or_cases, or_left, or_right}
+use Rattle.std.proofs.lemmas.Bool.{le-ltb, lt-ltb, cases_eq, cond_both, false_from_ne_true, or_cases, or_left, or_right}
 use Rattle.std.proofs.Math.ListN.{get_or-append}
 use Rattle.std.proofs.Math.Seq.{get_or-append_seam}
 use Rattle.std.proofs.lemmas.List.Elements.{Contains-append_cases, Contains-append_left, Contains-append_right}
@@ -54,12 +54,6 @@ test_implied : (a b : Bool) → (b ≡ true → a ≡ true) → (a && b) ≡ b
 test_implied true b implies = refl
 test_implied false true implies = implies refl
 test_implied false false implies = refl
-
-pub contains-set_below_iff : (n : ℕ) (p : ℕ → Bool) (k : ℕ) → IsTrue (set.contains (set_below n p) k) ↔ ((k < n) × IsTrue (p k))
-contains-set_below_iff n p k = (
-  λ e. let parts = and_parts (nat_lt k n) (p k) (sym (contains-set_below n p k) ∙ e) in (ltb-true k n parts.0, parts.1),
-  λ (below, e). contains-set_below n p k ∙ and_from (nat_lt k n) (p k) (lt-ltb k n below) e,
-)
 
 -- sets that contain the same numbers are one
 pub same_numbers : (s t : set.FinSet nat_cmp) → ((k : ℕ) → set.contains s k ≡ set.contains t k) → s ≡ t
@@ -124,14 +118,6 @@ unfolding numbers_below
 numbers_below-same zero p q agree = refl
 numbers_below-same (suc n) p q agree =
     λ i. numbers_below-same n p q (λ k h. agree k (omega arith)) i ++ (if agree n (lt-suc_self n) i then n ∷ [] else [])
-
-pub set_below-same : (n : ℕ) (p q : ℕ → Bool) → ((k : ℕ) → k < n → p k ≡ q k) → set_below n p ≡ set_below n q
-set_below-same n p q agree = ap set.from_list (numbers_below-same n p q agree)
-
-pub some_below-same : (n : ℕ) (p q : ℕ → Bool) → ((k : ℕ) → k < n → p k ≡ q k) → some_below n p ≡ some_below n q
-unfolding some_below
-some_below-same zero p q agree = refl
-some_below-same (suc n) p q agree = λ i. some_below-same n p q (λ k h. agree k (omega arith)) i || agree n (lt-suc_self n) i
 
 pub count_below-same : (n : ℕ) (p q : ℕ → Bool) → ((k : ℕ) → k < n → p k ≡ q k) → count_below n p ≡ count_below n q
 unfolding count_below

@@ -2,7 +2,7 @@
 use Rattle.std.proofs.Common.{◌≡◌, ◌≢◌, ℕ, zero, suc, ◌+◌, ◌-◌, ◌*◌, ◌/◌, ◌%◌, ◌^◌, ◌<◌, ◌≤◌, ◌⊎◌, max, min, Bool, true}
 use Rattle.std.proofs.Common.{false, cond, not, ◌&&◌, ◌||◌, nat_eq, nat_lt, List, [], ◌∷◌, length, slice_index, IsTrue}
 use Rattle.std.proofs.Common.{◌↔◌, bit_and, bit_or, count_ones, refl, sym, ap, ◌∙◌, inl, inr, arith, zero-add, add_comm}
-use Rattle.std.proofs.Common.{pow_pos, pow-suc, div-add-mod', lit<, w64, nat_cmp}
+use Rattle.std.proofs.Common.{pow_pos, pow-suc, lit<, w64, nat_cmp}
 use Rattle.std.proofs.Math.ListN.{set as list_set, length-set}
 use Rattle.std.specs.Cmp.{nat_cmp_total}
 use Rattle.std.specs.FinSet as set
@@ -17,12 +17,10 @@ use Rattle.std.proofs.lemmas.Nat.{and_le_l, or_lt, le_or_l, le_or_r, mod_below, 
 use Rattle.std.proofs.lemmas.Nat.Bits.{shr_and_one, bit_at-zero, bit_at-lt, bit_at_and, bit_at_or, bit_at_not}
 use Rattle.std.proofs.lemmas.Nat.Bits.{bit_at_cat_low, bit_at_set_same, bit_at_set_other, bit_at_clear_same}
 use Rattle.std.proofs.lemmas.Nat.Bits.{bit_at_clear_other, bit_at-trailing_zeros, bit_at_above}
-use Rattle.std.specs.Cmp.Lexicographic.{pointwise}
-use Rattle.std.proofs.lemmas.Slice.Eq.{bytes_eq-Decides}
 use Rattle.ci_word.specs.Numbers.{count_below, Meets, IsGreatest}
 use Rattle.ci_word.proofs.NumberLaws.{same_numbers, contains-insert_nat, contains-remove_nat, count_below-same, count_below-add}
-use Rattle.ci_word.specs.Words.{is_in, numbers_in, number_of, AreRowWords, four_words, words_of}
-use Rattle.ci_word.specs.WordLaws.{contains-numbers_in, is_in-at, bit_at-number_of}
+use Rattle.ci_word.specs.Words.{is_in, numbers_in, AreRowWords, four_words}
+use Rattle.ci_word.specs.WordLaws.{contains-numbers_in, is_in-at}
 
 -- ---- what a row contains
 
@@ -379,18 +377,3 @@ ones_of_words words s is fit =
     ∙ ap (λ x. x + count_below 64 (λ b. p (192 + b))) (sym (count_below-add 128 64 p))
     ∙ sym (count_below-add 192 64 p)
     ∙ count_below-same 256 p (set.contains s) (λ n h. sym (contains_is_in words s is n h))
-
--- ---- two rows compared
-
-same_tests : (b c : Bool) → ◌≡◌ {A = ℕ} (cond b 1 0) (cond c 1 0) → b ≡ c
-same_tests true true e = refl
-same_tests true false e = absurd (omega arith)
-same_tests false true e = absurd (omega arith)
-same_tests false false e = refl
-
--- what the words of a set say of one number
-bit_of_words_of : (s : set.FinSet nat_cmp) (q : ℕ) → q < 256 → bit_at (slice_index (words_of s) (q / 64)) (q % 64) ≡ cond (set.contains s q) 1 0
-bit_of_words_of s q below =
-    ap (λ word. bit_at word (q % 64)) (four_at (λ k. number_of 64 (λ b. set.contains s (k * 64 + b))) (q / 64) (omega arith))
-    ∙ bit_at-number_of 64 (λ b. set.contains s (q / 64 * 64 + b)) (q % 64) (omega arith)
-    ∙ ap (λ n. cond (set.contains s n) 1 0) (div-add-mod' q 64)

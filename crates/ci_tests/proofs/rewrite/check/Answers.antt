@@ -1,4 +1,4 @@
-use Rattle.std.proofs.Common.{◌<◌, length, sym, ap, ◌∙◌, subst, arith, rules}
+use Rattle.std.proofs.Common.{length, sym, ap, ◌∙◌, subst, arith, rules}
 use Rattle.ci_isa.specs.FieldBounds.{FieldsFit}
 use Rattle.ci_isa.proofs.WellFormed.{well_formed}
 use Rattle.ci_dfg.proofs.BlockIsGraph.{length-nodes}
