@@ -95,7 +95,7 @@ def crates():
 def table(sums, edits, minutes):
     """The table, with a line on the run that it is of."""
     names = [name for name in crates() if sums[name, "proof"]]
-    text = (f"Seconds of one processor by crate, in a run of {minutes:.0f} minutes on a machine with {os.cpu_count()} "
+    text = (f"Seconds of one processor by crate, in a run of {minutes:.0f} minutes on {len(os.sched_getaffinity(0))} "
             "processors.\n\n| Crate | proof | tests | edits | number of edits | refused for a name alone |\n"
             "|---|---|---|---|---|---|\n")
     for name in names:
