@@ -62,9 +62,10 @@ pub record IsChosenFile (instance : Instance) (file : Executable) (book : Book) 
   pub new_is : IsNewFile instance file (reverse book.entries) new
   pub new_bytes : AreBytes new
 
--- The cuts of the book have gains. With the modules, wherever the run of the file is tame, the new file runs as the file
--- does and meets it at each listed leader; and where that ends otherwise than by a refused access, it costs less by the
--- gain of each cut as often as its block is entered. By the entries of the instance that is together what the book saves.
+-- The cuts of the book have gains. With the modules, wherever the run of the file is tame, the new file runs as the
+-- file does and meets it at each listed leader; and where that ends otherwise than by a refused access, it costs less
+-- by the gain of each cut as often as its block is entered. By the entries of the instance that is together what the
+-- book saves.
 pub record RunsAlike (instance : Instance) (file : Executable) (book : Book) (modules : List Module) (new : List ℕ) :
     Type 0 where
   pub savings : List Saving

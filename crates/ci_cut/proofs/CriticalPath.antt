@@ -153,7 +153,7 @@ is_chain-more graph cut other more (a ∷ b ∷ chain) is_one =
     let parts = chain_parts graph cut a b chain is_one in
     chain_onward graph other a b chain (more a (chain_first graph cut a (b ∷ chain) is_one)) parts.0 (is_chain-more graph cut other more (b ∷ chain) parts.1)
 
--- a greater set has no less delay, and no less hardware time
+-- a greater set has no less delay
 pub critical_path_delay-mono : (graph : FlowGraph) (cut other : ℕ → Bool)
     → ((k : ℕ) → IsTrue (cut k) → IsTrue (other k))
     → critical_path_delay graph cut ≤ critical_path_delay graph other

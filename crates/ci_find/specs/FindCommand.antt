@@ -56,8 +56,9 @@ summary_line entries units saved = line (summary entries units saved)
 abbrev pub written : Written → List ℕ × List ℕ
 written file = (file.name.now, file.bytes.items)
 
--- There is a legal book of the instance, in which each search was given up exactly by need. Its units, its text, its report and its new file are written, in this order,
--- and the line of its numbers is put. The file and the new one are of bytes.
+-- There is a legal book of the instance, in which each search was given up exactly by need. Its units, its text, its
+-- report and its new file are written, in this order, and the line of its numbers is put. The file and the new one
+-- are of bytes.
 pub record IsChoice (instance : Instance) (profile : Profile) (file : Executable) (names : FindNames)
     (success : Success) : Type 0 where
   pub book : Book

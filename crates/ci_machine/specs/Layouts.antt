@@ -52,6 +52,7 @@ pub HasLayout-prop : (spans : List Span) (segments : List Segment) (start end lo
 unfolding HasLayout
 HasLayout-prop spans segments start end loaded = hlevel (ℕ_set, le_prop, props)
 
-pub HasPages-prop : (pages : Pages) (spans : List Span) (start end loaded : ℕ) → IsProp (HasPages pages spans start end loaded)
+pub HasPages-prop : (pages : Pages) (spans : List Span) (start end loaded : ℕ)
+    → IsProp (HasPages pages spans start end loaded)
 unfolding HasPages
 HasPages-prop pages spans start end loaded = hlevel (ℕ_set, le_prop, props)

@@ -93,8 +93,8 @@ module _ (rewriting : Rewriting) where
     pub outside : AgreeOutside text old.state.core new.state.core
     pub live : AgreeOn (finite.contains (at_leader rewriting.live old.state.pc)) old.state.core new.state.core
 
-  -- Fronts: under the same premise, where the original stands at a listed leader after n steps, the new run stands there
-  -- too.
+  -- Fronts: under the same premise, where the original stands at a listed leader after n steps, the new run stands
+  -- there too.
   abbrev pub MeetAtLeaders : Type 0
   MeetAtLeaders =
       (plain extended : Meaning) (input : List ℕ) (n : ℕ) → AreMachines plain extended input

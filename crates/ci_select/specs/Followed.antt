@@ -42,8 +42,8 @@ searches_due instance (Take leader unit ∷ history) = leader ∷ []
 searches_due instance (entry ∷ history) =
     if round history == 0 then drop (length (entry ∷ history)) (entered instance) else []
 
--- The candidate at the rank: its block, its cut and the unit of that, and what the cut saves. The search of its block is
--- not due, and won't be before its take.
+-- The candidate at the rank: its block, its cut and the unit of that, and what the cut saves. The search of its block
+-- is not due, and won't be before its take.
 pub record IsRanked (instance : Instance) (history : History) (blocks : List Block) (rank : Rank)
     (candidate : Candidate) : Type 0 where
   pub insns : List Insn
@@ -63,8 +63,8 @@ pub record IsFirst (candidates : List (Rank × Candidate)) (first : Rank × Cand
       → (other.0.saved.0 < first.0.saved.0)
       ⊎ ((other.0.saved.0 ≡ first.0.saved.0) × (first.0.leader ≤ other.0.leader))
 
--- How many operations of the present blocks may still join a unit. Each take leaves fewer of them, so that a choice ends
--- and has no more rounds than its blocks have operations.
+-- How many operations of the present blocks may still join a unit. Each take leaves fewer of them, so that a choice
+-- ends and has no more rounds than its blocks have operations.
 abbrev pub operations_left : Rounds → ℕ
 operations_left rounds = sum_by (λ insns. length (filter may_join insns.items)) rounds.present.items
 

@@ -72,8 +72,8 @@ EachEnteredBlockIsSearched =
 
 -- ---- there is one of each
 
--- A history has one present block at a leader, one list of units, one number of cycles that it saves, and one thing that
--- is due.
+-- A history has one present block at a leader, one list of units, one number of cycles that it saves, and one thing
+-- that is due.
 abbrev pub PresentIsOne : Type 0
 PresentIsOne =
     (instance : Instance) (history : History) (leader : ℕ) (left right : List Insn)
@@ -133,8 +133,8 @@ LegalBooksAreBooks =
 
 -- ---- histories that are one but for their logs
 
--- What is due behind one is due behind the other, with the same present blocks, units and cycles that are saved, and the
--- same new files.
+-- What is due behind one is due behind the other, with the same present blocks, units and cycles that are saved, and
+-- the same new files.
 pub record SayTheSame (instance : Instance) (left right : History) : Type 0 where
   pub due : (what : Due) → IsDue instance left what → IsDue instance right what
   pub present :
