@@ -4,5 +4,6 @@ pub mod Fetching
 pub mod CountLaws
 pub mod RunCounts
 pub mod RunSteps
+pub mod RunsSoFar
 pub mod KnownLines
 pub mod TextEnds

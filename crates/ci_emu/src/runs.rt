@@ -10,7 +10,7 @@ ghost use Rattle.ci_emu.specs.Steps.{IsReached};
 use crate::machine::{Machine, PlainMachine};
 use crate::profile::Profile;
 use crate::steps::Outcome;
-use crate::tally::{Tally, counted_step};
+use crate::tally::{Tally, noted_step, quick_step};
 use ci_lat::Table;
 use ci_machine::State;
 use std::alloc::{AllocError, Global};
@@ -53,7 +53,10 @@ pub fn run_on<M: Machine>(
 {
     let mut tally = Tally::new(alloc, machine, table, state.text())?;
     for i in 0..n {
-        if let Outcome::Ended(end) = counted_step(machine, state, table, &mut tally)? {
+        if quick_step(machine, state, table, &mut tally) {
+            continue;
+        }
+        if let Outcome::Ended(end) = noted_step(machine, state, table, &mut tally)? {
             return tally.profile(alloc, i + 1, Some(end));
         }
     }

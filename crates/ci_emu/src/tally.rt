@@ -1,23 +1,22 @@
 //! What is counted while a run is made.
-ghost use Rattle.std.specs.Prelude.{◌≡◌, ◌+◌, ◌-◌, ◌<◌, ◌≤◌, ◌^◌, ◌==◌, ◌⊎◌, ◌↔◌, ℕ, Some, find};
-ghost use Rattle.std.specs.Prelude.{if◌then◌else◌, IfOk, IfSome, OnOk, OnErr, MatchOption, None, true, false, []};
+ghost use Rattle.std.specs.Prelude.{◌≡◌, ◌+◌, ◌<◌, ◌^◌, ◌==◌, ◌⊎◌, ◌↔◌, ℕ, Some};
+ghost use Rattle.std.specs.Prelude.{if◌then◌else◌, IfOk, IfSome, OnOk, OnErr, MatchOption, None, true, false};
 ghost use Rattle.std.specs.Prelude.{length, slice_index_or};
 ghost use Rattle.std.specs.BTreeSet.{IsOrdered};
 ghost use Rattle.std.specs.Ordering.{nat_cmp};
 ghost use Rattle.ci_emu.specs.Actions.{insn_of};
-ghost use Rattle.ci_machine.specs.Runs.{after};
 ghost use Rattle.ci_machine.specs.States.{program_of, state_of};
 ghost use Rattle.ci_machine.specs.Steps.{Meaning, fetched};
-ghost use Rattle.ci_emu.specs.Counting.{target_of, IsStepCounted, Led};
+ghost use Rattle.ci_emu.specs.Counting.{target_of, Led};
+ghost use Rattle.ci_emu.specs.CountedSteps.{HasEntered, HasRoom, IsCountedStep};
 ghost use Rattle.ci_elf.specs.Executables.{in_text as has_text, IsTextWord};
-ghost use Rattle.ci_machine.specs.Programs.{in_text};
 ghost use Rattle.ci_emu.specs.Fetched.{cycles_on, IsTextBelow};
 ghost use Rattle.ci_emu.specs.Profiles.{count_at};
 ghost use Rattle.ci_emu.specs.TableLatencies.{latencies_on};
 ghost use Rattle.ci_emu.specs.Lines.{AreKept, AreKnown};
 ghost use Rattle.ci_emu.specs.PlacedRanges.{ArePlaced};
 ghost use Rattle.ci_emu.specs.declared.steps.Outcome.TheVariants.{Next};
-ghost use Rattle.ci_emu.specs.Steps.{IsStep, IsReached};
+ghost use Rattle.ci_emu.specs.Steps.{IsReached};
 
 use crate::actions::Action;
 use crate::counts::{Counts, PlacedRange};
@@ -174,36 +173,22 @@ fn enter<M: Machine>(
 /// One step, counted, where its line is at hand and nothing else has to be noted. Says whether it was made: nothing
 /// changes where it was not.
 #[inline(always)]
-fn quick_step<M: Machine>(machine: &M, state: &mut State, table: &Table, tally: &mut Tally) -> bool
-    requires text { tally.old.counts.places ≡ (program_of state.old).text }
-    requires room { IsTextWord (program_of state.old).text (state_of state.old).pc
-        → count_at tally.old.counts (state_of state.old).pc < 2 ^ 32 }
-    requires cheap { tally.old.cost ≤ 2 ^ 64 - 2 ^ 32 }
-    requires nearby { ArePlaced tally.old.counts.places tally.old.nearby }
-    requires many { length tally.old.cache.words.items ≡ length tally.old.counts.by_place.items }
-    requires behind { IsTextBelow (in_text (program_of state.old)) tally.old.touches.end }
-    requires kept { AreKept (cycles_on (M.has_unit machine.now) (M.has_cread machine.now)
-        (M.unit_cycles machine.now) table.now) tally.old.touches.changes tally.old.cache.words.items }
-    requires known { (meaning : Meaning) → M.meanings machine.now meaning
-        → AreKnown meaning (program_of state.old) (state_of state.old).core.memory
-        tally.old.touches.changes tally.old.cache.words.items }
-    ensures stepped { result ≡ true
-        → IsStep (M.meanings machine.now) (program_of state.old) (state_of state.old) (state_of state.new) Next }
-    ensures counted { result ≡ true → (meaning : Meaning) → M.meanings machine.now meaning
-        → IsStepCounted meaning (program_of state.old) (latencies_on table.now (M.unit_cycles machine.now))
-        (state_of state.old) tally.old tally.new }
-    ensures entered { result ≡ true → (address : ℕ) → IsTextWord (program_of state.old).text address
-        → count_at tally.new.counts address
-        ≡ count_at tally.old.counts address + (if (state_of state.old).pc == address then 1 else 0) }
-    ensures known { result ≡ true → (meaning : Meaning) → M.meanings machine.now meaning
-        → AreKnown meaning (program_of state.old) (state_of state.new).core.memory
-        tally.old.touches.changes tally.old.cache.words.items }
+pub(crate) fn quick_step<M: Machine>(
+    machine: &M,
+    state: &mut State,
+    table: &Table,
+    tally: &mut Tally,
+) -> bool
+    requires { HasRoom (M.meanings machine.now) (cycles_on (M.has_unit machine.now) (M.has_cread machine.now)
+        (M.unit_cycles machine.now) table.now) (program_of state.old) (state_of state.old) tally.old }
+    ensures made { result ≡ true → IsCountedStep (M.meanings machine.now)
+        (latencies_on table.now (M.unit_cycles machine.now)) (program_of state.old)
+        (state_of state.old) tally.old (state_of state.new) tally.new Next }
+    ensures entered { result ≡ true → HasEntered (cycles_on (M.has_unit machine.now) (M.has_cread machine.now)
+        (M.unit_cycles machine.now) table.now) (program_of state.old) (state_of state.old) tally.old tally.new }
     ensures stayed { result ≡ false → state_of state.new ≡ state_of state.old }
     ensures uncounted { result ≡ false → tally.new ≡ tally.old }
     ensures program { program_of state.new ≡ program_of state.old }
-    ensures cost { tally.new.cost < tally.old.cost + 2 ^ 32 }
-    ensures text { tally.new.counts.places ≡ tally.old.counts.places }
-    ensures many { length tally.new.counts.by_place.items ≡ length tally.old.counts.by_place.items }
     ensures cache { tally.new.cache ≡ tally.old.cache }
     ensures nearby { tally.new.nearby ≡ tally.old.nearby }
     ensures touches { tally.new.touches ≡ tally.old.touches }
@@ -228,48 +213,22 @@ fn quick_step<M: Machine>(machine: &M, state: &mut State, table: &Table, tally: 
 /// Where memory runs out, the state is as before the step or behind it.
 #[cold]
 #[inline(never)]
-fn noted_step<M: Machine>(
+pub(crate) fn noted_step<M: Machine>(
     machine: &M,
     state: &mut State,
     table: &Table,
     tally: &mut Tally,
 ) -> Result<Outcome, AllocError>
-    requires text { tally.old.counts.places ≡ (program_of state.old).text }
-    requires room { IsTextWord (program_of state.old).text (state_of state.old).pc
-        → count_at tally.old.counts (state_of state.old).pc < 2 ^ 32 }
-    requires cheap { tally.old.cost ≤ 2 ^ 64 - 2 ^ 32 }
-    requires nearby { ArePlaced tally.old.counts.places tally.old.nearby }
-    requires many { length tally.old.cache.words.items ≡ length tally.old.counts.by_place.items }
-    requires behind { IsTextBelow (in_text (program_of state.old)) tally.old.touches.end }
-    requires begun { 0 < tally.old.touches.changes }
-    requires few { tally.old.touches.changes ≤ 2 ^ 33 }
-    requires kept { AreKept (cycles_on (M.has_unit machine.now) (M.has_cread machine.now)
-        (M.unit_cycles machine.now) table.now) tally.old.touches.changes tally.old.cache.words.items }
-    requires known { (meaning : Meaning) → M.meanings machine.now meaning
-        → AreKnown meaning (program_of state.old) (state_of state.old).core.memory
-        tally.old.touches.changes tally.old.cache.words.items }
-    ensures stepped { IfOk result
-        (IsStep (M.meanings machine.now) (program_of state.old) (state_of state.old) (state_of state.new)) }
-    ensures counted { OnOk result ((meaning : Meaning) → M.meanings machine.now meaning
-        → IsStepCounted meaning (program_of state.old) (latencies_on table.now (M.unit_cycles machine.now))
-        (state_of state.old) tally.old tally.new) }
-    ensures cost { tally.new.cost < tally.old.cost + 2 ^ 32 }
-    ensures entered { (address : ℕ) → IsTextWord (program_of state.old).text address → count_at tally.new.counts address
-        ≡ count_at tally.old.counts address + (if (state_of state.old).pc == address then 1 else 0) }
+    requires { HasRoom (M.meanings machine.now) (cycles_on (M.has_unit machine.now) (M.has_cread machine.now)
+        (M.unit_cycles machine.now) table.now) (program_of state.old) (state_of state.old) tally.old }
+    ensures made { IfOk result (IsCountedStep (M.meanings machine.now)
+        (latencies_on table.now (M.unit_cycles machine.now)) (program_of state.old)
+        (state_of state.old) tally.old (state_of state.new) tally.new) }
+    ensures entered { HasEntered (cycles_on (M.has_unit machine.now) (M.has_cread machine.now)
+        (M.unit_cycles machine.now) table.now) (program_of state.old) (state_of state.old) tally.old tally.new }
     ensures refused { OnErr result
         (IsReached (M.meanings machine.now) (program_of state.old) (state_of state.old) 1 (state_of state.new)) }
     ensures program { program_of state.new ≡ program_of state.old }
-    ensures text { tally.new.counts.places ≡ tally.old.counts.places }
-    ensures nearby { ArePlaced tally.old.counts.places tally.new.nearby }
-    ensures many { length tally.new.cache.words.items ≡ length tally.new.counts.by_place.items }
-    ensures end { tally.new.touches.end ≡ tally.old.touches.end }
-    ensures later { tally.old.touches.changes ≤ tally.new.touches.changes }
-    ensures few { tally.new.touches.changes ≤ tally.old.touches.changes + 1 }
-    ensures kept { AreKept (cycles_on (M.has_unit machine.now) (M.has_cread machine.now)
-        (M.unit_cycles machine.now) table.now) tally.new.touches.changes tally.new.cache.words.items }
-    ensures known { OnOk result ((meaning : Meaning) → M.meanings machine.now meaning
-        → AreKnown meaning (program_of state.old) (state_of state.new).core.memory
-        tally.new.touches.changes tally.new.cache.words.items) }
 {
     let Some(place) = enter(
         machine,
@@ -287,71 +246,6 @@ fn noted_step<M: Machine>(
     let outcome = execute(machine, state, line.word, line.insn(), &mut tally.touches)?;
     note(&mut tally.targets, target(state, &line.action, outcome))?;
     Ok(outcome)
-}
-
-/// The same answer, made anew: so that of a quick step is known in the code, and no look at it is left.
-#[inline(always)]
-fn retold(answer: Result<Outcome, AllocError>) -> Result<Outcome, AllocError>
-    ensures { result ≡ answer }
-{
-    match answer {
-        Ok(Outcome::Next) => Ok(Outcome::Next),
-        Ok(Outcome::Ended(end)) => Ok(Outcome::Ended(end)),
-        Err(error) => Err(error),
-    }
-}
-
-/// One step, counted.
-///
-/// Where memory runs out, the state is as before the step or behind it.
-#[inline(always)]
-pub(crate) fn counted_step<M: Machine>(
-    machine: &M,
-    state: &mut State,
-    table: &Table,
-    tally: &mut Tally,
-) -> Result<Outcome, AllocError>
-    requires text { tally.old.counts.places ≡ (program_of state.old).text }
-    requires room { IsTextWord (program_of state.old).text (state_of state.old).pc
-        → count_at tally.old.counts (state_of state.old).pc < 2 ^ 32 }
-    requires cheap { tally.old.cost ≤ 2 ^ 64 - 2 ^ 32 }
-    requires nearby { ArePlaced tally.old.counts.places tally.old.nearby }
-    requires many { length tally.old.cache.words.items ≡ length tally.old.counts.by_place.items }
-    requires behind { IsTextBelow (in_text (program_of state.old)) tally.old.touches.end }
-    requires begun { 0 < tally.old.touches.changes }
-    requires few { tally.old.touches.changes ≤ 2 ^ 33 }
-    requires kept { AreKept (cycles_on (M.has_unit machine.now) (M.has_cread machine.now)
-        (M.unit_cycles machine.now) table.now) tally.old.touches.changes tally.old.cache.words.items }
-    requires known { (meaning : Meaning) → M.meanings machine.now meaning
-        → AreKnown meaning (program_of state.old) (state_of state.old).core.memory
-        tally.old.touches.changes tally.old.cache.words.items }
-    ensures stepped { IfOk result
-        (IsStep (M.meanings machine.now) (program_of state.old) (state_of state.old) (state_of state.new)) }
-    ensures counted { OnOk result ((meaning : Meaning) → M.meanings machine.now meaning
-        → IsStepCounted meaning (program_of state.old) (latencies_on table.now (M.unit_cycles machine.now))
-        (state_of state.old) tally.old tally.new) }
-    ensures cost { tally.new.cost < tally.old.cost + 2 ^ 32 }
-    ensures entered { (address : ℕ) → IsTextWord (program_of state.old).text address → count_at tally.new.counts address
-        ≡ count_at tally.old.counts address + (if (state_of state.old).pc == address then 1 else 0) }
-    ensures refused { OnErr result
-        (IsReached (M.meanings machine.now) (program_of state.old) (state_of state.old) 1 (state_of state.new)) }
-    ensures program { program_of state.new ≡ program_of state.old }
-    ensures text { tally.new.counts.places ≡ tally.old.counts.places }
-    ensures nearby { ArePlaced tally.old.counts.places tally.new.nearby }
-    ensures many { length tally.new.cache.words.items ≡ length tally.new.counts.by_place.items }
-    ensures end { tally.new.touches.end ≡ tally.old.touches.end }
-    ensures later { tally.old.touches.changes ≤ tally.new.touches.changes }
-    ensures few { tally.new.touches.changes ≤ tally.old.touches.changes + 1 }
-    ensures kept { AreKept (cycles_on (M.has_unit machine.now) (M.has_cread machine.now)
-        (M.unit_cycles machine.now) table.now) tally.new.touches.changes tally.new.cache.words.items }
-    ensures known { OnOk result ((meaning : Meaning) → M.meanings machine.now meaning
-        → AreKnown meaning (program_of state.old) (state_of state.new).core.memory
-        tally.new.touches.changes tally.new.cache.words.items) }
-{
-    if quick_step(machine, state, table, tally) {
-        return Ok(Outcome::Next);
-    }
-    retold(noted_step(machine, state, table, tally))
 }
 
 /// The targets in ascending order.

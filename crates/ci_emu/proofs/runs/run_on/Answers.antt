@@ -1,20 +1,23 @@
-use Rattle.std.proofs.Common.{ℕ, ◌≤◌, sym, subst, ◌∙◌, refl, arith}
+use Rattle.std.proofs.Common.{◌≡◌, ℕ, ◌≤◌, false, sym, subst, ◌∙◌, refl, arith}
 use Rattle.ci_elf.specs.Executables.{in_text as has_text}
-use Rattle.ci_machine.specs.Programs.{in_text}
+use Rattle.ci_machine.specs.Programs.{Program, State}
 use Rattle.ci_machine.specs.States.{program_of, state_of}
+use Rattle.ci_emu.specs.CountedSteps.{IsCountedStep}
 use Rattle.ci_emu.specs.Fetched.{cycles_on, IsTextBelow}
-use Rattle.ci_emu.specs.Lines.{AreKnown}
 use Rattle.ci_emu.specs.PlacedRanges.{ArePlaced}
 use Rattle.ci_emu.specs.TableLatencies.{latencies_on}
+use Rattle.ci_emu.specs.declared.tally.Tally.{Tally}
 use Rattle.ci_emu.proofs.KnownLines.{later_kept, none_known}
 use Rattle.ci_emu.proofs.RunCounts.{none_counted}
-use Rattle.ci_emu.proofs.RunSteps.{on_error, stepped_to, reached_more, reached_next, counted_more, ended_profile}
-use Rattle.ci_emu.proofs.RunSteps.{ended_state, has_room, few_more, whole_profile, whole_state}
+use Rattle.ci_emu.proofs.RunSteps.{on_error, reached_more, reached_next, ended_profile, ended_state, whole_profile, whole_state}
+use Rattle.ci_emu.proofs.RunsSoFar.{IsRunTo, unmade, room_for_one, one_step_more}
+use Rattle.ci_emu.proofs.runs.run_on.Given.{Over}
 use Rattle.ci_emu.proofs.runs.run_on.Goals as goal
+use Rattle.ci_emu.proofs.runs.run_on.Goals.{After-quick_step}
 
 pub loop-i-init : goal.loop-i-init
 loop-i-init g c = let fresh = c.in_ok-tally.ensures.fresh in record {
-  program = refl;
+  same = refl;
   text = c.in_ok-tally.ensures.text ∙ c.text.ensures.value;
   cost = subst (λ (n : ℕ). n ≤ 0) (sym fresh.cost) (omega arith);
   nearby = subst (λ ranges. ArePlaced ranges c.in_ok-tally.tally.nearby) c.text.ensures.value c.in_ok-tally.ensures.nearby;
@@ -23,11 +26,13 @@ loop-i-init g c = let fresh = c.in_ok-tally.ensures.fresh in record {
   begun = omega (arith, c.in_ok-tally.ensures.changes);
   changes = omega (arith, c.in_ok-tally.ensures.changes);
   kept = later_kept
-      (cycles_on (g.M.Machine.has_unit c.args.machine.now) (g.M.Machine.has_cread c.args.machine.now) (g.M.Machine.unit_cycles c.args.machine.now) c.args.table.now)
+      (cycles_on (g.M.Machine.has_unit c.args.machine.now) (g.M.Machine.has_cread c.args.machine.now)
+      (g.M.Machine.unit_cycles c.args.machine.now) c.args.table.now)
       c.in_ok-tally.tally.cache.words.items 0 c.in_ok-tally.tally.touches.changes (omega (arith, c.in_ok-tally.ensures.changes)) c.in_ok-tally.ensures.kept;
   known = λ meaning means.
       none_known meaning (program_of c.args.state.now) (state_of c.args.state.now).core.memory
-      (cycles_on (g.M.Machine.has_unit c.args.machine.now) (g.M.Machine.has_cread c.args.machine.now) (g.M.Machine.unit_cycles c.args.machine.now) c.args.table.now)
+      (cycles_on (g.M.Machine.has_unit c.args.machine.now) (g.M.Machine.has_cread c.args.machine.now)
+      (g.M.Machine.unit_cycles c.args.machine.now) c.args.table.now)
       c.in_ok-tally.tally.cache.words.items 0 c.in_ok-tally.tally.touches.changes (omega (arith, c.in_ok-tally.ensures.changes)) c.in_ok-tally.ensures.kept;
   few = λ address word. subst (λ (n : ℕ). n ≤ 0) (sym (fresh.entries address)) (omega arith);
   reached = λ meaning means. refl;
@@ -36,83 +41,86 @@ loop-i-init g c = let fresh = c.in_ok-tally.ensures.fresh in record {
       (state_of c.args.state.now) _ fresh;
 }
 
-pub counted_step-requires-clause-room : goal.counted_step-requires-clause-room
-counted_step-requires-clause-room g c =
-    has_room (program_of c.args.state.now) (program_of c.loop-i.state) c.loop-i.invariant.program c.loop-i.i _ c.loop-i.invariant.few (omega arith) _
+pub quick_step-requires : goal.quick_step-requires
+quick_step-requires g c = room_for_one _ _ _ _ _ _ _ _ _ c.loop-i.invariant (omega arith)
 
-pub counted_step-requires-clause-nearby : goal.counted_step-requires-clause-nearby
-counted_step-requires-clause-nearby g c = subst (λ ranges. ArePlaced ranges c.loop-i.tally.nearby) (sym c.loop-i.invariant.text) c.loop-i.invariant.nearby
+-- ---- a quick step
 
-pub counted_step-requires-clause-behind : goal.counted_step-requires-clause-behind
-counted_step-requires-clause-behind g c =
-    subst (λ p. IsTextBelow (in_text p) c.loop-i.tally.touches.end) (sym c.loop-i.invariant.program) c.loop-i.invariant.behind
+pub loop-i-preserved-then-quick_step : goal.loop-i-preserved-then-quick_step
+loop-i-preserved-then-quick_step g c =
+    one_step_more _ _ _ _ _ _ _ _ _ c.loop-i.invariant _ _ _ c.quick_step.ensures.program
+    (c.quick_step.ensures.made c.if-quick_step.true) (c.quick_step.ensures.entered c.if-quick_step.true)
 
-pub counted_step-requires-clause-known : goal.counted_step-requires-clause-known
-counted_step-requires-clause-known g c meaning means =
-    subst (λ p. AreKnown meaning p (state_of c.loop-i.state).core.memory c.loop-i.tally.touches.changes c.loop-i.tally.cache.words.items)
-    (sym c.loop-i.invariant.program) (c.loop-i.invariant.known meaning means)
+-- ---- another one
+
+abbrev Here : (g : Over) (c : After-quick_step g) → Program → State → Tally → Type 0
+Here g c program state tally =
+    IsRunTo (g.M.Machine.meanings c.args.machine.now)
+    (cycles_on (g.M.Machine.has_unit c.args.machine.now) (g.M.Machine.has_cread c.args.machine.now)
+    (g.M.Machine.unit_cycles c.args.machine.now) c.args.table.now)
+    (latencies_on c.args.table.now (g.M.Machine.unit_cycles c.args.machine.now)) (program_of c.args.state.now) (state_of c.args.state.now) c.loop-i.i
+    program state tally
+
+-- it begins where the quick one would have
+so_far : (g : Over) (c : After-quick_step g) → c.quick_step.result ≡ false
+    → Here g c (program_of c.quick_step.new.state) (state_of c.quick_step.new.state) c.quick_step.new.tally
+so_far g c other =
+    unmade _ _ _ _ _ _ (program_of c.loop-i.state) (state_of c.loop-i.state) c.loop-i.tally _ _ _ c.loop-i.invariant
+    c.quick_step.ensures.program (c.quick_step.ensures.stayed other) (c.quick_step.ensures.uncounted other)
+
+pub noted_step-requires : goal.noted_step-requires
+noted_step-requires g c = room_for_one _ _ _ _ _ _ _ _ _ (so_far g (goal.at.noted_step-requires g c).After-quick_step c.if-quick_step.false) (omega arith)
 
 pub loop-i-preserved : goal.loop-i-preserved
-loop-i-preserved g c = record {
-  program = c.in_ok-end.ensures.program ∙ c.loop-i.invariant.program;
-  text = c.in_ok-end.ensures.text ∙ c.loop-i.invariant.text;
-  cost = let more = c.in_ok-end.ensures.cost in let so_far = c.loop-i.invariant.cost in omega arith;
-  nearby = subst (λ ranges. ArePlaced ranges c.counted_step.new.tally.nearby) c.loop-i.invariant.text c.in_ok-end.ensures.nearby;
-  many = c.in_ok-end.ensures.many;
-  behind = subst (IsTextBelow (in_text (program_of c.args.state.now))) (sym c.in_ok-end.ensures.end) c.loop-i.invariant.behind;
-  begun = omega (arith, c.loop-i.invariant.begun, c.in_ok-end.ensures.later);
-  changes = omega (arith, c.loop-i.invariant.changes, c.in_ok-end.ensures.few);
-  kept = c.in_ok-end.ensures.kept;
-  known = λ meaning means.
-      subst (λ p. AreKnown meaning p (state_of c.counted_step.new.state).core.memory c.counted_step.new.tally.touches.changes
-      c.counted_step.new.tally.cache.words.items) c.loop-i.invariant.program (c.in_ok-end.ensures.known meaning means);
-  few = few_more (program_of c.args.state.now) (program_of c.loop-i.state) c.loop-i.invariant.program c.loop-i.i _ c.loop-i.invariant.few _ _
-      c.in_ok-end.ensures.entered;
-  reached = λ meaning means.
-      rw c.in_default.is at (stepped_to (g.M.Machine.meanings c.args.machine.now) (program_of c.args.state.now) (state_of c.args.state.now) c.loop-i.i
-      (program_of c.loop-i.state) c.loop-i.invariant.program (state_of c.loop-i.state) c.loop-i.invariant.reached
-      _ c.in_ok-end.field-0 c.in_ok-end.ensures.stepped meaning means);
-  counted = counted_more (g.M.Machine.meanings c.args.machine.now) (program_of c.args.state.now) (state_of c.args.state.now) c.loop-i.i
-      (program_of c.loop-i.state) c.loop-i.invariant.program (state_of c.loop-i.state) c.loop-i.invariant.reached
-      _ c.in_ok-end.field-0 c.in_ok-end.ensures.stepped (latencies_on c.args.table.now (g.M.Machine.unit_cycles c.args.machine.now))
-      c.loop-i.tally _ c.loop-i.invariant.counted c.in_ok-end.ensures.counted;
-}
+loop-i-preserved g c =
+    let Means = g.M.Machine.meanings c.args.machine.now in
+    let latencies = latencies_on c.args.table.now (g.M.Machine.unit_cycles c.args.machine.now) in
+    one_step_more _ _ _ _ _ _ _ _ _ (so_far g (goal.at.loop-i-preserved g c).After-quick_step c.if-quick_step.false) _ _ _ c.in_ok-end.ensures.program
+    (subst (IsCountedStep Means latencies (program_of c.quick_step.new.state) (state_of c.quick_step.new.state) c.quick_step.new.tally
+    (state_of c.noted_step.new.state) c.noted_step.new.tally) c.in_default.is c.in_ok-end.ensures.made)
+    c.in_ok-end.ensures.entered
 
 pub returns-in_err-end-clause-refused : goal.returns-in_err-end-clause-refused
 returns-in_err-end-clause-refused g c =
+    let s = so_far g (goal.at.returns-in_err-end-clause-refused g c).After-quick_step c.if-quick_step.false in
     on_error _ (reached_more (g.M.Machine.meanings c.args.machine.now) (program_of c.args.state.now) (state_of c.args.state.now) c.loop-i.i
-    (program_of c.loop-i.state) c.loop-i.invariant.program (state_of c.loop-i.state) c.loop-i.invariant.reached
+    (program_of c.quick_step.new.state) s.same (state_of c.quick_step.new.state) s.reached
     c.args.n 1 _ (omega arith) c.in_err-end.ensures.refused)
 
 pub returns-in-Ended-clause-state : goal.returns-in-Ended-clause-state
 returns-in-Ended-clause-state g c =
+    let s = so_far g (goal.at.returns-in-Ended-clause-state g c).After-quick_step c.if-quick_step.false in
     ended_state (g.M.Machine.meanings c.args.machine.now) (program_of c.args.state.now) (state_of c.args.state.now) c.loop-i.i
-    (program_of c.loop-i.state) c.loop-i.invariant.program (state_of c.loop-i.state) c.loop-i.invariant.reached
-    _ c.in_ok-end.field-0 c.in_ok-end.ensures.stepped (latencies_on c.args.table.now (g.M.Machine.unit_cycles c.args.machine.now))
-    c.loop-i.tally c.counted_step.new.tally c.loop-i.invariant.counted c.in_ok-end.ensures.counted c.args.n c.loop-i-test.true c.in-Ended.end c.in-Ended.is _
+    (program_of c.quick_step.new.state) s.same (state_of c.quick_step.new.state) s.reached
+    _ c.in_ok-end.field-0 c.in_ok-end.ensures.made.stepped (latencies_on c.args.table.now (g.M.Machine.unit_cycles c.args.machine.now))
+    c.quick_step.new.tally c.noted_step.new.tally s.counted c.in_ok-end.ensures.made.counted c.args.n c.loop-i-test.true c.in-Ended.end c.in-Ended.is _
 
 pub returns-in-Ended-clause-profile : goal.returns-in-Ended-clause-profile
 returns-in-Ended-clause-profile g c =
+    let s = so_far g (goal.at.returns-in-Ended-clause-profile g c).After-quick_step c.if-quick_step.false in
     ended_profile (g.M.Machine.meanings c.args.machine.now) (program_of c.args.state.now) (state_of c.args.state.now) c.loop-i.i
-    (program_of c.loop-i.state) c.loop-i.invariant.program (state_of c.loop-i.state) c.loop-i.invariant.reached
-    _ c.in_ok-end.field-0 c.in_ok-end.ensures.stepped (latencies_on c.args.table.now (g.M.Machine.unit_cycles c.args.machine.now))
-    c.loop-i.tally c.counted_step.new.tally c.loop-i.invariant.counted c.in_ok-end.ensures.counted c.args.n
+    (program_of c.quick_step.new.state) s.same (state_of c.quick_step.new.state) s.reached
+    _ c.in_ok-end.field-0 c.in_ok-end.ensures.made.stepped (latencies_on c.args.table.now (g.M.Machine.unit_cycles c.args.machine.now))
+    c.quick_step.new.tally c.noted_step.new.tally s.counted c.in_ok-end.ensures.made.counted c.args.n
     c.loop-i-test.true c.in-Ended.end c.in-Ended.is _ c.profile.ensures
 
 pub returns-in-Ended-clause-refused : goal.returns-in-Ended-clause-refused
 returns-in-Ended-clause-refused g c =
+    let s = so_far g (goal.at.returns-in-Ended-clause-refused g c).After-quick_step c.if-quick_step.false in
     on_error _ (reached_next (g.M.Machine.meanings c.args.machine.now) (program_of c.args.state.now) (state_of c.args.state.now) c.loop-i.i
-    (program_of c.loop-i.state) c.loop-i.invariant.program (state_of c.loop-i.state) c.loop-i.invariant.reached
-    _ c.in_ok-end.field-0 c.in_ok-end.ensures.stepped c.args.n c.loop-i-test.true)
+    (program_of c.quick_step.new.state) s.same (state_of c.quick_step.new.state) s.reached
+    _ c.in_ok-end.field-0 c.in_ok-end.ensures.made.stepped c.args.n c.loop-i-test.true)
+
+-- ---- all steps
 
 pub returns-clause-state : goal.returns-clause-state
 returns-clause-state g c =
     whole_state (g.M.Machine.meanings c.args.machine.now) (program_of c.args.state.now) (state_of c.args.state.now) c.loop-i.i
-    (program_of c.loop-i.state) c.loop-i.invariant.program (state_of c.loop-i.state) c.loop-i.invariant.reached c.args.n (omega arith) _
+    (program_of c.loop-i.state) c.loop-i.invariant.same (state_of c.loop-i.state) c.loop-i.invariant.reached c.args.n (omega arith) _
 
 pub returns-clause-profile : goal.returns-clause-profile
 returns-clause-profile g c =
     whole_profile (g.M.Machine.meanings c.args.machine.now) (program_of c.args.state.now) (state_of c.args.state.now) c.loop-i.i
-    (program_of c.loop-i.state) c.loop-i.invariant.program (state_of c.loop-i.state) c.loop-i.invariant.reached
+    (program_of c.loop-i.state) c.loop-i.invariant.same (state_of c.loop-i.state) c.loop-i.invariant.reached
     (latencies_on c.args.table.now (g.M.Machine.unit_cycles c.args.machine.now))
     c.loop-i.tally c.loop-i.invariant.counted c.args.n (omega arith) _ c.profile-2.ensures

@@ -37,51 +37,44 @@ takes g c =
     subst (IsTimed (cycles g c)) (sym c.index-line.ensures) (c.in-Some.ensures.kept c.in-Some.place (line g c) c.in-Some.ensures.within).0
     ∙ ap (cycles g c (line g c).word) (sym c.insn.ensures)
 
-pub returns-clause-stepped : goal.returns-clause-stepped
-returns-clause-stepped g c meaning means =
-    let is = fetches g (goal.at.returns-clause-stepped g c).After-insn meaning means in search rules
-
 pub returns-in_err-note-clause-refused : goal.returns-in_err-note-clause-refused
 returns-in_err-note-clause-refused g c =
     behind_one (program_of c.args.state.now) (state_of c.args.state.now) (g.M.Machine.meanings c.args.machine.now) _ _
     (fetches g (goal.at.returns-in_err-note-clause-refused g c).After-insn)
     _ _ c.in_ok-outcome.ensures.executed
 
-pub returns-clause-counted : goal.returns-clause-counted
-returns-clause-counted g c meaning means =
-    let is = fetches g (goal.at.returns-clause-counted g c).After-insn meaning means in
-    let cost = takes g (goal.at.returns-clause-counted g c).After-insn in
-    let moves = same_moved (g.M.Machine.has_unit c.args.machine.now) (g.M.Machine.has_cread c.args.machine.now) (line g (goal.at.returns-clause-counted g c).After-insn).word
-    (state_of c.args.state.now).core c.insn.result in
-    let leads = same_target (g.M.Machine.has_unit c.args.machine.now) (g.M.Machine.has_cread c.args.machine.now) (line g (goal.at.returns-clause-counted g c).After-insn).word
-    c.in_ok-outcome.outcome (state_of c.execute.new.state).pc c.insn.result in
-    search rules
-
-pub returns-clause-known : goal.returns-clause-known
-returns-clause-known g c meaning means =
-    let program = program_of c.args.state.now in
-    let state = state_of c.args.state.now in
-    let insn = c.insn.result in
-    let changes = same_change (g.M.Machine.has_unit c.args.machine.now) (g.M.Machine.has_cread c.args.machine.now) c.index-line.result.now.word
-    (in_text program) state.core insn in
-    subst (λ (n : ℕ). AreKnown meaning program (state_of c.execute.new.state).core.memory n c.enter.new.cache.words.items)
-    (sym c.execute.ensures.changes)
-    (behind_step meaning program (cycles g (goal.at.returns-clause-known g c).After-insn) c.enter.new.cache.words.items
-    c.args.tally.now.touches.changes state (state_of c.execute.new.state)
-    (standing (g.M.Machine.has_unit c.args.machine.now) (g.M.Machine.has_cread c.args.machine.now) c.index-line.result.now.word insn)
-    c.in_ok-outcome.outcome (may_change (in_text program) insn state.core) changes
-    c.in-Some.ensures.kept (c.in_ok-outcome.ensures.executed meaning means)
-    (c.in-Some.ensures.known meaning (c.requires.known meaning means)))
+pub returns-clause-made : goal.returns-clause-made
+returns-clause-made g c = let s = (goal.at.returns-clause-made g c).After-insn in record {
+  stepped = λ meaning means. let is = fetches g s meaning means in search rules;
+  counted = λ meaning means.
+      let is = fetches g s meaning means in
+      let cost = takes g s in
+      let moves = same_moved (g.M.Machine.has_unit c.args.machine.now) (g.M.Machine.has_cread c.args.machine.now) (line g s).word
+      (state_of c.args.state.now).core c.insn.result in
+      let leads = same_target (g.M.Machine.has_unit c.args.machine.now) (g.M.Machine.has_cread c.args.machine.now) (line g s).word
+      c.in_ok-outcome.outcome (state_of c.execute.new.state).pc c.insn.result in
+      search rules;
+  known = λ meaning means.
+      let program = program_of c.args.state.now in
+      let state = state_of c.args.state.now in
+      let insn = c.insn.result in
+      let changes = same_change (g.M.Machine.has_unit c.args.machine.now) (g.M.Machine.has_cread c.args.machine.now) c.index-line.result.now.word
+      (in_text program) state.core insn in
+      subst (λ (n : ℕ). AreKnown meaning program (state_of c.execute.new.state).core.memory n c.enter.new.cache.words.items)
+      (sym c.execute.ensures.changes)
+      (behind_step meaning program (cycles g s) c.enter.new.cache.words.items
+      c.args.tally.now.touches.changes state (state_of c.execute.new.state)
+      (standing (g.M.Machine.has_unit c.args.machine.now) (g.M.Machine.has_cread c.args.machine.now) c.index-line.result.now.word insn)
+      c.in_ok-outcome.outcome (may_change (in_text program) insn state.core) changes
+      c.in-Some.ensures.kept (c.in_ok-outcome.ensures.executed meaning means)
+      (c.in-Some.ensures.known meaning (c.requires.known meaning means)));
+}
 
 -- ---- where no word is fetched
 
-pub returns-in_default-clause-stepped : goal.returns-in_default-clause-stepped
-returns-in_default-clause-stepped g c meaning means =
-    let is = c.in_default.ensures.fetched meaning in search rules
-
-pub returns-in_default-clause-counted : goal.returns-in_default-clause-counted
-returns-in_default-clause-counted g c meaning means =
-    let is = c.in_default.ensures.fetched meaning in search rules
-
-pub returns-in_default-clause-known : goal.returns-in_default-clause-known
-returns-in_default-clause-known g c meaning means = c.enter.ensures.known meaning (c.requires.known meaning means)
+pub returns-in_default-clause-made : goal.returns-in_default-clause-made
+returns-in_default-clause-made g c = record {
+  stepped = λ meaning means. let is = c.in_default.ensures.fetched meaning in search rules;
+  counted = λ meaning means. let is = c.in_default.ensures.fetched meaning in search rules;
+  known = λ meaning means. c.enter.ensures.known meaning (c.requires.known meaning means);
+}

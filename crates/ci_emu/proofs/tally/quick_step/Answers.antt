@@ -1,5 +1,5 @@
 -- A line that is known holds what would be fetched, and what it does was done.
-use Rattle.std.proofs.Common.{◌≡◌, ◌∙◌, ◌<◌, ◌^◌, ℕ, Some, ap, rules, sym, subst, length, add-zero}
+use Rattle.std.proofs.Common.{◌≡◌, ◌∙◌, ◌<◌, ◌^◌, ℕ, Some, ap, arith, refl, rules, sym, subst, length, add-zero}
 use Rattle.ci_machine.specs.States.{program_of, state_of}
 use Rattle.ci_machine.specs.Steps.{Meaning, fetched}
 use Rattle.ci_machine.specs.Programs.{in_text}
@@ -59,45 +59,50 @@ add-requires-clause-room g c =
     let same = count_here (program_of c.args.state.now) c.args.tally.now.counts c.requires.text _ _ is in
     subst (λ (n : ℕ). n < 2 ^ 32) same (c.requires.room (text_word _ _ _ is))
 
-pub returns-clause-stepped : goal.returns-clause-stepped
-returns-clause-stepped g c = λ e.
-    made (program_of c.args.state.now) (state_of c.args.state.now) (g.M.Machine.meanings c.args.machine.now) _ _
-    (fetches g (goal.at.returns-clause-stepped g c).After-index-line) Next
-    (λ meaning means. c.perform.ensures.performed c.if-not-perform.false c.index-line.result.now.word meaning means)
-
-pub returns-clause-counted : goal.returns-clause-counted
-returns-clause-counted g c = λ e meaning means.
-    let is = fetches g (goal.at.returns-clause-counted g c).After-index-line meaning means in
-    let cost = takes g (goal.at.returns-clause-counted g c).After-index-line in
-    let insn = insn_of c.index-line.result.now.action in
-    let moves = same_moved (g.M.Machine.has_unit c.args.machine.now) (g.M.Machine.has_cread c.args.machine.now)
-    c.index-line.result.now.word (state_of c.args.state.now).core insn in
-    let leads = same_target (g.M.Machine.has_unit c.args.machine.now) (g.M.Machine.has_cread c.args.machine.now)
-    c.index-line.result.now.word Next (state_of c.perform.new.state).pc insn in
-    let performed = c.perform.ensures.performed c.if-not-perform.false c.index-line.result.now.word meaning means in
-    let touched = c.perform.ensures.touched c.if-not-perform.false in
-    let told = told_before c.args.tally.now.targets (target_of insn Next (state_of c.perform.new.state).pc)
-    (c.perform.ensures.led c.if-not-perform.false) in
-    let entries = entered (program_of c.args.state.now) c.args.tally.now.counts c.requires.text c.add.new.self _ _
-    (here g (goal.at.returns-clause-counted g c).After-index-line) c.in-Some.ensures.within c.add.ensures.places c.add.ensures.counted in
-    search rules
+pub returns-clause-made : goal.returns-clause-made
+returns-clause-made g c = λ e.
+    let s = (goal.at.returns-clause-made g c).After-index-line in record {
+      stepped = made (program_of c.args.state.now) (state_of c.args.state.now) (g.M.Machine.meanings c.args.machine.now) _ _ (fetches g s) Next
+          (λ meaning means. c.perform.ensures.performed c.if-not-perform.false c.index-line.result.now.word meaning means);
+      counted = λ meaning means.
+          let is = fetches g s meaning means in
+          let cost = takes g s in
+          let insn = insn_of c.index-line.result.now.action in
+          let moves = same_moved (g.M.Machine.has_unit c.args.machine.now) (g.M.Machine.has_cread c.args.machine.now)
+          c.index-line.result.now.word (state_of c.args.state.now).core insn in
+          let leads = same_target (g.M.Machine.has_unit c.args.machine.now) (g.M.Machine.has_cread c.args.machine.now)
+          c.index-line.result.now.word Next (state_of c.perform.new.state).pc insn in
+          let performed = c.perform.ensures.performed c.if-not-perform.false c.index-line.result.now.word meaning means in
+          let touched = c.perform.ensures.touched c.if-not-perform.false in
+          let told = told_before c.args.tally.now.targets (target_of insn Next (state_of c.perform.new.state).pc)
+          (c.perform.ensures.led c.if-not-perform.false) in
+          let entries = entered (program_of c.args.state.now) c.args.tally.now.counts c.requires.text c.add.new.self _ _
+          (here g s) c.in-Some.ensures.within c.add.ensures.places c.add.ensures.counted in
+          search rules;
+      known = λ meaning means.
+          let program = program_of c.args.state.now in
+          let state = state_of c.args.state.now in
+          let insn = insn_of c.index-line.result.now.action in
+          let word = c.index-line.result.now.word in
+          let lines = c.args.tally.now.cache.words.items in
+          subst (λ (n : ℕ). AreKnown meaning program (state_of c.perform.new.state).core.memory n lines) (add-zero c.args.tally.now.touches.changes)
+          (behind_step meaning program (cycles g s) lines c.args.tally.now.touches.changes state (state_of c.perform.new.state)
+          (standing (g.M.Machine.has_unit c.args.machine.now) (g.M.Machine.has_cread c.args.machine.now) word insn) Next false
+          (same_change (g.M.Machine.has_unit c.args.machine.now) (g.M.Machine.has_cread c.args.machine.now) word (in_text program) state.core insn
+          ∙ c.perform.ensures.changes c.if-not-perform.false)
+          c.requires.kept (c.perform.ensures.performed c.if-not-perform.false word meaning means) (c.requires.known meaning means));
+    }
 
 pub returns-clause-entered : goal.returns-clause-entered
-returns-clause-entered g c = λ e.
-    entered (program_of c.args.state.now) c.args.tally.now.counts c.requires.text _ _ _
-    (here g (goal.at.returns-clause-entered g c).After-index-line) c.in-Some.ensures.within c.add.ensures.places c.add.ensures.counted
-
-pub returns-clause-known : goal.returns-clause-known
-returns-clause-known g c = λ e meaning means.
-    let program = program_of c.args.state.now in
-    let state = state_of c.args.state.now in
-    let insn = insn_of c.index-line.result.now.action in
-    let word = c.index-line.result.now.word in
-    let lines = c.args.tally.now.cache.words.items in
-    subst (λ (n : ℕ). AreKnown meaning program (state_of c.perform.new.state).core.memory n lines) (add-zero c.args.tally.now.touches.changes)
-    (behind_step meaning program (cycles g (goal.at.returns-clause-known g c).After-index-line) lines
-    c.args.tally.now.touches.changes state (state_of c.perform.new.state)
-    (standing (g.M.Machine.has_unit c.args.machine.now) (g.M.Machine.has_cread c.args.machine.now) word insn) Next false
-    (same_change (g.M.Machine.has_unit c.args.machine.now) (g.M.Machine.has_cread c.args.machine.now) word (in_text program) state.core insn
-    ∙ c.perform.ensures.changes c.if-not-perform.false)
-    c.requires.kept (c.perform.ensures.performed c.if-not-perform.false word meaning means) (c.requires.known meaning means))
+returns-clause-entered g c = λ e. record {
+  entered = entered (program_of c.args.state.now) c.args.tally.now.counts c.requires.text _ _ _
+      (here g (goal.at.returns-clause-entered g c).After-index-line) c.in-Some.ensures.within c.add.ensures.places c.add.ensures.counted;
+  cost = omega arith;
+  text = c.add.ensures.places;
+  nearby = c.requires.nearby;
+  many = c.requires.many ∙ sym c.add.ensures.many;
+  end = refl;
+  later = omega arith;
+  few = omega arith;
+  kept = c.requires.kept;
+}
