@@ -3,3 +3,4 @@ pub mod LogLaws
 pub mod SearchLaws
 pub mod AnswerLaws
 pub mod EnoughLaws
+pub mod WaitingLaws

@@ -2,3 +2,4 @@ pub mod Answered
 pub mod Branches
 pub mod Searched
 pub mod Trees
+pub mod Waiting

@@ -1,5 +1,5 @@
 //! The search.
-ghost use Rattle.std.specs.Prelude.{◌≡◌, ◌≢◌, ◌↔◌, ℕ, suc, ◌≤◌, ◌-◌, ◌^◌, IsTrue, [], MatchOption, Some, None};
+ghost use Rattle.std.specs.Prelude.{◌≡◌, ◌≢◌, ◌↔◌, ℕ, suc, ◌≤◌, ◌+◌, ◌-◌, ◌^◌, IsTrue, [], MatchOption, Some, None};
 ghost use Rattle.std.specs.Prelude.{pos};
 ghost use Rattle.std.specs.FinMap as map;
 ghost use Rattle.ci_region.specs.BoundedMap.{used};
@@ -11,9 +11,10 @@ ghost use Rattle.ci_log.specs.declared.flattening.LogNode.{LogNode};
 ghost use Rattle.ci_search.specs.Answered.{free, IsAnswer, IsSpent, IsOptimal};
 ghost use Rattle.ci_search.specs.Searched.{IsReady, IsGivenUp};
 ghost use Rattle.ci_search.specs.Trees.{IsSearched, IsSearchOf, IsReadyFor, IsSearchWith, answer_of};
+ghost use Rattle.ci_search.specs.Waiting.{AreKeptBelow};
 
 use crate::leaves::{improve, pruning_item, pruning_with};
-use crate::trees::branch;
+use crate::trees::{Pending, branches};
 use ci_check::needs_more;
 use ci_cut::{Delays, Graph, GraphRows, Incumbent, Limits, PrefixTerms};
 use ci_log::{Child, Item, LogNode};
@@ -83,8 +84,19 @@ fn search_all(
     }
     let rows = GraphRows::of(graph);
     let mut delays = [0; 256];
+    let mut pending = [Child::Leaf(Item::F); 256];
     let mut first = PrefixTerms::none(graph);
-    let Some(root) = search_from(graph, &rows, limits, region, &mut first, &mut delays, best) else {
+    let Some(root) = search_from(
+        graph,
+        &rows,
+        limits,
+        region,
+        &mut first,
+        &mut delays,
+        best,
+        &mut pending,
+        0,
+    ) else {
         region.clear();
         return None;
     };
@@ -113,6 +125,9 @@ fn answer_of(root: Option<Child>, best: Option<Row>, budget: u32) -> Found
 
 /// Searches among the sets that go on from the prefix with these terms, with this best cut so far, and answers the tree
 /// of the prefix. `None` where slots are wanting.
+///
+/// It goes on where nodes are left out, one after the other. What was found where each of them is taken in waits from
+/// number `bottom` on.
 #[cycle(search)]
 fn search_from(
     graph: &Graph,
@@ -122,26 +137,35 @@ fn search_from(
     terms: &mut PrefixTerms,
     delays: &mut Delays,
     best: &mut Incumbent,
+    pending: &mut Pending,
+    bottom: usize,
 ) -> Option<Child>
     requires rows { AreRowsOf graph.now rows.now }
     requires measured { IsMeasured graph.now limits.now best.old }
     requires ready { (prefix : Prefix) × IsReady graph.now limits.now terms.old delays.old best.old prefix }
     requires within { used region.old ≤ region.old.capacity }
+    requires room { bottom + terms.old.place ≤ 256 }
     ensures kept { AreKeptFrom terms.old.place delays.old delays.new }
+    ensures kept_below { AreKeptBelow bottom pending.old pending.new }
     ensures searched { (prefix : Prefix) → IsReady graph.now limits.now terms.old delays.old best.old prefix
         → IsSearchOf graph.now limits.now prefix best.old best.new region.old region.new result }
 {
-    let Some(node) = terms.next(graph, rows) else {
-        improve(graph, limits, best, terms);
-        return Some(Child::Leaf(Item::F));
-    };
-    if let Some(item) = pruning_item(graph, rows, limits, best, terms) {
-        return Some(Child::Leaf(item));
+    let mut top = bottom;
+    'prefixes: loop {
+        let Some(node) = terms.next(graph, rows) else {
+            improve(graph, limits, best, terms);
+            return branches(region, pending, bottom, top, Item::F);
+        };
+        if let Some(item) = pruning_item(graph, rows, limits, best, terms) {
+            return branches(region, pending, bottom, top, item);
+        }
+        let taken = search_first(
+            graph, rows, limits, region, terms, delays, best, pending, top, node,
+        )?;
+        pending[top] = taken;
+        top += 1;
+        terms.leave_out(graph, node);
     }
-    let taken = search_first(graph, rows, limits, region, terms, delays, best, node)?;
-    terms.leave_out(graph, node);
-    let left_out = search_from(graph, rows, limits, region, terms, delays, best)?;
-    branch(region, taken, left_out)
 }
 
 /// Searches among the sets that go on from where the next node is taken in.
@@ -154,20 +178,26 @@ fn search_first(
     terms: &PrefixTerms,
     delays: &mut Delays,
     best: &mut Incumbent,
+    pending: &mut Pending,
+    bottom: usize,
     node: u8,
 ) -> Option<Child>
     requires rows { AreRowsOf graph.now rows.now }
     requires measured { IsMeasured graph.now limits.now best.old }
     requires ready { IsReadyFor graph.now limits.now terms.now delays.old best.old node }
     requires within { used region.old ≤ region.old.capacity }
+    requires room { bottom + node ≤ 256 }
     ensures kept { AreKeptFrom (suc node) delays.old delays.new }
+    ensures kept_below { AreKeptBelow bottom pending.old pending.new }
     ensures searched { IsSearchWith graph.now limits.now terms.now delays.old node best.old best.new
         region.old region.new result }
 {
     if let Some(item) = pruning_with(graph, rows, limits, terms, node) {
         return Some(Child::Leaf(item));
     }
-    search_with(graph, rows, limits, region, terms, delays, best, node)
+    search_with(
+        graph, rows, limits, region, terms, delays, best, pending, bottom, node,
+    )
 }
 
 /// The same with the terms of the prefix that takes the node in.
@@ -182,16 +212,30 @@ fn search_with(
     terms: &PrefixTerms,
     delays: &mut Delays,
     best: &mut Incumbent,
+    pending: &mut Pending,
+    bottom: usize,
     node: u8,
 ) -> Option<Child>
     requires rows { AreRowsOf graph.now rows.now }
     requires measured { IsMeasured graph.now limits.now best.old }
     requires ready { IsReadyFor graph.now limits.now terms.now delays.old best.old node }
     requires within { used region.old ≤ region.old.capacity }
+    requires room { bottom + node ≤ 256 }
     ensures kept { AreKeptFrom (suc node) delays.old delays.new }
+    ensures kept_below { AreKeptBelow bottom pending.old pending.new }
     ensures searched { IsSearchWith graph.now limits.now terms.now delays.old node best.old best.new
         region.old region.new result }
 {
     let mut with_node = terms.take_in(graph, rows, delays, node);
-    search_from(graph, rows, limits, region, &mut with_node, delays, best)
+    search_from(
+        graph,
+        rows,
+        limits,
+        region,
+        &mut with_node,
+        delays,
+        best,
+        pending,
+        bottom,
+    )
 }

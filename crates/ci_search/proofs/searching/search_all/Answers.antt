@@ -1,4 +1,4 @@
-use Rattle.std.proofs.Common.{◌≡◌, ℕ, List, [], inl, inr, refl, sym, subst}
+use Rattle.std.proofs.Common.{◌≡◌, ℕ, List, [], inl, inr, refl, sym, subst, arith}
 use Rattle.std.proofs.lemmas.Bool.{cases_eq}
 use Rattle.std.proofs.lemmas.Bool.Decides.{not_from_Decides}
 use Rattle.ci_region.specs.BoundedMap.{used}
@@ -22,6 +22,11 @@ pub search_from-requires-clause-measured : goal.search_from-requires-clause-meas
 search_from-requires-clause-measured c =
     subst (λ (best : Incumbent). IsMeasured c.args.graph.now c.args.limits.now best) (sym c.requires.none)
     (record { good = tt; gain_is = refl })
+
+pub search_from-requires-clause-room : goal.search_from-requires-clause-room
+search_from-requires-clause-room c =
+    let represents = c.none-first.ensures [] in
+    omega (arith, represents.within, represents.kept.few)
 
 pub returns-in_default : goal.returns-in_default
 returns-in_default c =
