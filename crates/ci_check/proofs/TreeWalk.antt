@@ -213,12 +213,13 @@ pub goes_left : {graph : FlowGraph} {limits : Limits} {best : Given} {items : Li
     → (end : ℕ) → IsJudged graph limits best (stations parts.first_tree (true ∷ goes.now)) (place + 1) (Ok end)
     → (terms_left : PrefixTerms) (delays_left : List ℕ) → Represents graph (false ∷ goes.now) terms_left delays_left
     → Goes graph limits best items terms_left delays_left prefix tree start end rest
-goes_left {graph = graph} {limits = limits} {best = best} {items = items} {place = place} {rest = rest} goes parts right end first terms_left delays_left represents = record {
-  now = false ∷ goes.now;
-  here = parts.second;
-  here_tree = parts.second_tree;
-  represents = represents;
-  is_split = behind_first items rest (place + 1) end parts first.1;
-  judged = λ result second. goes.judged result
-      (judged_by_second graph limits best goes.here_tree goes.now _ rest parts right place end result first second);
-}
+goes_left {graph = graph} {limits = limits} {best = best} {items = items} {place = place} {rest = rest} goes parts right end first
+    terms_left delays_left represents = record {
+      now = false ∷ goes.now;
+      here = parts.second;
+      here_tree = parts.second_tree;
+      represents = represents;
+      is_split = behind_first items rest (place + 1) end parts first.1;
+      judged = λ result second. goes.judged result
+          (judged_by_second graph limits best goes.here_tree goes.now _ rest parts right place end result first second);
+    }

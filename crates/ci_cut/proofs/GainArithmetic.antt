@@ -26,7 +26,7 @@ module _ (size further pad : ℕ) (size_few : size ≤ 256) (few : further ≤ 2
   places_few : unsigned_abs (places_of size further) ≤ 512
   places_few = omega (arith, ints)
 
-  pads_most : unsigned_abs (places_of size further *ℤ pos pad) ≤ 512 * 2 ^ 32
+  pub pads_most : unsigned_abs (places_of size further *ℤ pos pad) ≤ 512 * 2 ^ 32
   pads_most = rw unsigned_abs-mul (mul-le (unsigned_abs (places_of size further)) pad 512 (2 ^ 32) places_few (omega arith))
 
   pads_are : to_z w64 (of_z w64 (to_z w64 (of_z w64 (to_z w64 size -ℤ pos 1)) -ℤ to_z w64 further)) *ℤ to_z w64 pad ≡ places_of size further *ℤ pos pad
@@ -42,7 +42,7 @@ between : (z : ℤ) (m : ℕ) → unsigned_abs z ≤ m → (neg_ℤ (pos m) ≤�
 between z m h = (omega (arith, ints), omega (arith, ints))
 
 -- a difference of numbers that are far from the ends fits
-difference_fits : (software hardware reads : ℕ) (pads : ℤ) → software ≤ 256000 → hardware < 2 ^ 32
+pub difference_fits : (software hardware reads : ℕ) (pads : ℤ) → software ≤ 256000 → hardware < 2 ^ 32
     → reads ≤ 256 * 2 ^ 32 → unsigned_abs pads ≤ 512 * 2 ^ 32
     → FitsSigned w64 (((pos software -ℤ pos hardware) -ℤ pos reads) -ℤ pads)
 difference_fits software hardware reads pads a b c d =

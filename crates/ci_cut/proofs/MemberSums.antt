@@ -1,5 +1,6 @@
 -- Sums and counts over the members of a set of nodes, one node more, and how great they are.
 use Rattle.std.proofs.Common.{◌≡◌, ℕ, ◌+◌, ◌≤◌, Bool, true, false, cond, nat_lt, ap, ◌∙◌, add-one, arith, subst, IsTrue}
+use Rattle.std.proofs.lemmas.Bool.Decides.{nat_tests}
 use Rattle.ci_word.specs.Numbers.{sum_below}
 use Rattle.ci_word.proofs.NumberLaws.{sum_below-suc}
 use Rattle.ci_cut.specs.declared.graph.Limits.{Limits}
@@ -27,6 +28,10 @@ one_at_most false = omega arith
 -- the further words are few
 pub further_words-le : (ins outs n : ℕ) → outs ≤ n → n ≤ 256 → further_words_of ins outs ≤ 256
 further_words-le ins outs n few most = omega (arith, one_at_most (nat_lt 3 ins))
+
+-- up to three inputs take no further word
+pub few_inputs : (fewer ins outs : ℕ) → fewer ≤ ins → ins ≤ 3 → further_words_of fewer outs ≡ further_words_of ins outs
+few_inputs fewer ins outs a b = grind (arith, nat_tests)
 
 -- the saved cycles by their parts
 pub saved_from_parts : (graph : FlowGraph) (members core : ℕ → Bool) (read pad saved time ins outs further size_of : ℕ)

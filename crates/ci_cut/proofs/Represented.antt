@@ -17,7 +17,7 @@ use Rattle.ci_cut.specs.Gain.{Fits, gain, saved_by, software}
 use Rattle.ci_cut.specs.SourceSets.{holds}
 use Rattle.ci_cut.specs.Hardware.{hardware}
 use Rattle.ci_cut.specs.Prefixes.{Prefix, is_eligible, eligible_nodes, is_next, is_decided, taken, left_out, possible, settled_inputs, bound}
-use Rattle.ci_cut.specs.Representation.{IsNextBelow, Represents, AreKeptFrom}
+use Rattle.ci_cut.specs.Representation.{IsNextBelow, bound_by, Represents, AreKeptFrom}
 use Rattle.ci_cut.proofs.OneMore.{count_sources-few}
 use Rattle.ci_cut.proofs.PrefixLaws.{eligible_below, next_from, in_or_out, is_decided-none, decided_parts, taken_possible, whole_choice}
 use Rattle.ci_cut.proofs.MemberSums.{AreWithin, fits_from_parts, within_from_fits}
@@ -92,6 +92,7 @@ module _ (graph : FlowGraph) (prefix : Prefix) (terms : PrefixTerms) (delays : L
     settled_are = represents.settled_are;
     software_is = represents.software_is;
     size_is = represents.size_is;
+    bound_is = represents.bound_is;
     longest_is = longest_kept graph (taken graph prefix) delays later terms.longest
         (λ k member. kept k (place_below (λ choice. choice) k member)) represents.longest_is;
   }
@@ -148,8 +149,9 @@ module _ (graph : FlowGraph) where
       → ((k : ℕ) → set.contains eligible k ≡ is_eligible graph k)
       → terms.taken ≡ set.empty → terms.place ≡ length graph.nodes → terms.reaching ≡ set.empty → ((source : Source) → holds terms.read source ≡ false)
       → terms.convex ≡ true → terms.outputs ≡ 0 → terms.settled ≡ 0 → terms.longest ≡ 0
-      → terms.software ≡ software graph (set.contains eligible) → terms.size ≡ set.len eligible → Represents graph [] terms delays
-  represents_none flows delays terms eligible are taken_is place_is reaching_is read_is convex_is outputs_is settled_is longest_is software_is size_is =
+      → terms.software ≡ software graph (set.contains eligible) → terms.size ≡ set.len eligible
+      → terms.bound ≡ bound_by graph terms.software terms.longest terms.settled terms.outputs terms.size → Represents graph [] terms delays
+  represents_none flows delays terms eligible are taken_is place_is reach_is read_is convex_is outputs_is settled_is longest_is software_is size_is bound_is =
       let members : set.contains eligible ≡ possible graph [] = λ i k. (are k ∙ (λ j. sym possible_none j k)) i in
       record {
         kept = flows;
@@ -157,7 +159,7 @@ module _ (graph : FlowGraph) where
         decided = ap (λ n. count_below n (is_eligible graph) + 0) place_is ∙ plain (eligible_nodes graph);
         is_taken = λ k. ap (λ s. set.contains s k) taken_is ∙ set.contains-empty nat_cmp k ∙ sym (taken_none k);
         is_reaching = λ k. (
-          λ in_. absurd (true≢false (sym in_ ∙ ap (λ s. set.contains s k) reaching_is ∙ set.contains-empty nat_cmp k)),
+          λ in_. absurd (true≢false (sym in_ ∙ ap (λ s. set.contains s k) reach_is ∙ set.contains-empty nat_cmp k)),
           λ (member, in_, walk). absurd (none_taken member in_),
         );
         is_read = λ source. read_is source ∙ sym (none_read source);
@@ -173,6 +175,7 @@ module _ (graph : FlowGraph) where
         };
         software_is = software_is ∙ ap (software graph) members;
         size_is = size_is ∙ len-count_below (length graph.nodes) eligible (λ k in_. eligible_below graph k (sym (are k) ∙ in_)) ∙ ap (size graph) members;
+        bound_is = bound_is;
       }
     where
       plain : (n : ℕ) → n + 0 ≡ n
@@ -186,5 +189,6 @@ module _ (graph : FlowGraph) where
           omega (
             arith,
             count_below-none 256 (λ r. is_outside (possible graph []) (Entry r) && is_read_by graph (taken graph []) (Entry r)) (λ r _. unread true (Entry r)),
-            count_below-none (length graph.nodes) (λ k. is_outside (possible graph []) (Made k) && is_read_by graph (taken graph []) (Made k)) (λ k _. unread (not (possible graph [] k)) (Made k)),
+            count_below-none (length graph.nodes) (λ k. is_outside (possible graph []) (Made k) && is_read_by graph (taken graph []) (Made k))
+                (λ k _. unread (not (possible graph [] k)) (Made k)),
           )

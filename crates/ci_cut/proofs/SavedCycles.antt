@@ -1,10 +1,11 @@
 -- The saved cycles fall in what a use costs.
-use Rattle.std.proofs.Common.{◌≡◌, ℕ, zero, suc, ◌+◌, ◌-◌, ◌*◌, ◌≤◌, ℤ, pos, ◌-ℤ◌, ◌*ℤ◌, ◌≤ℤ◌, ap, ◌∙◌, arith}
+use Rattle.std.proofs.Common.{◌≡◌, ℕ, zero, suc, ◌+◌, ◌-◌, ◌*◌, ◌^◌, ◌<◌, ◌≤◌, ℤ, pos, ◌-ℤ◌, ◌*ℤ◌, ◌≤ℤ◌, FitsSigned, w64, ap, ◌∙◌, arith}
 use Rattle.std.proofs.lemmas.Int.{ints}
 use Rattle.std.proofs.Math.Nat.{mul-le-mul_left}
+use Rattle.std.proofs.lemmas.Nat.{mul-le}
 use lib.IntN.{pred_ℤ-*ℤ, -ℤ_one}
 use Rattle.ci_cut.specs.Gain.{saved_cycles}
-use Rattle.ci_cut.proofs.GainArithmetic.{places_of}
+use Rattle.ci_cut.proofs.GainArithmetic.{places_of, pads_most, difference_fits}
 
 -- a further word takes the place of a no-op
 pads_less : (places : ℤ) (d pad : ℕ) → (places -ℤ pos d) *ℤ pos pad ≡ (places *ℤ pos pad) -ℤ pos (d * pad)
@@ -67,3 +68,24 @@ saved_cycles-members read pad latency more_latency hardware further members more
     let places : places_of members further ≡ places_of more further -ℤ pos d = omega (arith, ints) in
     gains_more latency more_latency hardware (further * read) (d * pad) (places_of more further *ℤ pos pad) (places_of members further *ℤ pos pad) enough
     (ap (λ z. z *ℤ pos pad) places ∙ pads_less (places_of more further) d pad)
+
+-- saved cycles of few members fit 64 bits
+pub saved_fits : (read pad latencies hardware further members : ℕ) → latencies ≤ 256000 → hardware < 2 ^ 32 → further ≤ 256 → members ≤ 256
+    → read < 2 ^ 32 → pad < 2 ^ 32 → FitsSigned w64 (saved_cycles read pad latencies hardware further members)
+saved_fits read pad latencies hardware further members a b c d e f =
+    difference_fits latencies hardware (further * read) (places_of members further *ℤ pos pad) a b
+    (mul-le further read 256 (2 ^ 32) c (omega arith)) (pads_most members further pad d c f)
+
+-- a member less saves its latency less, and a no-op more
+one_less : (latencies latency hardware reads pad : ℕ) (a b : ℤ) → b ≡ a -ℤ pos (1 * pad)
+    → (((pos (latencies + latency) -ℤ pos hardware) -ℤ pos reads) -ℤ a) -ℤ (pos latency -ℤ pos pad)
+    ≡ ((pos latencies -ℤ pos hardware) -ℤ pos reads) -ℤ b
+one_less latencies latency hardware reads pad a b b_is = omega (arith, ints)
+
+pub saved_one_less : (read pad latencies latency hardware further members : ℕ)
+    → saved_cycles read pad (latencies + latency) hardware further (members + 1) -ℤ (pos latency -ℤ pos pad)
+    ≡ saved_cycles read pad latencies hardware further members
+saved_one_less read pad latencies latency hardware further members =
+    let places : places_of members further ≡ places_of (members + 1) further -ℤ pos 1 = omega (arith, ints) in
+    one_less latencies latency hardware (further * read) pad (places_of (members + 1) further *ℤ pos pad) (places_of members further *ℤ pos pad)
+    (ap (λ z. z *ℤ pos pad) places ∙ pads_less (places_of (members + 1) further) 1 pad)

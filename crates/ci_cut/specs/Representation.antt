@@ -1,6 +1,6 @@
 -- For the contracts of checker and search: what the code holds of a graph and of a prefix.
-use Rattle.std.specs.Prelude.{◌≡◌, ℕ, suc, ◌+◌, ◌<◌, ◌≤◌, ◌⊎◌, Bool, List, length, slice_index, slice_index_or}
-use Rattle.std.specs.Prelude.{IsTrue, Option, None, MatchOption, ◌↔◌}
+use Rattle.std.specs.Prelude.{◌≡◌, ℕ, suc, ◌+◌, ◌/◌, max, ◌<◌, ◌≤◌, ℤ, ◌⊎◌, Bool, List, length, slice_index}
+use Rattle.std.specs.Prelude.{slice_index_or, IsTrue, Option, None, MatchOption, ◌↔◌}
 use Rattle.std.specs.Ordering.{nat_cmp}
 use Rattle.std.specs.FinSet as set
 use Rattle.ci_word.specs.Numbers.{count_below}
@@ -12,7 +12,7 @@ use Rattle.ci_cut.specs.FlowGraph.{FlowGraph, node_at, reads}
 use Rattle.ci_cut.specs.GraphRules.{IsFlowGraph}
 use Rattle.ci_cut.specs.Walks.{Walk, IsConvex}
 use Rattle.ci_cut.specs.Ports.{is_read_by, outputs, size}
-use Rattle.ci_cut.specs.Gain.{software}
+use Rattle.ci_cut.specs.Gain.{software, further_words_of, saved_cycles}
 use Rattle.ci_cut.specs.SourceSets.{holds}
 use Rattle.ci_cut.specs.Prefixes.{Prefix, is_eligible, eligible_nodes, taken, possible, settled_inputs}
 
@@ -81,6 +81,13 @@ HasReaderOutside readers cut = (k : ℕ) × IsTrue (readers k) × (¬ IsTrue (cu
 abbrev pub Reaches : FlowGraph → (ℕ → Bool) → ℕ → Type 0
 Reaches graph cut k = (member : ℕ) × IsTrue (cut member) × Walk graph k member
 
+-- what sets gain at most by the latencies of the nodes that may be members, the greatest sum of delays along a chain of
+-- nodes taken in, the settled inputs and the outputs, and how many nodes may be members
+abbrev pub bound_by : FlowGraph → ℕ → ℕ → ℕ → ℕ → ℕ → ℤ
+bound_by graph latencies longest settled outputs members =
+    saved_cycles graph.read graph.pad latencies (max 1 ((longest + 999) / 1000)) (further_words_of settled outputs)
+    members
+
 -- the terms and the delays are those of the prefix, which decides the eligible nodes from the place on
 pub record Represents (graph : FlowGraph) (prefix : Prefix) (terms : PrefixTerms) (delays : List ℕ) : Type 0 where
   pub kept : IsFlowGraph graph
@@ -95,6 +102,7 @@ pub record Represents (graph : FlowGraph) (prefix : Prefix) (terms : PrefixTerms
   pub longest_is : AreLongest graph (taken graph prefix) delays terms.longest
   pub software_is : terms.software ≡ software graph (possible graph prefix)
   pub size_is : terms.size ≡ size graph (possible graph prefix)
+  pub bound_is : terms.bound ≡ bound_by graph terms.software terms.longest terms.settled terms.outputs terms.size
 
 -- they are those of some prefix
 abbrev pub RepresentsSome : FlowGraph → PrefixTerms → Type 0

@@ -3,7 +3,7 @@
 //! A recursion over prefixes holds the terms in the frame of a call that takes a node in, and writes over them where
 //! it then leaves the node out, so that no decision is taken back, and no memory is taken. The frames are at most one
 //! more than there are nodes.
-ghost use Rattle.std.specs.Prelude.{◌≡◌, ◌↔◌, ℕ, suc, ◌<◌, ◌≤◌, true, false, List, [], ◌∷◌, length, IsTrue};
+ghost use Rattle.std.specs.Prelude.{◌≡◌, ◌↔◌, ℕ, suc, ◌<◌, ◌+◌, ◌≤◌, true, false, List, [], ◌∷◌, length, IsTrue};
 ghost use Rattle.std.specs.Prelude.{MatchOption};
 ghost use Rattle.std.specs.Prelude.{slice_index};
 ghost use Rattle.std.specs.FinSet as set;
@@ -13,7 +13,7 @@ ghost use Rattle.ci_cut.specs.Ports as counts;
 ghost use Rattle.ci_cut.specs.Gain as gains;
 ghost use Rattle.ci_cut.specs.Prefixes as prefixes;
 ghost use Rattle.ci_cut.specs.Representation.{row_at, AreRowsOf, IsLastBelow, IsDelayTo, HasWayBack, HasReaderOutside};
-ghost use Rattle.ci_cut.specs.Representation.{Represents, RepresentsSome, RepresentsWhole, AreKeptFrom};
+ghost use Rattle.ci_cut.specs.Representation.{bound_by, Represents, RepresentsSome, RepresentsWhole, AreKeptFrom};
 
 use crate::graph::{Graph, Limits, Source};
 use crate::graph_rows::{GraphRows, eligible_nodes};
@@ -48,6 +48,8 @@ pub struct PrefixTerms {
     pub software: u32,
     /// How many nodes may be members.
     pub size: u32,
+    /// What a set that goes on from the prefix gains at most.
+    pub bound: i64,
 }
 
 impl PrefixTerms {
@@ -56,6 +58,12 @@ impl PrefixTerms {
         ensures { (delays : List ℕ) → Represents graph.now [] result delays }
     {
         let eligible = eligible_nodes(graph);
+        let software = software(graph.nodes(), &eligible);
+        let size = eligible.count();
+        let none = Ports {
+            inputs: 0,
+            outputs: 0,
+        };
         PrefixTerms {
             taken: Row::empty(),
             place: graph.nodes().len(),
@@ -65,8 +73,9 @@ impl PrefixTerms {
             outputs: 0,
             settled: 0,
             longest: 0,
-            software: software(graph.nodes(), &eligible),
-            size: eligible.count(),
+            software,
+            size,
+            bound: bound_of(graph, software, 0, &none, size),
         }
     }
 
@@ -100,8 +109,12 @@ impl PrefixTerms {
     {
         let here = &graph.nodes()[node as usize];
         let delay = self.delay_to(rows, delays, node, here.delay);
+        let longest = self.longest.max(delay);
         let mut read = self.read;
-        let settled = read.extend_settled(graph, here.sources.as_slice());
+        let ports = Ports {
+            inputs: self.settled + read.extend_settled(graph, here.sources.as_slice()),
+            outputs: self.outputs_with(graph, rows, node),
+        };
         let mut taken = self.taken;
         taken.insert(node);
         delays[node as usize] = delay;
@@ -111,11 +124,12 @@ impl PrefixTerms {
             reaching: self.reaching.union(&rows.ancestors[node as usize]),
             read,
             convex: self.convex_with(rows, node),
-            outputs: self.outputs_with(graph, rows, node),
-            settled: self.settled + settled,
-            longest: self.longest.max(delay),
+            outputs: ports.outputs,
+            settled: ports.inputs,
+            longest,
             software: self.software,
             size: self.size,
+            bound: bound_of(graph, self.software, longest, &ports, self.size),
         }
     }
 
@@ -134,6 +148,27 @@ impl PrefixTerms {
         self.settled += u32::from(read);
         self.software -= latency;
         self.size -= 1;
+        self.bound = self.bound_left(graph, latency);
+    }
+
+    /// The bound where the other terms are already those without a node of this latency, and it is still that with the
+    /// node.
+    fn bound_left(&self, graph: &Graph, latency: u32) -> i64
+        requires software { self.now.software + latency ≤ 256000 }
+        requires outputs { self.now.outputs ≤ 256 }
+        requires size { self.now.size + 1 ≤ 256 }
+        requires before { (settled : ℕ) × (settled ≤ self.now.settled) × (self.now.bound ≡ bound_by graph.now
+            (self.now.software + latency) self.now.longest settled self.now.outputs (self.now.size + 1)) }
+        ensures { result ≡ bound_by graph.now self.now.software self.now.longest self.now.settled self.now.outputs
+            self.now.size }
+    {
+        if self.settled > 3 {
+            return bound_of(graph, self.software, self.longest, &self.ports(), self.size);
+        }
+        // These tell how great the numbers of the bound may be.
+        let _read = graph.read();
+        let _longest = self.longest;
+        self.bound - (i64::from(latency) - i64::from(graph.pad()))
     }
 
     /// How many outputs there are once the next node is taken in.
@@ -200,15 +235,7 @@ impl PrefixTerms {
         ensures { (prefix : prefixes.Prefix) (delays : List ℕ) → Represents graph.now prefix self.now delays
             → result ≡ prefixes.bound graph.now prefix }
     {
-        // Its contract tells what bounds latencies and delays.
-        let _nodes = graph.nodes();
-        saved_cycles(
-            graph,
-            self.software,
-            in_cycles(self.longest),
-            self.ports().further_words(),
-            self.size,
-        )
+        self.bound
     }
 
     /// The outputs, and the inputs that are settled.
@@ -237,4 +264,22 @@ impl PrefixTerms {
             None
         }
     }
+}
+
+/// What sets gain at most by a software latency, the greatest sum of delays, the ports and a size.
+// Few prefixes ask for it, and those that are told their bound by the one before are kept short.
+#[inline(never)]
+fn bound_of(graph: &Graph, software: u32, longest: u32, ports: &Ports, size: u32) -> i64
+    requires software { software ≤ 256000 }
+    requires outputs { ports.now.outputs ≤ 256 }
+    requires size { size ≤ 256 }
+    ensures { result ≡ bound_by graph.now software longest ports.now.inputs ports.now.outputs size }
+{
+    saved_cycles(
+        graph,
+        software,
+        in_cycles(longest),
+        ports.further_words(),
+        size,
+    )
 }

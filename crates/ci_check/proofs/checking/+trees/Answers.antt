@@ -80,7 +80,8 @@ branch_at : (t : ℕ) (c : check_tree-In-Some t) (prefix : Prefix) (one rest : L
 branch_at t c prefix one rest tree represents splits = record {
   next = next_from_below c.args.graph.now prefix c.prefixes.terms c.prefixes.delays represents c.in-Some.node c.in-Some.ensures.1;
   parts = sub_trees tree prefix (get_or c.args.items.now c.prefixes.place B) (drop (c.prefixes.place + 1) c.args.items.now) rest
-      (first_item c.args.items.now one rest c.prefixes.place (tree_within c.args.items.now c.prefixes.place c.prefixes.invariant.tree) splits) c.in-Some.ensures.0;
+      (first_item c.args.items.now one rest c.prefixes.place (tree_within c.args.items.now c.prefixes.place c.prefixes.invariant.tree) splits)
+      c.in-Some.ensures.0;
   right = subst (λ (item : Item). IsRight c.args.graph.now c.args.limits.now c.args.best.now.cut prefix item)
       c.in-Some.ensures.0 ((c.is_right.ensures prefix c.prefixes.delays represents).0 c.if-not-is_right.false);
 }
@@ -137,11 +138,13 @@ check_tree-check_with-requires t c =
 pub check_tree-returns-in_err-end-clause-judged : goal.check_tree-returns-in_err-end-clause-judged
 check_tree-returns-in_err-end-clause-judged t c prefix one rest tree represents splits =
     let goes = c.prefixes.invariant.goes prefix one rest tree represents splits in
-    let b = branch_at t (goal.at.check_tree-returns-in_err-end-clause-judged t c).In-Some goes.now goes.here rest goes.here_tree goes.represents goes.is_split in
+    let b = branch_at t (goal.at.check_tree-returns-in_err-end-clause-judged t c).In-Some goes.now goes.here rest goes.here_tree goes.represents
+    goes.is_split in
     let first = c.in_err-end.ensures.judged goes.now b.parts.first (b.parts.second ++ rest) b.parts.first_tree goes.represents b.next b.parts.is_tail in
     let p = err_from_is_err_and c.from_residual.result c.from_residual.ensures.1 in
     rw (p.1, p.2)
-    (goes.judged (Err c.in_err-end.field-0.0) (judged_by_first c.args.graph.now c.args.limits.now c.args.best.now.cut goes.here_tree goes.now _ rest b.parts b.right
+    (goes.judged (Err c.in_err-end.field-0.0)
+    (judged_by_first c.args.graph.now c.args.limits.now c.args.best.now.cut goes.here_tree goes.now _ rest b.parts b.right
     c.prefixes.place c.in_err-end.field-0.0 first))
 
 -- ---- an item that is right at once where the next node is taken in
@@ -203,11 +206,17 @@ check_tree-prefixes-preserved t c =
     let graph = c.args.graph.now in
     let some = (goal.at.check_tree-prefixes-preserved t c).In-Some in
     let later = λ (prefix : Prefix) (represents : Represents graph prefix c.prefixes.terms c.prefixes.delays).
-    represents_kept graph prefix c.prefixes.terms c.prefixes.delays represents c.check_with.new.delays (between t (goal.at.check_tree-prefixes-preserved t c).In_ok-end) in
+    represents_kept graph prefix c.prefixes.terms c.prefixes.delays represents c.check_with.new.delays
+    (between t (goal.at.check_tree-prefixes-preserved t c).In_ok-end) in
     let b = here_at t some in
-    let first = c.in_ok-end.ensures.judged inv.represents.0 b.parts.first (b.parts.second ++ inv.tree.rest) b.parts.first_tree inv.represents.1 b.next b.parts.is_tail in
+    let first = c.in_ok-end.ensures.judged inv.represents.0 b.parts.first (b.parts.second ++ inv.tree.rest) b.parts.first_tree inv.represents.1 b.next
+    b.parts.is_tail in
     record {
-      represents = (false ∷ inv.represents.0, c.leave_out-in-prefixes.ensures.represents inv.represents.0 c.check_with.new.delays (later inv.represents.0 inv.represents.1) b.next);
+      represents = (
+        false ∷ inv.represents.0,
+        c.leave_out-in-prefixes.ensures.represents inv.represents.0 c.check_with.new.delays
+            (later inv.represents.0 inv.represents.1) b.next,
+      );
       tree = record {
         one = b.parts.second;
         rest = inv.tree.rest;

@@ -15,7 +15,8 @@ wrong_of : (c : goal.After-from_residual) (tree : IsTree c.args.log.now)
     → IsFirstWrongIn c.args.graph.now c.args.limits.now c.args.best
     (stations tree []) c.in_err-check_tree.field-0.0.item c.in_err-check_tree.field-0.0.reason
 wrong_of c tree =
-    let judged = c.in_err-check_tree.ensures.judged [] c.args.log.now [] tree (c.none-none.ensures _) (c.items.ensures.items ∙ sym (append-nil c.args.log.now)) in
+    let judged = c.in_err-check_tree.ensures.judged [] c.args.log.now [] tree (c.none-none.ensures _)
+    (c.items.ensures.items ∙ sym (append-nil c.args.log.now)) in
     let number : judged.0 ≡ c.in_err-check_tree.field-0.0.item = omega (arith, judged.2) in
     subst (λ (best : Given). IsFirstWrongIn c.args.graph.now c.args.limits.now best
     (stations tree []) c.in_err-check_tree.field-0.0.item c.in_err-check_tree.field-0.0.reason)
@@ -42,7 +43,8 @@ returns-in_err-check_tree-clause-wrong c =
 accepted_of : (c : goal.In_ok-check_tree) → IsAccepted c.args.graph.now c.args.limits.now c.args.best c.args.log.now
 accepted_of c =
     let tree = c.items.ensures.log.is_tree in
-    let judged = c.in_ok-check_tree.ensures.judged [] c.args.log.now [] tree (c.none-none.ensures _) (c.items.ensures.items ∙ sym (append-nil c.args.log.now)) in
+    let judged = c.in_ok-check_tree.ensures.judged [] c.args.log.now [] tree (c.none-none.ensures _)
+    (c.items.ensures.items ∙ sym (append-nil c.args.log.now)) in
     record {
       good = subst (IsGood c.args.graph.now c.args.limits.now) c.in-Some.ensures.0 c.in-Some.ensures.1.good;
       tree = tree;

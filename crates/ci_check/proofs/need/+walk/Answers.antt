@@ -82,13 +82,29 @@ between t c k from =
     c.walk-between.ensures.kept k (omega (arith, from, c.in-Some.ensures.below, c.take_in-with_node.ensures.place))
     ∙ c.take_in-with_node.ensures.kept k (omega (arith, from, c.in-Some.ensures.below))
 
+pub returns-then-between-budget-clause-kept : goal.returns-then-between-budget-clause-kept
+returns-then-between-budget-clause-kept t c k from = between t (goal.at.returns-then-between-budget-clause-kept t c).After-walk-between k from
+
 pub returns-then-between-budget-clause-walked : goal.returns-then-between-budget-clause-walked
 returns-then-between-budget-clause-walked t c prefix undecided represents left reached =
     walked_first c.args.graph.now represents.kept c.args.limits.now c.args.budget prefix undecided (undecided - 1)
     (one_less c.args.graph.now prefix c.args.terms.now c.args.delays.now represents c.in-Some.node c.in-Some.ensures undecided left)
     ((c.is_open.ensures prefix c.args.delays.now represents (passed_on c.args.graph.now c.args.limits.now prefix c.args.before.reached
     (search rules) reached)).0 c.if-not-is_open.false) c.args.before _ refl c.walk-between.result
-    (first_walked t (goal.at.returns-then-between-budget-clause-walked t c).After-walk-between prefix undecided represents left reached) c.if-between-budget.true
+    (first_walked t (goal.at.returns-then-between-budget-clause-walked t c).After-walk-between prefix undecided represents left reached)
+    c.if-between-budget.true
+
+pub walk-between-requires : goal.walk-between-requires
+walk-between-requires t c =
+    let prefix = c.requires.represents.0 in
+    let represents = c.requires.represents.1 in
+    let next = next_from_below c.args.graph.now prefix c.args.terms.now c.args.delays.now represents c.in-Some.node c.in-Some.ensures in (
+      omega (arith, c.in-Some.ensures.below, c.take_in-with_node.ensures.place),
+      (
+        c.requires.rows,
+        ((true ∷ prefix, c.take_in-with_node.ensures.represents prefix represents next), (c.requires.few, omega (arith, c.if-here-budget.false))),
+      ),
+    )
 
 pub walk-requires : goal.walk-requires
 walk-requires t c =
@@ -96,7 +112,8 @@ walk-requires t c =
     let prefix = c.requires.represents.0 in
     let represents = c.requires.represents.1 in
     let next = next_from_below graph prefix c.args.terms.now c.args.delays.now represents c.in-Some.node c.in-Some.ensures in
-    let later = represents_kept graph prefix c.args.terms.now c.args.delays.now represents c.walk-between.new.delays (between t (goal.at.walk-requires t c).After-walk-between) in (
+    let later = represents_kept graph prefix c.args.terms.now c.args.delays.now represents c.walk-between.new.delays
+    (between t (goal.at.walk-requires t c).After-walk-between) in (
       omega (arith, c.in-Some.ensures.below, c.leave_out.ensures.place),
       (
         c.requires.rows,

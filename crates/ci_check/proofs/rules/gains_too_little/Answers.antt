@@ -27,5 +27,6 @@ returns-else-bound-best-2 c prefix delays represents =
     let bounded : SFits w64 c.bound-bound.result = search rules in
     let gained : SFits w64 c.args.best.now.gain = search rules in
     decides_above (bound c.args.graph.now prefix) (best_gain c.args.graph.now c.args.best.now.cut) (IsAfterBest c.args.graph.now c.args.best.now.cut prefix) _
-    (above_by_tests _ _ bounded gained c.if-bound-best.false c.if-bound-best-2.false (c.bound-bound.ensures prefix delays represents) c.requires.measured.gain_is)
+    (above_by_tests _ _ bounded gained c.if-bound-best.false c.if-bound-best-2.false (c.bound-bound.ensures prefix delays represents)
+    c.requires.measured.gain_is)
     (ne_eqb _ _ c.if-bound-best-2.false)

@@ -1,9 +1,17 @@
 use Rattle.std.proofs.Common.{◌≡◌, ℕ, Bool, true, false, Option, None, Some, MatchOption, is_some, not, IsTrue, ◌↔◌}
-use Rattle.std.proofs.Common.{refl, sym, subst, true≢false}
+use Rattle.std.proofs.Common.{refl, sym, ◌∙◌, subst, true≢false}
+use Rattle.std.proofs.lemmas.Bool.{not-true, not_from_false, false_from_ne_true}
 use Rattle.ci_cut.specs.Prefixes.{taken}
 use Rattle.ci_check.specs.Rules.{IsBetter}
 use Rattle.ci_cut.proofs.Represented.{same_taken, all_decided}
 use Rattle.ci_check.proofs.rules.is_right.Goals as goal
+
+pub returns-in-C : goal.returns-in-C
+returns-in-C c prefix delays represents =
+    rw c.in-C.is (
+      λ broken convex. true≢false (sym (represents.is_convex.1 convex) ∙ not-true _ broken),
+      λ broken. not_from_false _ (false_from_ne_true _ (λ convex. broken (represents.is_convex.0 convex))),
+    )
 
 pub returns-in-G : goal.returns-in-G
 returns-in-G c prefix delays represents = rw c.in-G.is (c.gains_too_little.ensures prefix delays represents)

@@ -8,4 +8,8 @@ returns-in-O c best prefix delays represents next more =
 
 pub returns-in-C : goal.returns-in-C
 returns-in-C c best prefix delays represents next way_back =
-    rw c.in-C.is (tt, λ convex. true≢false (sym ((c.convex_with.ensures c.args.graph.now prefix delays c.requires.rows represents next).1 convex) ∙ not-true _ way_back))
+    rw c.in-C.is (
+      tt,
+      λ convex. true≢false (sym
+          ((c.convex_with.ensures c.args.graph.now prefix delays c.requires.rows represents next).1 convex) ∙ not-true _ way_back),
+    )

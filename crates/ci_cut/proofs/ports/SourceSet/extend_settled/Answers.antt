@@ -14,8 +14,11 @@ insert_settled-requires c k is =
 
 pub overflow_add-settled : goal.overflow_add-settled
 overflow_add-settled c =
-    let few = settled_few c.args.graph.now c.args.sources.now c.args.self.now c.loop-source.self c.loop-source.settled c.requires.few c.loop-source.invariant.counted in
+    let few = settled_few c.args.graph.now c.args.sources.now c.args.self.now c.loop-source.self c.loop-source.settled c.requires.few
+    c.loop-source.invariant.counted in
     omega (arith, bool_byte-le c.insert_settled.result)
 
 pub returns-clause-few : goal.returns-clause-few
-returns-clause-few c = settled_few c.args.graph.now c.args.sources.now c.args.self.now c.loop-source.self c.loop-source.settled c.requires.few c.loop-source.invariant.counted
+returns-clause-few c =
+    settled_few c.args.graph.now c.args.sources.now c.args.self.now c.loop-source.self c.loop-source.settled c.requires.few
+    c.loop-source.invariant.counted

@@ -12,6 +12,7 @@ returns c graph prefix delays rows represents next =
     let below = more.node_below graph prefix node next in
     more.convex_in graph prefix node next represents.kept _ _ (λ k. rows.successors node k below) represents.is_reaching
     terms.convex _ c.breaks_convexity.result represents.is_convex
-    (subst (λ (cut : ℕ → Bool). IsTrue c.breaks_convexity.result ↔ HasWayBack (set.contains (row_at c.args.rows.now.successors node)) cut (set.contains terms.reaching))
+    (subst (λ (cut : ℕ → Bool). IsTrue c.breaks_convexity.result ↔ HasWayBack (set.contains (row_at c.args.rows.now.successors node)) cut
+    (set.contains terms.reaching))
     (same_taken graph prefix terms delays represents) c.breaks_convexity.ensures)
     refl
