@@ -22,5 +22,3 @@ mod laws;
 mod need;
 mod order;
 mod rules;
-#[cfg(test)]
-mod tests;

@@ -16,7 +16,5 @@ mod pages;
 mod spans;
 mod start;
 mod state;
-#[cfg(test)]
-mod tests;
 mod touches;
 mod windows;

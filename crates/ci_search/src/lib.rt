@@ -9,6 +9,4 @@ pub use searching::{Found, search};
 
 mod leaves;
 mod searching;
-#[cfg(test)]
-mod tests;
 mod trees;

@@ -8,6 +8,8 @@ mod asm;
 #[cfg(test)]
 mod block;
 #[cfg(test)]
+mod check;
+#[cfg(test)]
 mod common;
 #[cfg(test)]
 mod cut;
@@ -32,6 +34,8 @@ mod live;
 #[cfg(test)]
 mod log;
 #[cfg(test)]
+mod machine;
+#[cfg(test)]
 mod reading;
 #[cfg(test)]
 mod region;
@@ -39,6 +43,8 @@ mod region;
 mod report;
 #[cfg(test)]
 mod rewrite;
+#[cfg(test)]
+mod search;
 #[cfg(test)]
 mod unit;
 #[cfg(test)]

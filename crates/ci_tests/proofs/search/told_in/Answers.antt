@@ -1,4 +1,4 @@
-use Rattle.ci_search.proofs.tests.answer.Goals as goal
+use Rattle.ci_tests.proofs.search.told_in.Goals as goal
 
 pub check_log-requires : goal.check_log-requires
 check_log-requires g c = let log = c.in-Best.ensures.answer in (log.items, _, log.tree)

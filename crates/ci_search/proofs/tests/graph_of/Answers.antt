@@ -1,6 +1,0 @@
-use Rattle.std.proofs.Common.{arith}
-use Rattle.ci_cut.proofs.GraphLaws.{flow_graph_none}
-use Rattle.ci_search.proofs.tests.graph_of.Goals as goal
-
-pub loop-part-init : goal.loop-part-init
-loop-part-init g c = rw c.new-nodes.ensures.items (flow_graph_none 1 0 (omega arith))

@@ -1,0 +1,442 @@
+//! A machine that runs a file of three segments: accesses at the edges of what is mapped, and environment calls.
+ghost use Rattle.std.specs.Prelude.{◌≡◌, ◌<◌};
+
+use crate::common::file_of;
+use ci_elf::{Range, read};
+use ci_isa::{Reg, Width};
+use ci_machine::{Call, State, Unmapped};
+use std::alloc::{AllocError, Global};
+use std::process::Abort;
+use std::test::Fail;
+
+// Files and tables are the answers of functions, so that the proof of a test looks at none of them, and states are let
+// go by calls of `drop`.
+
+/// A file with text of two words at 10000, eight bytes of which four come from the file at 10008, and two bytes at
+/// 20001.
+fn file() -> &'static [u32] {
+    &[
+        // The file header, with the entry at 10004.
+        0x464c457f, 0x00010101, 0, 0, 0x00f30002, 1, 0x10004, 52, 164, 0, 0x00200034, 0x00280003,
+        2,
+        // Program headers: kind, offset, address, address, size in the file, size in memory, flags, alignment.
+        1, 148, 0x10000, 0x10000, 8, 8, 5, 4,
+        // The second segment begins where the first ends.
+        1, 156, 0x10008, 0x10008, 4, 8, 6, 4,
+        // The last one ends at 20003, so the heap begins at 20010.
+        1, 160, 0x20001, 0x20001, 2, 2, 6, 1,
+        // The bytes of the segments, from offset 148 on.
+        0x04030201, 0x88070605, 0x0c0b0a99, 0x0000bbaa,
+        // Section headers: an empty one, and that of the text.
+        0, 0, 0, 0, 0, 0, 0, 0, 0, 0,
+        // Name, kind, flags, address, offset, size, and four fields more.
+        0, 1, 6, 0x10000, 148, 8, 0, 0, 4, 0,
+    ]
+}
+
+/// The bytes of these words.
+fn bytes_of(alloc: Global, words: &[u32]) -> Result<Vec<u8>, AllocError> {
+    let mut bytes = Vec::new(alloc);
+    for word in words {
+        bytes.extend_from_slice(&word.to_le_bytes())?;
+    }
+    Ok(bytes)
+}
+
+/// The opening state of the file of these bytes on an input.
+fn started(rt: &impl Abort, alloc: Global, bytes: &[u8], input: &[u8]) -> Result<State, Fail> {
+    assert!(rt; bytes.len() <= 268_435_456);
+    let image = read(alloc, bytes)?;
+    let state = State::start(alloc, &image, input);
+    drop(image);
+    Ok(state?)
+}
+
+/// The opening state of the file of three segments.
+fn sample(rt: &impl Abort, alloc: Global) -> Result<State, Fail> {
+    let bytes = bytes_of(alloc, file())?;
+    let state = started(rt, alloc, &bytes, b"hello, world");
+    drop(bytes);
+    state
+}
+
+/// The opening state of a small file of one word.
+fn small(rt: &impl Abort, alloc: Global) -> Result<State, Fail> {
+    let bytes = file_of(rt, alloc, &[0x13], &[], &[])?;
+    let state = started(rt, alloc, &bytes, b"");
+    drop(bytes);
+    state
+}
+
+/// The register of this number.
+fn x(n: u8) -> Reg
+    requires { n < 32 }
+    ensures { result ≡ n }
+{
+    Reg::new(n).unwrap()
+}
+
+/// The number of an environment call and its arguments.
+type Asked = (u32, (u32, u32, u32));
+
+/// Sets what an environment call asks for.
+fn ask(state: &mut State, asked: Asked) {
+    let (number, (first, second, third)) = asked;
+    state.set_register(x(17), number);
+    state.set_register(x(10), first);
+    state.set_register(x(11), second);
+    state.set_register(x(12), third);
+}
+
+/// What is done with a state, with the answer that is due.
+#[derive(Clone, Copy)]
+enum Step {
+    Load(u32, Width, Result<u32, Unmapped>),
+    /// A load that keeps where it looked.
+    Near(u32, Width, Result<u32, Unmapped>),
+    /// A store of a value.
+    Store(u32, Width, u32, Result<(), Unmapped>),
+    /// An environment call, with what its first argument's register holds then.
+    Answer(Asked, u32),
+    /// The first byte of text that a word at an address has.
+    Access(u32, Option<u32>),
+    /// The first byte of text that an environment call moves.
+    Moved(Asked, Option<u32>),
+    /// All that was written.
+    Output(&'static [u8]),
+}
+
+/// Makes an environment call, and gives what its first argument's register holds then.
+fn answer(state: &mut State, asked: Asked) -> Result<u32, AllocError> {
+    ask(state, asked);
+    state.environment_call()?;
+    Ok(state.register(x(10)))
+}
+
+/// Fails where other bytes were written.
+fn expect_output(rt: &impl Abort, state: &State, due: &[u8]) {
+    assert_eq!(rt; state.output(), due);
+}
+
+/// Takes a step, and fails where its answer is another one.
+fn expect_step(rt: &impl Abort, state: &mut State, step: &Step) -> Result<(), AllocError> {
+    match step {
+        Step::Load(address, width, due) => {
+            assert_eq!(rt; state.load(*address, *width), *due, "at {address:x}");
+        }
+        Step::Near(address, width, due) => {
+            assert_eq!(rt; state.load_near(*address, *width), *due, "near {address:x}");
+        }
+        Step::Store(address, width, value, due) => {
+            assert_eq!(rt;
+                state.store(*address, *width, *value),
+                *due,
+                "into {address:x}"
+            );
+        }
+        Step::Answer(asked, due) => assert_eq!(rt; answer(state, *asked)?, *due, "{asked:?}"),
+        Step::Access(address, due) => {
+            let touched = state.touched_by_access(*address, Width::Word);
+            assert_eq!(rt; touched, *due, "{address:x}");
+        }
+        Step::Moved(asked, due) => {
+            ask(state, *asked);
+            assert_eq!(rt; state.touched_by_call(), *due, "{asked:?}");
+        }
+        Step::Output(due) => expect_output(rt, state, due),
+    }
+    Ok(())
+}
+
+/// The same for each of these steps, one after the other.
+fn expect_steps(rt: &impl Abort, state: &mut State, steps: &[Step]) -> Result<(), AllocError> {
+    for step in steps {
+        expect_step(rt, state, step)?;
+    }
+    Ok(())
+}
+
+/// The same from the opening state of the file of three segments on.
+fn expect(rt: &impl Abort, alloc: Global, steps: &[Step]) -> Result<(), Fail> {
+    let mut state = sample(rt, alloc)?;
+    let outcome = expect_steps(rt, &mut state, steps);
+    drop(state);
+    outcome?;
+    Ok(())
+}
+
+/// The same from the opening state of the small file on.
+fn expect_of_small(rt: &impl Abort, alloc: Global, steps: &[Step]) -> Result<(), Fail> {
+    let mut state = small(rt, alloc)?;
+    let outcome = expect_steps(rt, &mut state, steps);
+    drop(state);
+    outcome?;
+    Ok(())
+}
+
+#[test]
+fn opens(rt: HostRuntime) -> Result<(), Fail> {
+    let state = sample(&rt, rt.alloc())?;
+    assert_eq!(&rt; state.pc(), 0x10004);
+    assert_eq!(&rt; state.register(x(2)), 0x7ffffff0);
+    assert_eq!(&rt; state.register(x(31)), 0);
+    assert_eq!(&rt; state.hidden(), 0);
+    assert_eq!(&rt; state.output().len(), 0);
+    drop(state);
+    Ok(())
+}
+
+/// The text of the file.
+const TEXT: Range = Range {
+    start: 0x10000,
+    words: 2,
+};
+
+#[test]
+fn knows_its_text(rt: HostRuntime) -> Result<(), Fail> {
+    let state = sample(&rt, rt.alloc())?;
+    assert_eq!(&rt; state.text(), [TEXT].as_slice());
+    assert!(&rt; state.in_text(0x10000));
+    assert!(&rt; state.in_text(0x10007));
+    assert!(&rt; !state.in_text(0xffff));
+    assert!(&rt; !state.in_text(0x10008));
+    drop(state);
+    Ok(())
+}
+
+#[test]
+fn keeps_registers(rt: HostRuntime) -> Result<(), Fail> {
+    let mut state = sample(&rt, rt.alloc())?;
+    state.set_register(x(0), 7);
+    state.set_register(x(31), 8);
+    state.set_hidden(9);
+    state.set_pc(12);
+    assert_eq!(&rt; state.register(x(0)), 0);
+    assert_eq!(&rt; state.register(x(31)), 8);
+    assert_eq!(&rt; state.register(x(2)), 0x7ffffff0);
+    assert_eq!(&rt; state.hidden(), 9);
+    assert_eq!(&rt; state.pc(), 12);
+    drop(state);
+    Ok(())
+}
+
+/// Loads of the opening state at the edges of segments.
+fn loads_at_segments() -> &'static [Step] {
+    &[
+        Step::Load(0x10000, Width::Word, Ok(0x04030201)),
+        Step::Load(0x10006, Width::Word, Ok(0x0a998807)),
+        Step::Load(0x10007, Width::Half, Ok(0x9988)),
+        Step::Load(0x1000c, Width::Word, Ok(0)),
+        Step::Load(0x1000d, Width::Word, Err(Unmapped)),
+        Step::Load(0x1000f, Width::Byte, Ok(0)),
+        Step::Load(0x10010, Width::Byte, Err(Unmapped)),
+        Step::Load(0xffff, Width::Half, Err(Unmapped)),
+        Step::Load(0x20001, Width::Half, Ok(0xbbaa)),
+        Step::Load(0x20002, Width::Half, Err(Unmapped)),
+    ]
+}
+
+#[test]
+fn loads(rt: HostRuntime) -> Result<(), Fail> {
+    expect(&rt, rt.alloc(), loads_at_segments())
+}
+
+/// Loads of the opening state at the ends of the stack and of all addresses.
+fn loads_at_ends() -> &'static [Step] {
+    &[
+        Step::Load(0x7fefffff, Width::Half, Err(Unmapped)),
+        Step::Load(0x7ff00000, Width::Word, Ok(0)),
+        Step::Load(0x7ffffffc, Width::Word, Ok(0)),
+        Step::Load(0x7ffffffd, Width::Word, Err(Unmapped)),
+        Step::Load(0x80000000, Width::Byte, Err(Unmapped)),
+        Step::Load(0xffffffff, Width::Word, Err(Unmapped)),
+        Step::Load(0, Width::Byte, Err(Unmapped)),
+    ]
+}
+
+#[test]
+fn loads_at_the_ends(rt: HostRuntime) -> Result<(), Fail> {
+    expect(&rt, rt.alloc(), loads_at_ends())
+}
+
+/// Stores of all widths, of which one is unmapped, and what they leave.
+fn some_stores() -> &'static [Step] {
+    &[
+        Step::Store(0x10006, Width::Word, 0xddccbbaa, Ok(())),
+        Step::Load(0x10004, Width::Word, Ok(0xbbaa0605)),
+        Step::Load(0x10008, Width::Word, Ok(0x0c0bddcc)),
+        Step::Store(0x1000d, Width::Word, 0x11111111, Err(Unmapped)),
+        Step::Load(0x1000c, Width::Word, Ok(0)),
+        Step::Store(0x7ffffffe, Width::Half, 0x12345678, Ok(())),
+        Step::Load(0x7ffffffc, Width::Word, Ok(0x56780000)),
+        Step::Store(0x20002, Width::Byte, 0x1ff, Ok(())),
+        Step::Load(0x20001, Width::Half, Ok(0xffaa)),
+    ]
+}
+
+#[test]
+fn stores(rt: HostRuntime) -> Result<(), Fail> {
+    expect(&rt, rt.alloc(), some_stores())
+}
+
+/// Calls that read, of which the first two are of another file and of memory that is not there, and what they leave.
+fn some_reads() -> &'static [Step] {
+    &[
+        Step::Answer((63, (1, 0x7ff00000, 5)), 0xfffffff7),
+        Step::Answer((63, (0, 0x7fffffff, 5)), 0xfffffff2),
+        Step::Answer((63, (0, 0x10006, 5)), 5),
+        Step::Load(0x10006, Width::Word, Ok(0x6c6c6568)),
+        Step::Answer((63, (0, 0x7ffffff9, 100)), 7),
+        Step::Load(0x7ffffffc, Width::Word, Ok(0x646c726f)),
+        Step::Answer((63, (0, 0, 100)), 0),
+    ]
+}
+
+#[test]
+fn reads(rt: HostRuntime) -> Result<(), Fail> {
+    expect(&rt, rt.alloc(), some_reads())
+}
+
+/// Calls that write, to files that are there and are not, from memory that is there and is not.
+fn some_writes() -> &'static [Step] {
+    &[
+        Step::Answer((64, (0, 0x10006, 3)), 0xfffffff7),
+        Step::Answer((64, (1, 0x10006, 3)), 3),
+        Step::Answer((64, (2, 0x10000, 1)), 1),
+        Step::Answer((64, (1, 0x1000f, 2)), 0xfffffff2),
+        Step::Answer((64, (1, 0xffffffff, 0)), 0),
+        Step::Output(&[7, 0x88, 0x99, 1]),
+    ]
+}
+
+#[test]
+fn writes(rt: HostRuntime) -> Result<(), Fail> {
+    expect(&rt, rt.alloc(), some_writes())
+}
+
+/// The heap grows, shrinks and grows again within a word.
+fn moves_of_the_heap() -> &'static [Step] {
+    &[
+        Step::Answer((214, (0, 0, 0)), 0x20010),
+        Step::Answer((214, (0x20018, 0, 0)), 0x20018),
+        Step::Store(0x20014, Width::Word, 0xffffffff, Ok(())),
+        Step::Store(0x20015, Width::Word, 0, Err(Unmapped)),
+        Step::Answer((214, (0x20016, 0, 0)), 0x20016),
+        Step::Load(0x20014, Width::Word, Err(Unmapped)),
+        Step::Answer((214, (0x20020, 0, 0)), 0x20020),
+        Step::Load(0x20014, Width::Word, Ok(0x0000ffff)),
+    ]
+}
+
+#[test]
+fn moves_the_heap(rt: HostRuntime) -> Result<(), Fail> {
+    expect(&rt, rt.alloc(), moves_of_the_heap())
+}
+
+/// Pages of the heap that go, and come again.
+fn pages_that_went() -> &'static [Step] {
+    &[
+        Step::Answer((214, (0x12080, 0, 0)), 0x12080),
+        Step::Store(0x11000, Width::Word, 0xffffffff, Ok(())),
+        Step::Answer((214, (0x10080, 0, 0)), 0x10080),
+        Step::Answer((214, (0x12080, 0, 0)), 0x12080),
+        Step::Load(0x11000, Width::Word, Ok(0)),
+        Step::Load(0x1207d, Width::Word, Err(Unmapped)),
+    ]
+}
+
+#[test]
+fn keeps_no_bytes_of_pages_that_went(rt: HostRuntime) -> Result<(), Fail> {
+    expect_of_small(&rt, rt.alloc(), pages_that_went())
+}
+
+/// Loads that keep where they looked, over bytes that go, and come again.
+fn near_loads() -> &'static [Step] {
+    &[
+        Step::Answer((214, (0x11010, 0, 0)), 0x11010),
+        Step::Store(0x1100c, Width::Word, 0x04030201, Ok(())),
+        Step::Near(0x1100c, Width::Word, Ok(0x04030201)),
+        Step::Near(0x1100d, Width::Word, Err(Unmapped)),
+        Step::Near(0x10ffe, Width::Word, Ok(0)),
+        Step::Answer((214, (0x1100e, 0, 0)), 0x1100e),
+        Step::Near(0x1100c, Width::Word, Err(Unmapped)),
+        Step::Answer((214, (0x11010, 0, 0)), 0x11010),
+        Step::Near(0x1100c, Width::Word, Ok(0x0201)),
+    ]
+}
+
+#[test]
+fn loads_near_as_it_loads(rt: HostRuntime) -> Result<(), Fail> {
+    expect_of_small(&rt, rt.alloc(), near_loads())
+}
+
+/// Accesses and calls over the border of two pages.
+fn over_borders() -> &'static [Step] {
+    &[
+        Step::Store(0x7ff00ffe, Width::Word, 0x04030201, Ok(())),
+        Step::Load(0x7ff01000, Width::Half, Ok(0x0403)),
+        Step::Load(0x7ff00ffd, Width::Word, Ok(0x03020100)),
+        Step::Answer((63, (0, 0x7ff01ff8, 12)), 12),
+        Step::Load(0x7ff01ffe, Width::Word, Ok(0x726f7720)),
+        Step::Answer((64, (1, 0x7ff01ffe, 3)), 3),
+        Step::Output(b" wo"),
+    ]
+}
+
+#[test]
+fn crosses_pages(rt: HostRuntime) -> Result<(), Fail> {
+    expect(&rt, rt.alloc(), over_borders())
+}
+
+/// The ends that the heap may have or not: 64 mebibytes less the stack and the 18 bytes of the segments.
+fn ends_of_the_heap() -> &'static [Step] {
+    &[
+        Step::Answer((214, (0x2000f, 0, 0)), 0x20010),
+        Step::Answer((214, (0x7ff00001, 0, 0)), 0x20010),
+        Step::Answer((214, (0x20010 + 0x3f00000 - 18, 0, 0)), 0x3f1fffe),
+        Step::Answer((214, (0x20010 + 0x3f00000 - 17, 0, 0)), 0x3f1fffe),
+    ]
+}
+
+#[test]
+fn bounds_the_heap(rt: HostRuntime) -> Result<(), Fail> {
+    expect(&rt, rt.alloc(), ends_of_the_heap())
+}
+
+/// Fails where a call that there is not is answered, or the call that exits does not end the run.
+fn expect_end(rt: &impl Abort, state: &mut State) -> Result<(), AllocError> {
+    assert_eq!(rt; answer(state, (1, (5, 6, 7)))?, 0xffffffda);
+    assert_eq!(rt; state.register(x(11)), 6);
+    ask(state, (93, (0x12345, 0, 0)));
+    assert_eq!(rt; state.environment_call()?, Call::Exit(0x12345));
+    assert_eq!(rt; state.register(x(10)), 0x12345);
+    Ok(())
+}
+
+#[test]
+fn ends_and_refuses(rt: HostRuntime) -> Result<(), Fail> {
+    let mut state = sample(&rt, rt.alloc())?;
+    let outcome = expect_end(&rt, &mut state);
+    drop(state);
+    outcome?;
+    Ok(())
+}
+
+/// Accesses and calls that move text or other bytes.
+fn touches() -> &'static [Step] {
+    &[
+        Step::Access(0x10004, Some(0x10004)),
+        Step::Access(0xffff, Some(0x10000)),
+        Step::Access(0x10008, None),
+        Step::Moved((63, (0, 0x10007, 3)), Some(0x10007)),
+        Step::Moved((64, (1, 0x10007, 100)), None),
+        Step::Moved((64, (0, 0x10007, 3)), None),
+        Step::Moved((64, (2, 0x10008, 8)), None),
+        Step::Moved((214, (0x10000, 0, 0)), None),
+    ]
+}
+
+#[test]
+fn touches_the_text(rt: HostRuntime) -> Result<(), Fail> {
+    expect(&rt, rt.alloc(), touches())
+}
