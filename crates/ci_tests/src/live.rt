@@ -32,17 +32,33 @@ fn rows_after(alloc: Global, leaders: &[u32], sets: &LiveSets) -> Result<Vec<Row
     Ok(rows)
 }
 
-/// The live sets at the leaders of a file, and after its blocks.
-fn rows_of(alloc: Global, image: &Image) -> Result<(Vec<Row>, Vec<Row>), Fail> {
-    let leaders = leaders(alloc, image, &[], &[])?;
-    let blocks = split(alloc, image, &leaders)?;
-    let sets = live(alloc, &blocks)?;
-    let at = rows_at(alloc, leaders.all(), &sets)?;
-    let after = rows_after(alloc, leaders.all(), &sets)?;
+/// Both.
+fn rows_by(
+    alloc: Global,
+    leaders: &[u32],
+    sets: &LiveSets,
+) -> Result<(Vec<Row>, Vec<Row>), AllocError>
+    requires { sets.now.leaders ≡ leaders.now }
+{
+    let at = rows_at(alloc, leaders, sets)?;
+    let after = rows_after(alloc, leaders, sets)?;
     Ok((at, after))
 }
 
-// Images are let go by a call of `drop` before an error is passed on, so that a proof looks into none of them.
+// Images, blocks and sets are let go by a call of `drop` before an error is passed on, so that a proof looks into none
+// of them.
+
+/// The live sets at the leaders of a file, and after its blocks.
+fn rows_of(alloc: Global, image: &Image) -> Result<(Vec<Row>, Vec<Row>), AllocError> {
+    let leaders = leaders(alloc, image, &[], &[])?;
+    let blocks = split(alloc, image, &leaders)?;
+    let sets = live(alloc, &blocks);
+    drop(blocks);
+    let sets = sets?;
+    let rows = rows_by(alloc, leaders.all(), &sets);
+    drop(sets);
+    rows
+}
 
 /// The live sets at the leaders of a program, and after its blocks.
 fn live_rows(
@@ -54,7 +70,7 @@ fn live_rows(
     let image = image_of(rt, alloc, text, values)?;
     let rows = rows_of(alloc, &image);
     drop(image);
-    rows
+    Ok(rows?)
 }
 
 /// Asserts what each row has.
