@@ -2,6 +2,7 @@
 ghost use Rattle.std.specs.Prelude.{◌≡◌};
 
 use ci_region::Region;
+use std::alloc::Global;
 use std::process::Abort;
 use std::test::Fail;
 
@@ -40,21 +41,29 @@ fn no_slot(rt: HostRuntime) -> Result<(), Fail> {
     Ok(())
 }
 
-#[test]
+// Two texts are put into an empty region of two slots, one is given back, and the other is changed.
 #[tactic(auto, using(ci_region::proofs::MapLaws::laws))]
-fn texts(rt: HostRuntime) -> Result<(), Fail> {
-    let mut region = Region::with_capacity(rt.alloc(), 2)?;
-    let first = region.take(String::from_str(rt.alloc(), "first")?)?;
-    let second = region.take(String::from_str(rt.alloc(), "second")?)?;
+fn two_texts(rt: &impl Abort, alloc: Global, region: &mut Region<String>) -> Result<(), Fail> {
+    let first = region.take(String::from_str(alloc, "first")?)?;
+    let second = region.take(String::from_str(alloc, "second")?)?;
     assert_ne!(rt; first, second);
-    assert!(rt; region.take(String::from_str(rt.alloc(), "third")?).is_err());
+    assert!(rt; region.take(String::from_str(alloc, "third")?).is_err());
     assert_eq!(rt; region.give(first).as_str(), "first");
     region.get_mut(second).push_str("!")?;
     assert_eq!(rt; region.get(second).as_str(), "second!");
     assert_eq!(rt; region.used(), 1);
     region.clear();
     assert_eq!(rt; (region.used(), region.capacity()), (0, 2));
-    let third = region.take(String::from_str(rt.alloc(), "third")?)?;
+    let third = region.take(String::from_str(alloc, "third")?)?;
     assert_eq!(rt; region.get(third).as_str(), "third");
     Ok(())
+}
+
+// The region is let go by a call of `drop`, which a proof does not look into.
+#[test]
+fn texts(rt: HostRuntime) -> Result<(), Fail> {
+    let mut region = Region::with_capacity(rt.alloc(), 2)?;
+    let outcome = two_texts(&rt, rt.alloc(), &mut region);
+    drop(region);
+    outcome
 }

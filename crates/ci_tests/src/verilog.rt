@@ -2,7 +2,6 @@
 use ci_verilog::{Expr, Item, Items, Module, Name, Operator, Simple, Term, Wire, Wires, eval};
 use std::alloc::{AllocError, Global};
 use std::process::Abort;
-use std::test::Fail;
 
 /// All bits of a name.
 fn whole(alloc: Global, wires: &Wires, name: &[u8]) -> Result<Simple, AllocError> {
@@ -24,11 +23,26 @@ fn number(width: u8, value: u64) -> Simple {
     Simple::Number { width, value }
 }
 
+/// Puts two items at the end.
+fn push_both(items: &mut Items, first: Item, second: Item) -> Result<(), AllocError> {
+    match items.push(first) {
+        Ok(()) => items.push(second),
+        Err(e) => {
+            drop(second);
+            Err(e)
+        }
+    }
+}
+
 fn joined(alloc: Global, first: Item, second: Item) -> Result<Term, AllocError> {
     let mut items = Items::new(alloc);
-    items.push(first)?;
-    items.push(second)?;
-    Ok(Term::Join(items))
+    match push_both(&mut items, first, second) {
+        Ok(()) => Ok(Term::Join(items)),
+        Err(e) => {
+            drop(items);
+            Err(e)
+        }
+    }
 }
 
 fn two(operator: Operator, left: Simple, right: Simple) -> Expr {
@@ -113,8 +127,13 @@ fn unsigned(alloc: Global, wires: &Wires, name: &[u8]) -> Result<Term, AllocErro
 /// The product of a as a signed number and b as one that is not.
 fn product(alloc: Global, wires: &Wires) -> Result<Expr, AllocError> {
     let left = signed(alloc, wires, b"a")?;
-    let right = unsigned(alloc, wires, b"b")?;
-    Ok(Expr::Two(Operator::Times, left, right))
+    match unsigned(alloc, wires, b"b") {
+        Ok(right) => Ok(Expr::Two(Operator::Times, left, right)),
+        Err(e) => {
+            drop(left);
+            Err(e)
+        }
+    }
 }
 
 /// An operator on a and b.
@@ -133,25 +152,41 @@ fn on(
     b: u32,
 ) -> Result<u32, AllocError> {
     let wires = Wires::new(alloc);
-    let y = on_both(alloc, &wires, operator)?;
-    let module = module(rt, wires, y, one(number(32, 0)));
-    Ok(value(module, a, b, 0).0)
+    match on_both(alloc, &wires, operator) {
+        Ok(y) => {
+            let module = module(rt, wires, y, one(number(32, 0)));
+            Ok(value(module, a, b, 0).0)
+        }
+        Err(e) => {
+            drop(wires);
+            Err(e)
+        }
+    }
+}
+
+/// The upper half of the product, which is put into a wire.
+fn upper_half(rt: &impl Abort, alloc: Global, wires: &mut Wires) -> Result<Expr, AllocError> {
+    let name = Name::new(b"w0".to_vec(alloc)?);
+    let product = product(alloc, wires)?;
+    declare(rt, wires, name, 64, product)?;
+    Ok(one(bits(alloc, wires, b"w0", 63, 32)?))
 }
 
 #[test]
-fn mulhsu(rt: HostRuntime) -> Result<(), Fail> {
-    let alloc = rt.alloc();
-    let mut wires = Wires::new(alloc);
-    let name = Name::new(b"w0".to_vec(alloc)?);
-    let product = product(alloc, &wires)?;
-    declare(&rt, &mut wires, name, 64, product)?;
-    let y = one(bits(alloc, &wires, b"w0", 63, 32)?);
-    let module = module(&rt, wires, y, one(number(32, 0)));
-    assert_eq!(rt;
-        value(module, 0x8000_0000, 0xffff_ffff, 0),
-        (0x8000_0000, 0)
-    );
-    Ok(())
+fn mulhsu(rt: HostRuntime) -> Result<(), AllocError> {
+    let mut wires = Wires::new(rt.alloc());
+    match upper_half(&rt, rt.alloc(), &mut wires) {
+        Ok(y) => {
+            let module = module(&rt, wires, y, one(number(32, 0)));
+            let values = value(module, 0x8000_0000, 0xffff_ffff, 0);
+            assert_eq!(rt; values, (0x8000_0000, 0));
+            Ok(())
+        }
+        Err(e) => {
+            drop(wires);
+            Err(e)
+        }
+    }
 }
 
 // A long table is the answer of a function, so that the proof of a test doesn't look at it.
@@ -173,7 +208,7 @@ fn corners() -> &'static [(Operator, u32, u32, u32)] {
 }
 
 #[test]
-fn operators_at_corners(rt: HostRuntime) -> Result<(), Fail> {
+fn operators_at_corners(rt: HostRuntime) -> Result<(), AllocError> {
     for (operator, a, b, want) in corners() {
         assert_eq!(rt;
             on(&rt, rt.alloc(), *operator, *a, *b)?,
@@ -184,21 +219,27 @@ fn operators_at_corners(rt: HostRuntime) -> Result<(), Fail> {
     Ok(())
 }
 
-#[test]
-fn names_are_told(rt: HostRuntime) -> Result<(), Fail> {
-    let alloc = rt.alloc();
-    let mut wires = Wires::new(alloc);
+/// Asserts the widths of names and of expressions with a wire of one bit.
+fn expect_widths(rt: &impl Abort, alloc: Global, wires: &mut Wires) -> Result<(), AllocError> {
     let name = Name::new(b"w".to_vec(alloc)?);
     let less = two(Operator::Less, number(7, 1), number(7, 2));
-    declare(&rt, &mut wires, name, 1, less)?;
-    expect_width(&rt, alloc, &wires, b"w", Some(1))?;
-    expect_width(&rt, alloc, &wires, b"c", Some(32))?;
-    expect_width(&rt, alloc, &wires, b"y", None)?;
-    let beyond = one(bits(alloc, &wires, b"a", 32, 0)?);
-    expect_no_width(&rt, &wires, beyond);
+    declare(rt, wires, name, 1, less)?;
+    expect_width(rt, alloc, wires, b"w", Some(1))?;
+    expect_width(rt, alloc, wires, b"c", Some(32))?;
+    expect_width(rt, alloc, wires, b"y", None)?;
+    let beyond = one(bits(alloc, wires, b"a", 32, 0)?);
+    expect_no_width(rt, wires, beyond);
     let unlike = two(Operator::Plus, number(7, 1), number(8, 2));
-    expect_no_width(&rt, &wires, unlike);
+    expect_no_width(rt, wires, unlike);
     Ok(())
+}
+
+#[test]
+fn names_are_told(rt: HostRuntime) -> Result<(), AllocError> {
+    let mut wires = Wires::new(rt.alloc());
+    let outcome = expect_widths(&rt, rt.alloc(), &mut wires);
+    drop(wires);
+    outcome
 }
 
 /// Whether two modules with these values of z are equal.
