@@ -1,16 +1,20 @@
 //! The report of a program of two functions.
-ghost use Rattle.std.specs.Prelude.{◌≤◌, length};
+ghost use Rattle.std.specs.Prelude.{◌≤◌, length, Ok};
+ghost use Rattle.ci_machine.specs.Words.{AreBytes};
+ghost use Rattle.ci_elf.specs.Executables.{IsWellFormed};
+ghost use Rattle.ci_elf.specs.Rules.{IsReadAs};
+ghost use Rattle.ci_select.specs.Instances.{AreBlocksOf};
 
 use crate::common::{calls, file_of, table};
 use ci_cut::Limits;
-use ci_elf::read;
-use ci_emu::run;
+use ci_elf::{Image, read};
+use ci_emu::{Profile, run};
 use ci_lat::Table;
 use ci_live::{Analysis, analysis_of};
 use ci_machine::State;
 use ci_report::report;
 use ci_select::{Plan, choose};
-use std::alloc::Global;
+use std::alloc::{AllocError, Global};
 use std::test::Fail;
 
 /// The report of a program with two cuts.
@@ -33,15 +37,31 @@ total 8
 "
 }
 
-/// The report of the choice with the usual limits for the executable in these bytes.
-fn report_of(alloc: Global, bytes: &[u8]) -> Result<Vec<u8>, Fail>
-    requires { length bytes.now ≤ 1000 }
+// What owns memory is lent to the calls that may fail, and let go by calls of `drop`, so that a proof looks into none
+// of it.
+
+/// The profile of a run of an executable.
+fn profile_of(alloc: Global, image: &Image) -> Result<Profile, AllocError> {
+    let mut state = State::start(alloc, image, b"")?;
+    let profile = run(alloc, &mut state, &Table::usual(), 16777216);
+    drop(state);
+    profile
+}
+
+/// The report of the choice with the usual limits for an executable by its profile and its blocks.
+fn report_by(
+    alloc: Global,
+    image: &Image,
+    profile: &Profile,
+    analysis: &Analysis,
+) -> Result<Vec<u8>, AllocError>
+    requires image { IsReadAs image.now.bytes (Ok image.now) }
+    requires formed { IsWellFormed image.now }
+    requires bytes { AreBytes image.now.bytes }
+    requires blocks { AreBlocksOf image.now analysis.now.blocks analysis.now.live }
 {
-    let image = read(alloc, bytes)?;
+    let Analysis { blocks, live } = analysis;
     let table = Table::usual();
-    let mut state = State::start(alloc, &image, b"")?;
-    let profile = run(alloc, &mut state, &table, 16777216)?;
-    let Analysis { blocks, live } = analysis_of(alloc, &image, profile.targets(), &[])?;
     let plan = Plan {
         limits: Limits {
             inputs: 3,
@@ -50,9 +70,44 @@ fn report_of(alloc: Global, bytes: &[u8]) -> Result<Vec<u8>, Fail>
         count: 32,
         budget: 65536,
     };
-    let chosen = choose(alloc, &image, &profile, &blocks, &live, &table, &plan)?;
-    let text = report(alloc, &profile, &blocks, &live, &table, &plan, &chosen)?;
-    Ok(text)
+    let chosen = choose(alloc, image, profile, blocks, live, &table, &plan)?;
+    let text = report(alloc, profile, blocks, live, &table, &plan, &chosen);
+    drop(chosen);
+    text
+}
+
+/// The same by its profile.
+fn report_after(alloc: Global, image: &Image, profile: &Profile) -> Result<Vec<u8>, AllocError>
+    requires image { IsReadAs image.now.bytes (Ok image.now) }
+    requires formed { IsWellFormed image.now }
+    requires bytes { AreBytes image.now.bytes }
+{
+    let analysis = analysis_of(alloc, image, profile.targets(), &[])?;
+    let text = report_by(alloc, image, profile, &analysis);
+    drop(analysis);
+    text
+}
+
+/// The same for an executable.
+fn report_on(alloc: Global, image: &Image) -> Result<Vec<u8>, AllocError>
+    requires image { IsReadAs image.now.bytes (Ok image.now) }
+    requires formed { IsWellFormed image.now }
+    requires bytes { AreBytes image.now.bytes }
+{
+    let profile = profile_of(alloc, image)?;
+    let text = report_after(alloc, image, &profile);
+    drop(profile);
+    text
+}
+
+/// The same for the executable in these bytes.
+fn report_of(alloc: Global, bytes: &[u8]) -> Result<Vec<u8>, Fail>
+    requires { length bytes.now ≤ 1000 }
+{
+    let image = read(alloc, bytes)?;
+    let text = report_on(alloc, &image);
+    drop(image);
+    Ok(text?)
 }
 
 #[test]
