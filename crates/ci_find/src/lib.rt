@@ -20,8 +20,6 @@ mod commands;
 mod find;
 mod laws;
 mod load;
-#[cfg(test)]
-mod tests;
 
 /// Runs the command that the words name, over the files of a shelf, and answers the program's status.
 ///

@@ -1,0 +1,370 @@
+//! Worked calls, over one file `F` and a sink in memory.
+use crate::common::{answer, expect, expect_each, expect_failing, files_of, sums};
+use ci_io::{MemSink, SureShelf, SureSink};
+use std::alloc::{AllocError, Global};
+use std::process::Abort;
+
+/// The bytes of words, the lowest byte of each first.
+fn bytes_of(alloc: Global, words: &[u32]) -> Result<Vec<u8>, AllocError> {
+    let mut bytes = Vec::new(alloc);
+    for word in words {
+        bytes.extend_from_slice(&word.to_le_bytes())?;
+    }
+    Ok(bytes)
+}
+
+/// Calls the program over the words of a block, and asserts its status and the line that it put.
+fn expect_block(
+    rt: &(impl Abort + AllocGlobal),
+    block: &[u32],
+    text: &str,
+    status: u8,
+    line: &str,
+) -> Result<(), AllocError> {
+    let bytes = bytes_of(rt.alloc(), block)?;
+    let outcome = expect(rt, Some(bytes.as_slice()), text, status, line);
+    drop(bytes);
+    outcome
+}
+
+/// The same for each of these blocks, with a call and the line.
+fn expect_blocks(
+    rt: &(impl Abort + AllocGlobal),
+    status: u8,
+    rows: &[(&[u32], &str, &str)],
+) -> Result<(), AllocError> {
+    for (block, text, line) in rows {
+        expect_block(rt, block, text, status, line)?;
+    }
+    Ok(())
+}
+
+/// Half a word.
+const UNEVEN: [u8; 2] = [0x13, 0x05];
+
+/// Blocks with a cut, and blocks with none.
+fn cuts() -> &'static [(&'static [u32], &'static str, &'static str)] {
+    &[
+        (&[], "best F", "no cut\n"),
+        // A sum of a constant, and one of its result.
+        (
+            &[0x00150293, 0x00B28333],
+            "best F --in 2 --out 1",
+            "no cut\n",
+        ),
+        (
+            &[0x00150293, 0x00B28333],
+            "best F --in 2 --out 2",
+            "no cut\n",
+        ),
+        // Four operations of logic with two results.
+        (
+            &[0x00B542B3, 0x00C2C333, 0x00A34333, 0x00B34333],
+            "best F --in 3 --out 2",
+            "cut 0 1 2 3 gain 2\n",
+        ),
+        // Two pairs of sums.
+        (
+            &[0x00B502B3, 0x00C282B3, 0x00E68333, 0x00F30333],
+            "best F --in 3 --out 1",
+            "cut 2 3 gain 1\n",
+        ),
+        // An operation, a load by its result, and two more of which the first takes the load's.
+        (
+            &[0x00B542B3, 0x0002A303, 0x005342B3, 0x00A2C2B3],
+            "best F --in 3 --out 2",
+            "cut 2 3 gain 1\n",
+        ),
+        // A sum, a load into the register of an operand of it, and a sum of both.
+        (
+            &[0x00B502B3, 0x00062503, 0x00A282B3],
+            "best F --in 3 --out 1",
+            "no cut\n",
+        ),
+        // A constant in two parts.
+        (
+            &[0x123452B7, 0x67828293],
+            "best F --in 1 --out 1",
+            "cut 0 1 gain 1\n",
+        ),
+        // Two sums, and a return. Without an address, leaders are passed over.
+        (
+            &[0x00B502B3, 0x00C282B3, 0x00008067],
+            "best F --leader 0x4 --out 1",
+            "cut 0 1 gain 1\n",
+        ),
+    ]
+}
+
+/// Calls by which both sums are the best cut. A number may begin with zeros.
+fn calls_with_a_cut() -> &'static [&'static str] {
+    &[
+        "best F --in 3 --out 1",
+        "best --out=1 F --in 3",
+        "best --in=3 -- F",
+        "best F --in 03",
+        "best F --out 1 --budget 2",
+        "best F --out 1 --budget 4194304",
+    ]
+}
+
+#[test]
+fn blocks(rt: HostRuntime) -> Result<(), AllocError> {
+    expect_blocks(&rt, 0, cuts())?;
+    expect(&rt, Some(sums()), "best F --in 2 --out 1", 0, "no cut\n")?;
+    expect_each(&rt, Some(sums()), calls_with_a_cut(), 0, "cut 0 1 gain 1\n")
+}
+
+/// A chain of 64 operations, each on the result of the one before.
+fn chain() -> &'static [u32] {
+    &[0x00A2C2B3; 64]
+}
+
+/// Their best cut is all of them.
+fn chain_cut() -> &'static str {
+    "cut 0 1 2 3 4 5 6 7 8 9 10 11 12 13 14 15 16 17 18 19 20 21 22 23 24 25 26 27 28 29 30 31 \
+    32 33 34 35 36 37 38 39 40 41 42 43 44 45 46 47 48 49 50 51 52 53 54 55 56 57 58 59 60 61 62 63 gain 57\n"
+}
+
+/// Both sides of what blocks need, and the least budget.
+fn needs() -> &'static [(&'static [u32], &'static str, &'static str)] {
+    &[
+        (
+            &[0x00B502B3, 0x00C282B3],
+            "best F --out 1 --budget 1",
+            "skipped budget 1\n",
+        ),
+        (
+            &[0x00B502B3, 0x00C282B3, 0x00E68333, 0x00F30333],
+            "best F --out 1 --budget 6",
+            "skipped budget 6\n",
+        ),
+        (
+            &[0x00B502B3, 0x00C282B3, 0x00E68333, 0x00F30333],
+            "best F --out 1 --budget 7",
+            "cut 2 3 gain 1\n",
+        ),
+        (&[], "best F --budget 1", "no cut\n"),
+        // A sum, thirteen times.
+        (
+            &[0x00B502B3; 13],
+            "best F",
+            "cut 0 1 2 3 4 5 6 7 8 9 10 11 12 gain 12\n",
+        ),
+    ]
+}
+
+#[test]
+fn budgets(rt: HostRuntime) -> Result<(), AllocError> {
+    expect_blocks(&rt, 0, needs())?;
+    let line = "skipped budget 568\n";
+    expect_block(&rt, chain(), "best F --out 1", 0, chain_cut())?;
+    expect_block(&rt, chain(), "best F --out 1 --budget 568", 0, line)?;
+    expect_block(&rt, chain(), "best F --out 1 --budget 569", 0, chain_cut())
+}
+
+/// Words that read as no command.
+fn unreadable() -> &'static [&'static str] {
+    &[
+        "",
+        "best",
+        "best F --in 4",
+        "best F --in 2 --in 2",
+        "best F --budget 0",
+        "asm A A",
+        "asm A",
+        "dis",
+        "dis F --in 3",
+        "best -F",
+        "best F --in ''",
+        "best F --at 10074",
+        "blocks F --at 0x10074",
+        "blocks",
+    ]
+}
+
+#[test]
+fn words_with_no_reading(rt: HostRuntime) -> Result<(), AllocError> {
+    expect_each(&rt, Some(sums()), unreadable(), 1, "fault 1 usage\n")
+}
+
+/// A call of each command that reads one file.
+fn calls_of_one_file() -> &'static [&'static str] {
+    &[
+        "best F",
+        "best F --at 0x10074",
+        "blocks F",
+        "asm F OUT",
+        "dis F",
+    ]
+}
+
+#[test]
+fn files_not_read(rt: HostRuntime) -> Result<(), AllocError> {
+    expect_each(&rt, None, calls_of_one_file(), 2, "fault 2 read F\n")
+}
+
+/// Calls the program over a file of so many bytes, newlines, and asserts its status and the line that it put.
+fn expect_of_newlines(
+    rt: &(impl Abort + AllocGlobal),
+    size: usize,
+    text: &str,
+    status: u8,
+    line: &str,
+) -> Result<(), AllocError> {
+    let bytes = vec![in rt.alloc(); 10u8; size]?;
+    let outcome = expect(rt, Some(bytes.as_slice()), text, status, line);
+    drop(bytes);
+    outcome
+}
+
+// One byte more than each limit. A text of empty lines up to its limit has no words.
+#[test]
+fn files_too_large(rt: HostRuntime) -> Result<(), AllocError> {
+    let line = "fault 4 too large F\n";
+    expect_of_newlines(&rt, 1025, "best F", 4, line)?;
+    expect_of_newlines(&rt, 1_048_577, "asm F OUT", 4, line)?;
+    expect_of_newlines(&rt, 1_048_577, "dis F", 4, line)?;
+    expect_of_newlines(&rt, 1_048_576, "asm F OUT", 0, "")
+}
+
+/// Words that are no block.
+fn no_blocks() -> &'static [(&'static [u32], &'static str, &'static str)] {
+    &[
+        // A sum, and the word of a unit.
+        (
+            &[0x00B502B3, 0x60B5028B],
+            "best F",
+            "fault 7 unsupported 00000004 60b5028b\n",
+        ),
+        // A sum, a word of the opcode custom-1 that no table has, and an environment call.
+        (
+            &[0x00B502B3, 0x8000102B, 0x00000073],
+            "best F",
+            "fault 7 unsupported 00000004 8000102b\n",
+        ),
+        // A sum between two environment calls.
+        (
+            &[0x00000073, 0x00B502B3, 0x00000073],
+            "best F",
+            "fault 7 unsupported 00000000 00000073\n",
+        ),
+    ]
+}
+
+#[test]
+fn files_with_no_block(rt: HostRuntime) -> Result<(), AllocError> {
+    let line = "fault 7 unsupported 00000002 00000000\n";
+    expect(&rt, Some(&UNEVEN), "best F", 7, line)?;
+    expect_blocks(&rt, 7, no_blocks())
+}
+
+#[test]
+fn a_read_that_fails(rt: HostRuntime) -> Result<(), AllocError> {
+    let files = files_of(rt.alloc(), Some(&UNEVEN), None, None)?;
+    expect_failing(&rt, files, 1, "best F", 2, "fault 2 read F\n")
+}
+
+/// Asserts what a sink took, of which the first put fails and then another one.
+fn expect_puts(
+    rt: &(impl Abort + AllocGlobal),
+    second: u64,
+    taken: &str,
+) -> Result<(), AllocError> {
+    let alloc = rt.alloc();
+    let mut shelf = SureShelf::new(files_of(alloc, Some(&[]), None, None)?);
+    let mut out = MemSink::new(alloc, vec![in alloc; 1u64, second]?);
+    let answer = answer(alloc, "best F", &mut shelf, &mut out);
+    drop(shelf);
+    assert_eq!(rt; answer.ok(), Some(3));
+    assert_eq!(rt; out.taken(), taken.as_bytes());
+    drop(out);
+    Ok(())
+}
+
+// The put of the line of success fails, and then that of the fault line too.
+#[test]
+fn puts_that_fail(rt: HostRuntime) -> Result<(), AllocError> {
+    expect_puts(&rt, 3, "fault 3 write -\n")?;
+    expect_puts(&rt, 2, "")
+}
+
+/// Assembles the text `F` to `OUT`, and asserts the status, the bytes that the sink took, and those of `OUT`, if it is
+/// there.
+fn expect_assembly(
+    rt: &(impl Abort + AllocGlobal),
+    text: &[u8],
+    status: u8,
+    line: &str,
+    written: Option<&[u8]>,
+) -> Result<(), AllocError> {
+    let alloc = rt.alloc();
+    let mut shelf = SureShelf::new(files_of(alloc, Some(text), None, None)?);
+    let mut out = SureSink::new(alloc);
+    let answer = answer(alloc, "asm F OUT", &mut shelf, &mut out);
+    assert_eq!(rt; answer.ok(), Some(status));
+    assert_eq!(rt; out.taken(), line.as_bytes());
+    drop(out);
+    let found = shelf.files().get("OUT").map(|bytes| bytes.as_slice());
+    assert_eq!(rt; found, written);
+    drop(shelf);
+    Ok(())
+}
+
+#[test]
+fn texts(rt: HostRuntime) -> Result<(), AllocError> {
+    let sum: &[u8] = &[0xB3, 0x02, 0xB5, 0x00];
+    expect_assembly(&rt, b"add x5, x10, x11\n", 0, "", Some(sum))?;
+    let branch: &[u8] = &[0x63, 0x90, 0x04, 0x00];
+    expect_assembly(&rt, b"T: bne x9, x0, T\n", 0, "", Some(branch))?;
+    expect_assembly(&rt, b"", 0, "", Some(&[]))
+}
+
+#[test]
+fn texts_with_faults(rt: HostRuntime) -> Result<(), AllocError> {
+    expect_assembly(&rt, b"add x5, x10\n", 13, "fault 13 asm 3 1 12\n", None)?;
+    expect_assembly(&rt, b"foo\n", 13, "fault 13 asm 2 1 1\n", None)?;
+    expect_assembly(&rt, &[0xFF], 13, "fault 13 asm 1 1 1\n", None)
+}
+
+/// Bytes, and the lines of their words: a unit word, a read of the hidden register and a word of neither table are in
+/// one of them.
+fn listed() -> &'static [(&'static [u8], &'static str)] {
+    &[
+        (&[0xB3, 0x02, 0xB5, 0x00], "00b502b3 add x5, x10, x11\n"),
+        (
+            &[
+                0x8B, 0x02, 0xB5, 0x60, 0x2B, 0x03, 0x00, 0x00, 0xFF, 0xFF, 0xFF, 0xFF,
+            ],
+            "60b5028b ci 0, x5, x10, x11, x12\n0000032b cread x6\nffffffff .word 0xffffffff\n",
+        ),
+        (&[0x13, 0x05], ""),
+        (
+            &[0xB3, 0x02, 0xB5, 0x00, 0x13],
+            "00b502b3 add x5, x10, x11\n",
+        ),
+    ]
+}
+
+/// Asserts what `dis` puts of bytes.
+fn expect_listings(
+    rt: &(impl Abort + AllocGlobal),
+    rows: &[(&[u8], &str)],
+) -> Result<(), AllocError> {
+    for (bytes, text) in rows {
+        expect(rt, Some(*bytes), "dis F", 0, text)?;
+    }
+    Ok(())
+}
+
+#[test]
+fn listings(rt: HostRuntime) -> Result<(), AllocError> {
+    expect_listings(&rt, listed())
+}
+
+// The second call of the shelf is the write of `OUT`.
+#[test]
+fn a_write_that_fails(rt: HostRuntime) -> Result<(), AllocError> {
+    let files = files_of(rt.alloc(), Some(b"add x5, x10, x11\n"), None, None)?;
+    expect_failing(&rt, files, 2, "asm F OUT", 3, "fault 3 write OUT\n")
+}

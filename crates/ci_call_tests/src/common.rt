@@ -1,0 +1,252 @@
+//! What the modules of tests share: calls over files in memory, and executables.
+use ci_elf::frame;
+use ci_find::run;
+use ci_io::{MemShelf, Shelf, Sink, SureShelf, SureSink};
+use std::alloc::{AllocError, Global};
+use std::collections::BTreeMap;
+use std::process::Abort;
+
+// Tables and texts are the answers of functions, so that the proof of a test looks at none of them, and what owns
+// memory is let go by a call of `drop`, which a proof does not look into.
+
+/// The words after the program's name, by blanks: `''` is the empty word.
+fn words(alloc: Global, text: &str) -> Result<Vec<String>, AllocError> {
+    let mut words = Vec::new(alloc);
+    for word in text.split(' ') {
+        if word == "''" {
+            words.push(String::new(alloc))?;
+        } else if !word.is_empty() {
+            words.push(String::from_str(alloc, word)?)?;
+        }
+    }
+    Ok(words)
+}
+
+/// Puts the file of a name among the others, where it has bytes.
+pub(crate) fn hold(
+    alloc: Global,
+    files: &mut BTreeMap<String, Vec<u8>>,
+    name: &str,
+    file: Option<&[u8]>,
+) -> Result<(), AllocError> {
+    if let Some(bytes) = file {
+        files.insert(
+            String::from_str(alloc, name)?,
+            Vec::from_slice(alloc, bytes)?,
+        )?;
+    }
+    Ok(())
+}
+
+/// The files `F`, `T` and `I`, each of these bytes, if it is there.
+pub(crate) fn files_of(
+    alloc: Global,
+    file: Option<&[u8]>,
+    table: Option<&[u8]>,
+    input: Option<&[u8]>,
+) -> Result<BTreeMap<String, Vec<u8>>, AllocError> {
+    let mut files = BTreeMap::new(alloc);
+    hold(alloc, &mut files, "F", file)?;
+    hold(alloc, &mut files, "T", table)?;
+    hold(alloc, &mut files, "I", input)?;
+    Ok(files)
+}
+
+/// Calls the program over a shelf and a sink, and gives its status.
+pub(crate) fn answer(
+    alloc: Global,
+    text: &str,
+    shelf: &mut impl Shelf,
+    out: &mut impl Sink,
+) -> Result<u8, AllocError> {
+    let words = words(alloc, text)?;
+    let answer = run(alloc, &words, shelf, out);
+    drop(words);
+    Ok(answer)
+}
+
+/// Calls the program over these files, and asserts its status and the bytes that it put.
+pub(crate) fn expect_over(
+    rt: &(impl Abort + AllocGlobal),
+    files: BTreeMap<String, Vec<u8>>,
+    text: &str,
+    status: u8,
+    put: &[u8],
+) {
+    let alloc = rt.alloc();
+    let mut shelf = SureShelf::new(files);
+    let mut out = SureSink::new(alloc);
+    let answer = answer(alloc, text, &mut shelf, &mut out);
+    drop(shelf);
+    assert_eq!(rt; answer.ok(), Some(status), "the status of {text}");
+    assert_eq!(rt; out.taken(), put, "what {text} put");
+    drop(out);
+}
+
+/// The same where the call of this number of the shelf fails.
+pub(crate) fn expect_failing(
+    rt: &(impl Abort + AllocGlobal),
+    files: BTreeMap<String, Vec<u8>>,
+    failing: u64,
+    text: &str,
+    status: u8,
+    line: &str,
+) -> Result<(), AllocError> {
+    let alloc = rt.alloc();
+    let mut shelf = MemShelf::new(files, vec![in alloc; failing]?);
+    let mut out = SureSink::new(alloc);
+    let answer = answer(alloc, text, &mut shelf, &mut out);
+    drop(shelf);
+    assert_eq!(rt; answer.ok(), Some(status), "the status of {text}");
+    assert_eq!(rt; out.taken(), line.as_bytes(), "what {text} put");
+    drop(out);
+    Ok(())
+}
+
+/// Calls the program over the file `F`, and asserts its status and the line that it put.
+pub(crate) fn expect(
+    rt: &(impl Abort + AllocGlobal),
+    file: Option<&[u8]>,
+    text: &str,
+    status: u8,
+    line: &str,
+) -> Result<(), AllocError> {
+    let files = files_of(rt.alloc(), file, None, None)?;
+    expect_over(rt, files, text, status, line.as_bytes());
+    Ok(())
+}
+
+/// The same for each of these calls.
+pub(crate) fn expect_each(
+    rt: &(impl Abort + AllocGlobal),
+    file: Option<&[u8]>,
+    texts: &[&str],
+    status: u8,
+    line: &str,
+) -> Result<(), AllocError> {
+    for text in texts {
+        expect(rt, file, text, status, line)?;
+    }
+    Ok(())
+}
+
+/// Calls the program over a file `F`, and asserts its status and the bytes that it put.
+pub(crate) fn expect_of(
+    rt: &(impl Abort + AllocGlobal),
+    file: &[u8],
+    text: &str,
+    status: u8,
+    put: &[u8],
+) -> Result<(), AllocError> {
+    let files = files_of(rt.alloc(), Some(file), None, None)?;
+    expect_over(rt, files, text, status, put);
+    Ok(())
+}
+
+/// The same for each of these calls, of which each puts a line.
+pub(crate) fn expect_lines(
+    rt: &(impl Abort + AllocGlobal),
+    file: &[u8],
+    rows: &[(&str, u8, &str)],
+) -> Result<(), AllocError> {
+    for (text, status, line) in rows {
+        expect_of(rt, file, text, *status, line.as_bytes())?;
+    }
+    Ok(())
+}
+
+/// Calls the program over a file `F` and a table `T`, and asserts its status and the bytes that it put.
+pub(crate) fn expect_by(
+    rt: &(impl Abort + AllocGlobal),
+    file: &[u8],
+    table: &str,
+    text: &str,
+    status: u8,
+    put: &[u8],
+) -> Result<(), AllocError> {
+    let files = files_of(rt.alloc(), Some(file), Some(table.as_bytes()), None)?;
+    expect_over(rt, files, text, status, put);
+    Ok(())
+}
+
+/// The executable of a text, with some values behind it.
+pub(crate) fn program(
+    rt: &(impl Abort + AllocGlobal),
+    text: &[u32],
+    constants: &[u32],
+    values: &[u32],
+) -> Result<Vec<u8>, AllocError> {
+    assert!(rt; !text.is_empty());
+    assert!(rt; text.len() <= 300);
+    assert!(rt; constants.len() <= 100);
+    assert!(rt; values.len() <= 100);
+    frame(rt.alloc(), text, constants, values)
+}
+
+/// Calls the program over the executable of a text alone, and asserts its status and the line that it put.
+pub(crate) fn expect_of_text(
+    rt: &(impl Abort + AllocGlobal),
+    words: &[u32],
+    text: &str,
+    status: u8,
+    line: &str,
+) -> Result<(), AllocError> {
+    let bytes = program(rt, words, &[], &[])?;
+    let outcome = expect_of(rt, bytes.as_slice(), text, status, line.as_bytes());
+    drop(bytes);
+    outcome
+}
+
+/// The same for each of these texts, with a call and the line.
+pub(crate) fn expect_of_texts(
+    rt: &(impl Abort + AllocGlobal),
+    status: u8,
+    rows: &[(&[u32], &str, &str)],
+) -> Result<(), AllocError> {
+    for (words, text, line) in rows {
+        expect_of_text(rt, words, text, status, line)?;
+    }
+    Ok(())
+}
+
+/// Thirty words: calls of two functions through a table, a constant, a word of output, and an exit.
+fn words_of_calls() -> &'static [u32] {
+    &[
+        0x00020437, 0x00400493, 0x00000913, 0x00042283, 0x00090513, 0x000280e7, 0x00050913,
+        0x00440413, 0xfff48493, 0xfe0494e3, 0x000205b7, 0x0125a823, 0x01058593, 0x00100513,
+        0x00400613, 0x04000893, 0x00000073, 0x00000513, 0x05d00893, 0x00000073, 0x00351313,
+        0x00a34333, 0x00530513, 0x00008067, 0x000103b7, 0x0ec3a383, 0x00750533, 0x00155313,
+        0x00654533, 0x00008067,
+    ]
+}
+
+/// The table of the functions' addresses, and the word that is put.
+fn values_of_calls() -> &'static [u32] {
+    &[0x000100c4, 0x000100d4, 0x000100c4, 0x000100d4, 0]
+}
+
+/// Their executable, with the constant that they load.
+pub(crate) fn calls(rt: &(impl Abort + AllocGlobal)) -> Result<Vec<u8>, AllocError> {
+    program(rt, words_of_calls(), &[0x000003e8], values_of_calls())
+}
+
+/// A break alone.
+pub(crate) fn break_alone(rt: &(impl Abort + AllocGlobal)) -> Result<Vec<u8>, AllocError> {
+    program(rt, &[0x00100073], &[], &[])
+}
+
+/// The unit of two sums.
+pub(crate) fn unit_of_sums() -> &'static str {
+    "// cycles 1\n\
+    module ci_0(input [31:0] a, input [31:0] b, input [31:0] c, output [31:0] y, output [31:0] z);\n\
+    wire [31:0] p0;\nassign p0 = a;\nwire [31:0] q0;\nassign q0 = b;\n\
+    wire [31:0] t0;\nassign t0 = p0 + q0;\n\
+    wire [31:0] p1;\nassign p1 = t0;\nwire [31:0] q1;\nassign q1 = c;\n\
+    wire [31:0] t1;\nassign t1 = p1 + q1;\n\
+    assign y = t1;\nassign z = 32'h00000000;\nendmodule\n"
+}
+
+/// The block of two sums, of which the second writes the register of the first: the words 00b502b3 and 00c282b3.
+pub(crate) fn sums() -> &'static [u8] {
+    &[0xB3, 0x02, 0xB5, 0x00, 0xB3, 0x82, 0xC2, 0x00]
+}

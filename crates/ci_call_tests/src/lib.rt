@@ -1,0 +1,22 @@
+//! The tests of whole calls of the program, over files and a sink in memory.
+//!
+//! They stand here, over the libraries, since a crate with tests is proved once more with them, and apart from those of
+//! `ci_tests`, since the tests of a crate are proved by one process.
+#![tactic(auto)]
+
+#[cfg(test)]
+mod analyses;
+#[cfg(test)]
+mod choices;
+#[cfg(test)]
+mod commands;
+#[cfg(test)]
+mod common;
+#[cfg(test)]
+mod extended;
+#[cfg(test)]
+mod load;
+#[cfg(test)]
+mod runs;
+#[cfg(test)]
+mod units;

@@ -1,0 +1,127 @@
+//! Worked calls of `eval`, over one file `F` in memory.
+use crate::common::{expect, expect_each, unit_of_sums};
+use std::alloc::AllocError;
+use std::process::Abort;
+
+/// The unit of the upper word of a product of a signed and an unsigned number.
+fn product() -> &'static str {
+    "// cycles 4\n\
+    module ci_0(input [31:0] a, input [31:0] b, input [31:0] c, output [31:0] y, output [31:0] z);\n\
+    wire [31:0] p0;\nassign p0 = a;\nwire [31:0] q0;\nassign q0 = b;\n\
+    wire [63:0] w0;\nassign w0 = {{32{p0[31]}}, p0} * {32'h00000000, q0};\n\
+    wire [31:0] t0;\nassign t0 = w0[63:32];\n\
+    assign y = t0;\nassign z = 32'h00000000;\nendmodule\n"
+}
+
+/// The unit of a shift to the right that keeps the sign.
+fn shift() -> &'static str {
+    "// cycles 1\n\
+    module ci_0(input [31:0] a, input [31:0] b, input [31:0] c, output [31:0] y, output [31:0] z);\n\
+    wire [31:0] p0;\nassign p0 = a;\nwire [31:0] q0;\nassign q0 = b;\n\
+    wire [63:0] w0;\nassign w0 = {{32{p0[31]}}, p0} >> q0[4:0];\n\
+    wire [31:0] t0;\nassign t0 = w0[31:0];\n\
+    assign y = t0;\nassign z = 32'h00000000;\nendmodule\n"
+}
+
+/// A constant in two parts: no input is used.
+fn constant() -> &'static str {
+    "// cycles 1\n\
+    module ci_0(input [31:0] a, input [31:0] b, input [31:0] c, output [31:0] y, output [31:0] z);\n\
+    wire [31:0] p0;\nassign p0 = 32'h12345000;\nwire [31:0] q0;\nassign q0 = 32'h00000000;\n\
+    wire [31:0] t0;\nassign t0 = p0 + q0;\n\
+    wire [31:0] p1;\nassign p1 = t0;\nwire [31:0] q1;\nassign q1 = 32'h00000678;\n\
+    wire [31:0] t1;\nassign t1 = p1 + q1;\n\
+    assign y = t1;\nassign z = 32'h00000000;\nendmodule\n"
+}
+
+/// Texts that spell no modules, and the line of their fault.
+fn refused() -> &'static [(&'static str, &'static str)] {
+    &[
+        ("x", "fault 9 units 2 0\n"),
+        ("@", "fault 9 units 1 0\n"),
+        ("// cycles 1\nmodule ci_1(", "fault 9 units 9 19\n"),
+    ]
+}
+
+/// A unit that names a wire which isn't there.
+fn nameless() -> &'static str {
+    "// cycles 1\n\
+    module ci_0(input [31:0] a, input [31:0] b, input [31:0] c, output [31:0] y, output [31:0] z);\n\
+    assign y = d;"
+}
+
+/// Asserts the status of a call on this text, and the line that it put.
+fn expect_of_units(
+    rt: &(impl Abort + AllocGlobal),
+    units: &str,
+    text: &str,
+    status: u8,
+    line: &str,
+) -> Result<(), AllocError> {
+    expect(rt, Some(units.as_bytes()), text, status, line)
+}
+
+/// The same for each of these texts, whose first fault the line tells.
+fn expect_faults(rt: &(impl Abort + AllocGlobal), rows: &[(&str, &str)]) -> Result<(), AllocError> {
+    for (units, line) in rows {
+        expect_of_units(rt, units, "eval F 0 0x0 0x0 0x0", 9, line)?;
+    }
+    Ok(())
+}
+
+#[test]
+fn modules_evaluated(rt: HostRuntime) -> Result<(), AllocError> {
+    let text = "eval F 0 0x1 0x20 0xfffffff0";
+    expect_of_units(&rt, unit_of_sums(), text, 0, "00000011 00000000\n")?;
+    let text = "eval F 0 0x80000000 0xffffffff 0x0";
+    expect_of_units(&rt, product(), text, 0, "80000000 00000000\n")?;
+    let text = "eval F 00 0x80000000 0x1F 0x0";
+    expect_of_units(&rt, shift(), text, 0, "ffffffff 00000000\n")?;
+    let text = "eval -- F 0 0x7 0x8 0x9";
+    expect_of_units(&rt, constant(), text, 0, "12345678 00000000\n")
+}
+
+/// Calls with words that have no reading.
+fn unreadable() -> &'static [&'static str] {
+    &[
+        "eval F 32 0x0 0x0 0x0",
+        "eval F 0 0x0 0x0",
+        "eval F 0 0x0 0x0 1",
+    ]
+}
+
+#[test]
+fn calls_that_are_refused(rt: HostRuntime) -> Result<(), AllocError> {
+    expect_faults(&rt, refused())?;
+    let text = "eval F 3 0x0 0x0 0x0";
+    let line = "fault 7 unsupported 00000003 00000000\n";
+    expect_of_units(&rt, "", text, 7, line)?;
+    expect_of_units(&rt, nameless(), text, 9, "fault 9 units 3 118\n")?;
+    let sums = Some(unit_of_sums().as_bytes());
+    let line = "fault 7 unsupported 00000001 00000000\n";
+    expect(&rt, sums, "eval F 1 0x0 0x0 0x0", 7, line)?;
+    expect_each(&rt, sums, unreadable(), 1, "fault 1 usage\n")?;
+    expect(&rt, None, "eval F 0 0x0 0x0 0x0", 2, "fault 2 read F\n")
+}
+
+/// Asserts what `eval` says of so many blanks, which spell no module.
+fn expect_of_blanks(
+    rt: &(impl Abort + AllocGlobal),
+    size: usize,
+    status: u8,
+    line: &str,
+) -> Result<(), AllocError> {
+    let blanks = vec![in rt.alloc(); b' '; size]?;
+    let file = Some(blanks.as_slice());
+    let outcome = expect(rt, file, "eval F 0 0x0 0x0 0x0", status, line);
+    drop(blanks);
+    outcome
+}
+
+// As many as the limit, and one byte more.
+#[test]
+fn texts_at_the_limit(rt: HostRuntime) -> Result<(), AllocError> {
+    let line = "fault 7 unsupported 00000000 00000000\n";
+    expect_of_blanks(&rt, 4_194_304, 7, line)?;
+    expect_of_blanks(&rt, 4_194_305, 4, "fault 4 too large F\n")
+}
