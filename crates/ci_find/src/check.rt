@@ -69,7 +69,12 @@ pub fn evaluate<'a, F: Shelf>(
     let RunFiles { table, input } = read_run_files(alloc, settings.table, settings.input, shelf)?;
     let (steps, leaders) = (settings.steps, settings.leaders);
     let profiled = profiled_run(alloc, &image, &table, input, steps, leaders)?;
-    judge(alloc, &image, &table, &profiled, &settings.plan, &choice)
+    let answer = judge(alloc, &image, &table, &profiled, &settings.plan, &choice);
+    // What holds a lot is let go by one call, where the proof would walk through all its parts.
+    drop(profiled);
+    drop(choice);
+    drop(image);
+    answer
 }
 
 /// The new file, the modules and the log book in the files of these names.

@@ -1,13 +1,21 @@
 //! The command `find`: a whole choice of cuts.
-ghost use Rattle.std.specs.Prelude.{◌≡◌, ◌≤◌, ℕ, List, Ok, IfOk, IfErr, filter, length};
+ghost use Rattle.std.specs.Prelude.{◌≡◌, ◌≤◌, ◌∷◌, [], ℕ, List, Ok, IfOk, IfErr, filter, length, map, reverse};
 ghost use Rattle.std.specs.String.{string_bytes};
 ghost use Rattle.ci_elf.specs.Rules.{IsReadAs};
+ghost use Rattle.ci_log.specs.Books.{Spells};
+ghost use Rattle.ci_vemit.specs.Templates.{modules_of};
+ghost use Rattle.ci_vemit.specs.Texts.{text_of};
+ghost use Rattle.ci_report.specs.Reports.{IsReport};
+ghost use Rattle.ci_select.specs.Histories.{is_take};
+ghost use Rattle.ci_select.specs.Instances.{AreOfSomeFile};
+ghost use Rattle.ci_select.specs.LegalBooks.{IsLegal};
+ghost use Rattle.ci_select.specs.UnitNumbers.{AreUnits};
 ghost use Rattle.ci_calls.specs.Evaluations.{Evaluates};
 ghost use Rattle.ci_calls.specs.Refused.{name_in, IsRefusedBy};
 ghost use Rattle.ci_find.specs.Profiled.{IsProfiled};
-ghost use Rattle.ci_find.specs.FindCommand.{find_inputs, is_spent, summary, IsChoice, IsFindMade, IsFindRefused};
+ghost use Rattle.ci_find.specs.FindCommand.{find_inputs, is_spent, summary, summary_line, written};
+ghost use Rattle.ci_find.specs.FindCommand.{IsChoice, IsFindMade, IsFindRefused};
 ghost use Rattle.ci_find.specs.Chosen.{instance_from, names_of, settings_by};
-ghost use Rattle.ci_select.specs.Histories.{is_take};
 
 use crate::choice::{
     ChoiceSettings, Profiled, RunFiles, bytes_are_small, profiled_run, read_run_files,
@@ -30,6 +38,21 @@ pub struct FindNames<'a> {
     pub logs: &'a str,
     pub report: &'a str,
 }
+
+/// The texts of a choice.
+#[derive(Drop)]
+struct Texts {
+    /// The modules of its units.
+    units: Vec<u8>,
+    /// Its log book.
+    logs: Vec<u8>,
+    /// Its report.
+    report: Vec<u8>,
+    /// The line of its numbers.
+    line: Vec<u8>,
+}
+
+// What holds a lot is let go by one call before a `?`, where the proof would walk through all its parts.
 
 /// Makes the units, the log book, the report and the new file of a choice for the executable in the file. The steps of
 /// the settings are at most 4,294,967,296.
@@ -60,7 +83,10 @@ pub fn evaluate<'a, F: Shelf>(
     let RunFiles { table, input } = read_run_files(alloc, settings.table, settings.input, shelf)?;
     let (steps, leaders) = (settings.steps, settings.leaders);
     let profiled = profiled_run(alloc, &image, &table, input, steps, leaders)?;
-    let success = success_of(alloc, &image, &table, &profiled, names, &settings.plan)?;
+    let outcome = success_of(alloc, &image, &table, &profiled, names, &settings.plan);
+    drop(profiled);
+    drop(image);
+    let success = outcome?;
     Ok(success)
 }
 
@@ -84,33 +110,89 @@ fn success_of<'a>(
     bytes_are_small(image.bytes());
     let chosen = choose(alloc, image, profile, blocks, live, table, plan)?;
     bytes_are_small(chosen.image.bytes());
-    let report = report(alloc, profile, blocks, live, table, plan, &chosen)?;
     // What a table of units keeps is known where they are read.
     let _units = chosen.units.as_slice();
+    let outcome = texts_of(alloc, profiled, table, plan, &chosen);
+    let new = new_bytes(chosen);
+    let texts = outcome?;
+    let success = success_with(alloc, names, texts, new)?;
+    Ok(success)
+}
+
+/// The texts of a choice.
+fn texts_of(
+    alloc: Global,
+    profiled: &Profiled,
+    table: &Table,
+    plan: &Plan,
+    chosen: &Chosen,
+) -> Result<Texts, AllocError>
+    requires blocks { AreOfSomeFile profiled.now.analysis.blocks profiled.now.analysis.live }
+    requires legal { IsLegal (instance_from table.now profiled.now plan.now) chosen.now.book }
+    requires units { AreUnits (instance_from table.now profiled.now plan.now)
+        (reverse chosen.now.book.entries) chosen.now.units }
+    ensures units { IfOk result (λ texts. texts.units.items ≡ text_of (modules_of chosen.now.units)) }
+    ensures logs { IfOk result (λ texts. Spells texts.logs.items chosen.now.book) }
+    ensures report { IfOk result (λ texts. IsReport (instance_from table.now profiled.now plan.now)
+        profiled.now.profile chosen.now.book texts.report.items) }
+    ensures line { IfOk result (λ texts. texts.line.items
+        ≡ summary_line chosen.now.book.entries chosen.now.units chosen.now.saved) }
+{
+    let (profile, analysis) = (&profiled.profile, &profiled.analysis);
+    let (blocks, live) = (&analysis.blocks, &analysis.live);
+    let report = report(alloc, profile, blocks, live, table, plan, chosen)?;
     let units = emit(alloc, &chosen.units)?;
     let logs = ci_log::write(alloc, &chosen.book)?;
-    let mut text = summary(alloc, &chosen)?;
-    text.push('\n')?;
-    let mut writes = Vec::with_capacity(alloc, 4)?;
-    writes.push(Written {
-        name: names.units,
-        bytes: units,
-    })?;
-    writes.push(Written {
-        name: names.logs,
-        bytes: logs,
-    })?;
-    writes.push(Written {
-        name: names.report,
-        bytes: report,
-    })?;
-    writes.push(Written {
-        name: names.new,
-        bytes: chosen.image.into_bytes(),
-    })?;
+    let mut line = summary(alloc, chosen)?;
+    line.push('\n')?;
+    Ok(Texts {
+        units,
+        logs,
+        report,
+        line: line.into_bytes(),
+    })
+}
+
+/// The bytes of the new file of a choice.
+fn new_bytes(chosen: Chosen) -> Vec<u8>
+    ensures { result.items ≡ chosen.image.bytes }
+{
+    chosen.image.into_bytes()
+}
+
+/// The texts of a choice and its new file under their names, and the line of its numbers.
+fn success_with<'a>(
+    alloc: Global,
+    names: &FindNames<'a>,
+    texts: Texts,
+    new: Vec<u8>,
+) -> Result<Success<'a>, AllocError>
+    ensures writes { IfOk result (λ success. map written success.writes.items
+        ≡ (names.now.units.now, texts.units.items) ∷ (names.now.logs.now, texts.logs.items)
+        ∷ (names.now.report.now, texts.report.items) ∷ (names.now.new.now, new.items) ∷ []) }
+    ensures text { IfOk result (λ success. success.text.items ≡ texts.line.items) }
+{
+    let writes = vec![in alloc;
+        Written {
+            name: names.units,
+            bytes: texts.units,
+        },
+        Written {
+            name: names.logs,
+            bytes: texts.logs,
+        },
+        Written {
+            name: names.report,
+            bytes: texts.report,
+        },
+        Written {
+            name: names.new,
+            bytes: new,
+        },
+    ]?;
     Ok(Success {
         writes,
-        text: text.into_bytes(),
+        text: texts.line,
     })
 }
 

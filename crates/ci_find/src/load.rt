@@ -4,8 +4,8 @@ ghost use Rattle.std.specs.String.{string_bytes};
 ghost use Rattle.ci_elf.specs.Rules.{IsReadAs};
 ghost use Rattle.ci_gen.specs.Programs.{IsProgramOf};
 ghost use Rattle.ci_lat.specs.Latencies.{usual};
-ghost use Rattle.ci_find.specs.LoadCommand.{byte_digits, load_line, IsExtendedCost, IsLoadMade, IsPlainRun};
-ghost use Rattle.ci_find.specs.LoadCommand.{IsPlanOfLoad};
+ghost use Rattle.ci_find.specs.LoadCommand.{byte_digits, load_line, steps_of_load, IsExtendedCost, IsLoadMade};
+ghost use Rattle.ci_find.specs.LoadCommand.{IsPlainRun, IsPlanOfLoad};
 
 use crate::choice::bytes_are_small;
 use crate::find::summary;
@@ -44,6 +44,8 @@ struct Figures {
     new_cost: u64,
 }
 
+// What holds a lot is lent, and let go by one call: at a `?` the proof would walk through all its parts.
+
 /// Makes the line of the seed: it chooses cuts for the program that the seed generates, by the options as they are
 /// where none is given, and runs it and the program that uses the units of the cuts.
 ///
@@ -54,27 +56,78 @@ pub fn evaluate<'a>(alloc: Global, seed: u32) -> Result<Success<'a>, AllocError>
     ensures { IfOk result (IsLoadMade seed []) }
 {
     let image = generated(alloc, seed)?;
-    bytes_are_small(image.bytes());
+    let success = load_of(alloc, seed, &image);
+    drop(image);
+    success
+}
+
+/// The line of the seed, whose program the image is.
+fn load_of<'a>(alloc: Global, seed: u32, image: &Image) -> Result<Success<'a>, AllocError>
+    requires program { IsProgramOf seed image.now.bytes }
+    requires image { IsReadAs image.now.bytes (Ok image.now) }
+    ensures { IfOk result (IsLoadMade seed []) }
+{
     let table = Table::usual();
-    let original = plain_run(alloc, &image, &table, STEPS)?;
+    let original = plain_run(alloc, image, &table, STEPS)?;
+    let success = load_by(alloc, seed, image, &table, &original);
+    drop(original);
+    success
+}
+
+/// The same by a run of the program, where the table is the usual one.
+fn load_by<'a>(
+    alloc: Global,
+    seed: u32,
+    image: &Image,
+    table: &Table,
+    original: &PlainRun,
+) -> Result<Success<'a>, AllocError>
+    requires program { IsProgramOf seed image.now.bytes }
+    requires image { IsReadAs image.now.bytes (Ok image.now) }
+    requires usual { table.now ≡ usual }
+    requires run { IsPlainRun image.now table.now steps_of_load original.now.profile original.now.output.items }
+    ensures { IfOk result (IsLoadMade seed []) }
+{
+    bytes_are_small(image.bytes());
     let profile = &original.profile;
-    let analysis = analysis_of(alloc, &image, profile.targets(), &[])?;
+    let analysis = analysis_of(alloc, image, profile.targets(), &[])?;
     let (blocks, live) = (&analysis.blocks, &analysis.live);
-    let chosen = choose(alloc, &image, profile, blocks, live, &table, &plan())?;
+    let chosen = choose(alloc, image, profile, blocks, live, table, &plan())?;
     bytes_are_small(chosen.image.bytes());
     // What a table of units keeps is known where its units are read.
     let _units = chosen.units.as_slice();
-    let figures = Figures {
-        seed,
-        blocks: blocks.all().len(),
-        cost: profile.cost,
-        new_cost: cost_with_units(alloc, &chosen, &table, STEPS)?,
-    };
-    let text = load_line(alloc, &figures, &chosen, original.output.as_slice())?;
+    let outcome = text_of(alloc, seed, blocks.all().len(), table, original, &chosen);
+    drop(chosen);
+    drop(analysis);
+    let text = outcome?;
     Ok(Success {
         writes: Vec::new(alloc),
         text: text.into_bytes(),
     })
+}
+
+/// The line of the seed, by a choice for its program, which has so many blocks.
+fn text_of(
+    alloc: Global,
+    seed: u32,
+    blocks: usize,
+    table: &Table,
+    original: &PlainRun,
+    chosen: &Chosen,
+) -> Result<String, AllocError>
+    ensures { IfOk result (λ text. (new_cost : ℕ)
+        × IsExtendedCost chosen.now.image chosen.now.units table.now steps_of_load new_cost
+        × (string_bytes text ≡ load_line seed blocks chosen.now.book.entries chosen.now.units chosen.now.saved
+        original.now.profile.cost new_cost original.now.output.items)) }
+{
+    let figures = Figures {
+        seed,
+        blocks,
+        cost: original.profile.cost,
+        new_cost: cost_with_units(alloc, chosen, table, STEPS)?,
+    };
+    let text = load_line(alloc, &figures, chosen, original.output.as_slice())?;
+    Ok(text)
 }
 
 /// The image of the program of the seed.

@@ -127,8 +127,8 @@ returns-in_err-profiled-clause-refused g c =
     (subst (λ (input : List ℕ). IsUnprofiledCause c.in_ok-image.image input settings.steps refusal)
     c.in_ok-table.ensures.read.6 c.in_err-profiled.ensures.cause))
 
-pub judge-requires-clause-image : goal.judge-requires-clause-image
-judge-requires-clause-image g c =
+pub judge-answer-requires-clause-image : goal.judge-answer-requires-clause-image
+judge-answer-requires-clause-image g c =
     let read = c.in_ok-image.ensures.read in
     subst (λ (bytes : List ℕ). IsReadAs bytes (Ok c.in_ok-image.image)) (sym read.2.same_bytes)
     (read.1.well_formed, read.2)
@@ -142,7 +142,7 @@ returns-clause-made g c =
     judged_made c.in_ok-choice.choice c.in_ok-image.ensures.read.0 choice.0 choice.1 (bytes_of_run g here) choice.3 choice.4
     (settings_by settings) (g.F.Shelf.state c.args.shelf.now).files
     (check_inputs c.args.file.now (check_names_of c.args.names.now) (name_in settings.table) (name_in settings.input))
-    (all_files g here) profiled c.judge.result c.judge.ensures
+    (all_files g here) profiled c.judge-answer.result c.judge-answer.ensures
 
 pub returns-clause-refused : goal.returns-clause-refused
 returns-clause-refused g c =
@@ -154,4 +154,4 @@ returns-clause-refused g c =
     (settings_by settings) g.F.Shelf.read_may_fail (g.F.Shelf.state c.args.shelf.now)
     (g.F.Shelf.state c.read_run_files.new.shelf)
     (check_inputs c.args.file.now (check_names_of c.args.names.now) (name_in settings.table) (name_in settings.input))
-    (all_files g here) profiled c.judge.result c.judge.ensures
+    (all_files g here) profiled c.judge-answer.result c.judge-answer.ensures

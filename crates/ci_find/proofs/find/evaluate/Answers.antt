@@ -31,8 +31,8 @@ returns-in_err-profiled-clause-refused g c =
     (image.read.1, subst (λ (told : Option Files). AreRead told inputs others) image.files_stay read.4)
     c.in_err-profiled.field-0.0 c.in_err-profiled.ensures.cause)
 
-pub success_of-requires-clause-image : goal.success_of-requires-clause-image
-success_of-requires-clause-image g c =
+pub success_of-outcome-requires-clause-image : goal.success_of-outcome-requires-clause-image
+success_of-outcome-requires-clause-image g c =
     let read = c.in_ok-image.ensures.read in
     subst (λ (bytes : List ℕ). IsReadAs bytes (Ok c.in_ok-image.image)) (sym read.2.same_bytes)
     (read.1.well_formed, read.2)

@@ -1,12 +1,13 @@
 -- The blocks are those of the file, the bytes of which are small, and so are those of the new file; the choice is made.
-use Rattle.std.proofs.Common.{rules, subst}
+use Rattle.std.proofs.Common.{◌∙◌, [], ◌∷◌, subst}
 use Rattle.ci_elf.proofs.TextPlaceLaws.{formed}
 use Rattle.ci_machine.specs.Words.{AreBytes}
 use Rattle.ci_emu.specs.Profiles.{targets_in}
+use Rattle.ci_find.specs.Chosen.{names_of}
 use Rattle.ci_find.proofs.find.success_of.Goals as goal
 
-pub report-requires-clause-blocks : goal.report-requires-clause-blocks
-report-requires-clause-blocks c =
+pub texts_of-outcome-requires-clause-blocks : goal.texts_of-outcome-requires-clause-blocks
+texts_of-outcome-requires-clause-blocks c =
     let image = c.args.image.now in
     let profiled = c.requires.profiled in (
       image,
@@ -19,23 +20,30 @@ pub returns : goal.returns
 returns c =
     let chosen = c.in_ok-chosen.chosen in
     let made = c.in_ok-chosen.ensures in
+    let texts = c.in_ok-texts.texts in
+    let told = c.in_ok-texts.ensures in
+    let success = c.in_ok-success.ensures in
+    let names = names_of c.args.names.now in
     record {
       book = chosen.book;
       units = chosen.units;
       saved = chosen.saved;
-      logs_text = c.in_ok-logs.logs.items;
-      report_text = c.in_ok-report.report.items;
+      logs_text = texts.logs.items;
+      report_text = texts.report.items;
       new_bytes = chosen.image.bytes;
       legal = made.book;
       given_up = made.given_up;
       units_are = made.units;
       units_keep = c.as_slice-units.ensures.kept;
       saved_is = made.saved;
-      logs_are = c.in_ok-logs.ensures;
-      report_is = c.in_ok-report.ensures;
+      logs_are = told.logs;
+      report_is = told.report;
       new_is = made.bytes;
       file_of_bytes = subst AreBytes c.bytes.ensures c.bytes_are_small.ensures;
       new_of_bytes = subst AreBytes c.bytes-2.ensures c.bytes_are_small-2.ensures;
-      writes_are = search rules;
-      text_is = search rules;
+      writes_are =
+          success.writes
+          ∙ (λ i. (names.units, told.units i) ∷ (names.logs, texts.logs.items) ∷ (names.report, texts.report.items)
+          ∷ (names.new, c.new_bytes-new.ensures i) ∷ []);
+      text_is = success.text ∙ told.line;
     }
