@@ -1,11 +1,19 @@
 /* What a program with picolibc needs of a system: standard input and output, memory, and an end. It stands in the place
    of the library's own start file, which is made for a bare board: link with -nostartfiles. */
+#include <errno.h>
+#include <fcntl.h>
 #include <stdio.h>
 #include <stdlib.h>
+#include <sys/time.h>
+#include <sys/times.h>
+#include <unistd.h>
 #include "start.h"
 
 int main(void);
 void __libc_init_array(void);
+
+/* Only the library names what is marked so: link-time optimization would drop it. */
+#define USED __attribute__((used))
 
 /* Thread-local data (errno among them) are found from `tp`; none of them has a first value but zero. */
 static char thread_storage[1024];
@@ -44,31 +52,52 @@ static int get(FILE *file)
 }
 
 static FILE both = FDEV_SETUP_STREAM(put, get, flush, _FDEV_SETUP_RW);
-__attribute__((used)) FILE *const stdin = &both;
-__attribute__((used)) FILE *const stdout = &both;
-__attribute__((used)) FILE *const stderr = &both;
+USED FILE *const stdin = &both;
+USED FILE *const stdout = &both;
+USED FILE *const stderr = &both;
 
 /* Memory for `malloc`: the break moves up from where it is. */
-void *sbrk(ptrdiff_t more)
+USED void *sbrk(ptrdiff_t more)
 {
     int old = environment_call(CALL_BRK, 0, 0, 0);
     int due = old + (int)more;
     return environment_call(CALL_BRK, due, 0, 0) == due ? (void *)old : (void *)-1;
 }
 
-_Noreturn void _exit(int code)
+USED _Noreturn void _exit(int code)
 {
     flush(stdout);
     leave(code);
 }
 
+/* There are no other files and there is no clock: what `fopen`, `remove`, `rename`, `time` and `clock` call answers -1,
+   in as many registers as each has for its answer, unless the program has such a function of its own. Each is of the
+   library's type, as a program's own is, too. */
+static long long fail(void)
+{
+    errno = ENOSYS;
+    return -1;
+}
+
+#pragma GCC diagnostic ignored "-Wattribute-alias"
+#define FAILS(name) extern __typeof__(name) name __attribute__((used, weak, alias("fail")))
+FAILS(open);
+FAILS(close);
+FAILS(read);
+FAILS(write);
+FAILS(lseek);
+FAILS(unlink);
+FAILS(rename);
+FAILS(gettimeofday);
+FAILS(times);
+
 /* What `abort` and a failed `assert` call: the signal ends the program, with the code that a shell tells of it. */
-int getpid(void)
+USED int getpid(void)
 {
     return 1;
 }
 
-int kill(int process, int signal)
+USED int kill(int process, int signal)
 {
     (void)process;
     _exit(128 + signal);
