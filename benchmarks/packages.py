@@ -1,0 +1,141 @@
+#!/usr/bin/env python3
+"""Tries `rumtsafi find`, `check` and `run` on programs that others wrote: what is saved, and how long it takes.
+
+    packages.py SOURCES [PROGRAM]
+
+SOURCES is a folder in which `apt-get source bzip2 lua5.4 mujs zlib` unpacked the sources of these packages of Debian:
+two compressors, and the interpreters of Lua and of JavaScript. GCC compiles each with -O2, with picolibc and with its
+main function in packages/, which reads up to 256 KiB of input. PROGRAM is the built program; with none the script at
+the top of the repository builds it, if need be.
+
+`find` runs each program on one input, and `check` has to accept what it writes. Then the old program and the new one
+run on this input and on another, and have to print the same in as many steps; on the first, the new one has to cost
+less by the gain that `find` printed. A line for each program has the instructions of its blocks, the millions of steps
+of the first run, the cuts, the units and the searches that were given up; how much less the new program costs, in
+percent, on the first input and on the other; and the seconds of processor time of the first run, of `find` and of
+`check`, the least of ROUNDS.
+
+It ends with status 0 where all of that holds, and where the tools are missing, with a line that says so; else with
+status 1, also where sources are missing.
+"""
+import glob
+import os
+import re
+import subprocess
+import sys
+import tempfile
+from collections import namedtuple
+
+from common import HERE, build, least_times, processor_time, program
+import compiled
+
+ROUNDS = 3
+STEPS = ("--steps", "4294967296")
+END = re.compile(r"(.*)^end exit 00000000 steps (\d+) cost (\d+)\n", re.M | re.S)
+FOUND = re.compile(r"cuts (\d+) units (\d+) skipped (\d+) gain (\d+)\n")
+PROGRAMS = os.path.join(HERE, "packages")
+
+# A program: its name, the folder of its sources, the names of those, what the compiler is told, and two inputs, which
+# are files of packages/ or of the sources.
+Package = namedtuple("Package", "name folder sources options inputs")
+PACKAGES = (
+    Package("bzip2", "bzip2-*", "blocksort bzlib compress crctable decompress huffman randtable", ["-DBZ_NO_STDIO"],
+            ("blocksort.c", "decompress.c")),
+    Package("zlib", "zlib-*", "adler32 compress crc32 deflate inffast inflate inftrees trees uncompr zutil", [],
+            ("deflate.c", "inflate.c")),
+    Package("lua", "lua5.4-*/src",
+            "lapi lauxlib lbaselib lcode lctype ldebug ldo ldump lfunc lgc llex lmathlib lmem lobject lopcodes lparser "
+            "lstate lstring lstrlib ltable ltablib ltm lundump lvm lzio", [],
+            ("sorting.lua", "queens.lua")),
+    Package("mujs", "mujs-*", "one", [], ("sorting.js", "primes.js")),
+)
+
+
+def sources_of(package, folder):
+    """The folder of a package's sources."""
+    found = glob.glob(os.path.join(folder, package.folder))
+    if len(found) != 1:
+        sys.exit(f"{folder} has {len(found)} folders {package.folder}, not one, as apt-get source leaves")
+    return found[0]
+
+
+def input_of(name, sources):
+    """The path of an input."""
+    own = os.path.join(PROGRAMS, name)
+    return own if os.path.exists(own) else os.path.join(sources, name)
+
+
+def compile_to(file, package, sources):
+    """Makes the executable of a package."""
+    # Debian's build of Lua makes this header, which tells where libraries lie.
+    with open(os.path.join(os.path.dirname(file), "lua5.4-deb-multiarch.h"), "w", encoding="ascii"):
+        pass
+    parts = [os.path.join(sources, f"{name}.c") for name in package.sources.split()]
+    main = os.path.join(PROGRAMS, f"{package.name}.c")
+    subprocess.run([compiled.GCC, *compiled.TARGET, "-O2", *package.options, "-I", sources, "-I", compiled.SAMPLES,
+                    "-I", os.path.dirname(file), main, *parts, compiled.SUPPORT, "-o", file], check=True)
+
+
+def run(*words):
+    """What a run prints before its end line, its steps and its cost."""
+    output, _ = processor_time(program(), "run", *words, *STEPS)
+    ended = END.fullmatch(output.decode())
+    if not ended:
+        sys.exit(f"run {' '.join(words)}: {output[-200:]!r}")
+    return ended[1], int(ended[2]), int(ended[3])
+
+
+def costs(package, old, new, units, given):
+    """The steps of both programs on an input, on which they have to print the same, and the cost of each."""
+    output, steps, cost = run(old, "--input", given)
+    other, others_steps, less = run(new, "--units", units, "--input", given)
+    if (output, steps) != (other, others_steps):
+        sys.exit(f"{package.name}: on {given} the new program prints something else, or makes other steps")
+    return steps, cost, less
+
+
+def instructions_of(file):
+    """The number of instructions of the blocks of a file."""
+    output, _ = processor_time(program(), "blocks", file)
+    return sum(int(length) for length in re.findall(r" length (\d+)", output.decode()))
+
+
+def try_out(package, sources, out):
+    """Prints the line of a package."""
+    old, new, units, logs, report = (os.path.join(out, name) for name in ("old", "new", "units", "logs", "report"))
+    compile_to(old, package, sources)
+    first, other = (input_of(name, sources) for name in package.inputs)
+    words = "--input", first, *STEPS
+    (_, running), (found, finding), (verdict, checking) = least_times(
+        ROUNDS, (program(), "run", old, *words), (program(), "find", old, new, units, logs, report, *words),
+        (program(), "check", old, new, units, logs, *words))
+    cuts, kinds, skipped, gain = map(int, FOUND.fullmatch(found.decode()).groups())
+    steps, cost, less = costs(package, old, new, units, first)
+    _, others_cost, others_less = costs(package, old, new, units, other)
+    if verdict != b"accepted\n" or cost - less != gain:
+        sys.exit(f"{package.name}: {verdict!r}, and {cost} - {less} isn't {gain}")
+    saved, others_saved = 100 * (1 - less / cost), 100 * (1 - others_less / others_cost)
+    print(f"{package.name:8} {instructions_of(old):>12} {steps / 1e6:>7.1f} {cuts:>5} {kinds:>6} {skipped:>8} "
+          f"{saved:>6.1f} {others_saved:>6.1f} {running:>6.2f} {finding:>6.2f} {checking:>6.2f}", flush=True)
+
+
+def main():
+    if len(sys.argv) < 2:
+        sys.exit(__doc__.split("\n\n")[1].strip())
+    folder = sys.argv.pop(1)
+    absent = compiled.missing({})
+    if absent:
+        print(absent)
+        return 0
+    sources = [sources_of(package, folder) for package in PACKAGES]
+    build()
+    print(f"{'program':8} {'instructions':>12} {'Msteps':>7} {'cuts':>5} {'units':>6} {'given up':>8} {'saved':>6} "
+          f"{'other':>6} {'run':>6} {'find':>6} {'check':>6}")
+    with tempfile.TemporaryDirectory() as out:
+        for package, path in zip(PACKAGES, sources):
+            try_out(package, path, out)
+    return 0
+
+
+if __name__ == "__main__":
+    sys.exit(main())
