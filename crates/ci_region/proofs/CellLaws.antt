@@ -1,23 +1,21 @@
 -- How each call of a region changes its cells and the chain of the free ones, and keeps what they are.
-use Rattle.std.proofs.Common.{◌≡◌, ℕ, zero, suc, ◌+◌, ◌-◌, ◌<◌, ◌≤◌, max, List, [], ◌∷◌, ◌++◌, length, get_or, set}
+use Rattle.std.proofs.Common.{◌≡◌, ℕ, ◌+◌, ◌-◌, ◌<◌, ◌≤◌, max, List, [], ◌∷◌, ◌++◌, length, get_or, set}
 use Rattle.std.proofs.Common.{count_by}
 use Rattle.std.proofs.Common.{Option, None, IsSome, cond, true≢false, refl, sym, ap, subst, ◌∙◌, inl}
 use Rattle.std.proofs.Common.{inr}
 use Rattle.std.proofs.Common.{arith}
 use Rattle.std.proofs.lemmas.Bool.{cases_lt}
 use Rattle.std.proofs.lemmas.List.{get_or_past, length_push}
-use Rattle.std.proofs.lemmas.List.{get_or-set_same, get_or-set_other, length-set}
+use Rattle.std.proofs.lemmas.List.{get_or-set_same, get_or-set_other, length-set, take_all}
 use Rattle.std.proofs.lemmas.List.Sums.{sum_by-set, sum_by_push}
-use Rattle.std.specs.Ordering.{nat_cmp}
 use Rattle.std.specs.FinMap as map
-use Rattle.std.specs.FinMap.{len-empty}
-use Rattle.ci_region.specs.Blocks.{with_cell, with_next}
+use Rattle.ci_region.specs.Blocks.{with_cell, with_next, with_only}
 use Rattle.ci_region.specs.declared.block.Block.{Block}
 use Rattle.ci_region.specs.BoundedMap.{BoundedMap, IsLive, used, with_value, without}
 use Rattle.ci_region.specs.declared.block.Cell.{Cell}
 use Rattle.ci_region.specs.declared.block.Cell.TheVariants.{Live, Free}
 use Rattle.ci_region.specs.Cells.{values_in, value_of, is_live, Avoids, IsChain, chain_end}
-use Rattle.ci_region.specs.Cells.{chain_link, AreCells, AreAsMade}
+use Rattle.ci_region.specs.Cells.{chain_link, AreCells}
 use Rattle.ci_region.proofs.ValueLaws.{get-values_in, len-values_in, no_value, values-live, values-push, values-free}
 
 module _ {T : Type 0} (cells : List (Cell T)) where
@@ -82,8 +80,7 @@ number_of (Live value) = 0
 
 -- ---- the first free cell gets a value
 
-module _ {T : Type 0} (cells : List (Cell T)) (first used to_clear reached : ℕ)
-    (are : AreCells cells first used to_clear reached) where
+module _ {T : Type 0} (cells : List (Cell T)) (first used reached : ℕ) (are : AreCells cells first used reached) where
   -- the first free cell is one of the cells, or the next one
   pub first_within : first ≤ reached
   first_within = omega (arith, first_at_most cells are.chained, are.all)
@@ -113,10 +110,9 @@ module _ {T : Type 0} (cells : List (Cell T)) (first used to_clear reached : ℕ
   ]
 
   module _ (below : first < reached) where
-    AreCells-fill : (next : ℕ) → get_or cells first (Free 0) ≡ Free next → (value : T) (later : ℕ)
-        → to_clear ≤ later → first < later → later ≤ reached
-        → AreCells (set cells first (Live value)) next (used + 1) later reached
-    AreCells-fill next is value later no_less behind within =
+    AreCells-fill : (next : ℕ) → get_or cells first (Free 0) ≡ Free next → (value : T)
+        → AreCells (set cells first (Live value)) next (used + 1) reached
+    AreCells-fill next is value =
         let same : (in_front below).next ≡ next = ap number_of (sym (in_front below).is ∙ is) in
         let counted = count_set cells first (Live value) (omega (arith, below, are.all)) in
         let none : ◌≡◌ {A = ℕ} (cond (is_live (get_or cells first (Free 0))) 1 0) 0 =
@@ -130,16 +126,12 @@ module _ {T : Type 0} (cells : List (Cell T)) (first used to_clear reached : ℕ
           counted = omega (arith, counted, none, are.counted);
           rest_free = omega (arith, long, are.rest_free, (in_front below).shorter);
           all = long ∙ are.all;
-          within = within;
-          as_made =
-              λ number from inside. get_or-set_other cells first number (Live value) (Free 0)
-              (λ same. omega (arith, same)) ∙ are.as_made number (omega arith) (omega (arith, long));
         }
 
   -- the next cell is reached
-  AreCells-push : first ≡ reached → (value : T) (later : ℕ) → first < later → later ≤ reached + 1
-      → AreCells (cells ++ Live value ∷ []) (first + 1) (used + 1) later (reached + 1)
-  AreCells-push next value later behind within =
+  AreCells-push : first ≡ reached → (value : T)
+      → AreCells (cells ++ Live value ∷ []) (first + 1) (used + 1) (reached + 1)
+  AreCells-push next value =
       let all_used = first_is_next next in
       let long = length_push cells (Live value) in
       record {
@@ -148,39 +140,24 @@ module _ {T : Type 0} (cells : List (Cell T)) (first used to_clear reached : ℕ
         counted = omega (arith, sum_by_push (λ (c : Cell T). cond (is_live c) 1 0) cells (Live value), are.counted);
         rest_free = omega (arith, long, all_used, are.all);
         all = omega (arith, long, are.all);
-        within = within;
-        as_made = λ number from inside. absurd (omega (arith, next, behind, from, inside, long, are.all));
       }
 
 -- ---- a cell with a value is written, or gives its value away
 
-module _ {T : Type 0} (cells : List (Cell T)) (first used to_clear reached number : ℕ)
+module _ {T : Type 0} (cells : List (Cell T)) (first used reached number : ℕ)
     (live : IsSome (value_of (get_or cells number (Free 0)))) (within : number < length cells)
-    (are : AreCells cells first used to_clear reached) where
+    (are : AreCells cells first used reached) where
   one : ◌≡◌ {A = ℕ} (cond (is_live (get_or cells number (Free 0))) 1 0) 1
   one = ap (λ b. cond b 1 0) live
 
   avoids : Avoids number are.free
   avoids = chain_avoids cells are.chained number live
 
-  -- the cell is one of those that `clear` goes over
-  was_taken : number < to_clear
-  was_taken = elim (cases_lt number to_clear) [
-    | inl less ↦ less
-    | inr from ↦ absurd (true≢false (sym live ∙ ap is_live (are.as_made number from within)))
-  ]
-
-  others_as_made : (new : Cell T) → AreAsMade (set cells number new) to_clear
-  others_as_made new other from below =
-      let before = was_taken in
-      get_or-set_other cells number other new (Free 0) (λ same. omega (arith, same))
-      ∙ are.as_made other from (omega (arith, length-set cells number new))
-
   -- some cells have values
   pub some_used : 0 < used
   some_used = omega (arith, are.counted, count_set cells number (Free 0) within, one)
 
-  pub AreCells-write : (value : T) → AreCells (set cells number (Live value)) first used to_clear reached
+  pub AreCells-write : (value : T) → AreCells (set cells number (Live value)) first used reached
   AreCells-write value =
       let long = length-set cells number (Live value) in
       record {
@@ -189,11 +166,9 @@ module _ {T : Type 0} (cells : List (Cell T)) (first used to_clear reached numbe
         counted = omega (arith, count_set cells number (Live value) within, one, are.counted);
         rest_free = omega (arith, long, are.rest_free);
         all = long ∙ are.all;
-        within = are.within;
-        as_made = others_as_made (Live value);
       }
 
-  pub AreCells-vacate : AreCells (set cells number (Free first)) number (used - 1) to_clear reached
+  pub AreCells-vacate : AreCells (set cells number (Free first)) number (used - 1) reached
   AreCells-vacate =
       let long = length-set cells number (Free first) in
       let some = some_used in
@@ -205,68 +180,34 @@ module _ {T : Type 0} (cells : List (Cell T)) (first used to_clear reached numbe
         counted = omega (arith, count_set cells number (Free first) within, one, are.counted);
         rest_free = omega (arith, long, are.rest_free);
         all = long ∙ are.all;
-        within = are.within;
-        as_made = others_as_made (Free first);
       }
 
--- ---- all cells form one chain
-
-module _ {T : Type 0} (cells : List (Cell T)) (as_made : AreAsMade cells 0) where
-  -- a chain of the cells from a number on, to the last
-  record ChainFrom (start count : ℕ) : Type 0 where
-    free : List ℕ
-    links : IsChain cells start free
-    long : length free ≡ count
-    behind : (number : ℕ) → number < start → Avoids number free
-
-  chain_from : (count start : ℕ) → start + count ≡ length cells → ChainFrom start count
-  chain_from zero start all = record {
-    free = [];
-    links = chain_end (omega (arith, all));
-    long = refl;
-    behind = λ number less. tt;
-  }
-  chain_from (suc count) start all =
-      let rest = chain_from count (start + 1) (omega arith) in
-      record {
-        free = start ∷ rest.free;
-        links =
-            chain_link (omega arith) (as_made start (omega arith) (omega arith)) (rest.behind start (omega arith))
-            rest.links;
-        long = omega (arith, rest.long);
-        behind = λ number less. ((λ same. omega (arith, same)), rest.behind number (omega arith));
-      }
-
-  pub no_values : values_in cells ≡ map.empty
-  no_values = no_value cells (λ number below. ap value_of (as_made number (omega arith) below))
-
-  pub AreCells-vacated : (reached : ℕ) → length cells ≡ reached → AreCells cells 0 0 0 reached
-  AreCells-vacated reached all =
-      let whole = chain_from (length cells) 0 (omega arith) in
-      record {
-        free = whole.free;
-        chained = whole.links;
-        counted = sym (len-values_in cells) ∙ ap map.len no_values ∙ len-empty nat_cmp T;
-        rest_free = omega (arith, whole.long);
-        all = all;
-        within = omega arith;
-        as_made = as_made;
-      }
-
--- ---- no cell was reached
+-- ---- no cell is reached
 
 module _ {T : Type 0} (cells : List (Cell T)) (none : cells ≡ []) where
   long : length cells ≡ 0
   long = ap length none
 
-  made : AreAsMade cells 0
-  made number from below = absurd (omega (arith, long))
+  pub no_values : values_in cells ≡ map.empty
+  no_values = no_value cells (λ number below. absurd (omega (arith, long, below)))
 
-  pub AreCells-none : AreCells cells 0 0 0 0
-  AreCells-none = AreCells-vacated cells made 0 long
+  pub AreCells-none : AreCells cells 0 0 0
+  AreCells-none = record {
+    free = [];
+    chained = chain_end (sym long);
+    counted = ap (count_by is_live) none;
+    rest_free = sym long;
+    all = long;
+  }
 
-  pub no_values-none : values_in cells ≡ map.empty
-  no_values-none = no_values cells made
+-- ---- the first cells alone are reached, which may be all
+
+module _ {T : Type 0} (b : Block T) where
+  pub only_all : (count : ℕ) → length b.cells ≡ count → with_only b count ≡ b
+  only_all count all =
+      let cells = take_all count b.cells (omega (arith, all)) in
+      let none : b.left + (length b.cells - count) ≡ b.left = omega (arith, all) in
+      λ i. record { start = b.start; cells = cells i; left = none i }
 
 -- ---- what contracts see of the cells
 
@@ -279,9 +220,9 @@ pub record IsLiveCell {T : Type 0} (cells : List (Cell T)) (number : ℕ) (held 
   pub live : IsSome (value_of (get_or cells number (Free 0)))
   pub read : held ≡ value_of (get_or cells number (Free 0))
 
-module _ {T : Type 0} (cells : List (Cell T)) (first used_cells to_clear reached left capacity : ℕ)
-    (region : BoundedMap T) (is : region_of cells capacity ≡ region)
-    (are : AreCells cells first used_cells to_clear reached) (room : reached + left ≡ capacity) where
+module _ {T : Type 0} (cells : List (Cell T)) (first used_cells reached left capacity : ℕ) (region : BoundedMap T)
+    (is : region_of cells capacity ≡ region) (are : AreCells cells first used_cells reached)
+    (room : reached + left ≡ capacity) where
   pub used_is : used region ≡ used_cells
   used_is = sym (ap (λ (m : BoundedMap T). used m) is) ∙ len-values_in cells ∙ are.counted
 
@@ -326,15 +267,15 @@ module _ {T : Type 0} (cells : List (Cell T)) (capacity number slot : ℕ) (regi
 
 -- ---- a value is put into the first free cell, whichever that is
 
-module _ {T : Type 0} (block new : Block T) (first used_cells to_clear reached next : ℕ) (value : T)
-    (are : AreCells block.cells first used_cells to_clear reached)
+module _ {T : Type 0} (block new : Block T) (first used_cells reached next : ℕ) (value : T)
+    (are : AreCells block.cells first used_cells reached)
     (free : first < reached → get_or block.cells first (Free 0) ≡ Free next)
     (in_place : first < reached → new ≡ with_cell block first (Live value))
     (behind : first ≡ reached → (next ≡ first + 1) × (new ≡ with_next block value)) where
   either : (P : Type 0) → (first < reached → P) → (first ≡ reached → P) → P
   either P below at = elim (cases_lt first reached) [
     | inl less ↦ below less
-    | inr from ↦ at (omega (arith, from, first_within block.cells first used_cells to_clear reached are))
+    | inr from ↦ at (omega (arith, from, first_within block.cells first used_cells reached are))
   ]
 
   pub same_start : new.start ≡ block.start
@@ -347,22 +288,20 @@ module _ {T : Type 0} (block new : Block T) (first used_cells to_clear reached n
       (λ less. omega (arith, greater, less, ap (λ (b : Block T). b.left) (in_place less)))
       (λ at. omega (arith, greater, at, room, ap (λ (b : Block T). b.left) (behind at).1))
 
-  pub AreCells-take : (later cleared : ℕ) → later ≡ max reached (first + 1) → cleared ≡ max to_clear (first + 1)
-      → AreCells new.cells next (used_cells + 1) cleared later
-  AreCells-take later cleared greater clear =
-      let Is : Block T → ℕ → ℕ → Type 0 = λ b n k. AreCells b.cells n (used_cells + 1) cleared k in
+  pub AreCells-take : (later : ℕ) → later ≡ max reached (first + 1)
+      → AreCells new.cells next (used_cells + 1) later
+  AreCells-take later greater =
+      let Is : Block T → ℕ → ℕ → Type 0 = λ b n k. AreCells b.cells n (used_cells + 1) k in
       either (Is new next later)
       (λ less. let still : reached ≡ later = omega (arith, greater, less) in
       subst (λ (k : ℕ). Is new next k) still
       (subst (λ (b : Block T). Is b next reached) (sym (in_place less))
-      (AreCells-fill block.cells first used_cells to_clear reached are less next (free less) value cleared
-      (omega (arith, clear)) (omega (arith, clear)) (omega (arith, clear, less, are.within)))))
+      (AreCells-fill block.cells first used_cells reached are less next (free less) value)))
       (λ at. let more : reached + 1 ≡ later = omega (arith, greater, at) in
       subst (λ (k : ℕ). Is new next k) more
       (subst (λ (n : ℕ). Is new n (reached + 1)) (sym (behind at).0)
       (subst (λ (b : Block T). Is b (first + 1) (reached + 1)) (sym (behind at).1)
-      (AreCells-push block.cells first used_cells to_clear reached are at value cleared (omega (arith, clear))
-      (omega (arith, clear, at, are.within))))))
+      (AreCells-push block.cells first used_cells reached are at value))))
 
   pub region-take : (capacity : ℕ) (region : BoundedMap T) → region_of block.cells capacity ≡ region
       → region_of new.cells capacity ≡ with_value region first value

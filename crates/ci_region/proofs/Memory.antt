@@ -16,13 +16,14 @@ use mir.Raw.{raw as bare}
 use prog.Memory.{size, align, capped}
 use prog.Capped.{capped_is}
 use prog.RawLaws.{size-raw, align-raw}
-use base.Logic.{ent, sep, emp, via, snd∗, id⊢}
+use base.Logic.{SProp, ent, sep, emp, via, snd∗, id⊢}
 use base.Fml.{Fml, Lft, ftrue, fsep, fat, froom}
 use types.Logic.{Logic, sem}
 use types.Match.{live}
 use types.Run.{forget}
-use types.Kit.{Item, Goal, Seq, Step, step, ‵, some, ◌⊛◌, ◌$◌, ◌∵◌, !, qed, pick, move, keep, drop as skip}
-use types.Kit.{use1, use2, split, fsplit, fjoin, fpick, fpack, feq_i, feq_l, rewrite, done}
+use contract.Monad.{fact, fact_i}
+use types.Kit.{Item, Goal, Seq, Step, step, prop, ‵, raw, some, ◌⊛◌, ◌$◌, ◌∵◌, !, qed, pick, move, keep, drop as skip}
+use types.Kit.{use0, use1, use2, split, frame, fsplit, fjoin, fpick, fpack, feq_i, feq_l, rewrite, done}
 use borrow.Table.OneValue.{part_out}
 use denote.RattleType.{RattleType, Valss, owns}
 use denote.Memory.{part_at, shared_of, hidden_shr}
@@ -86,6 +87,15 @@ module _ {M : Type 1} {𝓤 : Ura M} {𝓛 : Logic 𝓤} {K : Type 0} {Γ : List
       feq_i t (List Val) (word c ∷ []) (word c ∷ []) refl $ fjoin t $
       fpack t (Valss (RawPtr ∷ [])) (within one_field (c, tt) (word c ∷ [])) (ptr_val c ∷ [], tt) $ s)
 
+module _ {M : Type 1} {𝓤 : Ura M} {𝓛 : Logic 𝓤} {K : Type 0} {Γ : List (Item 𝓤)} where
+  -- two clauses hold
+  pub says_both : K → {φ ψ : Type 0} {P : SProp 𝓤} → φ → ψ
+      → Step K 𝓛 Γ (prop P) Γ (prop (sep 𝓤 P (sep 𝓤 (fact 𝓤 φ) (fact 𝓤 ψ))))
+  says_both t {φ} {ψ} {P} x y = step (λ s. record {
+    prf = via 𝓤 P s.prf (qed 𝓛 (raw P ∷ []) {P = sep 𝓤 P (sep 𝓤 (fact 𝓤 φ) (fact 𝓤 ψ))} (frame ! $
+        use0 𝓛 (raw (fact 𝓤 ψ)) (fact_i 𝓤 ψ (emp 𝓤) y) $ use0 𝓛 (raw (fact 𝓤 φ)) (fact_i 𝓤 φ (emp 𝓤) x) $ done !));
+  })
+
 -- a `&` to the data of a block shows the pointer
 pub shows_pointer : {M : Type 1} {𝓤 : Ura M} (𝓛 : Logic 𝓤) (κ : Lft) (c : Ptr) (b o : ℕ)
     → ent 𝓤 (sem 𝓛 (hidden_shr Pointer κ (c, tt) b o))
@@ -134,6 +144,19 @@ module _ (C : RattleType) {M : Type 1} {𝓤 : Ura M} (𝓛 : Logic 𝓤) (b : �
       qed 𝓛 (‵ (Row o xs) ∷ ‵ (part_at C full_share x b (length xs * s + o)) ∷ []) ∵ nothing ! $ move ! (2 ∷ 0 ∷ []) $
       fjoin ! $ move ! (1 ∷ 0 ∷ []) $
       use2 𝓛 (‵ (Row o (xs ++ x ∷ []))) (glue xs (x ∷ []) o (length xs * s + o) refl) $ done !
+
+  -- the last cell of a row, and the others
+  pub last_out : (o : ℕ) (cells : List C.Denot) (i : ℕ) → i + 1 ≡ length cells → (d : C.Denot)
+      → ent 𝓤 (sem 𝓛 (Row o cells))
+      (sep 𝓤 (sem 𝓛 (part_at C full_share (get_or cells i d) b (i * s + o))) (sem 𝓛 (Row o (take i cells))))
+  last_out o cells i last d =
+      let long : i ≡ length (take i cells) = omega (arith, length-take i cells, last) in
+      qed 𝓛 (‵ (Row o cells) ∷ []) ∵
+      rewrite ! 0 (λ (l : List C.Denot). ‵ (Row o l))
+      (sym (take-append-drop i cells) ∙ ap (λ l. take i cells ++ l) (drop-cons cells i d (omega (arith, last)))) refl $
+      use1 𝓛 (‵ (Row o (take i cells)) ⊛ ‵ (Row (i * s + o) (get_or cells i d ∷ drop (suc i) cells)))
+      (cut (take i cells) (get_or cells i d ∷ drop (suc i) cells) o (i * s + o) (ap (λ k. k * s + o) long)) $
+      split ! $ move ! (1 ∷ []) $ fsplit ! $ keep ! (0 ∷ 2 ∷ []) $ done !
 
   module _ (o : ℕ) (cells : List C.Denot) (i : ℕ) (lt : i < length cells) (d : C.Denot) where
     -- the cells but for the i-th
@@ -223,10 +246,29 @@ module _ (E : El) {M : Type 1} {𝓤 : Ura M} (𝓛 : Logic 𝓤) (b o : ℕ) wh
       rewrite ! 0 (λ (k : ℕ). ‵ (froom (block_type E (left - 1)) b k)) behind refl $
       move ! (1 ∷ 0 ∷ []) $ done !
 
+  -- the room of the last cell and that behind it, where it isn't reached any more
+  pub last_room : (cells : Cells E) (number left : ℕ) → number + 1 ≡ length cells
+      → ent 𝓤 (sep 𝓤 (H.room (cell_type E) b (number * cell_size E + o))
+      (sem 𝓛 (room_behind (Cell-row E) b o cells left)))
+      (sem 𝓛 (room_behind (Cell-row E) b o (take number cells) (left + (length cells - number))))
+  last_room cells number left last =
+      let s = cell_size E in let at : ℕ = number * s + o in
+      let kept : length (take number cells) ≡ number = omega (arith, length-take number cells, last) in
+      let beside : suc number * s + o ≡ at + s = omega (arith, suc-mul number s) in
+      let more : suc number ≡ length cells = omega (arith, last) in
+      let behind : length cells * s + o ≡ at + s = ap (λ k. k * s + o) (sym more) ∙ beside in
+      let one : suc left ≡ left + (length cells - number) = omega (arith, last) in
+      qed 𝓛 (‵ (froom (cell_type E) b at) ∷ ‵ (froom (block_type E left) b (length cells * s + o)) ∷ []) ∵
+      move ! (1 ∷ []) $ rewrite ! 0 (λ (k : ℕ). ‵ (froom (block_type E left) b k)) behind refl $
+      as_written ! (ty_array (cell_type E) left) b (at + s) $ move ! (1 ∷ 0 ∷ []) $
+      use2 𝓛 (‵ (froom (ty_array (cell_type E) (suc left)) b at)) (𝓛.laws.room_cons (cell_type E) left b at) $
+      as_raw ! (ty_array (cell_type E) (suc left)) b at $
+      rewrite ! 0 (λ (k : ℕ × ℕ). ‵ (froom (block_type E k.0) b (k.1 * s + o))) (λ j. (one j, sym kept j)) refl $ done !
+
 module _ (E : El) {M : Type 1} {𝓤 : Ura M} (𝓛 : Logic 𝓤) (b : ℕ) where
   open 𝓛 use {H}
 
-  -- where no cell was reached, all is room
+  -- where no cell is reached, all is room
   pub of_room : (o count : ℕ) → ent 𝓤 (H.room (block_type E count) b o)
       (sem 𝓛 (fsep (cells_at (Cell-row E) b o []) (room_behind (Cell-row E) b o [] count)))
   of_room o count =

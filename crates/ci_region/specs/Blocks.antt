@@ -1,5 +1,5 @@
 -- What a block and a cell end as, where a `&mut` into them is handed out, and whose memory a lease is of.
-use Rattle.std.specs.Prelude.{◌≡◌, ℕ, ◌-◌, [], ◌∷◌, ◌++◌, slice_set}
+use Rattle.std.specs.Prelude.{◌≡◌, ℕ, ◌+◌, ◌-◌, [], ◌∷◌, ◌++◌, length, take, slice_set}
 use Rattle.std.specs.Borrow.{Fml, RattleType, MutBor, Lends}
 use Rattle.ci_region.specs.declared.block.Cell.{Cell}
 use Rattle.ci_region.specs.declared.block.Cell.TheVariants.{Live}
@@ -16,6 +16,11 @@ with_cell b number cell = record { start = b.start; cells = slice_set b.cells nu
 abbrev pub with_next : {T : Type 0} → Block T → T → Block T
 with_next b value = record { start = b.start; cells = b.cells ++ Live value ∷ []; left = b.left - 1 }
 
+-- the block with the first cells alone, so many; the memory of the others is room
+abbrev pub with_only : {T : Type 0} → Block T → ℕ → Block T
+with_only b number =
+    record { start = b.start; cells = take number b.cells; left = b.left + (length b.cells - number) }
+
 -- once the borrow ends, the cell is the last one that was written through it
 abbrev pub LendsCell : (T : RattleType) → MutBor (Block T.Denot) → ℕ → MutBor (Cell T.Denot) → Fml
 LendsCell T b number r =
@@ -25,7 +30,7 @@ LendsCell T b number r =
 abbrev pub LendsLive : (T : RattleType) → MutBor (Cell T.Denot) → MutBor T.Denot → Fml
 LendsLive T c value = Lends (cell.the_row T) T c value (λ new. Live new)
 
--- no cell was reached, and there is room for so many
+-- no cell is reached, and there is room for so many
 abbrev pub IsUnreached : {T : Type 0} → Block T → ℕ → Type 0
 IsUnreached b count = (b.cells ≡ []) × (b.left ≡ count)
 

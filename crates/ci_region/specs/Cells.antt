@@ -1,5 +1,5 @@
 -- How a region keeps its slots. No public clause cites this file.
-use Rattle.std.specs.Prelude.{◌≡◌, ◌≢◌, ℕ, ◌+◌, ◌<◌, ◌≤◌, Bool, Option, Some, None, is_some, ⊤}
+use Rattle.std.specs.Prelude.{◌≡◌, ◌≢◌, ℕ, ◌+◌, ◌<◌, Bool, Option, Some, None, is_some, ⊤}
 use Rattle.std.specs.Prelude.{List, [], ◌∷◌, length, get_or, count_by}
 use Rattle.std.specs.Ordering.{nat_cmp}
 use Rattle.std.specs.FinMap as map
@@ -30,11 +30,6 @@ module _ {T : Type 0} where
   unfoldable pub values_in : List (Cell T) → map.FinMap nat_cmp T
   values_in cells = values_from 0 cells
 
-  -- the cells from this number on are free, and each has the number of the one behind it
-  abbrev pub AreAsMade : List (Cell T) → ℕ → Type 0
-  AreAsMade cells start =
-      (number : ℕ) → start ≤ number → number < length cells → get_or cells number (Free 0) ≡ Free (number + 1)
-
   -- no cell has a value
   abbrev pub AreFree : List (Cell T) → Type 0
   AreFree cells = (number : ℕ) → number < length cells → value_of (get_or cells number (Free 0)) ≡ None
@@ -46,13 +41,10 @@ module _ {T : Type 0} where
     chain_link : {number next : ℕ} {others : List ℕ} → number < length cells → get_or cells number (Free 0) ≡ Free next
         → Avoids number others → IsChain cells next others → IsChain cells number (number ∷ others)
 
-  -- so many cells were reached; so many of them have a value, and all others form a chain that begins at this number;
-  -- from the number on that `clear` goes up to they are free, and each has the number of the one behind it
-  pub record AreCells (cells : List (Cell T)) (first_free used to_clear reached : ℕ) : Type 0 where
+  -- so many cells are reached; so many of them have a value, and all others form a chain that begins at this number
+  pub record AreCells (cells : List (Cell T)) (first_free used reached : ℕ) : Type 0 where
     pub free : List ℕ
     pub chained : IsChain cells first_free free
     pub counted : count_by is_live cells ≡ used
     pub rest_free : used + length free ≡ length cells
     pub all : length cells ≡ reached
-    pub within : to_clear ≤ reached
-    pub as_made : AreAsMade cells to_clear

@@ -1,5 +1,5 @@
 -- What a block of cells and the right to free it own, and what a `&` to the block shows, for cells of the row C.
--- Behind the cells is room for others, in which nothing was written.
+-- Behind the cells is room for others, of whose bytes nothing is said.
 use Rattle.std.specs.Prelude.{ℕ, ◌+◌, ◌*◌, ◌^◌, List, [], ◌∷◌, length}
 use Rattle.std.specs.Mem.{type_size}
 use base.Fraction.{full_share}

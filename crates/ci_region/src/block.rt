@@ -1,8 +1,8 @@
 //! One block of memory that holds the cells of a region.
 //!
 //! A cell is written when it is reached, and the memory behind the cells isn't touched before.
-//! Only `Block::reserve`, `Block::cell`, `Block::cell_mut`, `Block::push` and `Block::free` use pointers, and are
-//! proved by hand.
+//! Only `Block::reserve`, `Block::cell`, `Block::cell_mut`, `Block::push`, `Block::pop` and `Block::free` use pointers,
+//! and are proved by hand.
 
 ghost use Rattle.std.specs.Prelude.{◌≡◌, ℕ, ◌+◌, ◌^◌, ◌<◌, ◌≤◌, List, length, get_or, None, IfOk};
 ghost use Rattle.std.specs.Vec.Ownership.{FitsInBlock};
@@ -23,7 +23,7 @@ pub(crate) enum Cell<T> {
     Free(u32),
 }
 
-/// The cells that were reached, where the first one lies, and for how many more there is room.
+/// The cells that are reached, where the first one lies, and for how many more there is room.
 pub(crate) struct Block<T> {
     // `*const`, so that a block is covariant in T, as a vector is.
     start: *const Cell<T>,
@@ -59,8 +59,8 @@ impl<T, A: Allocator> Model for Lease<T, A> {
 impl<T> Block<T> {
     ghost use Rattle.ci_region.specs.contracts.block.Cell.{the_row};
     ghost use Rattle.ci_region.specs.declared.block.Cell.TheVariants.{Live, Free};
-    ghost use Rattle.ci_region.specs.Blocks.{IsUnreached, IsLeaseOf, LendsCell, with_cell, with_next};
-    ghost use Rattle.ci_region.specs.Cells.{value_of, AreFree, AreAsMade};
+    ghost use Rattle.ci_region.specs.Blocks.{IsUnreached, IsLeaseOf, LendsCell, with_cell, with_next, with_only};
+    ghost use Rattle.ci_region.specs.Cells.{value_of, AreFree};
 
     /// Memory for `count` cells, none of which is reached.
     pub(crate) fn reserve<A: Allocator>(
@@ -130,18 +130,26 @@ impl<T> Block<T> {
         }
     }
 
-    /// Drops the values of the first `count` cells, and makes these as they were made; the others are so already.
+    /// Takes the last cell, which has this number, out of the block. Its memory is room then.
+    pub(crate) fn pop(&mut self, number: usize) -> Cell<T>
+        requires { number + 1 ≡ length self.old.cells }
+        ensures last { result ≡ get_or self.old.cells number (Free 0) }
+        ensures others { self.new ≡ with_only self.old number }
+    {
+        unsafe { self.start.add(number).read() }
+    }
+
+    /// Drops the values of all cells, of which there are so many. None is reached then.
     pub(crate) fn vacate(&mut self, count: u32)
     where
         T: Drop,
-        requires within { count ≤ length self.old.cells }
-        requires others { AreAsMade self.old.cells count }
-        ensures as_made { AreAsMade self.new.cells 0 }
-        ensures as_many { length self.new.cells ≡ length self.old.cells }
-        ensures in_place { (self.new.start ≡ self.old.start) × (self.new.left ≡ self.old.left) }
+        requires { length self.old.cells ≡ count }
+        ensures { self.new ≡ with_only self.old 0 }
     {
-        for number in 0..count {
-            *self.cell_mut(number as usize) = Cell::Free(number + 1);
+        let mut left = count;
+        while left > 0 {
+            left -= 1;
+            drop(self.pop(left as usize));
         }
     }
 

@@ -48,14 +48,12 @@ pub struct Region<T> {
     alloc: Global,
     capacity: u32,
     // The number of the first free cell. Each free cell has the number of the next, and the last one that of the cell
-    // behind all that were reached, which is the next to be reached.
+    // behind all that are reached, which is the next to be reached.
     first_free: u32,
     // The number of cells that have a value.
     used: u32,
-    // The number of cells that were reached. The memory behind them holds nothing, and isn't touched.
+    // The number of cells that are reached. The memory behind them holds nothing.
     reached: u32,
-    // No slot from this number on was taken since the region was made or cleared.
-    to_clear: u32,
 }
 
 impl<T> Model for Region<T> {
@@ -75,7 +73,7 @@ impl<T> Model for Region<T> {
     } };
 
     ghost invariant = { λ r.
-        AreCells r.block.cells r.first_free r.used r.to_clear r.reached
+        AreCells r.block.cells r.first_free r.used r.reached
         × (r.reached + r.block.left ≡ r.capacity)
         × IsLeaseOf r.lease r.block r.capacity r.alloc };
 }
@@ -103,7 +101,6 @@ impl<T: Drop> Drop for Region<T> {
             first_free: _,
             used: _,
             reached: _,
-            to_clear: _,
         } = self;
         block.free(lease, capacity, &alloc);
     }
@@ -130,7 +127,6 @@ impl<T> Region<T> {
             first_free: 0,
             used: 0,
             reached: 0,
-            to_clear: 0,
         })
     }
 
@@ -153,7 +149,6 @@ impl<T> Region<T> {
         self.first_free = self.block.fill(number, self.reached, value);
         self.used += 1;
         self.reached = self.reached.max(number + 1);
-        self.to_clear = self.to_clear.max(number + 1);
         Ok(Slot { number })
     }
 
@@ -201,10 +196,10 @@ impl<T> Region<T> {
         T: Drop,
         ensures { self.new ≡ record self.old { values = map.empty } }
     {
-        self.block.vacate(self.to_clear);
+        self.block.vacate(self.reached);
         self.first_free = 0;
         self.used = 0;
-        self.to_clear = 0;
+        self.reached = 0;
     }
 
     /// The number of live slots.

@@ -14,7 +14,7 @@ value_mut-requires g c =
 pub invariant_of-self-lent : goal.invariant_of-self-lent
 invariant_of-self-lent g c w =
     let cell = live_cell _ _ _ _ _ c.self.view_is c.slot.view_is c.requires in
-    (AreCells-write _ _ _ _ _ _ cell.live cell.within c.self.invariant.0 w, c.self.invariant.1, c.self.invariant.2)
+    (AreCells-write _ _ _ _ _ cell.live cell.within c.self.invariant.0 w, c.self.invariant.1, c.self.invariant.2)
 
 pub returns : goal.returns
 returns g c =

@@ -15,7 +15,7 @@ pub invariant_of-self : goal.invariant_of-self
 invariant_of-self g c =
     let cell = live_cell _ _ _ _ _ c.self.view_is c.slot.view_is c.requires in
     rw c.replace.ensures.after
-    (AreCells-vacate _ _ _ _ _ _ cell.live cell.within c.self.invariant.0, c.self.invariant.1, c.self.invariant.2)
+    (AreCells-vacate _ _ _ _ _ cell.live cell.within c.self.invariant.0, c.self.invariant.1, c.self.invariant.2)
 
 pub returns-clause-value : goal.returns-clause-value
 returns-clause-value g c =
