@@ -246,7 +246,7 @@ fn names_are_told(rt: HostRuntime) -> Result<(), AllocError> {
 fn equal_constants(rt: &impl Abort, alloc: Global, left: u64, right: u64) -> bool {
     let left = constant(rt, alloc, left);
     let right = constant(rt, alloc, right);
-    let are_equal = left.is_equal(&right);
+    let are_equal = left == right;
     drop(left);
     drop(right);
     are_equal

@@ -6,7 +6,6 @@ pub use expressions::{Expr, Item, Items, Name, Operator, Simple, Term, Wire};
 pub use modules::Module;
 pub use wires::Wires;
 
-mod equality;
 mod evaluation;
 mod expressions;
 pub mod laws;

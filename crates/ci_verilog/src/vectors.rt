@@ -7,7 +7,7 @@ ghost use Rattle.ci_verilog.specs.Held.{InRange};
 use crate::expressions::Operator;
 
 /// So many bits, at most 64, and the number that they are.
-#[derive(Clone, Copy, Debug, PartialEq, Eq)]
+#[derive(Clone, Copy)]
 pub struct Vector {
     pub width: u8,
     pub value: u64,
