@@ -203,6 +203,7 @@ fn programs_that_are_not_chosen_from(rt: HostRuntime) -> Result<(), AllocError> 
     expect_find(&rt, &touching, "find F N U L R", 8, line)?;
     expect_find(&rt, &touching, "check F N U L", 2, "fault 2 read N\n")
 }
+
 /// Asserts how `find` ends where the call of this number of the shelf fails, and that these files hold what they hold
 /// on another shelf, where none did.
 fn expect_write(

@@ -126,7 +126,7 @@ fn chain_cut() -> &'static str {
     32 33 34 35 36 37 38 39 40 41 42 43 44 45 46 47 48 49 50 51 52 53 54 55 56 57 58 59 60 61 62 63 gain 57\n"
 }
 
-/// Both sides of what blocks need, and the least budget.
+/// Blocks at budgets that suffice and at some that don't, at the least budget, and at the default.
 fn needs() -> &'static [(&'static [u32], &'static str, &'static str)] {
     &[
         (

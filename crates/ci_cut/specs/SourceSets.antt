@@ -31,4 +31,5 @@ count_held graph test sources = count_sources graph (λ source. test source && h
 -- among these sources the test is passed by registers, and by nodes that are not eligible
 abbrev pub AreSettledBy : FlowGraph → (Source → Bool) → List Source → Type 0
 AreSettledBy graph test sources =
-    (source : Source) → IsTrue (list_any (is_source source) sources) → test source ≡ is_outside (is_eligible graph) source
+    (source : Source) → IsTrue (list_any (is_source source) sources)
+    → test source ≡ is_outside (is_eligible graph) source

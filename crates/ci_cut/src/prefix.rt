@@ -267,7 +267,7 @@ impl PrefixTerms {
 }
 
 /// What sets gain at most by a software latency, the greatest sum of delays, the ports and a size.
-// Few prefixes ask for it, and those that are told their bound by the one before are kept short.
+// Out of line: few prefixes need it, and what tells the bound of the others by the one before stays short.
 #[inline(never)]
 fn bound_of(graph: &Graph, software: u32, longest: u32, ports: &Ports, size: u32) -> i64
     requires software { software ≤ 256000 }

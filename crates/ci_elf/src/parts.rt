@@ -6,7 +6,7 @@ ghost use Rattle.ci_elf.specs.Parts.{Overlap, OverlapAt, AreApart, AreApartAt, I
 use std::alloc::{AllocError, Global};
 
 /// The places from `start` up to `end`: bytes of a file, or addresses.
-#[derive(Clone, Copy, Debug, PartialEq, Eq)]
+#[derive(Clone, Copy)]
 pub(crate) struct Part {
     pub start: u64,
     pub end: u64,

@@ -24,7 +24,7 @@ use crate::{ElfFault, Segment};
 use std::alloc::{AllocError, Global};
 
 /// Where a section lies in memory and in the file.
-#[derive(Clone, Copy, Debug, PartialEq, Eq)]
+#[derive(Clone, Copy)]
 pub(crate) struct Section {
     pub address: u32,
     pub offset: u32,

@@ -189,9 +189,6 @@ pub(crate) fn quick_step<M: Machine>(
     ensures stayed { result ≡ false → state_of state.new ≡ state_of state.old }
     ensures uncounted { result ≡ false → tally.new ≡ tally.old }
     ensures program { program_of state.new ≡ program_of state.old }
-    ensures cache { tally.new.cache ≡ tally.old.cache }
-    ensures nearby { tally.new.nearby ≡ tally.old.nearby }
-    ensures touches { tally.new.touches ≡ tally.old.touches }
 {
     let Some(place) = tally.counts.at_hand(&tally.nearby, state.pc()) else {
         return false;

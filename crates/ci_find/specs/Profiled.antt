@@ -71,7 +71,8 @@ pub record Profiled (settings : Settings) (executable : List ℕ) (others : List
 
 -- what the choice is about
 abbrev pub instance_by :
-    {settings : Settings} {executable : List ℕ} {others : List (List ℕ)} → Profiled settings executable others → Instance
+    {settings : Settings} {executable : List ℕ} {others : List (List ℕ)}
+    → Profiled settings executable others → Instance
 instance_by {settings = settings} profiled =
     instance_of profiled.profile profiled.blocks profiled.live profiled.files.latencies settings.plan
 

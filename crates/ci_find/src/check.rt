@@ -70,7 +70,7 @@ pub fn evaluate<'a, F: Shelf>(
     let (steps, leaders) = (settings.steps, settings.leaders);
     let profiled = profiled_run(alloc, &image, &table, input, steps, leaders)?;
     let answer = judge(alloc, &image, &table, &profiled, &settings.plan, &choice);
-    // What holds a lot is let go by one call, where the proof would walk through all its parts.
+    // Values of many parts are let go by calls of `drop`: at the end the proof would walk through all their parts.
     drop(profiled);
     drop(choice);
     drop(image);

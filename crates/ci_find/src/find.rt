@@ -52,7 +52,7 @@ struct Texts {
     line: Vec<u8>,
 }
 
-// What holds a lot is let go by one call before a `?`, where the proof would walk through all its parts.
+// Values of many parts are let go by calls of `drop` before a `?`, where the proof would walk through all their parts.
 
 /// Makes the units, the log book, the report and the new file of a choice for the executable in the file. The steps of
 /// the settings are at most 4,294,967,296.

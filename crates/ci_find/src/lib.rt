@@ -1,7 +1,7 @@
 //! The commands of the program.
 #![tactic(auto)]
 
-ghost use Rattle.std.specs.Prelude.{◌≡◌, ◌≢◌, ◌⊎◌, ℕ, List, [], ◌∷◌, Some, IfSome, Contains, map};
+ghost use Rattle.std.specs.Prelude.{◌≡◌, ◌≢◌, ◌⊎◌, ℕ, [], ◌∷◌, Some, IfSome, Contains, map};
 ghost use Rattle.std.specs.String.{string_bytes};
 ghost use Rattle.ci_calls.specs.Finishing.{changed};
 ghost use Rattle.ci_find.specs.Endings.{Ends, IsDue, IsAnswered};

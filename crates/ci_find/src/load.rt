@@ -1,5 +1,5 @@
 //! The command `load`: a choice of cuts for the program that a seed generates, and the runs of both programs.
-ghost use Rattle.std.specs.Prelude.{◌≡◌, ◌≤◌, ◌++◌, [], ◌∷◌, ℕ, List, Ok, IfOk, OnOk, length};
+ghost use Rattle.std.specs.Prelude.{◌≡◌, ◌≤◌, ◌++◌, [], ℕ, Ok, IfOk, OnOk};
 ghost use Rattle.std.specs.String.{string_bytes};
 ghost use Rattle.ci_elf.specs.Rules.{IsReadAs};
 ghost use Rattle.ci_gen.specs.Programs.{IsProgramOf};
@@ -44,7 +44,7 @@ struct Figures {
     new_cost: u64,
 }
 
-// What holds a lot is lent, and let go by one call: at a `?` the proof would walk through all its parts.
+// Values of many parts are lent, and let go by calls of `drop`: at a `?` the proof would walk through all their parts.
 
 /// Makes the line of the seed: it chooses cuts for the program that the seed generates, by the options as they are
 /// where none is given, and runs it and the program that uses the units of the cuts.

@@ -32,7 +32,8 @@ operand seed n = 5 + draw seed n % 8
 -- Operation n of a seed, from 0 on: four draws say its kind, its destination and its two operands.
 abbrev pub operation : (seed n : ℕ) → Insn
 operation seed n =
-    operation_of (draw seed (4 * n) % 8) (operand seed (4 * n + 1)) (operand seed (4 * n + 2)) (operand seed (4 * n + 3))
+    operation_of (draw seed (4 * n) % 8) (operand seed (4 * n + 1)) (operand seed (4 * n + 2))
+    (operand seed (4 * n + 3))
 
 -- ---- all of them
 

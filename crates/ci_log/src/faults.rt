@@ -36,7 +36,7 @@ impl From<AllocError> for LogFault {
 }
 
 /// Where reading stopped.
-#[derive(Clone, Copy, Debug, PartialEq, Eq)]
+#[derive(Clone, Copy)]
 pub(crate) struct Stop {
     /// How many bytes are left, the first of which is bad. With none left the text ends too early.
     pub left: usize,
@@ -45,7 +45,7 @@ pub(crate) struct Stop {
 }
 
 /// Why nothing was read.
-#[derive(Debug, Drop)]
+#[derive(Drop)]
 pub(crate) enum Failure {
     Stopped(Stop),
     NoMemory,

@@ -336,7 +336,7 @@ fn medium_trees(alloc: Global) -> Result<Vec<Vec<u8>>, AllocError> {
     trees
 }
 
-/// Limits for all trees.
+/// The limits under which trees are tried.
 fn limits() -> [Limits; 2] {
     [
         ONE_OUTPUT,

@@ -10,6 +10,8 @@ use std::alloc::{AllocError, Global};
 use std::process::Abort;
 use std::test::Fail;
 
+// Graphs are let go by calls of `drop`, which a proof does not look into.
+
 /// The sources of a node, the nodes with an arc into it, and whether its value is live.
 type Told<'a> = (&'a [Source], &'a [u8], bool);
 
@@ -22,7 +24,9 @@ fn graph_before(
 ) -> Result<Graph, AllocError> {
     let insns = insns_of(alloc, words)?;
     assert!(rt; insns.len() <= 256);
-    graph(alloc, &insns, live, &Table::usual())
+    let graph = graph(alloc, &insns, live, &Table::usual());
+    drop(insns);
+    graph
 }
 
 /// The same, where all registers are live.
@@ -61,6 +65,7 @@ fn expect_nodes(
 ) -> Result<(), AllocError> {
     let graph = graph_of(rt, alloc, words)?;
     check(rt, &graph, told);
+    drop(graph);
     Ok(())
 }
 
@@ -69,6 +74,7 @@ fn no_instruction(rt: HostRuntime) -> Result<(), Fail> {
     let graph = graph_of(&rt, rt.alloc(), &[])?;
     check(&rt, &graph, &[]);
     assert_eq!(rt; (graph.read(), graph.pad()), (1, 0));
+    drop(graph);
     Ok(())
 }
 
@@ -148,6 +154,7 @@ fn a_load_between(rt: HostRuntime) -> Result<(), Fail> {
         &graph,
         &[(true, 1, 400), (false, 2, 0), (true, 1, 400)],
     );
+    drop(graph);
     Ok(())
 }
 
@@ -235,6 +242,7 @@ fn a_unit_and_its_cread(rt: HostRuntime) -> Result<(), Fail> {
         (false, 1, 0),
     ];
     check_costs(&rt, &graph, &costs);
+    drop(graph);
     Ok(())
 }
 
@@ -264,6 +272,7 @@ fn a_block_behind_which_nothing_is_live(rt: HostRuntime) -> Result<(), Fail> {
             ),
         ],
     );
+    drop(graph);
     Ok(())
 }
 

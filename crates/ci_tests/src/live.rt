@@ -32,7 +32,7 @@ fn rows_after(alloc: Global, leaders: &[u32], sets: &LiveSets) -> Result<Vec<Row
     Ok(rows)
 }
 
-/// Both.
+/// The live sets at these leaders, and after their blocks.
 fn rows_by(
     alloc: Global,
     leaders: &[u32],

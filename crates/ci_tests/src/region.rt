@@ -41,7 +41,7 @@ fn no_slot(rt: HostRuntime) -> Result<(), Fail> {
     Ok(())
 }
 
-// Two texts are put into an empty region of two slots, one is given back, and the other is changed.
+/// Two texts are put into an empty region of two slots, one is given back, and the other is changed.
 #[tactic(auto, using(ci_region::proofs::MapLaws::laws))]
 fn two_texts(rt: &impl Abort, alloc: Global, region: &mut Region<String>) -> Result<(), Fail> {
     let first = region.take(String::from_str(alloc, "first")?)?;

@@ -71,7 +71,7 @@ fn generated(rt: &impl Abort, alloc: Global, count: u8, seed: u32) -> Result<Gra
     Ok(Graph::new(nodes, DEFAULT.read, DEFAULT.pad))
 }
 
-/// All limits.
+/// The limits of one to three inputs and one or two outputs.
 fn limits() -> [Limits; 6] {
     [
         ONE_OUTPUT,

@@ -165,7 +165,7 @@ fn units_are_numbered_by_place(rt: HostRuntime) -> Result<(), Fail> {
     outcome
 }
 
-/// Makes two steps without modules, and fails where the first goes wrong, or the second finds text.
+/// Makes a step without modules, and fails where it goes wrong, or the next one does not end behind the text.
 fn expect_one_step(rt: &impl Abort, state: &mut State) -> Result<(), AllocError> {
     assert_eq!(rt; step_x(state, &[])?, Outcome::Next);
     assert_eq!(rt; value(rt, state, 10), 0);
