@@ -9,7 +9,8 @@
 #include <unistd.h>
 #include "start.h"
 
-int main(void);
+/* The program's own, which takes nothing, or the number of the words of its call and these. */
+int main();
 void __libc_init_array(void);
 
 /* Only the library names what is marked so: link-time optimization would drop it. */
@@ -92,12 +93,12 @@ FAILS(gettimeofday);
 FAILS(times);
 
 /* What `abort` and a failed `assert` call: the signal ends the program, with the code that a shell tells of it. */
-USED int getpid(void)
+USED __attribute__((weak)) int getpid(void)
 {
     return 1;
 }
 
-USED int kill(int process, int signal)
+USED __attribute__((weak)) int kill(int process, int signal)
 {
     (void)process;
     _exit(128 + signal);
@@ -107,5 +108,6 @@ void run(void)
 {
     __asm__ volatile("mv tp, %0" : : "r"(thread_storage));
     __libc_init_array();
-    exit(main());
+    static char *words[] = {"program", NULL};
+    exit(((int (*)(int, char **))main)(1, words));
 }
