@@ -3,10 +3,10 @@
 
     packages.py SOURCES [PROGRAM]
 
-SOURCES is a folder in which `apt-get source bzip2 lua5.4 mujs zlib` unpacked the sources of these packages of Debian:
-two compressors, and the interpreters of Lua and of JavaScript. GCC compiles each with -O2, with picolibc and with its
-main function in packages/, which reads up to 256 KiB of input. PROGRAM is the built program; with none the script at
-the top of the repository builds it, if need be.
+SOURCES is a folder in which `apt-get source bzip2 libgsm lua5.4 mujs zlib` unpacked the sources of these packages of
+Debian: two compressors, the speech coder of GSM, and the interpreters of Lua and of JavaScript. GCC compiles each with
+-O2, with picolibc and with its main function in packages/, which reads up to 256 KiB of input. PROGRAM is the built
+program; with none the script at the top of the repository builds it, if need be.
 
 `find` runs each program on one input, and `check` has to accept what it writes. Then the old program and the new one
 run on this input and on another, and have to print the same in as many steps; on the first, the new one has to cost
@@ -35,19 +35,21 @@ END = re.compile(r"(.*)^end exit 00000000 steps (\d+) cost (\d+)\n", re.M | re.S
 FOUND = re.compile(r"cuts (\d+) units (\d+) skipped (\d+) gain (\d+)\n")
 PROGRAMS = os.path.join(HERE, "packages")
 
-# A program: its name, the folder of its sources, the names of those, what the compiler is told, and two inputs, which
-# are files of packages/ or of the sources.
-Package = namedtuple("Package", "name folder sources options inputs")
+# A program: its name, the folder of its sources, the names of those, the folder of their headers from there, what the
+# compiler is told, and two inputs, which are files of packages/ or of the sources.
+Package = namedtuple("Package", "name folder sources headers options inputs")
 PACKAGES = (
-    Package("bzip2", "bzip2-*", "blocksort bzlib compress crctable decompress huffman randtable", ["-DBZ_NO_STDIO"],
-            ("blocksort.c", "decompress.c")),
-    Package("zlib", "zlib-*", "adler32 compress crc32 deflate inffast inflate inftrees trees uncompr zutil", [],
-            ("deflate.c", "inflate.c")),
+    Package("bzip2", "bzip2-*", "blocksort bzlib compress crctable decompress huffman randtable", ".",
+            ["-DBZ_NO_STDIO"], ("blocksort.c", "decompress.c")),
+    Package("gsm", "libgsm-*/src",
+            "add code decode gsm_create gsm_decode gsm_encode long_term lpc preprocess rpe short_term table", "../inc",
+            ["-DSASR", "-DNeedFunctionPrototypes=1"], ("code.c", "lpc.c")),
     Package("lua", "lua5.4-*/src",
             "lapi lauxlib lbaselib lcode lctype ldebug ldo ldump lfunc lgc llex lmathlib lmem lobject lopcodes lparser "
-            "lstate lstring lstrlib ltable ltablib ltm lundump lvm lzio", [],
-            ("sorting.lua", "queens.lua")),
-    Package("mujs", "mujs-*", "one", [], ("sorting.js", "primes.js")),
+            "lstate lstring lstrlib ltable ltablib ltm lundump lvm lzio", ".", [], ("sorting.lua", "queens.lua")),
+    Package("mujs", "mujs-*", "one", ".", [], ("sorting.js", "primes.js")),
+    Package("zlib", "zlib-*", "adler32 compress crc32 deflate inffast inflate inftrees trees uncompr zutil", ".", [],
+            ("deflate.c", "inflate.c")),
 )
 
 
@@ -70,10 +72,11 @@ def compile_to(file, package, sources):
     # Debian's build of Lua makes this header, which tells where libraries lie.
     with open(os.path.join(os.path.dirname(file), "lua5.4-deb-multiarch.h"), "w", encoding="ascii"):
         pass
-    parts = [os.path.join(sources, f"{name}.c") for name in package.sources.split()]
-    main = os.path.join(PROGRAMS, f"{package.name}.c")
-    subprocess.run([compiled.GCC, *compiled.TARGET, "-O2", *package.options, "-I", sources, "-I", compiled.SAMPLES,
-                    "-I", os.path.dirname(file), main, *parts, compiled.SUPPORT, "-o", file], check=True)
+    parts = [os.path.join(PROGRAMS, f"{package.name}.c"), compiled.SUPPORT]
+    parts += [os.path.join(sources, f"{name}.c") for name in package.sources.split()]
+    folders = os.path.join(sources, package.headers), compiled.SAMPLES, os.path.dirname(file)
+    subprocess.run([compiled.GCC, *compiled.TARGET, "-O2", *package.options, *(f"-I{folder}" for folder in folders),
+                    *parts, "-o", file], check=True)
 
 
 def run(*words):
