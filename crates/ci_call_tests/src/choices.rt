@@ -1,6 +1,7 @@
 //! Worked calls of `find` and `check`, over several files in memory.
 use crate::common::{
-    answer, calls, expect_failing, expect_over, files_of, hold, program, unit_of_sums,
+    answer, calls, expect_failing, expect_of_text, expect_over, files_of, hold, program,
+    unit_of_sums,
 };
 use ci_io::{MemShelf, MemSink, SureShelf, SureSink};
 use std::alloc::{AllocError, Global};
@@ -178,30 +179,17 @@ fn books_that_are_refused(rt: HostRuntime) -> Result<(), AllocError> {
     expect_changed(&rt, "end none\n", "end none", 10, "fault 10 log 3 0\n")
 }
 
-/// Asserts what `find` says of the executable of a text.
-fn expect_find(
-    rt: &(impl Abort + AllocGlobal),
-    words: &[u32],
-    text: &str,
-    status: u8,
-    line: &str,
-) -> Result<(), AllocError> {
-    let files = file_of(rt.alloc(), program(rt, words, &[], &[])?)?;
-    expect_over(rt, files, text, status, line.as_bytes());
-    Ok(())
-}
-
 #[test]
 fn programs_that_are_not_chosen_from(rt: HostRuntime) -> Result<(), AllocError> {
     // A word of a custom opcode, and a program that loads from its own text.
     let custom = [0x0000000b];
     let line = "fault 7 unsupported 00010074 0000000b\n";
-    expect_find(&rt, &custom, "find F N U L R", 7, line)?;
-    expect_find(&rt, &custom, "find F F U L R", 1, "fault 1 usage\n")?;
+    expect_of_text(&rt, &custom, "find F N U L R", 7, line)?;
+    expect_of_text(&rt, &custom, "find F F U L R", 1, "fault 1 usage\n")?;
     let touching = [0x00000297, 0x0002a303, 0x00100073];
     let line = "fault 8 text touched 00010078 00010074\n";
-    expect_find(&rt, &touching, "find F N U L R", 8, line)?;
-    expect_find(&rt, &touching, "check F N U L", 2, "fault 2 read N\n")
+    expect_of_text(&rt, &touching, "find F N U L R", 8, line)?;
+    expect_of_text(&rt, &touching, "check F N U L", 2, "fault 2 read N\n")
 }
 
 /// Asserts how `find` ends where the call of this number of the shelf fails, and that these files hold what they hold
