@@ -1,17 +1,16 @@
 -- Counts of steps by their address.
 use Rattle.std.proofs.Common.{arith, ◌≡◌, ℕ, ◌+◌, ◌-◌, ◌/◌, ◌%◌, ◌<◌, ◌≤◌, get_or, subst, take, ap, sym, ◌∙◌, refl}
 use Rattle.std.proofs.Common.{List, length, Option, Some, None, replicate, inl, inr, eq-eqb, add-zero}
-use Rattle.std.specs.Prelude.{false, ◌==◌, ◌&&◌, IfSome, if◌then◌else◌, slice_index, slice_set}
+use Rattle.std.specs.Prelude.{false, true, ◌==◌, ◌&&◌, IfSome, if◌then◌else◌, slice_index, slice_set}
 use Rattle.std.proofs.lemmas.Bool.{cases_Bool, cases_eq, cases_lt, eqb-true, ne_eqb}
 use Rattle.std.proofs.lemmas.List.{get_or_default, get_or-replicate, get_or_past, length-replicate, get_or-set_same, get_or-set_other}
 use Rattle.ci_elf.specs.declared.ranges.Range.{Range}
-use Rattle.ci_elf.specs.Executables.{end_of, HoldsAddress, IsAscending, IsTextWord}
+use Rattle.ci_elf.specs.Executables.{end_of, has_byte, HoldsAddress, IsAscending, IsTextWord}
 use Rattle.ci_elf.specs.WordPlaces.{place_in, word_count, word_place}
 use Rattle.ci_elf.proofs.RangeLaws.{has_bounds}
 use Rattle.ci_elf.proofs.WordPlaceLaws.{no_text_word, nowhere, one_word, place_held, word_below, word_has_place, word_placed}
 use Rattle.ci_machine.specs.Programs.{Program, in_text}
 use Rattle.ci_emu.specs.declared.counts.Counts.{Counts}
-use Rattle.ci_emu.specs.PlacedRanges.{ArePlaced}
 use Rattle.ci_emu.specs.Profiles.{at_place, count_at}
 
 -- ---- no steps yet
@@ -36,7 +35,7 @@ within_places ranges address n (Some p) count is = omega (arith, word_below rang
 
 -- ---- one step more
 
-count_read : (counts : Counts) (address p : ℕ) → word_place counts.places address ≡ Some p
+pub count_read : (counts : Counts) (address p : ℕ) → word_place counts.places address ≡ Some p
     → count_at counts address ≡ slice_index counts.by_place.items p
 unfolding count_at
 count_read counts address p is = ap (at_place counts.by_place.items) is
@@ -114,7 +113,7 @@ no_word program pc none = elim (cases_Bool (pc % 4 == 0)) [
   | inr other ↦ rw other refl
 ]
 
--- ---- the range that served last
+-- ---- the range that is near
 
 -- a word of the range with this number
 module _ (ranges : List Range) (ascending : IsAscending ranges) (address index place : ℕ) (held : HoldsAddress ranges address index)
@@ -135,7 +134,8 @@ module _ (ranges : List Range) (ascending : IsAscending ranges) (address index p
   first_place = same_number place _ (sym (word_placed ranges address place is).1 ∙ place_of address held)
 
   -- and so has each word of the range
-  pub placed_alike : ArePlaced ranges (record { range = range; first = place - (address - range.start) / 4 })
+  pub placed_alike : (a : ℕ) → has_byte range a ≡ true
+      → place_in ranges a ≡ Some (place - (address - range.start) / 4 + (a - range.start) / 4)
   placed_alike a has =
       let bounds = has_bounds range a has in
       let there : HoldsAddress ranges a index = record {

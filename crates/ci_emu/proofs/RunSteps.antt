@@ -33,6 +33,9 @@ module _ (Means : Meaning → Type 0) (program : Program) (start : State) (i : �
   state_is meaning means = sym (ap (λ (r : Reached State). r.state) (reached meaning means))
 
   -- some of the steps behind these
+  pub reached_here : (n : ℕ) → i ≤ n → IsReached Means program start n now
+  reached_here n within = record { steps = i; within = within; there = state_is }
+
   pub reached_more : (n k : ℕ) (next : State) → i + k ≤ n → IsReached Means here now k next → IsReached Means program start n next
   reached_more n k next within step = let more = subst (λ p. IsReached Means p now k next) same step in record {
     steps = i + more.steps;

@@ -11,7 +11,6 @@ use Rattle.ci_emu.specs.CountedSteps.{HasEntered, HasRoom, IsCountedStep}
 use Rattle.ci_emu.specs.Counting.{IsCounted}
 use Rattle.ci_emu.specs.Fetched.{IsTextBelow}
 use Rattle.ci_emu.specs.Lines.{AreKept, AreKnown}
-use Rattle.ci_emu.specs.PlacedRanges.{ArePlaced}
 use Rattle.ci_emu.proofs.RunSteps.{HasFew, counted_more, few_more, has_room, stepped_to}
 use Rattle.ci_emu.proofs.SameStart.{same_start}
 
@@ -22,7 +21,6 @@ pub record IsRunTo (Means : Meaning → Type 0) (cycles : ℕ → Insn → ℕ) 
   pub same : here ≡ program
   pub text : tally.counts.places ≡ program.text
   pub cost : tally.cost ≤ 4294967295 * i
-  pub nearby : ArePlaced program.text tally.nearby
   pub many : length tally.cache.words.items ≡ length tally.counts.by_place.items
   pub behind : IsTextBelow (in_text program) tally.touches.end
   pub begun : 0 < tally.touches.changes
@@ -50,7 +48,6 @@ module _ (Means : Meaning → Type 0) (cycles : ℕ → Insn → ℕ) (latencies
       text = so_far.text ∙ ap (λ (p : Program). p.text) (sym so_far.same);
       room = has_room program here so_far.same i tally.counts so_far.few below now.pc;
       cheap = let cost = so_far.cost in omega arith;
-      nearby = subst (λ ranges. ArePlaced ranges tally.nearby) (sym so_far.text) so_far.nearby;
       many = so_far.many;
       behind = subst (λ p. IsTextBelow (in_text p) tally.touches.end) (sym so_far.same) so_far.behind;
       begun = so_far.begun;
@@ -69,7 +66,6 @@ module _ (Means : Meaning → Type 0) (cycles : ℕ → Insn → ℕ) (latencies
       same = stays ∙ so_far.same;
       text = entered.text ∙ so_far.text;
       cost = let more = entered.cost in let cost = so_far.cost in omega arith;
-      nearby = subst (λ ranges. ArePlaced ranges later.nearby) so_far.text entered.nearby;
       many = entered.many;
       behind = subst (IsTextBelow (in_text program)) (sym entered.end) so_far.behind;
       begun = omega (arith, so_far.begun, entered.later);

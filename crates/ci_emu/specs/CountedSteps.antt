@@ -10,7 +10,6 @@ use Rattle.ci_emu.specs.declared.tally.Tally.{Tally}
 use Rattle.ci_emu.specs.Counting.{IsStepCounted}
 use Rattle.ci_emu.specs.Fetched.{IsTextBelow}
 use Rattle.ci_emu.specs.Lines.{AreKept, AreKnown}
-use Rattle.ci_emu.specs.PlacedRanges.{ArePlaced}
 use Rattle.ci_emu.specs.Profiles.{count_at}
 use Rattle.ci_emu.specs.Steps.{IsStep}
 
@@ -20,7 +19,6 @@ pub record HasRoom (Means : Meaning → Type 0) (cycles : ℕ → Insn → ℕ) 
   pub text : tally.counts.places ≡ program.text
   pub room : IsTextWord program.text state.pc → count_at tally.counts state.pc < 2 ^ 32
   pub cheap : tally.cost ≤ 2 ^ 64 - 2 ^ 32
-  pub nearby : ArePlaced tally.counts.places tally.nearby
   pub many : length tally.cache.words.items ≡ length tally.counts.by_place.items
   pub behind : IsTextBelow (in_text program) tally.touches.end
   pub begun : 0 < tally.touches.changes
@@ -43,7 +41,6 @@ pub record HasEntered (cycles : ℕ → Insn → ℕ) (program : Program) (state
       → count_at new.counts address ≡ count_at old.counts address + (if state.pc == address then 1 else 0)
   pub cost : new.cost < old.cost + 2 ^ 32
   pub text : new.counts.places ≡ old.counts.places
-  pub nearby : ArePlaced old.counts.places new.nearby
   pub many : length new.cache.words.items ≡ length new.counts.by_place.items
   pub end : new.touches.end ≡ old.touches.end
   pub later : old.touches.changes ≤ new.touches.changes

@@ -6,26 +6,58 @@ ghost use Rattle.ci_emu.specs.Alignment.{are_aligned};
 use ci_elf::{Places, Range};
 use std::alloc::{AllocError, Global};
 
-/// A range of a text, and the place of its first word.
-#[derive(Clone, Copy)]
-pub(crate) struct PlacedRange {
+/// The range of a text that had the address that was looked up last, and the place of its first word.
+#[derive(Drop)]
+pub(crate) struct Nearby {
     range: Range,
     first: usize,
+    /// The numbers of the ranges to try first for other addresses, by their slots. Each may be wrong, and there are none
+    /// before the first look-up, or where memory runs out.
+    hints: Vec<u32>,
 }
 
-impl PlacedRange {
+impl Nearby {
     ghost use Rattle.std.specs.Prelude.{List};
     ghost use Rattle.ci_elf.specs.declared.ranges.Range.{Range as TextRange};
     ghost use Rattle.ci_elf.specs.Executables.{has_byte};
     ghost use Rattle.ci_emu.specs.PlacedRanges.{ArePlaced};
 
-    /// A range without words.
-    pub(crate) fn empty() -> PlacedRange
+    /// A range without words, before any of a text is near.
+    pub(crate) fn new(alloc: Global) -> Nearby
         ensures { (ranges : List TextRange) → ArePlaced ranges result }
     {
-        PlacedRange {
+        Nearby {
             range: Range { start: 0, words: 0 },
             first: 0,
+            hints: Vec::new(alloc),
+        }
+    }
+
+    /// Where the hint for the address stands, by a hash: addresses of near ranges have slots that lie far apart.
+    fn slot(&self, address: u32) -> usize {
+        let hash = (address / 4).wrapping_mul(0x9E37_79B1);
+        (u64::from(hash).wrapping_mul(self.hints.len() as u64) >> 32) as usize
+    }
+
+    /// The number of the range to try first for the address.
+    fn hint(&self, address: u32) -> usize {
+        match self.hints.get(self.slot(address)) {
+            Some(number) => *number as usize,
+            None => 0,
+        }
+    }
+
+    /// Lets the range of the text be tried first for the address.
+    fn remember(&mut self, text: &[Range], address: u32, number: usize)
+        ensures range { self.new.range ≡ self.old.range }
+        ensures first { self.new.first ≡ self.old.first }
+    {
+        if self.hints.is_empty() && self.hints.resize(2 * text.len() + 1, 0).is_err() {
+            return;
+        }
+        let slot = self.slot(address);
+        if let Some(hint) = self.hints.get_mut(slot) {
+            *hint = u32::try_from(number).unwrap_or(0);
         }
     }
 
@@ -92,9 +124,9 @@ impl Counts {
         self.aligned
     }
 
-    /// The place of the word at the address, where that is a multiple of four in the range.
+    /// The place of the word at the address, where that is a multiple of four in the range that is near.
     #[inline(always)]
-    pub(crate) fn at_hand(&self, nearby: &PlacedRange, address: u32) -> Option<usize>
+    pub(crate) fn at_hand(&self, nearby: &Nearby, address: u32) -> Option<usize>
         requires { ArePlaced self.now.places nearby.now }
         ensures value { IfSome result (λ place. word_place self.now.places address ≡ Some place) }
         ensures within { IfSome result (λ place. place < length self.now.by_place.items) }
@@ -108,10 +140,18 @@ impl Counts {
         None
     }
 
+    /// Whether the word at the address lies in another range than in the one that is near; that range is near then.
+    pub(crate) fn come_near(&self, nearby: &mut Nearby, address: u32) -> bool
+        requires { ArePlaced self.now.places nearby.old }
+        ensures { ArePlaced self.now.places nearby.new }
+    {
+        !nearby.has(address) && self.look_up(nearby, address).is_some()
+    }
+
     /// The place of the word at the address, where that is a multiple of four in the text. Where `nearby` has no such
     /// word, and another range has it, `nearby` is then that one.
     #[inline(always)]
-    pub(crate) fn place(&self, nearby: &mut PlacedRange, address: u32) -> Option<usize>
+    pub(crate) fn place(&self, nearby: &mut Nearby, address: u32) -> Option<usize>
         requires { ArePlaced self.now.places nearby.old }
         ensures value { result ≡ word_place self.now.places address }
         ensures within { IfSome result (λ place. place < length self.now.by_place.items) }
@@ -126,23 +166,23 @@ impl Counts {
         self.look_up(nearby, address)
     }
 
-    /// The same, by the range that has the address.
+    /// The same, by the range that has the address, which is tried first for it from then on.
     #[cold]
     #[inline(never)]
-    fn look_up(&self, nearby: &mut PlacedRange, address: u32) -> Option<usize>
+    fn look_up(&self, nearby: &mut Nearby, address: u32) -> Option<usize>
         requires { ArePlaced self.now.places nearby.old }
         ensures value { result ≡ word_place self.now.places address }
         ensures within { IfSome result (λ place. place < length self.now.by_place.items) }
         ensures nearby { ArePlaced self.now.places nearby.new }
     {
-        let mut index = 0;
+        let mut index = nearby.hint(address);
         let place = self.places.near(&mut index, address)?;
-        let range = self.places.ranges()[index];
+        let text = self.places.ranges();
+        nearby.remember(text, address, index);
+        let range = text[index];
         let past = ((address - range.start) / 4) as usize;
-        *nearby = PlacedRange {
-            range,
-            first: place - past,
-        };
+        nearby.range = range;
+        nearby.first = place - past;
         Some(place)
     }
 
@@ -163,8 +203,7 @@ impl Counts {
     pub(crate) fn at(&self, address: u32) -> u64
         ensures { result ≡ count_at self.now address }
     {
-        let mut nearby = PlacedRange::empty();
-        match self.place(&mut nearby, address) {
+        match self.places.of(address) {
             Some(place) => self.by_place[place],
             None => 0,
         }

@@ -7,10 +7,11 @@ ghost use Rattle.ci_emu.specs.Profiles.{IsProfileOf};
 ghost use Rattle.ci_emu.specs.TableLatencies.{latencies_of, latencies_on};
 ghost use Rattle.ci_emu.specs.Steps.{IsReached};
 
+use crate::counts::Nearby;
 use crate::machine::{Machine, PlainMachine};
 use crate::profile::Profile;
 use crate::steps::Outcome;
-use crate::tally::{Tally, noted_step, quick_step};
+use crate::tally::{Tally, far_step, noted_step, quick_step};
 use ci_lat::Table;
 use ci_machine::State;
 use std::alloc::{AllocError, Global};
@@ -52,11 +53,15 @@ pub fn run_on<M: Machine>(
     ensures program { program_of state.new ≡ program_of state.old }
 {
     let mut tally = Tally::new(alloc, machine, table, state.text())?;
+    let mut nearby = Nearby::new(alloc);
     for i in 0..n {
-        if quick_step(machine, state, table, &mut tally) {
+        if quick_step(machine, state, table, &mut tally, &nearby) {
             continue;
         }
-        if let Outcome::Ended(end) = noted_step(machine, state, table, &mut tally)? {
+        if far_step(machine, state, table, &mut tally, &mut nearby) {
+            continue;
+        }
+        if let Outcome::Ended(end) = noted_step(machine, state, table, &mut tally, &mut nearby)? {
             return tally.profile(alloc, i + 1, Some(end));
         }
     }

@@ -19,7 +19,7 @@ ghost use Rattle.ci_emu.specs.declared.steps.Outcome.TheVariants.{Next};
 ghost use Rattle.ci_emu.specs.Steps.{IsReached};
 
 use crate::actions::Action;
-use crate::counts::{Counts, PlacedRange};
+use crate::counts::{Counts, Nearby};
 use crate::decode_cache::{DecodeCache, Decoded};
 use crate::execution::execute;
 use crate::machine::Machine;
@@ -42,8 +42,6 @@ pub(crate) struct Tally {
     pub(crate) targets: BTreeSet<u32>,
     /// The words that were decoded before.
     pub(crate) cache: DecodeCache,
-    /// The range of the text from which a word was fetched last.
-    pub(crate) nearby: PlacedRange,
 }
 
 impl Tally {
@@ -51,7 +49,9 @@ impl Tally {
     ghost use Rattle.ci_emu.specs.Counting.{IsFresh, IsToldBy};
     ghost use Rattle.ci_emu.specs.Lines.{AreKept};
 
-    /// Nothing yet.
+    /// Nothing yet. Out of line: behind its tests the compiler would take the loop of the steps for seldom reached, and
+    /// leave loads and stores out of it.
+    #[inline(never)]
     pub(crate) fn new<M: Machine>(
         alloc: Global,
         machine: &M,
@@ -65,7 +65,6 @@ impl Tally {
             (M.unit_cycles machine.now) table.now) 0 tally.cache.words.items) }
         ensures changes { IfOk result (λ tally. tally.touches.changes ≡ 1) }
         ensures behind { IfOk result (λ tally. IsTextBelow (has_text text.now) tally.touches.end) }
-        ensures nearby { IfOk result (λ tally. ArePlaced text.now tally.nearby) }
         ensures many { IfOk result (λ tally. length tally.cache.words.items ≡ length tally.counts.by_place.items) }
     {
         let counts = Counts::new(alloc, text)?;
@@ -76,7 +75,6 @@ impl Tally {
             touches: Touches::new(text),
             targets: BTreeSet::new(alloc),
             cache,
-            nearby: PlacedRange::empty(),
         })
     }
 
@@ -131,7 +129,7 @@ fn enter<M: Machine>(
     table: &Table,
     counts: &mut Counts,
     cache: &mut DecodeCache,
-    nearby: &mut PlacedRange,
+    nearby: &mut Nearby,
     changes: u64,
     state: &State,
 ) -> Option<usize>
@@ -178,9 +176,11 @@ pub(crate) fn quick_step<M: Machine>(
     state: &mut State,
     table: &Table,
     tally: &mut Tally,
+    nearby: &Nearby,
 ) -> bool
-    requires { HasRoom (M.meanings machine.now) (cycles_on (M.has_unit machine.now) (M.has_cread machine.now)
+    requires room { HasRoom (M.meanings machine.now) (cycles_on (M.has_unit machine.now) (M.has_cread machine.now)
         (M.unit_cycles machine.now) table.now) (program_of state.old) (state_of state.old) tally.old }
+    requires nearby { ArePlaced tally.old.counts.places nearby.now }
     ensures made { result ≡ true → IsCountedStep (M.meanings machine.now)
         (latencies_on table.now (M.unit_cycles machine.now)) (program_of state.old)
         (state_of state.old) tally.old (state_of state.new) tally.new Next }
@@ -190,7 +190,7 @@ pub(crate) fn quick_step<M: Machine>(
     ensures uncounted { result ≡ false → tally.new ≡ tally.old }
     ensures program { program_of state.new ≡ program_of state.old }
 {
-    let Some(place) = tally.counts.at_hand(&tally.nearby, state.pc()) else {
+    let Some(place) = tally.counts.at_hand(nearby, state.pc()) else {
         return false;
     };
     if !tally.cache.is_known(place, tally.touches.changes) {
@@ -205,6 +205,36 @@ pub(crate) fn quick_step<M: Machine>(
     true
 }
 
+/// One such step, where its word lies in another range of the text than in the one that is near: that range is near
+/// from then on. Says whether it was made: nothing else changes where it was not.
+#[cold]
+#[inline(never)]
+pub(crate) fn far_step<M: Machine>(
+    machine: &M,
+    state: &mut State,
+    table: &Table,
+    tally: &mut Tally,
+    nearby: &mut Nearby,
+) -> bool
+    requires room { HasRoom (M.meanings machine.now) (cycles_on (M.has_unit machine.now) (M.has_cread machine.now)
+        (M.unit_cycles machine.now) table.now) (program_of state.old) (state_of state.old) tally.old }
+    requires nearby { ArePlaced tally.old.counts.places nearby.old }
+    ensures made { result ≡ true → IsCountedStep (M.meanings machine.now)
+        (latencies_on table.now (M.unit_cycles machine.now)) (program_of state.old)
+        (state_of state.old) tally.old (state_of state.new) tally.new Next }
+    ensures entered { result ≡ true → HasEntered (cycles_on (M.has_unit machine.now) (M.has_cread machine.now)
+        (M.unit_cycles machine.now) table.now) (program_of state.old) (state_of state.old) tally.old tally.new }
+    ensures stayed { result ≡ false → state_of state.new ≡ state_of state.old }
+    ensures uncounted { result ≡ false → tally.new ≡ tally.old }
+    ensures program { program_of state.new ≡ program_of state.old }
+    ensures nearby { ArePlaced tally.old.counts.places nearby.new }
+{
+    if !tally.counts.come_near(nearby, state.pc()) {
+        return false;
+    }
+    quick_step(machine, state, table, tally, nearby)
+}
+
 /// One step, counted, whatever has to be noted of it.
 ///
 /// Where memory runs out, the state is as before the step or behind it.
@@ -215,9 +245,11 @@ pub(crate) fn noted_step<M: Machine>(
     state: &mut State,
     table: &Table,
     tally: &mut Tally,
+    nearby: &mut Nearby,
 ) -> Result<Outcome, AllocError>
-    requires { HasRoom (M.meanings machine.now) (cycles_on (M.has_unit machine.now) (M.has_cread machine.now)
+    requires room { HasRoom (M.meanings machine.now) (cycles_on (M.has_unit machine.now) (M.has_cread machine.now)
         (M.unit_cycles machine.now) table.now) (program_of state.old) (state_of state.old) tally.old }
+    requires nearby { ArePlaced tally.old.counts.places nearby.old }
     ensures made { IfOk result (IsCountedStep (M.meanings machine.now)
         (latencies_on table.now (M.unit_cycles machine.now)) (program_of state.old)
         (state_of state.old) tally.old (state_of state.new) tally.new) }
@@ -226,13 +258,14 @@ pub(crate) fn noted_step<M: Machine>(
     ensures refused { OnErr result
         (IsReached (M.meanings machine.now) (program_of state.old) (state_of state.old) 1 (state_of state.new)) }
     ensures program { program_of state.new ≡ program_of state.old }
+    ensures nearby { ArePlaced tally.old.counts.places nearby.new }
 {
     let Some(place) = enter(
         machine,
         table,
         &mut tally.counts,
         &mut tally.cache,
-        &mut tally.nearby,
+        nearby,
         tally.touches.changes,
         state,
     ) else {

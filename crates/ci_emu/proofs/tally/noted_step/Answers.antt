@@ -25,7 +25,7 @@ fetches g c =
     (g.met.M.Machine.stands c.args.machine.now) (program_of c.args.state.now) (state_of c.args.state.now)
     (line g c).word c.insn.result
     (subst (IsInsnAtX (line g c).word) (sym c.insn.ensures) (stands_at _ _ (line g c).decoded))
-    (λ meaning means. c.in-Some.ensures.fetched (line g c) meaning (c.requires.known meaning means)
+    (λ meaning means. c.in-Some.ensures.fetched (line g c) meaning (c.requires.room.known meaning means)
     ∙ ap (λ (l : Decoded). Some (meaning.insn l.word)) (sym c.index-line.ensures))
 
 abbrev cycles : (g : Over) (c : After-insn g) → ℕ → Insn → ℕ
@@ -67,7 +67,7 @@ returns-clause-made g c = let s = (goal.at.returns-clause-made g c).After-insn i
       (standing (g.M.Machine.has_unit c.args.machine.now) (g.M.Machine.has_cread c.args.machine.now) c.index-line.result.now.word insn)
       c.in_ok-outcome.outcome (may_change (in_text program) insn state.core) changes
       c.in-Some.ensures.kept (c.in_ok-outcome.ensures.executed meaning means)
-      (c.in-Some.ensures.known meaning (c.requires.known meaning means)));
+      (c.in-Some.ensures.known meaning (c.requires.room.known meaning means)));
 }
 
 -- ---- where no word is fetched
@@ -76,5 +76,5 @@ pub returns-in_default-clause-made : goal.returns-in_default-clause-made
 returns-in_default-clause-made g c = record {
   stepped = λ meaning means. let is = c.in_default.ensures.fetched meaning in search rules;
   counted = λ meaning means. let is = c.in_default.ensures.fetched meaning in search rules;
-  known = λ meaning means. c.enter.ensures.known meaning (c.requires.known meaning means);
+  known = λ meaning means. c.enter.ensures.known meaning (c.requires.room.known meaning means);
 }

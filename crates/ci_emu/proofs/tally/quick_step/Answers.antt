@@ -23,10 +23,10 @@ use Rattle.ci_emu.proofs.tally.quick_step.Goals as goal
 use Rattle.ci_emu.proofs.tally.quick_step.Goals.{After-index-line}
 
 here : (g : Over) (c : After-index-line g) → word_place (program_of c.args.state.now).text (state_of c.args.state.now).pc ≡ Some c.in-Some.place
-here g c = place_at (program_of c.args.state.now) c.args.tally.now.counts c.requires.text _ _ _ c.pc.ensures (sym c.in-Some.ensures.value)
+here g c = place_at (program_of c.args.state.now) c.args.tally.now.counts c.requires.room.text _ _ _ c.pc.ensures (sym c.in-Some.ensures.value)
 
 within : (g : Over) (c : After-index-line g) → c.in-Some.place < length c.args.tally.now.cache.words.items
-within g c = subst (λ (n : ℕ). c.in-Some.place < n) (sym c.requires.many) c.in-Some.ensures.within
+within g c = subst (λ (n : ℕ). c.in-Some.place < n) (sym c.requires.room.many) c.in-Some.ensures.within
 
 abbrev line : (g : Over) (c : After-index-line g) → Decoded
 line g c = c.index-line.result.now
@@ -39,7 +39,7 @@ fetches g c =
     (g.met.M.Machine.stands c.args.machine.now) (program_of c.args.state.now) (state_of c.args.state.now)
     (line g c).word (insn_of (line g c).action) (stands_at _ _ (line g c).decoded)
     (λ meaning means.
-    (c.requires.known meaning means (state_of c.args.state.now).pc c.in-Some.place (line g c) (here g c) (within g c)
+    (c.requires.room.known meaning means (state_of c.args.state.now).pc c.in-Some.place (line g c) (here g c) (within g c)
     (c.is_known.ensures c.if-not-is_known.false (line g c))).insn
     ∙ ap (λ (l : Decoded). Some (meaning.insn l.word)) (sym c.index-line.ensures))
 
@@ -48,16 +48,16 @@ cycles g c =
     cycles_on (g.M.Machine.has_unit c.args.machine.now) (g.M.Machine.has_cread c.args.machine.now) (g.M.Machine.unit_cycles c.args.machine.now) c.args.table.now
 
 takes : (g : Over) (c : After-index-line g) → IsTimed (cycles g c) (line g c)
-takes g c = subst (IsTimed (cycles g c)) (sym c.index-line.ensures) (c.requires.kept c.in-Some.place (line g c) (within g c)).0
+takes g c = subst (IsTimed (cycles g c)) (sym c.index-line.ensures) (c.requires.room.kept c.in-Some.place (line g c) (within g c)).0
 
 pub is_known-requires : goal.is_known-requires
-is_known-requires g c = subst (λ (n : ℕ). c.in-Some.place < n) (sym c.requires.many) c.in-Some.ensures.within
+is_known-requires g c = subst (λ (n : ℕ). c.in-Some.place < n) (sym c.requires.room.many) c.in-Some.ensures.within
 
 pub add-requires-clause-room : goal.add-requires-clause-room
 add-requires-clause-room g c =
     let is = here g (goal.at.add-requires-clause-room g c).After-index-line in
-    let same = count_here (program_of c.args.state.now) c.args.tally.now.counts c.requires.text _ _ is in
-    subst (λ (n : ℕ). n < 2 ^ 32) same (c.requires.room (text_word _ _ _ is))
+    let same = count_here (program_of c.args.state.now) c.args.tally.now.counts c.requires.room.text _ _ is in
+    subst (λ (n : ℕ). n < 2 ^ 32) same (c.requires.room.room (text_word _ _ _ is))
 
 pub returns-clause-made : goal.returns-clause-made
 returns-clause-made g c = λ e.
@@ -76,7 +76,7 @@ returns-clause-made g c = λ e.
           let touched = c.perform.ensures.touched c.if-not-perform.false in
           let told = told_before c.args.tally.now.targets (target_of insn Next (state_of c.perform.new.state).pc)
           (c.perform.ensures.led c.if-not-perform.false) in
-          let entries = entered (program_of c.args.state.now) c.args.tally.now.counts c.requires.text c.add.new.self _ _
+          let entries = entered (program_of c.args.state.now) c.args.tally.now.counts c.requires.room.text c.add.new.self _ _
           (here g s) c.in-Some.ensures.within c.add.ensures.places c.add.ensures.counted in
           search rules;
       known = λ meaning means.
@@ -90,19 +90,18 @@ returns-clause-made g c = λ e.
           (standing (g.M.Machine.has_unit c.args.machine.now) (g.M.Machine.has_cread c.args.machine.now) word insn) Next false
           (same_change (g.M.Machine.has_unit c.args.machine.now) (g.M.Machine.has_cread c.args.machine.now) word (in_text program) state.core insn
           ∙ c.perform.ensures.changes c.if-not-perform.false)
-          c.requires.kept (c.perform.ensures.performed c.if-not-perform.false word meaning means) (c.requires.known meaning means));
+          c.requires.room.kept (c.perform.ensures.performed c.if-not-perform.false word meaning means) (c.requires.room.known meaning means));
     }
 
 pub returns-clause-entered : goal.returns-clause-entered
 returns-clause-entered g c = λ e. record {
-  entered = entered (program_of c.args.state.now) c.args.tally.now.counts c.requires.text _ _ _
+  entered = entered (program_of c.args.state.now) c.args.tally.now.counts c.requires.room.text _ _ _
       (here g (goal.at.returns-clause-entered g c).After-index-line) c.in-Some.ensures.within c.add.ensures.places c.add.ensures.counted;
   cost = omega arith;
   text = c.add.ensures.places;
-  nearby = c.requires.nearby;
-  many = c.requires.many ∙ sym c.add.ensures.many;
+  many = c.requires.room.many ∙ sym c.add.ensures.many;
   end = refl;
   later = omega arith;
   few = omega arith;
-  kept = c.requires.kept;
+  kept = c.requires.room.kept;
 }

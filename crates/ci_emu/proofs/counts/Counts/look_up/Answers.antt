@@ -9,11 +9,11 @@ returns-clause-within c =
 pub overflow_sub-nearby : goal.overflow_sub-nearby
 overflow_sub-nearby c =
     let is =
-    first_place c.args.self.now.places c.ranges-2.ensures.ascending c.args.address c.near.new.last c.in_ok-place.place c.in_ok-place.ensures.last
-    (sym c.near.ensures.place ∙ c.in_ok-place.was) c.ranges-2.result.now c.ranges-2.ensures.value in
+    first_place c.args.self.now.places c.ranges-text.ensures.ascending c.args.address c.near.new.last c.in_ok-place.place c.in_ok-place.ensures.last
+    (sym c.near.ensures.place ∙ c.in_ok-place.was) c.ranges-text.result.now c.ranges-text.ensures.value in
     omega arith
 
 pub returns-clause-nearby : goal.returns-clause-nearby
 returns-clause-nearby c =
-    placed_alike c.args.self.now.places c.ranges-2.ensures.ascending c.args.address c.near.new.last c.in_ok-place.place c.in_ok-place.ensures.last
-    (sym c.near.ensures.place ∙ c.in_ok-place.was) c.ranges-2.result.now c.ranges-2.ensures.value
+    placed_alike c.args.self.now.places c.ranges-text.ensures.ascending c.args.address c.near.new.last c.in_ok-place.place c.in_ok-place.ensures.last
+    (sym c.near.ensures.place ∙ c.in_ok-place.was) c.ranges-text.result.now c.ranges-text.ensures.value
