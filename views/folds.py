@@ -1,7 +1,5 @@
 """A naive reading of what a folded block is, by sets of nodes and all walks along the arcs of its graph, where words
 may be units and `cread`. It shares nothing with the program, so that the checks can compare the two."""
-import itertools
-
 import instructions
 from instructions import mnemonic
 from latencies import MEMORY, NO_OPERATION, may_join
@@ -29,7 +27,8 @@ def operands(word):
         return word >> 15 & 31, word >> 20 & 31, word >> 27
     if mnemonic(word) == "ecall":
         return 10, 11, 12, 17
-    return [field for field in (word >> 15 & 31, word >> 20 & 31) if field in instructions.reads(word)]
+    read = instructions.reads(word)
+    return [field for field in (word >> 15 & 31, word >> 20 & 31) if field in read]
 
 
 def writes(word):
@@ -43,39 +42,42 @@ class Block:
 
     def __init__(self, words, live):
         self.words, self.nodes = words, range(len(words))
+        # What each word reads, writes, and whether it accesses memory.
+        self.reads, self.writes = [operands(word) for word in words], [writes(word) for word in words]
+        self.accesses = [mnemonic(word) in MEMORY for word in words]
         self.sources, writer = [], {}
-        for node, word in enumerate(words):
-            self.sources.append({writer.get(register, f"x{register}"): register for register in operands(word)})
-            writer.update((register, node) for register in writes(word))
+        for node in self.nodes:
+            self.sources.append({writer.get(register, f"x{register}"): register for register in self.reads[node]})
+            writer.update((register, node) for register in self.writes[node])
         self.live = {writer[register] for register in live if register in writer}
         self.arcs = self.all_arcs()
         self.behind = self.all_behind()
 
-    def own_arc(self, node, later):
-        """Whether two nodes have to stay in their order for what they read, write or access. Arcs to the instruction
+    def own_arcs(self, node):
+        """The later nodes that have to stay behind a node for what they read, write or access. Arcs to the instruction
         that ends a block are left out, since no walk goes on from there."""
-        first, second = self.words[node], self.words[later]
-        true = node in self.sources[later]
-        anti = set(operands(first)) & writes(second)
-        output = writes(first) & writes(second)
-        memory = mnemonic(first) in MEMORY and mnemonic(second) in MEMORY
-        return bool(true or anti or output or memory)
+        named = self.writes[node].union(self.reads[node])
+        return {later for later in self.nodes[node + 1:] if node in self.sources[later] or named & self.writes[later]
+                or self.accesses[node] and self.accesses[later]}
 
     def all_arcs(self):
-        """Those arcs, and those by which each unit word and the `cread` behind it move together: what leaves the unit
-        word leaves the `cread` too. Arcs into the `cread` enter the unit word too, but are left out here, since they
-        add no walk between other nodes."""
-        bundles = [(node - 1, node) for node in self.nodes[1:]
-                   if is_cread(self.words[node]) and is_unit(self.words[node - 1])]
-        arcs = {pair for pair in itertools.combinations(self.nodes, 2) if self.own_arc(*pair)} | set(bundles)
-        return arcs | {(read, later) for unit, read in bundles for node, later in arcs
-                       if node == unit and later != read}
+        """Those of each node, and those by which each unit word and the `cread` behind it move together: what leaves
+        the unit word leaves the `cread` too. Arcs into the `cread` enter the unit word too, but are left out here,
+        since they add no walk between other nodes."""
+        arcs = [self.own_arcs(node) for node in self.nodes]
+        for unit, read in zip(self.nodes, self.nodes[1:]):
+            if is_unit(self.words[unit]) and is_cread(self.words[read]):
+                arcs[unit].add(read)
+                arcs[read] |= arcs[unit] - {read}
+        return arcs
 
     def all_behind(self):
         """The nodes to which walks lead from each node. Arcs lead to later nodes."""
         behind = [set() for _ in self.nodes]
-        for node, later in sorted(self.arcs, reverse=True):
-            behind[node] |= {later} | behind[later]
+        for node in reversed(self.nodes):
+            for later in sorted(self.arcs[node]):
+                if later not in behind[node]:
+                    behind[node] |= {later} | behind[later]
         return behind
 
     def is_convex(self, cut):
@@ -105,7 +107,7 @@ class Block:
 
     def folded(self, cut, number):
         """The words of the folded block, where the unit of this number stands for the members."""
-        outputs = [next(iter(writes(self.words[node]))) for node in self.outputs(cut)]
+        outputs = [next(iter(self.writes[node])) for node in self.outputs(cut)]
         early = [node for node in self.nodes if node not in cut and self.behind[node] & cut]
         late = [node for node in self.nodes if node not in cut and node not in early]
         use = [unit_word(number, outputs[0], self.inputs(cut)), *(register << 7 | CREAD for register in outputs[1:])]
