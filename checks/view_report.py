@@ -4,10 +4,11 @@
     view_report.py PROGRAM
 
 Pages are made of choices for samples and for programs that GCC compiled, one without a cut and one with a skipped
-block. The numbers on top, of blocks and of cuts have to be those of REPORT, and what a unit's expressions give has to
-be what `eval` prints. A page may ask for nothing from outside and have no script; its parts have to be well nested,
-named and described. Chromium opens two pages at two widths, where nothing may stand out on the right side. Files that
-are no choice are refused; wrong calls end with the usage and status 2.
+block. The numbers on top, of blocks, of cuts and of units have to be those of REPORT, with the units by what they save,
+which sums up to its total, and what a unit's expressions give has to be what `eval` prints. A page may ask for nothing
+from outside and have no script; its parts have to be well nested, named and described. Chromium opens two pages at two
+widths, where nothing may stand out on the right side. Files that are no choice are refused; wrong calls end with the
+usage and status 2.
 
 It ends with status 0 where all agree, and where tools are missing, with a line that says so.
 """
@@ -110,7 +111,25 @@ def compare_page(views, name):
                f"gain {gain} × {entries} entries = {saved} cycle", f"pad = {gain} ", f"{saved} cycle",
                f"module ci_{unit}(")
         views.need(all(part in shown for part in due), f"{name}: cut {number} is {shown[:400]}, and not {due}")
+    compare_units(views, name, texts, report)
     views.need("accepted" in said, f"{name}: not accepted")
+
+
+def compare_units(views, name, texts, report):
+    """Compares the rows of units with the lines of REPORT: each sum and share, and their order."""
+    cost, total = (int(re.search(rf"{word} (\d+)$", report, re.M)[1]) for word in ("cost", "total"))
+    saved = {}
+    for unit, gain, entries in re.findall(r"^cut .* unit (\d+) gain (\d+) entries (\d+) ", report, re.M):
+        saved.setdefault(unit, []).append(int(gain) * int(entries))
+    due, so_far = {}, 0
+    for place, unit in enumerate(sorted(saved, key=lambda unit: (-sum(saved[unit]), int(unit))), 1):
+        cycles, operations = re.search(rf"^unit {unit} cycles (\d+) operations (\d+) ", report, re.M).groups()
+        mine = sum(saved[unit])
+        so_far += mine
+        due[f"unit-{unit}"] = (f"{unit} {len(saved[unit])} {operations} {cycles} {mine} {100 * mine / cost:.1f} % "
+                               f"{place} {so_far} {100 * so_far / cost:.1f} %")
+    found = {part: " ".join(words(text)) for part, text in texts.items() if re.fullmatch(r"unit-\d+", part)}
+    views.need(list(found.items()) == list(due.items()) and so_far == total, f"{name}: units are {found} and not {due}")
 
 
 def compare_expressions(views, name, source):

@@ -49,14 +49,9 @@ class Report:
         self.units = [Unit(*map(int, figures)) for figures in UNIT.findall(text)]
         self.total = int(total[1])
 
-    def saved_by(self, count):
-        """The cycles that are saved with so many units: the rounds end before the cut that needs one more."""
-        saved = 0
-        for cut in self.cuts:
-            if cut.unit >= count:
-                break
-            saved += cut.gain * cut.entries
-        return saved
+    def saved(self):
+        """The cycles that each unit saves: the gain of each of its cuts, times the entries of the cut's block."""
+        return [sum(cut.gain * cut.entries for cut in self.cuts if cut.unit == unit.number) for unit in self.units]
 
 
 def read(path):
@@ -163,7 +158,7 @@ class Choice:
         """Ends the view where the files don't belong together."""
         cycles = {unit.number: unit.cycles for unit in self.report.units}
         entries = [(cut.entries, self.report.blocks.get(cut.leader, (0, 0))[1]) for cut in self.report.cuts]
-        if any(one != other for one, other in entries) or self.report.saved_by(len(cycles)) != self.report.total:
+        if any(one != other for one, other in entries) or sum(self.report.saved()) != self.report.total:
             fail("REPORT's entries, gains and total don't fit together")
         for taken in self.taken:
             found = gain(taken.block, set(taken.cut.nodes), self.latencies)
