@@ -4,7 +4,8 @@
     view_suite.py PROGRAM
 
 Samples, programs that GCC compiled, one without a cut and two files that are refused make a suite, first some of them,
-then all: the first rows have to stay as they are, and each row has to be right. A refused file has its fault in words.
+then all: the first rows have to stay as they are, and each row has to be right, also of a run that ends by its steps. A
+refused file has its fault in words.
 A suite that is stopped by a signal goes on where it was. Wrong calls end with the usage and status 2.
 
 It ends with status 0 where all agree, and where tools are missing, with a line that says so.
@@ -18,6 +19,9 @@ import time
 
 import viewing
 
+# The steps of a run that is cut short.
+SHORT = "1000"
+
 
 def read_rows(views, name="suite.csv"):
     """The rows of a suite, by their files."""
@@ -29,19 +33,28 @@ def read_rows(views, name="suite.csv"):
     return {row["file"]: row for row in rows}
 
 
-def compare_row(views, row, given):
-    """Compares a row with what the program prints."""
+def compare_row(views, row, *options):
+    """Compares a row with what the program prints by these options."""
     path = row["file"]
-    line = views.told("find", path, "new", "units", "logs", "report", "--input", given)
+    line = views.told("find", path, "new", "units", "logs", "report", *options)
     if line.startswith("fault "):
         is_told = row["fault"].endswith(f" ({line.strip()})") and not row["fault"].startswith("refused")
-        views.need(is_told and row["steps"] == "", f"{row} and {line}")
+        views.need(is_told and row["end"] == row["steps"] == "", f"{row} and {line}")
         return
-    old, new = (views.told("run", *words, "--input", given).splitlines()[-1].split()
+    old, new = (views.told("run", *words, *options).splitlines()[-1].split()
                 for words in ((path,), ("new", "--units", "units")))
-    due = dict(zip(("cuts", "units", "skipped", "saved"), re.findall(r"\d+", line)), steps=old[-3], before=old[-1],
-               after=new[-1], share=f"{100 * int(line.split()[-1]) / int(old[-1]):.2f}", fault="")
+    due = dict(zip(("cuts", "units", "skipped", "saved"), re.findall(r"\d+", line)), end=" ".join(old[1:-4]),
+               steps=old[-3], before=old[-1], after=new[-1],
+               share=f"{100 * int(line.split()[-1]) / int(old[-1]):.2f}", fault="")
     views.need({name: row[name] for name in due} == due, f"{row}, and {due} is due")
+
+
+def compare_short(views, path):
+    """A run that is cut short shows in the row, and in the table."""
+    shown = views.works("suite", path, "--steps", SHORT, "--rows", "short.csv")
+    row = read_rows(views, "short.csv")[path]
+    compare_row(views, row, "--steps", SHORT)
+    views.need(row["end"] == "limit" and " limit " in shown, f"a run of {SHORT} steps: {row} {shown}")
 
 
 def compare_stop(views, files, given):
@@ -76,7 +89,9 @@ def look(views):
     views.need(list(rows)[:2] == list(first) and {**rows, **first} == rows, "the first rows changed")
     views.need(rows.keys() == {*files, refused[0]}, f"the rows are of {rows.keys()}")
     for row in rows.values():
-        compare_row(views, row, given)
+        compare_row(views, row, "--input", given)
+    views.need(" exit " in shown, f"no end in {shown}")
+    compare_short(views, files[0])
     views.need(all(os.path.basename(path) in shown for path in rows) and "refused: " in shown, f"shown is {shown}")
     views.need(views.hashes(*before) == before, "an input was changed")
     compare_stop(views, files, given)
