@@ -235,6 +235,30 @@ class Built(Repository):
             self.assertEqual(status, 1)
             self.assertTrue(told.startswith(f"{USAGE}rumtsafi: {why}"), told)
 
+    def test_what_a_choice_rests_on_is_told_by_its_report(self):
+        self.ship('[ "$1" = find ] && echo a choice')
+        cut_off = ("the run of an elf didn't exit: --steps cut it off after 8 steps, "
+                   "and the choice rests on these alone\n")
+        one = "1 search that needs more than 9 branches was given up: a greater --budget may find more\n"
+        for lines, notes in (
+                ("profile exit 00000000 steps 8 cost 9\ncut 0 block 00010078\n", []),
+                ("profile limit steps 8 cost 9\n", [cut_off]),
+                ("profile access 7ffffffc 4 steps 8 cost 9\n",
+                 [cut_off.replace("--steps cut it off", "'access 7ffffffc 4' ended it")]),
+                ("profile limit steps 8 cost 9\nskip 0 block 00010078 budget 9\n", [cut_off, one]),
+                ("profile exit 00000000 steps 8 cost 9\n" + 2 * "skip 0 block 00010078 budget 9\n",
+                 [one.replace("1 search that needs", "2 searches that need").replace("was", "were")])):
+            with self.subTest(lines):
+                with open(os.path.join(self.room, "a report"), "w", encoding="utf-8") as file:
+                    file.write(f"ci-report 1\n{lines}total 0\n")
+                for words in (["an elf", "--budget", "9", "b", "--out=1", "c", "--", "d", "a report"],
+                              ["--leader", "0x8", "an elf", "b", "c", "d", "a report"]):
+                    status, output, told = self.use("find", *words)
+                    self.assertEqual((status, output), (0, "a choice\n"))
+                    self.assertEqual(told, "".join(f"rumtsafi: {note}" for note in notes))
+        self.assertEqual(self.use("find", "a", "b", "c", "d", "/dev/null"), (0, "a choice\n", ""))
+        self.assertEqual(self.use("find", "a", "b", "c", "d", "e"), (0, "a choice\n", ""))
+
     def test_status_16_says_why(self):
         self.use("one")
         self.assertEqual(self.use("best", STATUS="16")[2], "rumtsafi: a word isn't UTF-8\n")

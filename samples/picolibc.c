@@ -4,6 +4,7 @@
 #include <fcntl.h>
 #include <stdio.h>
 #include <stdlib.h>
+#include <sys/stat.h>
 #include <sys/time.h>
 #include <sys/times.h>
 #include <unistd.h>
@@ -71,9 +72,9 @@ USED _Noreturn void _exit(int code)
     leave(code);
 }
 
-/* There are no other files and there is no clock: what `fopen`, `remove`, `rename`, `time` and `clock` call answers -1,
-   in as many registers as each has for its answer, unless the program has such a function of its own. Each is of the
-   library's type, as a program's own is, too. */
+/* There are no other files and there is no clock: what `fopen`, `remove`, `rename`, `stat`, `time` and `clock` call
+   answers -1, in as many registers as each has for its answer, unless the program has such a function of its own. Each
+   is of the library's type, as a program's own is, too. */
 static long long fail(void)
 {
     errno = ENOSYS;
@@ -87,10 +88,19 @@ FAILS(close);
 FAILS(read);
 FAILS(write);
 FAILS(lseek);
+FAILS(stat);
+FAILS(fstat);
 FAILS(unlink);
 FAILS(rename);
 FAILS(gettimeofday);
 FAILS(times);
+
+/* Neither standard input nor output is a terminal. */
+USED __attribute__((weak)) int isatty(int file)
+{
+    (void)file;
+    return 0;
+}
 
 /* What `abort` and a failed `assert` call: the signal ends the program, with the code that a shell tells of it. */
 USED __attribute__((weak)) int getpid(void)

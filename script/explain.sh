@@ -156,3 +156,33 @@ explain_files() {
         seen+=("$name")
     done
 }
+
+# Says what the line of a choice leaves unsaid, by its report: that the run of OLD didn't exit, and that searches were
+# given up. The words are those of a call of find that wrote the files.
+explain_choice() {
+    local names=() options=yes
+    shift
+    while [ "$#" -gt 0 ]; do
+        case $options$1 in
+            yes--) options=no ;;
+            yes--*=*) ;;
+            yes--*) shift ;;
+            *) names+=("$1") ;;
+        esac
+        shift
+    done
+    [ ! -f "${names[4]}" ] || old=${names[0]} awk '
+        $1 == "profile" && $2 != "exit" {
+            for (n = 2; $n != "steps"; n++) end = end (n > 2 ? " " : "") $n
+            print "the run of " ENVIRON["old"] " didn\047t exit: " \
+                (end == "limit" ? "--steps cut it off after " : "\047" end "\047 ended it after ") $(n + 1) \
+                " steps, and the choice rests on these alone"
+        }
+        $1 == "skip" { given_up++; budget = $6 }
+        END {
+            if (given_up)
+                print given_up (given_up == 1 ? " search that needs" : " searches that need") " more than " budget \
+                    " branches " (given_up == 1 ? "was" : "were") " given up: a greater --budget may find more"
+        }
+    ' < "${names[4]}"
+}
