@@ -237,7 +237,7 @@ class Built(Repository):
 
     def test_what_a_choice_rests_on_is_told_by_its_report(self):
         self.ship('[ "$1" = find ] && echo a choice')
-        cut_off = ("the run of an elf didn't exit: --steps cut it off after 8 steps, "
+        cut_off = ("the run of 'an elf' didn't exit: --steps cut it off after 8 steps, "
                    "and the choice rests on these alone\n")
         one = "1 search that needs more than 9 branches was given up: a greater --budget may find more\n"
         for lines, notes in (
@@ -247,7 +247,9 @@ class Built(Repository):
                  [cut_off.replace("--steps cut it off", "'access 7ffffffc 4' ended it")]),
                 ("profile limit steps 8 cost 9\nskip 0 block 00010078 budget 9\n", [cut_off, one]),
                 ("profile exit 00000000 steps 8 cost 9\n" + 2 * "skip 0 block 00010078 budget 9\n",
-                 [one.replace("1 search that needs", "2 searches that need").replace("was", "were")])):
+                 [one.replace("1 search that needs", "2 searches that need").replace("was", "were")]),
+                ("profile exit 00000000 steps 8 cost 9\nskip 0 block 00010078 budget 4194304\n",
+                 [one.replace("than 9", "than 4194304").replace("a greater --budget", "--out 1")])):
             with self.subTest(lines):
                 with open(os.path.join(self.room, "a report"), "w", encoding="utf-8") as file:
                     file.write(f"ci-report 1\n{lines}total 0\n")
@@ -256,8 +258,13 @@ class Built(Repository):
                     status, output, told = self.use("find", *words)
                     self.assertEqual((status, output), (0, "a choice\n"))
                     self.assertEqual(told, "".join(f"rumtsafi: {note}" for note in notes))
-        self.assertEqual(self.use("find", "a", "b", "c", "d", "/dev/null"), (0, "a choice\n", ""))
-        self.assertEqual(self.use("find", "a", "b", "c", "d", "e"), (0, "a choice\n", ""))
+        for report in "/dev/null", "/dev/stderr", "missing":
+            self.assertEqual(self.use("find", "a", "b", "c", "d", report), (0, "a choice\n", ""))
+        # A note that can't be written changes nothing.
+        script = os.path.join(self.root, "rumtsafi")
+        done = subprocess.run(["bash", "-c", '"$@" 2> /dev/full', "bash", script, "find", *"abcd", "a report"],
+                              cwd=self.room, env=self.environment(), stdout=subprocess.PIPE, text=True, check=False)
+        self.assertEqual((done.returncode, done.stdout), (0, "a choice\n"))
 
     def test_status_16_says_why(self):
         self.use("one")

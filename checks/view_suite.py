@@ -4,9 +4,9 @@
     view_suite.py PROGRAM
 
 Samples, programs that GCC compiled, one without a cut and two files that are refused make a suite, first some of them,
-then all: the first rows have to stay as they are, and each row has to be right, also of a run that ends by its steps. A
-refused file has its fault in words.
-A suite that is stopped by a signal goes on where it was. Wrong calls end with the usage and status 2.
+then all: the first rows have to stay as they are, and each row has to be right, as has that of a run that ends by its
+steps. A refused file has its fault in words. A suite that is stopped by a signal goes on where it was. Wrong calls end
+with the usage and status 2.
 
 It ends with status 0 where all agree, and where tools are missing, with a line that says so.
 """

@@ -1,6 +1,6 @@
 # shellcheck shell=bash disable=SC2154
-# Says in words what the program tells by a status and a fault line. The variable `root` of the script that reads this
-# file is the top of the repository.
+# Says in words what the program tells by a status, a fault line and the report of a choice. The variable `root` of the
+# script that reads this file is the top of the repository.
 
 # The command that words give, with ` --at` behind it where they have that option: docs/faults.tsv goes by it.
 call_of() {
@@ -157,8 +157,8 @@ explain_files() {
     done
 }
 
-# Says what the line of a choice leaves unsaid, by its report: that the run of OLD didn't exit, and that searches were
-# given up. The words are those of a call of find that wrote the files.
+# Says by the report of a choice where the run of OLD didn't exit, and what may find more where searches were given up.
+# The words are those of a call of find that wrote the files. A report that is none of a file system's is left alone.
 explain_choice() {
     local names=() options=yes
     shift
@@ -171,10 +171,11 @@ explain_choice() {
         esac
         shift
     done
-    [ ! -f "${names[4]}" ] || old=${names[0]} awk '
+    [[ $(readlink -f -- "${names[4]}") != /dev/* ]] && [ -f "${names[4]}" ] && [ -r "${names[4]}" ] || return 0
+    old=${names[0]} awk '
         $1 == "profile" && $2 != "exit" {
-            for (n = 2; $n != "steps"; n++) end = end (n > 2 ? " " : "") $n
-            print "the run of " ENVIRON["old"] " didn\047t exit: " \
+            for (n = 2; n <= NF && $n != "steps"; n++) end = end (n > 2 ? " " : "") $n
+            print "the run of \047" ENVIRON["old"] "\047 didn\047t exit: " \
                 (end == "limit" ? "--steps cut it off after " : "\047" end "\047 ended it after ") $(n + 1) \
                 " steps, and the choice rests on these alone"
         }
@@ -182,7 +183,8 @@ explain_choice() {
         END {
             if (given_up)
                 print given_up (given_up == 1 ? " search that needs" : " searches that need") " more than " budget \
-                    " branches " (given_up == 1 ? "was" : "were") " given up: a greater --budget may find more"
+                    " branches " (given_up == 1 ? "was" : "were") " given up: " \
+                    (budget < 4194304 ? "a greater --budget" : "--out 1") " may find more"
         }
     ' < "${names[4]}"
 }

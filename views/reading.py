@@ -1,7 +1,7 @@
 """The files of a choice of cuts, read back: executables with their blocks, reports, and the blocks round by round."""
 import re
 import struct
-from collections import namedtuple
+from collections import Counter, namedtuple
 
 import executable
 import folds
@@ -160,6 +160,9 @@ class Choice:
         entries = [(cut.entries, self.report.blocks.get(cut.leader, (0, 0))[1]) for cut in self.report.cuts]
         if any(one != other for one, other in entries) or sum(self.report.saved()) != self.report.total:
             fail("REPORT's entries, gains and total don't fit together")
+        uses = Counter(cut.unit for cut in self.report.cuts)
+        if any(unit.uses != uses[unit.number] for unit in self.report.units):
+            fail("REPORT's cuts and the uses of its units don't fit together")
         for taken in self.taken:
             found = gain(taken.block, set(taken.cut.nodes), self.latencies)
             if (found.total, found.hardware) != (taken.cut.gain, cycles[taken.cut.unit]):
