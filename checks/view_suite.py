@@ -12,6 +12,7 @@ It ends with status 0 where all agree, and where tools are missing, with a line 
 """
 import csv
 import os
+import pathlib
 import re
 import signal
 import subprocess
@@ -60,10 +61,12 @@ def compare_short(views, path):
 def compare_stop(views, files, given):
     """Stops a suite once it has a row, and lets it go on."""
     words, view = [*files, "--input", given, "--rows", "stopped.csv", "--jobs", "1"], views.view("suite")
+    rows = views.path("stopped.csv")
     with subprocess.Popen([view, *words], cwd=views.folder, env=views.environment, stdout=subprocess.DEVNULL,
                           stderr=subprocess.DEVNULL) as suite:
         for _ in range(500):
-            if len(read_rows(views, "stopped.csv")) >= 2:
+            # A line may be half written meanwhile.
+            if os.path.exists(rows) and pathlib.Path(rows).read_bytes().count(b"\n") > 2:
                 break
             time.sleep(0.02)
         suite.send_signal(signal.SIGINT)
