@@ -5,3 +5,5 @@ pub mod InputLaws
 pub mod OneRefusal
 pub mod Writes
 pub mod Contents
+pub mod CallsMade
+pub mod OverFiles

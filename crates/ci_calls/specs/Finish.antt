@@ -1,12 +1,15 @@
 -- For private contracts only: the steps from a success to the end of the call.
-use Rattle.std.specs.Prelude.{◌≡◌, ◌≢◌, ℕ, ◌≤◌, Bool, IsTrue, List, [], ◌∷◌, ◌++◌, Option, take}
+use Rattle.std.specs.Prelude.{◌≡◌, ◌≢◌, ℕ, ◌≤◌, Bool, IsTrue, List, [], ◌∷◌, ◌++◌, Option, Err, take}
 use Rattle.std.specs.Option.{option_map}
 use Rattle.std.specs.String.{string_bytes}
+use Rattle.ci_io.specs.declared.shelves.ShelfErr.TheVariants as shelf
+use Rattle.ci_io.specs.CallLists.{Call, write}
 use Rattle.ci_io.specs.Outcomes.{Rises, ShelfState, SinkState, with_file}
 use Rattle.ci_calls.specs.declared.finishing.WriteErr.{WriteErr}
 use Rattle.ci_calls.specs.declared.finishing.WriteErr.TheVariants as unwritten
 use Rattle.ci_calls.specs.declared.refusals.Refusal.TheVariants.{Write, Put, NoMemory}
 use Rattle.ci_calls.specs.declared.success.Written.{Written}
+use Rattle.ci_calls.specs.Called.{IsWriteWithoutMemory, writes_of}
 use Rattle.ci_calls.specs.Finishing.{Takes, NeverFalls, IsPut, AreWritten}
 use Rattle.ci_calls.specs.Refusals.{status_of, line_of}
 
@@ -43,3 +46,22 @@ pub data IsTextPut (text : List ℕ) (before after : SinkState) : ℕ → Type 0
       Rises before.memory_faults between.memory_faults →
       between.taken ≡ before.taken →
       IsPut between after (line_of NoMemory) → IsTextPut text before after (status_of NoMemory)
+
+-- ---- by the calls
+
+-- why a file was not written
+abbrev pub IsNotWritten : Written → List Call → WriteErr → Type 0
+IsNotWritten file calls (unwritten.Fault refusal line) =
+    (calls ≡ write file.name.now file.bytes.items (Err shelf.Fault) ∷ [])
+    × (refusal ≡ Write file.name) × (string_bytes line ≡ line_of refusal)
+IsNotWritten file calls unwritten.NoMemory = IsWriteWithoutMemory file calls
+
+-- the same of the first of several files that was not written
+pub record AreNotWritten (writes : List Written) (calls : List Call) (error : WriteErr) : Type 0 where
+  pub front : List Written
+  pub failed : Written
+  pub others : List Written
+  pub in_order : writes ≡ front ++ failed ∷ others
+  pub last : List Call
+  pub calls_are : calls ≡ writes_of front ++ last
+  pub unwritten : IsNotWritten failed last error

@@ -7,3 +7,5 @@ pub mod Finishing
 pub mod Refused
 pub mod Finish
 pub mod RefusedCalls
+pub mod Called
+pub mod Reads

@@ -1,4 +1,4 @@
--- For the contracts of commands: why a command makes nothing.
+-- Refusals by the faults of files; and, for lemmas, why a command makes nothing over files that are told.
 use Rattle.std.specs.Prelude.{◌≡◌, ℕ, ◌⊎◌, Bool, IsTrue, List, Option, Vec}
 use Rattle.std.specs.Option.{option_map}
 use Rattle.std.specs.declared.alloc.Global.{Global}

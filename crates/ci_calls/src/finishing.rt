@@ -1,7 +1,10 @@
 //! From a success to the end of the call: the writes of its files, and the put of its text.
-ghost use Rattle.std.specs.Prelude.{◌≡◌, ◌≤◌, [], ◌∷◌, OnOk, IfErr};
+ghost use Rattle.std.specs.Prelude.{◌≡◌, ◌≤◌, [], ◌∷◌, List, OnOk, IfErr};
+ghost use Rattle.ci_io.specs.CallLists.{Call};
+ghost use Rattle.ci_io.specs.MadeCalls.{AreMade, ArePut};
+ghost use Rattle.ci_calls.specs.Called.{FinishesBy, PutsText, writes_of};
 ghost use Rattle.ci_calls.specs.Finishing.{AreWritten, Finishes, changed};
-ghost use Rattle.ci_calls.specs.Finish.{AreUnwritten, IsUnwrittenFile, IsTextPut};
+ghost use Rattle.ci_calls.specs.Finish.{AreNotWritten, AreUnwritten, IsNotWritten, IsUnwrittenFile, IsTextPut};
 
 use crate::refusals::{Refusal, put_fault, refuse_memory, refuse_put};
 use crate::success::{Success, Written};
@@ -49,6 +52,9 @@ pub fn finish<F: Shelf, O: Sink>(
         (F.state shelf.old) (F.state shelf.new) (O.state out.old) (O.state out.new))
         success.now result }
     ensures no_read { (F.state shelf.new).read_faults ≡ (F.state shelf.old).read_faults }
+    ensures called { (calls : List Call) × (puts : List Call)
+        × AreMade F.read_may_fail F.write_may_fail (F.state shelf.old) (F.state shelf.new) calls
+        × ArePut (O.state out.old) (O.state out.new) puts × FinishesBy success.now calls puts result }
 {
     match write_files(alloc, success.writes.as_slice(), shelf) {
         Ok(()) => put_success(success.text.as_slice(), out),
@@ -69,6 +75,11 @@ fn write_files<'a, F: Shelf>(
     ensures unwritten { IfErr result
         (AreUnwritten F.write_may_fail writes.now (F.state shelf.old) (F.state shelf.new)) }
     ensures no_read { (F.state shelf.new).read_faults ≡ (F.state shelf.old).read_faults }
+    ensures called { OnOk result (AreMade F.read_may_fail F.write_may_fail (F.state shelf.old) (F.state shelf.new)
+        (writes_of writes.now)) }
+    ensures not_all { IfErr result (λ error. (calls : List Call)
+        × AreMade F.read_may_fail F.write_may_fail (F.state shelf.old) (F.state shelf.new) calls
+        × AreNotWritten writes.now calls error) }
 {
     for file in writes {
         write_file(alloc, file, shelf)?;
@@ -87,6 +98,11 @@ fn write_file<'a, F: Shelf>(
         (IsUnwrittenFile F.write_may_fail file.now (F.state shelf.old) (F.state shelf.new)) }
     ensures no_read { (F.state shelf.new).read_faults ≡ (F.state shelf.old).read_faults }
     ensures never_falls { (F.state shelf.old).write_faults ≤ (F.state shelf.new).write_faults }
+    ensures called { OnOk result (AreMade F.read_may_fail F.write_may_fail (F.state shelf.old) (F.state shelf.new)
+        (writes_of (file.now ∷ []))) }
+    ensures not_written { IfErr result (λ error. (calls : List Call)
+        × AreMade F.read_may_fail F.write_may_fail (F.state shelf.old) (F.state shelf.new) calls
+        × IsNotWritten file.now calls error) }
 {
     let refusal = Refusal::Write(file.name);
     let line = refusal.line(alloc)?;
@@ -102,7 +118,9 @@ fn write_file<'a, F: Shelf>(
 
 /// Puts the text of success, unless it is empty, and answers the status.
 fn put_success<O: Sink>(text: &[u8], out: &mut O) -> u8
-    ensures { IsTextPut text.now (O.state out.old) (O.state out.new) result }
+    ensures text_put { IsTextPut text.now (O.state out.old) (O.state out.new) result }
+    ensures called { (puts : List Call)
+        × ArePut (O.state out.old) (O.state out.new) puts × PutsText text.now puts result }
 {
     if text.is_empty() {
         return SUCCESS;

@@ -1,5 +1,5 @@
 //! The files that a command reads.
-ghost use Rattle.std.specs.Prelude.{◌≡◌, ◌≤◌, ◌∷◌, ◌++◌, ℕ, List, Option, IfOk, IfErr, length};
+ghost use Rattle.std.specs.Prelude.{◌≡◌, ◌≤◌, [], ◌∷◌, ◌++◌, ℕ, List, Option, Ok, IfOk, IfErr, length};
 ghost use Rattle.ci_elf.specs.Executables.{IsImageOf};
 ghost use Rattle.ci_lat.specs.Faults.{AreTable};
 ghost use Rattle.ci_vread.specs.Spelling.{Spell};
@@ -7,9 +7,12 @@ ghost use Rattle.ci_log.specs.Books.{Spells};
 ghost use Rattle.ci_calls.specs.Files.{book_input, executable_input, new_file_input, program_input, table_input};
 ghost use Rattle.ci_calls.specs.Files.{units_input};
 ghost use Rattle.ci_calls.specs.Files.{optional_input, optional_bytes, AreGiven, AreLatencies, AreModules, input_bytes};
-ghost use Rattle.ci_calls.specs.Refused.{name_in, modules_in, AreUnread};
+ghost use Rattle.ci_io.specs.CallLists.{read as made_read};
+ghost use Rattle.ci_io.specs.MadeCalls.{AreMade};
+ghost use Rattle.ci_calls.specs.Refused.{name_in, modules_in};
 ghost use Rattle.ci_calls.specs.Forms.{Form};
-ghost use Rattle.ci_calls.specs.Inputs.{Input, MayHold, IsGood, AreRead};
+ghost use Rattle.ci_calls.specs.Inputs.{Input};
+ghost use Rattle.ci_calls.specs.Reads.{HaveRead, HaveNotRead};
 
 use crate::refusals::Refusal;
 use ci_elf::Image;
@@ -46,15 +49,13 @@ pub fn read_file<'a, F: Shelf>(
     limit: u64,
     shelf: &mut F,
 ) -> Result<Vec<u8>, Refusal<'a>>
-    ensures there { IfOk result (λ bytes. MayHold (F.state shelf.old).files name.now bytes.items) }
+    ensures read { IfOk result (λ bytes. AreMade F.read_may_fail F.write_may_fail
+        (F.state shelf.old) (F.state shelf.new) (made_read name.now limit (Ok bytes.items) ∷ [])) }
     ensures within_limit { IfOk result (λ bytes. length bytes.items ≤ limit) }
     // Whatever form the file has, and whatever files come after it.
-    ensures refused { IfErr result (λ refusal. (form : Form) (others : List Input) → AreUnread F.read_may_fail
-        (F.state shelf.old) (F.state shelf.new)
+    ensures refused { IfErr result (λ refusal. (form : Form) (others : List Input)
+        → HaveNotRead F.read_may_fail F.write_may_fail (F.state shelf.old) (F.state shelf.new)
         (record { name = name.now; limit = limit; form = form } ∷ others) refusal) }
-    ensures never_falls { (F.state shelf.old).read_faults ≤ (F.state shelf.new).read_faults }
-    ensures files_stay { (F.state shelf.new).files ≡ (F.state shelf.old).files }
-    ensures no_write { (F.state shelf.new).write_faults ≡ (F.state shelf.old).write_faults }
 {
     match shelf.read(alloc, name, limit) {
         Ok(bytes) => Ok(bytes),
@@ -77,12 +78,10 @@ pub fn read_image<'a, F: Shelf>(
     shelf: &mut F,
 ) -> Result<Image, Refusal<'a>>
     ensures read { IfOk result (λ image. (bytes : List ℕ)
-        × IsGood (F.state shelf.old).files (executable_input name.now) bytes × IsImageOf bytes image) }
-    ensures refused { IfErr result (λ refusal. (others : List Input) → AreUnread F.read_may_fail
+        × HaveRead F.read_may_fail F.write_may_fail (F.state shelf.old) (F.state shelf.new)
+        (executable_input name.now ∷ []) (bytes ∷ []) × IsImageOf bytes image) }
+    ensures refused { IfErr result (λ refusal. (others : List Input) → HaveNotRead F.read_may_fail F.write_may_fail
         (F.state shelf.old) (F.state shelf.new) (executable_input name.now ∷ others) refusal) }
-    ensures never_falls { (F.state shelf.old).read_faults ≤ (F.state shelf.new).read_faults }
-    ensures files_stay { (F.state shelf.new).files ≡ (F.state shelf.old).files }
-    ensures no_write { (F.state shelf.new).write_faults ≡ (F.state shelf.old).write_faults }
 {
     let bytes = read_file(alloc, name, EXECUTABLE_LIMIT, shelf)?;
     let image = ci_elf::read_vec(alloc, bytes)?;
@@ -100,12 +99,10 @@ fn read_table_file<'a, F: Shelf>(
     shelf: &mut F,
 ) -> Result<Table, Refusal<'a>>
     ensures read { IfOk result (λ table. (bytes : List ℕ)
-        × IsGood (F.state shelf.old).files (table_input name.now) bytes × AreTable bytes table) }
-    ensures refused { IfErr result (λ refusal. (others : List Input) → AreUnread F.read_may_fail
+        × HaveRead F.read_may_fail F.write_may_fail (F.state shelf.old) (F.state shelf.new)
+        (table_input name.now ∷ []) (bytes ∷ []) × AreTable bytes table) }
+    ensures refused { IfErr result (λ refusal. (others : List Input) → HaveNotRead F.read_may_fail F.write_may_fail
         (F.state shelf.old) (F.state shelf.new) (table_input name.now ∷ others) refusal) }
-    ensures never_falls { (F.state shelf.old).read_faults ≤ (F.state shelf.new).read_faults }
-    ensures files_stay { (F.state shelf.new).files ≡ (F.state shelf.old).files }
-    ensures no_write { (F.state shelf.new).write_faults ≡ (F.state shelf.old).write_faults }
 {
     let bytes = read_file(alloc, name, TABLE_LIMIT, shelf)?;
     let table = Table::from_toml(alloc, bytes.as_slice())?;
@@ -124,13 +121,11 @@ pub fn read_table<'a, F: Shelf>(
     shelf: &mut F,
 ) -> Result<Table, Refusal<'a>>
     ensures read { IfOk result (λ table. (bytes : Option (List ℕ)) × AreGiven (name_in name.entry) bytes
-        × AreRead (F.state shelf.old).files (optional_input table_input (name_in name.entry)) (optional_bytes bytes)
+        × HaveRead F.read_may_fail F.write_may_fail (F.state shelf.old) (F.state shelf.new)
+        (optional_input table_input (name_in name.entry)) (optional_bytes bytes)
         × AreLatencies bytes table) }
-    ensures refused { IfErr result (λ refusal. (others : List Input) → AreUnread F.read_may_fail
+    ensures refused { IfErr result (λ refusal. (others : List Input) → HaveNotRead F.read_may_fail F.write_may_fail
         (F.state shelf.old) (F.state shelf.new) (optional_input table_input (name_in name.entry) ++ others) refusal) }
-    ensures never_falls { (F.state shelf.old).read_faults ≤ (F.state shelf.new).read_faults }
-    ensures files_stay { (F.state shelf.new).files ≡ (F.state shelf.old).files }
-    ensures no_write { (F.state shelf.new).write_faults ≡ (F.state shelf.old).write_faults }
 {
     match name {
         Some(name) => read_table_file(alloc, name, shelf),
@@ -150,12 +145,10 @@ pub fn read_units<'a, F: Shelf>(
     shelf: &mut F,
 ) -> Result<Vec<Module>, Refusal<'a>>
     ensures read { IfOk result (λ modules. (bytes : List ℕ)
-        × IsGood (F.state shelf.old).files (units_input name.now) bytes × Spell bytes modules.items) }
-    ensures refused { IfErr result (λ refusal. (others : List Input) → AreUnread F.read_may_fail
+        × HaveRead F.read_may_fail F.write_may_fail (F.state shelf.old) (F.state shelf.new)
+        (units_input name.now ∷ []) (bytes ∷ []) × Spell bytes modules.items) }
+    ensures refused { IfErr result (λ refusal. (others : List Input) → HaveNotRead F.read_may_fail F.write_may_fail
         (F.state shelf.old) (F.state shelf.new) (units_input name.now ∷ others) refusal) }
-    ensures never_falls { (F.state shelf.old).read_faults ≤ (F.state shelf.new).read_faults }
-    ensures files_stay { (F.state shelf.new).files ≡ (F.state shelf.old).files }
-    ensures no_write { (F.state shelf.new).write_faults ≡ (F.state shelf.old).write_faults }
 {
     let bytes = read_file(alloc, name, UNITS_LIMIT, shelf)?;
     let modules = ci_vread::read(alloc, bytes.as_slice())?;
@@ -173,13 +166,11 @@ pub fn read_optional_units<'a, F: Shelf>(
     shelf: &mut F,
 ) -> Result<Option<Vec<Module>>, Refusal<'a>>
     ensures read { IfOk result (λ modules. (bytes : Option (List ℕ)) × AreGiven (name_in name.entry) bytes
-        × AreRead (F.state shelf.old).files (optional_input units_input (name_in name.entry)) (optional_bytes bytes)
+        × HaveRead F.read_may_fail F.write_may_fail (F.state shelf.old) (F.state shelf.new)
+        (optional_input units_input (name_in name.entry)) (optional_bytes bytes)
         × AreModules bytes (modules_in modules)) }
-    ensures refused { IfErr result (λ refusal. (others : List Input) → AreUnread F.read_may_fail
+    ensures refused { IfErr result (λ refusal. (others : List Input) → HaveNotRead F.read_may_fail F.write_may_fail
         (F.state shelf.old) (F.state shelf.new) (optional_input units_input (name_in name.entry) ++ others) refusal) }
-    ensures never_falls { (F.state shelf.old).read_faults ≤ (F.state shelf.new).read_faults }
-    ensures files_stay { (F.state shelf.new).files ≡ (F.state shelf.old).files }
-    ensures no_write { (F.state shelf.new).write_faults ≡ (F.state shelf.old).write_faults }
 {
     match name {
         Some(name) => Ok(Some(read_units(alloc, name, shelf)?)),
@@ -199,12 +190,10 @@ pub fn read_book<'a, F: Shelf>(
     shelf: &mut F,
 ) -> Result<LogBook, Refusal<'a>>
     ensures read { IfOk result (λ book. (bytes : List ℕ)
-        × IsGood (F.state shelf.old).files (book_input name.now) bytes × Spells bytes book) }
-    ensures refused { IfErr result (λ refusal. (others : List Input) → AreUnread F.read_may_fail
+        × HaveRead F.read_may_fail F.write_may_fail (F.state shelf.old) (F.state shelf.new)
+        (book_input name.now ∷ []) (bytes ∷ []) × Spells bytes book) }
+    ensures refused { IfErr result (λ refusal. (others : List Input) → HaveNotRead F.read_may_fail F.write_may_fail
         (F.state shelf.old) (F.state shelf.new) (book_input name.now ∷ others) refusal) }
-    ensures never_falls { (F.state shelf.old).read_faults ≤ (F.state shelf.new).read_faults }
-    ensures files_stay { (F.state shelf.new).files ≡ (F.state shelf.old).files }
-    ensures no_write { (F.state shelf.new).write_faults ≡ (F.state shelf.old).write_faults }
 {
     let bytes = read_file(alloc, name, BOOK_LIMIT, shelf)?;
     let book = ci_log::read(alloc, bytes.as_slice())?;
@@ -222,12 +211,10 @@ pub fn read_new_file<'a, F: Shelf>(
     name: &'a str,
     shelf: &mut F,
 ) -> Result<Vec<u8>, Refusal<'a>>
-    ensures read { IfOk result (λ bytes. IsGood (F.state shelf.old).files (new_file_input name.now) bytes.items) }
-    ensures refused { IfErr result (λ refusal. (others : List Input) → AreUnread F.read_may_fail
+    ensures read { IfOk result (λ bytes. HaveRead F.read_may_fail F.write_may_fail
+        (F.state shelf.old) (F.state shelf.new) (new_file_input name.now ∷ []) (bytes.items ∷ [])) }
+    ensures refused { IfErr result (λ refusal. (others : List Input) → HaveNotRead F.read_may_fail F.write_may_fail
         (F.state shelf.old) (F.state shelf.new) (new_file_input name.now ∷ others) refusal) }
-    ensures never_falls { (F.state shelf.old).read_faults ≤ (F.state shelf.new).read_faults }
-    ensures files_stay { (F.state shelf.new).files ≡ (F.state shelf.old).files }
-    ensures no_write { (F.state shelf.new).write_faults ≡ (F.state shelf.old).write_faults }
 {
     read_file(alloc, name, EXECUTABLE_LIMIT, shelf)
 }
@@ -244,13 +231,11 @@ pub fn read_input<'a, F: Shelf>(
     shelf: &mut F,
 ) -> Result<Vec<u8>, Refusal<'a>>
     ensures read { IfOk result (λ input. (bytes : Option (List ℕ)) × AreGiven (name_in name.entry) bytes
-        × AreRead (F.state shelf.old).files (optional_input program_input (name_in name.entry)) (optional_bytes bytes)
+        × HaveRead F.read_may_fail F.write_may_fail (F.state shelf.old) (F.state shelf.new)
+        (optional_input program_input (name_in name.entry)) (optional_bytes bytes)
         × (input.items ≡ input_bytes bytes)) }
-    ensures refused { IfErr result (λ refusal. (others : List Input) → AreUnread F.read_may_fail
+    ensures refused { IfErr result (λ refusal. (others : List Input) → HaveNotRead F.read_may_fail F.write_may_fail
         (F.state shelf.old) (F.state shelf.new) (optional_input program_input (name_in name.entry) ++ others) refusal) }
-    ensures never_falls { (F.state shelf.old).read_faults ≤ (F.state shelf.new).read_faults }
-    ensures files_stay { (F.state shelf.new).files ≡ (F.state shelf.old).files }
-    ensures no_write { (F.state shelf.new).write_faults ≡ (F.state shelf.old).write_faults }
 {
     match name {
         Some(name) => read_file(alloc, name, INPUT_LIMIT, shelf),

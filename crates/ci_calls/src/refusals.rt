@@ -1,6 +1,10 @@
 //! Why a call of the program is refused, and the fault lines that say it.
 ghost use Rattle.std.specs.Prelude.{◌≡◌, ◌++◌, IfOk, OnOk};
 ghost use Rattle.std.specs.String.{string_bytes};
+ghost use Rattle.std.specs.Prelude.{List};
+ghost use Rattle.ci_io.specs.CallLists.{Call};
+ghost use Rattle.ci_io.specs.MadeCalls.{ArePut};
+ghost use Rattle.ci_calls.specs.Called.{IsLinePut, IsBytesPut, PutsRefusal};
 ghost use Rattle.ci_calls.specs.Finishing.{IsPut};
 ghost use Rattle.ci_calls.specs.RefusedCalls.{IsRefused};
 ghost use Rattle.ci_calls.specs.Refusals.{elf_fault_numbers, elf_text, line_of, log_fault_numbers, log_text};
@@ -359,7 +363,9 @@ fn pair_text(alloc: Global, word: &str, first: u8, second: u32) -> Result<String
 /// Where memory runs out for the line, that is the refusal, with its own line and status 12. Where the sink fails to
 /// take the line, or all of it, the status is the same.
 pub fn refuse<O: Sink>(alloc: Global, refusal: &Refusal<'_>, out: &mut O) -> u8
-    ensures { IsRefused refusal.now result (O.state out.old) (O.state out.new) }
+    ensures ended { IsRefused refusal.now result (O.state out.old) (O.state out.new) }
+    ensures called { (puts : List Call)
+        × ArePut (O.state out.old) (O.state out.new) puts × PutsRefusal refusal.now puts result }
 {
     match refusal.line(alloc) {
         Ok(line) => put_fault(refusal, line.as_str(), out),
@@ -371,6 +377,8 @@ pub fn refuse<O: Sink>(alloc: Global, refusal: &Refusal<'_>, out: &mut O) -> u8
 pub(crate) fn refuse_put<O: Sink>(out: &mut O) -> u8
     ensures status { result ≡ status_of Refusal.Put }
     ensures put { IsPut (O.state out.old) (O.state out.new) (line_of Refusal.Put) }
+    ensures called { (puts : List Call)
+        × ArePut (O.state out.old) (O.state out.new) puts × IsLinePut Refusal.Put puts }
 {
     put_fault(&Refusal::Put, "fault 3 write -\n", out)
 }
@@ -379,6 +387,8 @@ pub(crate) fn refuse_put<O: Sink>(out: &mut O) -> u8
 pub(crate) fn refuse_memory<O: Sink>(out: &mut O) -> u8
     ensures status { result ≡ status_of Refusal.NoMemory }
     ensures put { IsPut (O.state out.old) (O.state out.new) (line_of Refusal.NoMemory) }
+    ensures called { (puts : List Call)
+        × ArePut (O.state out.old) (O.state out.new) puts × IsLinePut Refusal.NoMemory puts }
 {
     put_fault(&Refusal::NoMemory, "fault 12 no memory\n", out)
 }
@@ -387,6 +397,8 @@ pub(crate) fn refuse_memory<O: Sink>(out: &mut O) -> u8
 pub(crate) fn put_fault<O: Sink>(refusal: &Refusal<'_>, line: &str, out: &mut O) -> u8
     ensures status { result ≡ status_of refusal.now }
     ensures put { IsPut (O.state out.old) (O.state out.new) line.now }
+    ensures called { (puts : List Call)
+        × ArePut (O.state out.old) (O.state out.new) puts × IsBytesPut line.now puts }
 {
     let _ = out.put(line.as_bytes());
     refusal.status()

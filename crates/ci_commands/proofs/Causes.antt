@@ -1,15 +1,19 @@
 -- Why there is no answer on a file.
-use Rattle.std.proofs.Common.{◌≡◌, ℕ, ◌≤◌, inl, inr, Bool, List, length, refl, sym, ◌∙◌}
+use Rattle.std.proofs.Common.{◌≡◌, ℕ, ◌≤◌, inl, inr, Bool, List, [], ◌∷◌, length, Ok, refl, sym, ◌∙◌}
+use Rattle.ci_io.specs.CallLists.{read}
+use Rattle.ci_io.specs.MadeCalls.{AreMade}
 use Rattle.ci_io.specs.Outcomes.{ShelfState}
 use Rattle.ci_asm.specs.declared.faults.AsmFault.{AsmFault}
 use Rattle.ci_asm.specs.declared.faults.AsmFault.TheVariants as assembly
 use Rattle.ci_calls.specs.declared.refusals.Refusal.{Refusal}
 use Rattle.ci_calls.specs.declared.refusals.Refusal.TheVariants.{Unsupported, NoMemory}
 use Rattle.ci_calls.specs.Evaluations.{IsUnsupported}
-use Rattle.ci_calls.specs.Inputs.{Input, MayHold, AreRead, malformed}
-use Rattle.ci_calls.specs.Refused.{IsRefusedBy, AreUnread, asm_refusal}
+use Rattle.ci_calls.specs.Inputs.{Input}
+use Rattle.ci_calls.specs.Reads.{HaveRead, HaveNotRead, IsRefusalOf}
+use Rattle.ci_calls.specs.Refused.{asm_refusal}
 use Rattle.ci_calls.specs.Refusals.{status_of}
-use Rattle.ci_commands.specs.AsmCommand.{asm_inputs}
+use Rattle.ci_calls.proofs.InputLaws.{first_unread, read_without_memory}
+use Rattle.ci_commands.specs.AsmCommand.{asm_inputs, text_input}
 use Rattle.ci_commands.specs.Causes.{IsCause, IsTextFault}
 
 -- what follows from a cause is a cause
@@ -21,13 +25,16 @@ IsCause-weaker P Q follows refusal is = absurd is
 
 -- of files that are all read a command refuses what has such a cause
 module _
-    (may_fail : List ℕ → Bool) (before after : ShelfState) (inputs : List Input) (read : List (List ℕ))
-    (files : AreRead before.files inputs read) (IsRefused : List (List ℕ) → Refusal → Type 0) (P : ℕ → ℕ → Type 0)
-    (refused : (refusal : Refusal) → IsUnsupported P refusal → IsRefused read refusal) where
-  pub refused_by : (refusal : Refusal) → IsCause P refusal → IsRefusedBy may_fail before after inputs IsRefused refusal
+    (read_may_fail write_may_fail : List ℕ → Bool) (before after : ShelfState) (inputs : List Input)
+    (answered : List (List ℕ)) (have_read : HaveRead read_may_fail write_may_fail before after inputs answered)
+    (Refuses : List (List ℕ) → Refusal → Type 0) (P : ℕ → ℕ → Type 0)
+    (refuses : (refusal : Refusal) → IsUnsupported P refusal → Refuses answered refusal) where
+  pub refused_by : (refusal : Refusal) → IsCause P refusal
+      → IsRefusalOf read_may_fail write_may_fail before after inputs Refuses refusal
   refused_by (Unsupported position word) is =
-      inr (record { read = read; files = files; refused = refused (Unsupported position word) is })
-  refused_by NoMemory is = inl (inr (inr refl))
+      inr (record { answered = answered; read = have_read; refused = refuses (Unsupported position word) is })
+  refused_by NoMemory is =
+      inl (read_without_memory read_may_fail write_may_fail before after inputs answered have_read)
   refused_by refusal is = absurd is
 
 -- files that the command doesn't take have one status
@@ -39,11 +46,16 @@ pub unsupported_once : (P Q : ℕ → ℕ → Type 0) (first second : Refusal) �
     → status_of first ≡ status_of second
 unsupported_once P Q first second a b = unsupported_status P first a ∙ sym (unsupported_status Q second b)
 
--- a file that holds no assembler text is not read
+-- a file that holds no assembler text is refused
 module _
-    (may_fail : List ℕ → Bool) (before after : ShelfState) (name bytes : List ℕ) (there : MayHold before.files name bytes)
+    (read_may_fail write_may_fail : List ℕ → Bool) (before after : ShelfState) (name bytes : List ℕ)
+    (made : AreMade read_may_fail write_may_fail before after (read name 1048576 (Ok bytes) ∷ []))
     (within : length bytes ≤ 1048576) where
   pub unread_text : (fault : AsmFault) → IsTextFault bytes fault
-      → AreUnread may_fail before after (asm_inputs name) (asm_refusal fault)
-  unread_text (assembly.Bad kind line column) is = inl (inl (malformed bytes there within is))
-  unread_text assembly.NoMemory is = inr (inr refl)
+      → HaveNotRead read_may_fail write_may_fail before after (asm_inputs name) (asm_refusal fault)
+  unread_text (assembly.Bad kind line column) is =
+      first_unread read_may_fail write_may_fail before after [] (text_input name) (Ok bytes)
+      (asm_refusal (assembly.Bad kind line column)) (within, inl is) made
+  unread_text assembly.NoMemory is =
+      first_unread read_may_fail write_may_fail before after [] (text_input name) (Ok bytes) NoMemory (within, inr refl)
+      made

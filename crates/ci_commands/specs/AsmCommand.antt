@@ -6,9 +6,12 @@ use Rattle.ci_calls.specs.declared.success.Written.{Written}
 use Rattle.ci_calls.specs.Forms.{assembler_text, IsText}
 use Rattle.ci_calls.specs.Inputs.{Input}
 
--- the text
+-- the file with the text
+abbrev pub text_input : List ℕ → Input
+text_input name = record { name = name; limit = 1048576; form = assembler_text }
+
 abbrev pub asm_inputs : List ℕ → List Input
-asm_inputs text = record { name = text; limit = 1048576; form = assembler_text } ∷ []
+asm_inputs text = text_input text ∷ []
 
 -- it writes the words that the text assembles to, and puts nothing
 pub record IsAsmMade (out : List ℕ) (read : List (List ℕ)) (success : Success) : Type 0 where

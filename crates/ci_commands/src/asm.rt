@@ -1,9 +1,9 @@
 //! The command `asm`: the words of an assembler text.
 ghost use Rattle.std.specs.Prelude.{◌≡◌, ℕ, List, ◌≤◌, length, IfOk, IfErr};
 ghost use Rattle.ci_reading.specs.Bytes.{bytes_of_words};
-ghost use Rattle.ci_calls.specs.Evaluations.{Evaluates, RefusesNothing};
-ghost use Rattle.ci_calls.specs.Refused.{IsRefusedBy};
+ghost use Rattle.ci_calls.specs.Evaluations.{RefusesNothing};
 ghost use Rattle.ci_calls.specs.Forms.{IsText};
+ghost use Rattle.ci_calls.specs.Reads.{IsSuccessOf, IsRefusalOf};
 ghost use Rattle.ci_commands.specs.AsmCommand.{asm_inputs, IsAsmMade};
 ghost use Rattle.ci_commands.specs.Causes.{IsTextFault};
 
@@ -29,12 +29,10 @@ pub fn evaluate<'a, F: Shelf>(
     out: &'a str,
     shelf: &mut F,
 ) -> Result<Success<'a>, Refusal<'a>>
-    ensures made { IfOk result
-        (Evaluates (F.state shelf.old).files (asm_inputs text.now) (IsAsmMade out.now)) }
-    ensures refused { IfErr result (IsRefusedBy F.read_may_fail
-        (F.state shelf.old) (F.state shelf.new) (asm_inputs text.now) RefusesNothing) }
-    ensures files_stay { (F.state shelf.new).files ≡ (F.state shelf.old).files }
-    ensures no_write { (F.state shelf.new).write_faults ≡ (F.state shelf.old).write_faults }
+    ensures made { IfOk result (IsSuccessOf F.read_may_fail F.write_may_fail (F.state shelf.old) (F.state shelf.new)
+        (asm_inputs text.now) (IsAsmMade out.now)) }
+    ensures refused { IfErr result (IsRefusalOf F.read_may_fail F.write_may_fail (F.state shelf.old) (F.state shelf.new)
+        (asm_inputs text.now) RefusesNothing) }
 {
     let read = read_file(alloc, text, TEXT_LIMIT, shelf)?;
     let bytes = assembled(alloc, read.as_slice())?;

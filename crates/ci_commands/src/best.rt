@@ -1,12 +1,12 @@
 //! The command `best`: the best cut of a block.
-ghost use Rattle.std.specs.Prelude.{◌≡◌, ℕ, List, Option, ◌≤◌, IfOk, IfErr, length};
+ghost use Rattle.std.specs.Prelude.{ℕ, List, Option, ◌≤◌, IfOk, IfErr, length};
 ghost use Rattle.std.specs.FinSet as set;
 ghost use Rattle.std.specs.Ordering.{nat_cmp};
 ghost use Rattle.std.specs.String.{string_bytes};
 ghost use Rattle.ci_dfg.specs.BlockGraph.{graph_of};
 ghost use Rattle.ci_isa.specs.declared.instruction.Insn.{Insn as Instruction};
-ghost use Rattle.ci_calls.specs.Evaluations.{Evaluates};
-ghost use Rattle.ci_calls.specs.Refused.{name_in, IsRefusedBy};
+ghost use Rattle.ci_calls.specs.Reads.{IsSuccessOf, IsRefusalOf};
+ghost use Rattle.ci_calls.specs.Refused.{name_in};
 ghost use Rattle.ci_commands.specs.BestCommand.{best_inputs, IsBestMade, IsBestRefused, HoldsBlock, HoldsNoBlock};
 ghost use Rattle.ci_commands.specs.BlockFiles.{IsFileOf, IsWithinLimit};
 ghost use Rattle.ci_commands.specs.Causes.{IsCause};
@@ -75,15 +75,13 @@ pub fn evaluate<'a, F: Shelf>(
     shelf: &mut F,
 ) -> Result<Success<'a>, Refusal<'a>>
     requires { settings.now.budget ≤ 4194304 }
-    ensures made { IfOk result (Evaluates (F.state shelf.old).files
+    ensures made { IfOk result (IsSuccessOf F.read_may_fail F.write_may_fail (F.state shelf.old) (F.state shelf.new)
         (best_inputs settings.now.at file.now (name_in settings.now.table))
         (IsBestMade settings.now.at settings.now.leaders.now
         settings.now.limits settings.now.budget (name_in settings.now.table))) }
-    ensures refused { IfErr result (IsRefusedBy F.read_may_fail (F.state shelf.old) (F.state shelf.new)
+    ensures refused { IfErr result (IsRefusalOf F.read_may_fail F.write_may_fail (F.state shelf.old) (F.state shelf.new)
         (best_inputs settings.now.at file.now (name_in settings.now.table))
         (IsBestRefused settings.now.at settings.now.leaders.now)) }
-    ensures files_stay { (F.state shelf.new).files ≡ (F.state shelf.old).files }
-    ensures no_write { (F.state shelf.new).write_faults ≡ (F.state shelf.old).write_faults }
 {
     let block = read_block_file(alloc, file, settings.at, shelf)?;
     let table = read_table(alloc, settings.table, shelf)?;

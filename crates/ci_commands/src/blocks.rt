@@ -4,8 +4,7 @@ ghost use Rattle.std.specs.List.{flat_map, Contains};
 ghost use Rattle.std.specs.String.{string_bytes};
 ghost use Rattle.ci_block.specs.declared.blocks.Block.{Block as BasicBlock};
 ghost use Rattle.ci_block.specs.CustomWords.{IsFirstCustomWord};
-ghost use Rattle.ci_calls.specs.Evaluations.{Evaluates};
-ghost use Rattle.ci_calls.specs.Refused.{IsRefusedBy};
+ghost use Rattle.ci_calls.specs.Reads.{IsSuccessOf, IsRefusalOf};
 ghost use Rattle.ci_commands.specs.BlocksCommand.{blocks_inputs, IsBlocksMade, IsBlocksRefused, IsBlocksText};
 ghost use Rattle.ci_commands.specs.BlocksCommand.{block_line};
 ghost use Rattle.ci_commands.specs.Causes.{IsCause};
@@ -33,12 +32,10 @@ pub fn evaluate<'a, F: Shelf>(
     named: &[u32],
     shelf: &mut F,
 ) -> Result<Success<'a>, Refusal<'a>>
-    ensures made { IfOk result
-        (Evaluates (F.state shelf.old).files (blocks_inputs file.now) (IsBlocksMade named.now)) }
-    ensures refused { IfErr result (IsRefusedBy F.read_may_fail
-        (F.state shelf.old) (F.state shelf.new) (blocks_inputs file.now) IsBlocksRefused) }
-    ensures files_stay { (F.state shelf.new).files ≡ (F.state shelf.old).files }
-    ensures no_write { (F.state shelf.new).write_faults ≡ (F.state shelf.old).write_faults }
+    ensures made { IfOk result (IsSuccessOf F.read_may_fail F.write_may_fail (F.state shelf.old) (F.state shelf.new)
+        (blocks_inputs file.now) (IsBlocksMade named.now)) }
+    ensures refused { IfErr result (IsRefusalOf F.read_may_fail F.write_may_fail (F.state shelf.old) (F.state shelf.new)
+        (blocks_inputs file.now) IsBlocksRefused) }
 {
     let image = read_image(alloc, file, shelf)?;
     let text = block_lines(alloc, &image, named)?;

@@ -2,8 +2,8 @@
 ghost use Rattle.std.specs.Prelude.{◌≡◌, ℕ, List, ◌++◌, IfOk, IfErr, OnOk};
 ghost use Rattle.std.specs.String.{string_bytes};
 ghost use Rattle.ci_reading.specs.Bytes.{words_of_bytes};
-ghost use Rattle.ci_calls.specs.Evaluations.{Evaluates, RefusesNothing};
-ghost use Rattle.ci_calls.specs.Refused.{IsRefusedBy};
+ghost use Rattle.ci_calls.specs.Evaluations.{RefusesNothing};
+ghost use Rattle.ci_calls.specs.Reads.{IsSuccessOf, IsRefusalOf};
 ghost use Rattle.ci_commands.specs.DisCommand.{dis_inputs, IsDisMade, IsTextOf, IsListing, listed};
 
 use ci_asm::show;
@@ -27,11 +27,10 @@ pub fn evaluate<'a, F: Shelf>(
     file: &'a str,
     shelf: &mut F,
 ) -> Result<Success<'a>, Refusal<'a>>
-    ensures made { IfOk result (Evaluates (F.state shelf.old).files (dis_inputs file.now) IsDisMade) }
-    ensures refused { IfErr result (IsRefusedBy F.read_may_fail
-        (F.state shelf.old) (F.state shelf.new) (dis_inputs file.now) RefusesNothing) }
-    ensures files_stay { (F.state shelf.new).files ≡ (F.state shelf.old).files }
-    ensures no_write { (F.state shelf.new).write_faults ≡ (F.state shelf.old).write_faults }
+    ensures made { IfOk result (IsSuccessOf F.read_may_fail F.write_may_fail (F.state shelf.old) (F.state shelf.new)
+        (dis_inputs file.now) IsDisMade) }
+    ensures refused { IfErr result (IsRefusalOf F.read_may_fail F.write_may_fail (F.state shelf.old) (F.state shelf.new)
+        (dis_inputs file.now) RefusesNothing) }
 {
     let bytes = read_file(alloc, file, WORDS_LIMIT, shelf)?;
     let text = listing(alloc, bytes.as_slice())?;

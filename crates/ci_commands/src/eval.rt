@@ -1,8 +1,7 @@
 //! The command `eval`: what a module of a text computes.
-ghost use Rattle.std.specs.Prelude.{◌≡◌, [], ◌∷◌, ◌<◌, IfOk, IfErr};
+ghost use Rattle.std.specs.Prelude.{◌≡◌, [], ◌∷◌, IfOk, IfErr};
 ghost use Rattle.std.specs.String.{string_bytes};
-ghost use Rattle.ci_calls.specs.Evaluations.{Evaluates};
-ghost use Rattle.ci_calls.specs.Refused.{IsRefusedBy};
+ghost use Rattle.ci_calls.specs.Reads.{IsSuccessOf, IsRefusalOf};
 ghost use Rattle.ci_commands.specs.EvalCommand.{eval_inputs, IsEvalMade, IsEvalRefused, results_line};
 
 use ci_calls::{Refusal, Success, read_units};
@@ -25,13 +24,10 @@ pub fn evaluate<'a, F: Shelf>(
     arguments: (u32, u32, u32),
     shelf: &mut F,
 ) -> Result<Success<'a>, Refusal<'a>>
-    ensures made { IfOk result
-        (Evaluates (F.state shelf.old).files (eval_inputs file.now)
-        (IsEvalMade number (arguments.0 ∷ arguments.1 ∷ arguments.2 ∷ []))) }
-    ensures refused { IfErr result (IsRefusedBy F.read_may_fail
-        (F.state shelf.old) (F.state shelf.new) (eval_inputs file.now) (IsEvalRefused number)) }
-    ensures files_stay { (F.state shelf.new).files ≡ (F.state shelf.old).files }
-    ensures no_write { (F.state shelf.new).write_faults ≡ (F.state shelf.old).write_faults }
+    ensures made { IfOk result (IsSuccessOf F.read_may_fail F.write_may_fail (F.state shelf.old) (F.state shelf.new)
+        (eval_inputs file.now) (IsEvalMade number (arguments.0 ∷ arguments.1 ∷ arguments.2 ∷ []))) }
+    ensures refused { IfErr result (IsRefusalOf F.read_may_fail F.write_may_fail (F.state shelf.old) (F.state shelf.new)
+        (eval_inputs file.now) (IsEvalRefused number)) }
 {
     let modules = read_units(alloc, file, shelf)?;
     let Some(chosen) = modules.get(number as usize) else {

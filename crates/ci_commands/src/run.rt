@@ -6,8 +6,9 @@ ghost use Rattle.ci_machine.specs.States.{program_of, state_of};
 ghost use Rattle.ci_machine.specs.Steps.{Meaning};
 ghost use Rattle.ci_emu.specs.Profiles.{IsProfileOf};
 ghost use Rattle.ci_verilog.specs.Modules.{IsModule};
-ghost use Rattle.ci_calls.specs.Evaluations.{Evaluates, RefusesNothing};
-ghost use Rattle.ci_calls.specs.Refused.{name_in, modules_in, IsRefusedBy};
+ghost use Rattle.ci_calls.specs.Evaluations.{RefusesNothing};
+ghost use Rattle.ci_calls.specs.Reads.{IsSuccessOf, IsRefusalOf};
+ghost use Rattle.ci_calls.specs.Refused.{name_in, modules_in};
 ghost use Rattle.ci_commands.specs.RunCommand.{end_line, run_inputs, IsRunMade, IsRunText};
 ghost use Rattle.ci_commands.specs.RunCommand.{IsMachine, latencies_by};
 
@@ -51,16 +52,13 @@ pub fn evaluate<'a, F: Shelf>(
     shelf: &mut F,
 ) -> Result<Success<'a>, Refusal<'a>>
     requires { settings.now.steps ≤ 4294967296 }
-    ensures made { IfOk result (Evaluates (F.state shelf.old).files
+    ensures made { IfOk result (IsSuccessOf F.read_may_fail F.write_may_fail (F.state shelf.old) (F.state shelf.new)
         (run_inputs file.now (name_in settings.now.units) (name_in settings.now.table) (name_in settings.now.input))
         (IsRunMade settings.now.steps (name_in settings.now.units) (name_in settings.now.table)
         (name_in settings.now.input))) }
-    ensures refused { IfErr result (IsRefusedBy F.read_may_fail
-        (F.state shelf.old) (F.state shelf.new)
+    ensures refused { IfErr result (IsRefusalOf F.read_may_fail F.write_may_fail (F.state shelf.old) (F.state shelf.new)
         (run_inputs file.now (name_in settings.now.units) (name_in settings.now.table) (name_in settings.now.input))
         RefusesNothing) }
-    ensures files_stay { (F.state shelf.new).files ≡ (F.state shelf.old).files }
-    ensures no_write { (F.state shelf.new).write_faults ≡ (F.state shelf.old).write_faults }
 {
     let image = read_image(alloc, file, shelf)?;
     let modules = read_optional_units(alloc, settings.units, shelf)?;

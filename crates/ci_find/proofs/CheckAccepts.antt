@@ -15,7 +15,8 @@ use Rattle.ci_calls.specs.Files.{book_input}
 use Rattle.ci_calls.specs.Finishing.{with_files}
 use Rattle.ci_calls.specs.Inputs.{Input, AreRead, IsFileRefusal}
 use Rattle.ci_find.specs.CheckCommand.{check_inputs, IsCheckRefused}
-use Rattle.ci_find.specs.Commands.{find_names, inputs_by, settings_of, IsPlanOf, MakesBy, RefusesBy}
+use Rattle.ci_find.specs.ChoiceReading.{find_names, settings_of, IsPlanOf}
+use Rattle.ci_find.specs.Commands.{inputs_by, MakesBy, RefusesBy}
 use Rattle.ci_find.specs.Endings.{IsDone, IsRefusal, usage, file, once_read}
 use Rattle.ci_find.specs.Laws.{AreSameChoice, CheckAcceptsChoices, HoldTheSame, IsOfLongBook}
 use Rattle.ci_find.proofs.CheckedFiles.{file_case, once_case}

@@ -1,7 +1,7 @@
 -- The settings of a choice, as words say them: the numbers are in their ranges, and there is one plan of the limits.
-use Rattle.std.proofs.Common.{ℕ, inl, inr, Bool, List, Option, Result, Ok, Err, IfOk, refl}
+use Rattle.std.proofs.Common.{ℕ, inl, inr, Bool, List, Result, Ok, Err, IfOk, refl}
 use Rattle.std.specs.Prelude.{IfErr}
-use Rattle.ci_io.specs.Outcomes.{Files, ShelfState}
+use Rattle.ci_io.specs.Outcomes.{ShelfState}
 use Rattle.ci_select.specs.declared.plan.Plan.{Plan}
 use Rattle.ci_words.specs.Ranges.{KeepsRanges}
 use Rattle.ci_words.specs.Tables.{commands}
@@ -10,11 +10,10 @@ use Rattle.ci_words.specs.declared.tables.CommandName.TheVariants.{Find, Check}
 use Rattle.ci_words.specs.declared.tables.OptionName.TheVariants as option
 use Rattle.ci_calls.specs.declared.refusals.Refusal.{Refusal}
 use Rattle.ci_calls.specs.declared.success.Success.{Success}
-use Rattle.ci_calls.specs.Evaluations.{Evaluates}
 use Rattle.ci_calls.specs.Inputs.{Input}
-use Rattle.ci_calls.specs.Refused.{IsRefusedBy}
+use Rattle.ci_calls.specs.Reads.{IsSuccessOf, IsRefusalOf}
 use Rattle.ci_find.specs.Chosen.{KeepsChoiceRanges}
-use Rattle.ci_find.specs.Commands.{IsPlanOf}
+use Rattle.ci_find.specs.ChoiceReading.{IsPlanOf}
 
 -- ---- ranges
 
@@ -42,31 +41,28 @@ check_ranges reading keeps = record {
 
 -- ---- the plan
 
-module _ (reading : Reading) (plan : Plan) (is_plan : IsPlanOf reading plan) (inputs : List Input)
-    (result : Result Success Refusal) where
+module _
+    (reading : Reading) (plan : Plan) (is_plan : IsPlanOf reading plan) (inputs : List Input)
+    (read_may_fail write_may_fail : List ℕ → Bool) (before after : ShelfState) where
+  abbrev IsMadeBy : (List (List ℕ) → Success → Type 0) → Success → Type 0
+  IsMadeBy = IsSuccessOf read_may_fail write_may_fail before after inputs
+
+  abbrev IsRefusedFor : (List (List ℕ) → Refusal → Type 0) → Refusal → Type 0
+  IsRefusedFor = IsRefusalOf read_may_fail write_may_fail before after inputs
+
   -- what is made by a plan of the reading
-  pub made_by : (told : Option Files) (Makes : Plan → List (List ℕ) → Success → Type 0)
-      → IfOk result (Evaluates told inputs (Makes plan))
-      → IfOk result (Evaluates told inputs (λ read success. (p : Plan) × IsPlanOf reading p × Makes p read success))
-  made_by told Makes made = by_result result made
-    where
-      by_result : (r : Result Success Refusal) → IfOk r (Evaluates told inputs (Makes plan))
-          → IfOk r (Evaluates told inputs (λ read success. (p : Plan) × IsPlanOf reading p × Makes p read success))
-      by_result (Ok success) made = record { read = made.read; files = made.files; made = (plan, is_plan, made.made) }
-      by_result (Err refusal) made = tt
+  pub made_by : (Makes : Plan → List (List ℕ) → Success → Type 0) (result : Result Success Refusal)
+      → IfOk result (IsMadeBy (Makes plan))
+      → IfOk result (IsMadeBy (λ read success. (p : Plan) × IsPlanOf reading p × Makes p read success))
+  made_by Makes (Ok success) made =
+      record { answered = made.answered; read = made.read; made = (plan, is_plan, made.made) }
+  made_by Makes (Err refusal) made = tt
 
   -- what is refused by one
-  pub refused_by : (may_fail : List ℕ → Bool) (before after : ShelfState)
-      (Refuses : Plan → List (List ℕ) → Refusal → Type 0)
-      → IfErr result (IsRefusedBy may_fail before after inputs (Refuses plan))
-      → IfErr result (IsRefusedBy may_fail before after inputs
-      (λ read refusal. (p : Plan) × IsPlanOf reading p × Refuses p read refusal))
-  refused_by may_fail before after Refuses refused = by_result result refused
-    where
-      by_result : (r : Result Success Refusal) → IfErr r (IsRefusedBy may_fail before after inputs (Refuses plan))
-          → IfErr r (IsRefusedBy may_fail before after inputs
-          (λ read refusal. (p : Plan) × IsPlanOf reading p × Refuses p read refusal))
-      by_result (Ok success) refused = tt
-      by_result (Err refusal) (inl unread) = inl unread
-      by_result (Err refusal) (inr once) =
-          inr (record { read = once.read; files = once.files; refused = (plan, is_plan, once.refused) })
+  pub refused_by : (Refuses : Plan → List (List ℕ) → Refusal → Type 0) (result : Result Success Refusal)
+      → IfErr result (IsRefusedFor (Refuses plan))
+      → IfErr result (IsRefusedFor (λ read refusal. (p : Plan) × IsPlanOf reading p × Refuses p read refusal))
+  refused_by Refuses (Ok success) refused = tt
+  refused_by Refuses (Err refusal) (inl unread) = inl unread
+  refused_by Refuses (Err refusal) (inr once) =
+      inr (record { answered = once.answered; read = once.read; refused = (plan, is_plan, once.refused) })

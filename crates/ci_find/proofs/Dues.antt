@@ -19,7 +19,8 @@ use Rattle.ci_commands.specs.EvalCommand.{IsNoModule}
 use Rattle.ci_commands.proofs.OneBlock.{best_or_refused, blocks_or_refused}
 use Rattle.ci_commands.proofs.OneModule.{eval_or_refused}
 use Rattle.ci_find.specs.CheckCommand.{IsCheckRefused}
-use Rattle.ci_find.specs.Commands.{find_names, inputs_of, settings_of, IsMade, IsPlanOf, IsRefusedOf, MakesBy, RefusesBy}
+use Rattle.ci_find.specs.ChoiceReading.{find_names, settings_of, IsPlanOf}
+use Rattle.ci_find.specs.Commands.{inputs_of, IsMade, IsRefusedOf, MakesBy, RefusesBy}
 use Rattle.ci_find.specs.Endings.{IsRefusal, usage, file, once_read, IsDue}
 use Rattle.ci_find.specs.FindCommand.{IsFindRefused}
 use Rattle.ci_find.proofs.OneChoice.{check_or_refused, check_refused_once, find_or_refused, find_refused_once, one_plan}

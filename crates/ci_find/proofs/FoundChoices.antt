@@ -8,7 +8,8 @@ use Rattle.ci_words.specs.declared.tables.OptionName.TheVariants as option
 use Rattle.ci_words.proofs.Readings.{one_reading}
 use Rattle.ci_calls.specs.declared.success.Success.{Success}
 use Rattle.ci_calls.specs.Evaluations.{Evaluates}
-use Rattle.ci_find.specs.Commands.{find_names, inputs_by, MakesBy}
+use Rattle.ci_find.specs.ChoiceReading.{find_names}
+use Rattle.ci_find.specs.Commands.{inputs_by, MakesBy}
 use Rattle.ci_find.specs.Endings.{IsDone}
 use Rattle.ci_find.specs.FindCommand.{FindNames, find_inputs}
 use Rattle.ci_find.specs.Profiled.{run_files}

@@ -1,6 +1,6 @@
 -- What the command `check` makes of a verdict on the files of a choice, and what it refuses.
-use Rattle.std.proofs.Common.{◌≡◌, ℕ, inl, inr, Bool, List, ◌∷◌, ◌++◌, Option, Result, Ok, Err, IfOk, IfErr, refl, subst}
-use Rattle.ci_io.specs.Outcomes.{Files, ShelfState}
+use Rattle.std.proofs.Common.{ℕ, inl, inr, Bool, List, [], ◌∷◌, ◌++◌, Option, Result, Ok, Err, IfOk, IfErr, refl}
+use Rattle.ci_io.specs.Outcomes.{ShelfState}
 use Rattle.ci_elf.specs.Executables.{Executable, IsImageOf}
 use Rattle.ci_lat.specs.Latencies.{Latencies}
 use Rattle.ci_log.specs.Books.{Spells}
@@ -8,11 +8,10 @@ use Rattle.ci_vread.specs.Spelling.{Spell}
 use Rattle.ci_calls.specs.declared.refusals.Refusal.{Refusal}
 use Rattle.ci_calls.specs.declared.refusals.Refusal.TheVariants.{Rejected, NoMemory}
 use Rattle.ci_calls.specs.declared.success.Success.{Success}
-use Rattle.ci_calls.specs.Evaluations.{Evaluates}
 use Rattle.ci_calls.specs.Files.{optional_bytes, AreGiven, AreLatencies, input_bytes}
-use Rattle.ci_calls.specs.Inputs.{Input, IsGood, AreRead}
-use Rattle.ci_calls.specs.Refused.{IsRefusedBy}
-use Rattle.ci_calls.proofs.InputLaws.{AreRead-append}
+use Rattle.ci_calls.specs.Inputs.{Input}
+use Rattle.ci_calls.specs.Reads.{HaveRead, IsSuccessOf, IsRefusalOf}
+use Rattle.ci_calls.proofs.InputLaws.{HaveRead-append, read_without_memory}
 use Rattle.ci_find.specs.declared.check.ChoiceFiles.{ChoiceFiles}
 use Rattle.ci_find.specs.declared.choice.Profiled.{Profiled as Run}
 use Rattle.ci_find.specs.Profiled.{Settings, RunFiles, Profiled, IsProfiled, instance_by}
@@ -20,16 +19,18 @@ use Rattle.ci_find.specs.CheckCommand.{CheckFiles, IsCheckMade, IsCheckRefused, 
 use Rattle.ci_find.specs.Judged.{IsAnswerOn}
 use Rattle.ci_find.specs.Unprofiled.{IsUnprofiledCause}
 
--- the executable is read, then the files of a choice, then the others, between which the shelf tells the same
+-- the executable is read, then the files of a choice, then the others
 pub all_read :
-    (told then last : Option Files) → then ≡ told → last ≡ told → (file : Input) (inputs others : List Input)
-    (bytes : List ℕ) (read more : List (List ℕ)) → IsGood told file bytes → AreRead then inputs read
-    → AreRead last others more → AreRead told (file ∷ inputs ++ others) (bytes ∷ read ++ more)
-all_read told then last same same_last file inputs others bytes read more good a b = (
-  good,
-  AreRead-append told inputs others read more (subst (λ (t : Option Files). AreRead t inputs read) same a)
-      (subst (λ (t : Option Files). AreRead t others more) same_last b),
-)
+    (read_may_fail write_may_fail : List ℕ → Bool) (before then last after : ShelfState) (file : Input)
+    (inputs others : List Input) (bytes : List ℕ) (answered more : List (List ℕ))
+    → HaveRead read_may_fail write_may_fail before then (file ∷ []) (bytes ∷ [])
+    → HaveRead read_may_fail write_may_fail then last inputs answered
+    → HaveRead read_may_fail write_may_fail last after others more
+    → HaveRead read_may_fail write_may_fail before after (file ∷ inputs ++ others) (bytes ∷ answered ++ more)
+all_read read_may_fail write_may_fail before then last after file inputs others bytes answered more first a b =
+    HaveRead-append read_may_fail write_may_fail before then after (file ∷ []) (inputs ++ others) (bytes ∷ [])
+    (answered ++ more) first
+    (HaveRead-append read_may_fail write_may_fail then last after inputs others answered more a b)
 
 module _
     (settings : Settings) (executable : List ℕ) (file : Executable) (latencies : Latencies)
@@ -87,38 +88,41 @@ module _
     book_is = book_is;
   }
 
-  -- files that are accepted
-  pub judged_made :
-      (told : Option Files) (inputs : List Input) → AreRead told inputs bytes_read
-      → (profiled : Profiled settings executable others) (result : Result Success Refusal)
-      → IsAnswerOn (instance_by profiled) profiled.files.file choice result
-      → IfOk result (Evaluates told inputs (IsCheckMade settings))
-  judged_made told inputs files profiled (Ok success) is = record {
-    read = bytes_read;
-    files = files;
-    made = record { files = holding; profiled = profiled; accepted = is.0; text_is = is.1; writes_none = is.2 };
-  }
-  judged_made told inputs files profiled (Err refusal) is = tt
-
   module _
-      (may_fail : List ℕ → Bool) (before after : ShelfState) (inputs : List Input)
-      (files : AreRead before.files inputs bytes_read) where
+      (read_may_fail write_may_fail : List ℕ → Bool) (before after : ShelfState) (inputs : List Input)
+      (files : HaveRead read_may_fail write_may_fail before after inputs bytes_read) where
+    -- files that are accepted
+    pub judged_made :
+        (profiled : Profiled settings executable others) (result : Result Success Refusal)
+        → IsAnswerOn (instance_by profiled) profiled.files.file choice result
+        → IfOk result (IsSuccessOf read_may_fail write_may_fail before after inputs (IsCheckMade settings))
+    judged_made profiled (Ok success) is = record {
+      answered = bytes_read;
+      read = files;
+      made = record { files = holding; profiled = profiled; accepted = is.0; text_is = is.1; writes_none = is.2 };
+    }
+    judged_made profiled (Err refusal) is = tt
+
+    -- memory runs out once they are read
+    without_memory : IsRefusalOf read_may_fail write_may_fail before after inputs (IsCheckRefused settings) NoMemory
+    without_memory = inl (read_without_memory read_may_fail write_may_fail before after inputs bytes_read files)
+
     -- files of no choice, by their first wrong place
     pub judged_refused :
         (profiled : Profiled settings executable others) (result : Result Success Refusal)
         → IsAnswerOn (instance_by profiled) profiled.files.file choice result
-        → IfErr result (IsRefusedBy may_fail before after inputs (IsCheckRefused settings))
+        → IfErr result (IsRefusalOf read_may_fail write_may_fail before after inputs (IsCheckRefused settings))
     judged_refused profiled (Ok success) is = tt
     judged_refused profiled (Err (Rejected round leader item reason)) is =
-        inr (record { read = bytes_read; files = files; refused = rejected holding profiled is })
-    judged_refused profiled (Err NoMemory) is = inl (inr (inr refl))
+        inr (record { answered = bytes_read; read = files; refused = rejected holding profiled is })
+    judged_refused profiled (Err NoMemory) is = without_memory
     judged_refused profiled (Err refusal) is = absurd is
 
     -- an executable that can't be chosen from
     pub unprofiled_refused :
         (run : RunFiles settings executable others) (refusal : Refusal)
         → IsUnprofiledCause run.file (input_bytes run.input) settings.steps refusal
-        → IsRefusedBy may_fail before after inputs (IsCheckRefused settings) refusal
+        → IsRefusalOf read_may_fail write_may_fail before after inputs (IsCheckRefused settings) refusal
     unprofiled_refused run refusal (inl is) =
-        inr (record { read = bytes_read; files = files; refused = unprofiled holding run is })
-    unprofiled_refused run refusal (inr none) = inl (inr (inr none))
+        inr (record { answered = bytes_read; read = files; refused = unprofiled holding run is })
+    unprofiled_refused run refusal (inr none) = rw none without_memory

@@ -4,6 +4,12 @@ mod ChoiceWords
 mod Dues
 mod Runs
 mod Successes
+mod SinceCalls
+mod DueCalls
+mod NoWrites
+mod Causes
+mod WrittenCalls
+mod CallsOverFiles
 mod Kept
 mod ProfiledRuns
 mod Judgements
@@ -12,7 +18,11 @@ mod LeftFiles
 mod FoundChoices
 mod ChoiceFiles
 mod ChoiceLaws
+mod FoundBytes
 mod ChosenFiles
+mod FoundCalls
+mod ChosenByCalls
+mod FirstCalls
 mod SameFiles
 mod CheckedFiles
 mod CheckAccepts

@@ -20,9 +20,7 @@ use Rattle.ci_verilog.specs.Modules.{Module}
 use Rattle.ci_vemit.specs.Templates.{modules_of}
 use Rattle.ci_find.specs.LoadCommand.{byte_digits, IsExtendedCost}
 use Rattle.ci_find.proofs.ProfiledRuns.{opened}
-use Rattle.std.specs.Prelude.{reverse, Option}
-use Rattle.ci_io.specs.Outcomes.{Files}
-use Rattle.ci_calls.specs.Evaluations.{Evaluates}
+use Rattle.std.specs.Prelude.{reverse}
 use Rattle.ci_elf.specs.Rules.{IsReadAs}
 use Rattle.ci_gen.specs.Programs.{IsProgramOf}
 use Rattle.ci_lat.specs.Latencies.{usual}
@@ -128,9 +126,3 @@ load_made seed file new_file table profile output blocks live plan book units sa
   text_is = text_is;
   writes_none = writes_none;
 }
-
--- a load reads no file
-pub load_evaluates : (told : Option Files) (seed said : ℕ) (success : Success) → seed ≡ said → IsLoadMade seed [] success
-    → Evaluates told [] (IsLoadMade said) success
-load_evaluates told seed said success same made =
-    record { read = []; files = tt; made = subst (λ (n : ℕ). IsLoadMade n [] success) same made }

@@ -17,7 +17,7 @@ use Rattle.ci_words.specs.Words.{Reading}
 use Rattle.ci_calls.specs.declared.refusals.Refusal.{Refusal}
 use Rattle.ci_calls.specs.declared.success.Success.{Success}
 use Rattle.ci_calls.specs.Refusals.{status_of}
-use Rattle.ci_find.specs.Commands.{IsPlanOf}
+use Rattle.ci_find.specs.ChoiceReading.{IsPlanOf}
 use Rattle.ci_find.specs.Profiled.{Profiled, Settings, instance_by}
 use Rattle.ci_find.specs.FindCommand.{FindNames, IsFindMade, IsFindRefused}
 use Rattle.ci_find.specs.CheckCommand.{CheckFiles, IsCheckMade, IsCheckRefused, rejected, unprofiled}

@@ -1,6 +1,6 @@
 -- The run that a choice is made from, what the command `find` makes of it, and what it refuses.
 use Rattle.std.proofs.Common.{◌≡◌, ℕ, inl, inr, Bool, List, ◌∷◌, ◌++◌, Option, Some, refl, subst}
-use Rattle.ci_io.specs.Outcomes.{Files, ShelfState}
+use Rattle.ci_io.specs.Outcomes.{ShelfState}
 use Rattle.ci_elf.specs.Executables.{Executable, IsImageOf}
 use Rattle.ci_lat.specs.Latencies.{Latencies}
 use Rattle.ci_machine.specs.Programs.{Program, State, loaded_program, opening}
@@ -14,10 +14,10 @@ use Rattle.ci_emu.specs.Profiles.{IsProfileOf, IsTouch}
 use Rattle.ci_select.specs.Instances.{instance_of}
 use Rattle.ci_calls.specs.declared.refusals.Refusal.{Refusal}
 use Rattle.ci_calls.specs.declared.success.Success.{Success}
-use Rattle.ci_calls.specs.Evaluations.{Evaluates}
 use Rattle.ci_calls.specs.Files.{optional_bytes, AreGiven, AreLatencies, input_bytes}
-use Rattle.ci_calls.specs.Inputs.{Input, AreRead}
-use Rattle.ci_calls.specs.Refused.{IsRefusedBy}
+use Rattle.ci_calls.specs.Inputs.{Input}
+use Rattle.ci_calls.specs.Reads.{HaveRead, IsSuccessOf, IsRefusalOf}
+use Rattle.ci_calls.proofs.InputLaws.{read_without_memory}
 use Rattle.ci_find.specs.Profiled.{Settings, RunFiles, IsProfiled, IsUnprofiled}
 use Rattle.ci_find.specs.FindCommand.{FindNames, IsChoice, IsFindMade, IsFindRefused}
 use Rattle.ci_find.specs.Unprofiled.{IsUnprofiledCause}
@@ -63,15 +63,16 @@ files_of settings executable table input file latencies table_given input_given 
 
 module _
     (settings : Settings) (executable : List ℕ) (others : List (List ℕ)) (inputs : List Input)
-    (run : RunFiles settings executable others) (input : List ℕ) (same : input ≡ input_bytes run.input) where
+    (run : RunFiles settings executable others) (input : List ℕ) (same : input ≡ input_bytes run.input)
+    (read_may_fail write_may_fail : List ℕ → Bool) (before after : ShelfState)
+    (files : HaveRead read_may_fail write_may_fail before after inputs (executable ∷ others)) where
   -- an executable that can't be chosen from
   pub find_refused :
-      (may_fail : List ℕ → Bool) (before after : ShelfState) → AreRead before.files inputs (executable ∷ others)
-      → (refusal : Refusal) → IsUnprofiledCause run.file input settings.steps refusal
-      → IsRefusedBy may_fail before after inputs (IsFindRefused settings) refusal
-  find_refused may_fail before after files refusal (inl is) = inr (record {
-    read = executable ∷ others;
-    files = files;
+      (refusal : Refusal) → IsUnprofiledCause run.file input settings.steps refusal
+      → IsRefusalOf read_may_fail write_may_fail before after inputs (IsFindRefused settings) refusal
+  find_refused refusal (inl is) = inr (record {
+    answered = executable ∷ others;
+    read = files;
     refused = record {
       executable = executable;
       others = others;
@@ -80,19 +81,19 @@ module _
       unprofiled = subst (λ bytes. IsUnprofiled run.file bytes settings.steps refusal) same is;
     };
   })
-  find_refused may_fail before after files refusal (inr none) = inl (inr (inr none))
+  find_refused refusal (inr none) =
+      rw none (inl (read_without_memory read_may_fail write_may_fail before after inputs (executable ∷ others) files))
 
   -- a choice for it
   pub find_made :
-      (told : Option Files) → AreRead told inputs (executable ∷ others)
-      → (profile : Profile) (blocks : List Block) (live : Sets)
+      (profile : Profile) (blocks : List Block) (live : Sets)
       → IsProfiled run.file run.latencies input settings.steps settings.named profile blocks live
       → (names : FindNames) (success : Success)
       → IsChoice (instance_of profile blocks live run.latencies settings.plan) profile run.file names success
-      → Evaluates told inputs (IsFindMade names settings) success
-  find_made told files profile blocks live is names success choice = record {
-    read = executable ∷ others;
-    files = files;
+      → IsSuccessOf read_may_fail write_may_fail before after inputs (IsFindMade names settings) success
+  find_made profile blocks live is names success choice = record {
+    answered = executable ∷ others;
+    read = files;
     made = record {
       executable = executable;
       others = others;

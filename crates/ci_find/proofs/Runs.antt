@@ -1,16 +1,24 @@
 -- How a call of the program ends, and that what is due comes.
-use Rattle.std.proofs.Common.{◌≡◌, ℕ, inl, inr, List, ◌∷◌, [], Contains, lit<, Option, Some, None, IfSome, refl, sym, subst}
-use Rattle.ci_io.specs.Outcomes.{Files}
+use Rattle.std.proofs.Common.{◌≡◌, ℕ, inl, inr, List, ◌∷◌, [], Contains, lit<, Option, Some, None, IfSome, refl, ap, sym, subst}
+use Rattle.ci_io.specs.CallLists.{Call}
+use Rattle.ci_io.specs.MadeCalls.{AreMade}
+use Rattle.ci_io.specs.Outcomes.{Files, ShelfState}
+use Rattle.ci_words.specs.Words.{Reading, ReadsAs}
 use Rattle.ci_calls.specs.declared.refusals.Refusal.{Refusal}
 use Rattle.ci_calls.specs.declared.refusals.Refusal.TheVariants.{Usage, Read, Write, Put, TooLarge, BadElf, BadTable, Unsupported}
 use Rattle.ci_calls.specs.declared.refusals.Refusal.TheVariants.{TextTouched, BadUnits, BadLog, Rejected, NoMemory, BadAsm}
 use Rattle.ci_calls.specs.declared.success.Success.{Success}
+use Rattle.ci_calls.specs.Reads.{IsRefusalOf}
+use Rattle.ci_calls.specs.Refused.{IsRefusedBy}
 use Rattle.ci_calls.specs.RefusedCalls.{IsRefused}
 use Rattle.ci_calls.specs.Finishing.{Change, IsPut, IsUnwritten, Finishes, done, write_fault, put_fault, no_memory_in_write, no_memory_in_put}
 use Rattle.ci_calls.specs.Refusals.{status_of, line_of}
 use Rattle.ci_calls.proofs.Counts.{Rises-earlier}
+use Rattle.ci_calls.proofs.OverFiles.{IsRefusalOf-files}
 use Rattle.ci_find.specs.Endings.{usage, file, once_read, IsDue, Ends, finished, refused, read_fault, no_memory, IsAnswered}
-use Rattle.ci_find.specs.Explained.{Explains}
+use Rattle.ci_find.specs.Commands.{inputs_of, IsRefusedOf}
+use Rattle.ci_find.specs.EndsBy.{IsRefusalBy}
+use Rattle.ci_find.specs.EndsBy as by
 use Rattle.ci_find.proofs.Dues.{IsDue-same}
 
 module _ (words : List (List ℕ)) (change : Change) where
@@ -18,28 +26,63 @@ module _ (words : List (List ℕ)) (change : Change) where
   abbrev EndsAs : Refusal → Type 0
   EndsAs refusal = IsPut change.sink_before change.sink_after (line_of refusal) → Ends words change (status_of refusal)
 
-  Ends-explained : (refusal : Refusal)
-      → Explains change.read_may_fail change.shelf_before change.shelf_after words refusal → IsUnwritten change → EndsAs refusal
-  Ends-explained refusal (inl (none, is)) unwritten =
-      subst EndsAs (sym is) (λ put. refused Usage (usage none) unwritten put)
-  Ends-explained refusal (inr (inl (reading, reads, inl (inl is)))) unwritten =
-      λ put. refused refusal (file reading reads is) unwritten put
-  Ends-explained refusal (inr (inl (reading, reads, inl (inr (inl fault))))) unwritten =
+  -- of a command whose files are not read, or that refuses their bytes
+  Ends-unmade : (reading : Reading) → ReadsAs words reading → (refusal : Refusal)
+      → IsRefusedBy change.read_may_fail change.shelf_before change.shelf_after (inputs_of reading) (IsRefusedOf reading) refusal
+      → IsUnwritten change → EndsAs refusal
+  Ends-unmade reading reads refusal (inl (inl is)) unwritten = λ put. refused refusal (file reading reads is) unwritten put
+  Ends-unmade reading reads refusal (inl (inr (inl fault))) unwritten =
       subst EndsAs (sym fault.refusal_is)
       (λ put. read_fault reading fault.name reads fault.due fault.fails fault.counted unwritten put)
-  Ends-explained refusal (inr (inl (reading, reads, inl (inr (inr is))))) unwritten =
+  Ends-unmade reading reads refusal (inl (inr (inr is))) unwritten =
       subst EndsAs (sym is) (λ put. no_memory unwritten put)
-  Ends-explained refusal (inr (inl (reading, reads, inr is))) unwritten =
+  Ends-unmade reading reads refusal (inr is) unwritten =
       λ put. refused refusal (once_read reading is.read reads is.files is.refused) unwritten put
-  Ends-explained refusal (inr (inr is)) unwritten = subst EndsAs (sym is) (λ put. no_memory unwritten put)
+
+  abbrev Reads : List Call → Type 0
+  Reads calls = AreMade change.read_may_fail change.write_may_fail change.shelf_before change.shelf_after calls
+
+  -- by its reads
+  Ends-of : (reading : Reading) → ReadsAs words reading → (refusal : Refusal)
+      → IsRefusalOf change.read_may_fail change.write_may_fail change.shelf_before change.shelf_after (inputs_of reading)
+      (IsRefusedOf reading) refusal
+      → IsUnwritten change × EndsAs refusal
+  Ends-of reading reads refusal is =
+      let over =
+      IsRefusalOf-files change.read_may_fail change.write_may_fail change.shelf_before change.shelf_after (inputs_of reading)
+      (IsRefusedOf reading) refusal is in
+      let unwritten : IsUnwritten change = record { same_files = over.1.files; same_count = over.1.writes } in
+      (unwritten, Ends-unmade reading reads refusal over.0 unwritten)
+
+  -- where nothing was called
+  none_called : change.shelf_after ≡ change.shelf_before → IsUnwritten change
+  none_called same = record {
+    same_files = ap (λ (s : ShelfState). s.files) same;
+    same_count = ap (λ (s : ShelfState). s.write_faults) same;
+  }
+
+  Ends-due : (calls : List Call) (refusal : Refusal) → IsRefusalBy words calls refusal → Reads calls
+      → IsUnwritten change × EndsAs refusal
+  Ends-due calls refusal (by.usage none) made =
+      (none_called made, λ put. refused Usage (usage none) (none_called made) put)
+  Ends-due calls refusal (by.unread reading reads refusal' reads_as stopped) made =
+      Ends-of reading reads_as refusal' (inl (record { calls = reads; stopped = stopped; made = made }))
+  Ends-due calls refusal (by.once_read reading answered reads refusal' reads_as fit are is) made =
+      Ends-of reading reads_as refusal' (inr (record {
+        answered = answered;
+        read = record { fit = fit; made = subst Reads are made };
+        refused = is;
+      }))
+  Ends-due calls refusal by.no_memory made = (none_called made, λ put. no_memory (none_called made) put)
 
   -- with a refusal, once its line was put or memory for it ran out
-  pub Ends-refused : (status : ℕ) (refusal : Refusal)
-      → Explains change.read_may_fail change.shelf_before change.shelf_after words refusal → IsUnwritten change
+  pub Ends-refused : (status : ℕ) (calls : List Call) (refusal : Refusal) → IsRefusalBy words calls refusal → Reads calls
       → IsRefused refusal status change.sink_before change.sink_after → Ends words change status
-  Ends-refused status refusal explained unwritten (inl line) =
-      subst (Ends words change) (sym line.0) (Ends-explained refusal explained unwritten line.1)
-  Ends-refused status refusal explained unwritten (inr none) =
+  Ends-refused status calls refusal is made (inl line) =
+      let (unwritten, ends) = Ends-due calls refusal is made in
+      subst (Ends words change) (sym line.0) (ends line.1)
+  Ends-refused status calls refusal is made (inr none) =
+      let (unwritten, ends) = Ends-due calls refusal is made in
       subst (Ends words change) (sym none.0) (no_memory unwritten none.1)
 
 -- ---- what is due comes

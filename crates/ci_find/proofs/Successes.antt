@@ -8,7 +8,7 @@ use Rattle.ci_calls.specs.Refusals.{status_of}
 use Rattle.ci_find.specs.Endings.{Ends, IsDone, finished, refused, read_fault, no_memory}
 
 -- the status of a refusal is another
-never_zero : (refusal : Refusal) → status_of refusal ≡ 0 → ⊥
+pub never_zero : (refusal : Refusal) → status_of refusal ≡ 0 → ⊥
 never_zero Usage zero = omega (arith, zero)
 never_zero refusal zero = omega (arith, zero)
 

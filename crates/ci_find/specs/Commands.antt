@@ -17,10 +17,10 @@ use Rattle.ci_commands.specs.RunCommand.{run_inputs, IsRunMade}
 use Rattle.ci_commands.specs.BlocksCommand.{blocks_inputs, IsBlocksMade, IsBlocksRefused}
 use Rattle.ci_commands.specs.EvalCommand.{eval_inputs, IsEvalMade, IsEvalRefused}
 use Rattle.ci_select.specs.declared.plan.Plan.{Plan}
-use Rattle.ci_find.specs.Profiled.{Settings}
-use Rattle.ci_find.specs.FindCommand.{FindNames, find_inputs, IsFindMade, IsFindRefused}
+use Rattle.ci_find.specs.ChoiceReading.{IsPlanOf, settings_of, find_names, find_files, check_files}
+use Rattle.ci_find.specs.FindCommand.{IsFindMade, IsFindRefused}
 use Rattle.ci_find.specs.LoadCommand.{IsLoadMade}
-use Rattle.ci_find.specs.CheckCommand.{CheckNames, check_inputs, IsCheckMade, IsCheckRefused}
+use Rattle.ci_find.specs.CheckCommand.{IsCheckMade, IsCheckRefused}
 
 -- what a call of a command is: the files that it reads, in order; what it makes of their bytes; and what it refuses of
 -- them, though each file alone is well formed
@@ -28,39 +28,6 @@ pub record CommandCall : Type 1 where
   pub inputs : List Input
   pub Makes : List (List ℕ) → Success → Type 0
   pub Refuses : List (List ℕ) → Refusal → Type 0
-
--- ---- choices of cuts
-
--- the limits are those of the reading
-pub record IsPlanOf (reading : Reading) (plan : Plan) : Type 0 where
-  pub inputs : plan.limits.inputs ≡ number_set reading option.Inputs
-  pub outputs : plan.limits.outputs ≡ number_set reading option.Outputs
-  pub count : plan.count ≡ number_set reading option.Count
-  pub budget : plan.budget ≡ number_set reading option.Budget
-
-abbrev pub settings_of : Reading → Plan → Settings
-settings_of reading plan = record {
-  steps = number_set reading option.Steps;
-  named = words_set reading option.Leader;
-  plan = plan;
-  table = name_set reading option.Table;
-  input = name_set reading option.Input;
-}
-
-abbrev pub find_names : Reading → FindNames
-find_names reading = record {
-  new = name_at reading 1;
-  units = name_at reading 2;
-  logs = name_at reading 3;
-  report = name_at reading 4;
-}
-
-abbrev pub check_names : Reading → CheckNames
-check_names reading = record {
-  new = name_at reading 1;
-  units = name_at reading 2;
-  logs = name_at reading 3;
-}
 
 -- ---- all commands
 
@@ -104,7 +71,7 @@ call_by Eval reading = record {
   Refuses = IsEvalRefused (number_at reading 1);
 }
 call_by Find reading = record {
-  inputs = find_inputs (name_at reading 0) (name_set reading option.Table) (name_set reading option.Input);
+  inputs = find_files reading;
   Makes = λ read success.
       (plan : Plan) × IsPlanOf reading plan
       × IsFindMade (find_names reading) (settings_of reading plan) read success;
@@ -112,9 +79,7 @@ call_by Find reading = record {
       (plan : Plan) × IsPlanOf reading plan × IsFindRefused (settings_of reading plan) read refusal;
 }
 call_by Check reading = record {
-  inputs =
-      check_inputs (name_at reading 0) (check_names reading) (name_set reading option.Table)
-      (name_set reading option.Input);
+  inputs = check_files reading;
   Makes = λ read success.
       (plan : Plan) × IsPlanOf reading plan × IsCheckMade (settings_of reading plan) read success;
   Refuses = λ read refusal.

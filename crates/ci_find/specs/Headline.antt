@@ -3,15 +3,16 @@
 -- original run is tame; every written unit computes its cut's operations on all inputs; and each chosen cut is convex,
 -- within its ports, and no cut that fits its remaining block gains more.
 --
--- It holds over a shelf that tells its files. A bound is a number n of steps. Output: after n steps both are equal.
--- End, final memory: where one run has ended within n steps, the other ends within n + 256, by the same end, with
--- equal memory outside the text. Tame: for n + 256 steps, by the leaders that the file, the profiled run and
--- `--leader` list. The remaining block is the block as it stands in the program before the take.
-use Rattle.std.specs.Prelude.{◌≡◌, ℕ, List, ◌∷◌, ◌++◌, Option, Some, IfSome, reverse}
-use Rattle.std.specs.FinMap as map
+-- It holds over every shelf and every sink. The original is the bytes that the read of OLD answered. The written
+-- executable and the written Verilog are the bytes that the writes of NEW and UNITS were handed. A bound is a number n
+-- of steps. Output: after n steps both are equal. End, final memory: where one run has ended within n steps, the other
+-- ends within n + 256, by the same end, with equal memory outside the text. Tame: for n + 256 steps, by the leaders
+-- that the file, the profiled run and `--leader` list. The remaining block is the block as it stands in the program
+-- before the take.
+use Rattle.std.specs.Prelude.{◌≡◌, ℕ, List, [], ◌∷◌, ◌++◌, map, reverse, Ok}
 use Rattle.std.specs.FinSet as finite
 use Rattle.std.specs.Ordering.{nat_cmp}
-use Rattle.ci_io.specs.Outcomes.{Files, SinkState}
+use Rattle.ci_io.specs.CallLists.{Call, write, put}
 use Rattle.ci_isa.specs.declared.instruction.Insn.{Insn}
 use Rattle.ci_cut.specs.Best.{IsBest}
 use Rattle.ci_log.specs.declared.book.Entry.{Entry}
@@ -35,41 +36,55 @@ use Rattle.ci_report.specs.Reports.{IsReport}
 use Rattle.ci_words.specs.declared.tables.CommandName.TheVariants.{Find}
 use Rattle.ci_words.specs.Words.{Reading, ReadsAs}
 use Rattle.ci_calls.specs.Files.{input_bytes}
-use Rattle.ci_calls.specs.Finishing.{Takes}
-use Rattle.ci_calls.specs.Inputs.{AreRead}
-use Rattle.ci_find.specs.Commands.{IsPlanOf, find_names, inputs_by, settings_of}
-use Rattle.ci_find.specs.FindCommand.{summary_line}
+use Rattle.ci_calls.specs.Reads.{AreFit, reads_of}
+use Rattle.ci_find.specs.ChoiceReading.{IsPlanOf, settings_of, find_names, find_files}
+use Rattle.ci_find.specs.FindCommand.{FindNames, summary_line}
 use Rattle.ci_find.specs.Profiled.{Profiled, instance_by}
+
+-- ---- what is read, written and put
+
+-- The bytes that the reads of `find` answer, those that its writes are handed, and the text that it puts.
+pub record FoundBytes : Type 0 where
+  pub executable : List ℕ
+  -- of the table and the input, where the words name them
+  pub others : List (List ℕ)
+  pub units : List ℕ
+  pub logs : List ℕ
+  pub report : List ℕ
+  pub new : List ℕ
+  pub text : List ℕ
+
+-- what is read, in order: OLD, and then the table and the input
+abbrev pub bytes_read : FoundBytes → List (List ℕ)
+bytes_read bytes = bytes.executable ∷ bytes.others
+
+-- what is written, by names and bytes, in order: UNITS, LOGS, REPORT, NEW
+abbrev pub files_written : FindNames → FoundBytes → List (List ℕ × List ℕ)
+files_written names bytes =
+    (names.units, bytes.units) ∷ (names.logs, bytes.logs) ∷ (names.report, bytes.report) ∷ (names.new, bytes.new) ∷ []
+
+-- one whole write for each
+abbrev pub whole_writes : List (List ℕ × List ℕ) → List Call
+whole_writes files = map (λ file. write file.0 file.1 (Ok tt)) files
 
 -- ---- the written executable, the written Verilog, and the book of the cuts
 
--- What `find` reads was held before: the executable first. What it writes is left: the modules of the units of a legal
--- book for the run that the executable is chosen from, this book, its report, and the executable with the folded
--- blocks. The line that is put has what the cuts of the book save over that run.
-pub record AreFiles (reading : Reading) (held left : Files) (sink_before sink_after : SinkState) : Type 0 where
+-- What is written are the modules of the units of a legal book for the run that the executable is chosen from, this
+-- book, its report, and the executable with the folded blocks. The text that is put has what the cuts of the book save
+-- over that run.
+pub record AreFiles (reading : Reading) (bytes : FoundBytes) : Type 0 where
   pub plan : Plan
   pub is_plan : IsPlanOf reading plan
-  pub executable : List ℕ
-  pub others : List (List ℕ)
-  pub read_are : AreRead (Some held) (inputs_by Find reading) (executable ∷ others)
-  pub profiled : Profiled (settings_of reading plan) executable others
-  pub new_bytes : List ℕ
-  pub units_text : List ℕ
-  pub logs_text : List ℕ
-  pub report_text : List ℕ
-  pub new_left : map.get left (find_names reading).new ≡ Some new_bytes
-  pub units_left : map.get left (find_names reading).units ≡ Some units_text
-  pub logs_left : map.get left (find_names reading).logs ≡ Some logs_text
-  pub report_left : map.get left (find_names reading).report ≡ Some report_text
+  pub profiled : Profiled (settings_of reading plan) bytes.executable bytes.others
   pub modules : List Module
   pub book : Book
-  pub modules_are : Spell units_text modules
-  pub book_is : Spells logs_text book
-  pub acceptable : IsAcceptable (instance_by profiled) profiled.files.file book modules new_bytes
-  pub report_is : IsReport (instance_by profiled) profiled.profile book report_text
+  pub modules_are : Spell bytes.units modules
+  pub book_is : Spells bytes.logs book
+  pub acceptable : IsAcceptable (instance_by profiled) profiled.files.file book modules bytes.new
+  pub report_is : IsReport (instance_by profiled) profiled.profile book bytes.report
   pub saved : ℕ
   pub saved_is : IsSaved (instance_by profiled) (reverse book.entries) saved
-  pub put : Takes sink_before sink_after (summary_line book.entries acceptable.modules_are.0 saved)
+  pub text_is : bytes.text ≡ summary_line book.entries acceptable.modules_are.0 saved
 
 -- ---- every written unit computes its cut's operations on all inputs; and each chosen cut is convex, within its ports,
 -- and no cut that fits its remaining block gains more
@@ -102,17 +117,27 @@ pub record TellTheBest (instance : Instance) (modules : List Module) (book : Boo
 -- These are the files of a choice; the written executable runs as the original does, wherever that is tame, and costs
 -- less by what its cuts save, where that ends otherwise than by a refused access; the profiled run is tame, and costs
 -- less by the number in the line, where it so ends; and each cut is the best.
-pub record IsChosen (reading : Reading) (held left : Files) (sink_before sink_after : SinkState) : Type 0 where
-  pub files : AreFiles reading held left sink_before sink_after
-  pub runs : RunsAlike (instance_by files.profiled) files.profiled.files.file files.book files.modules files.new_bytes
+pub record IsChosen (reading : Reading) (bytes : FoundBytes) : Type 0 where
+  pub files : AreFiles reading bytes
+  pub runs : RunsAlike (instance_by files.profiled) files.profiled.files.file files.book files.modules bytes.new
   pub profiled :
-      SavesInProfile (rewriting_of (instance_by files.profiled) files.profiled.files.file files.modules files.new_bytes)
+      SavesInProfile (rewriting_of (instance_by files.profiled) files.profiled.files.file files.modules bytes.new)
       files.profiled.files.latencies (settings_of reading files.plan).steps (input_bytes files.profiled.files.input)
       files.profiled.profile files.saved
   pub best : TellTheBest (instance_by files.profiled) files.modules files.book
 
--- Where the words read as `find`, and the shelf tells its files, those after the call are told too, and are so chosen.
-abbrev pub AreChosen : List (List ℕ) → (before after : Option Files) → (sink_before sink_after : SinkState) → Type 0
-AreChosen words before after sink_before sink_after =
-    IfSome before (λ held. (reading : Reading) → ReadsAs words reading → reading.command ≡ Find
-    → (left : Files) × (after ≡ Some left) × IsChosen reading held left sink_before sink_after)
+-- The calls on the shelf are the reads of OLD, the table and the input, as the words have them, in this order, and then
+-- one whole write of each of UNITS, LOGS, REPORT and NEW, in this order. The call on the sink is one put, which is
+-- taken. Of the bytes in these calls all of the headline holds.
+pub record IsChosenBy (reading : Reading) (calls puts : List Call) : Type 0 where
+  pub bytes : FoundBytes
+  pub fit : AreFit (find_files reading) (bytes_read bytes)
+  pub calls_are : calls
+      ≡ reads_of (find_files reading) (bytes_read bytes) ++ whole_writes (files_written (find_names reading) bytes)
+  pub puts_are : puts ≡ put bytes.text (Ok tt) ∷ []
+  pub chosen : IsChosen reading bytes
+
+-- so it is where the words read as `find`
+abbrev pub AreChosenBy : List (List ℕ) → (calls puts : List Call) → Type 0
+AreChosenBy words calls puts =
+    (reading : Reading) → ReadsAs words reading → reading.command ≡ Find → IsChosenBy reading calls puts

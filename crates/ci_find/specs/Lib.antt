@@ -1,12 +1,16 @@
+pub mod SinceCalls
 pub mod Profiled
 pub mod FindCommand
 pub mod CheckCommand
 pub mod LoadCommand
+pub mod ChoiceReading
 pub mod Commands
+pub mod EndsBy
 pub mod Endings
 pub mod Headline
+pub mod HeadlineOverFiles
+pub mod FirstFiles
 pub mod Laws
-pub mod Explained
 pub mod Unprofiled
 pub mod Chosen
 pub mod Judged

@@ -1,12 +1,12 @@
 //! The command `check`: whether files are those of a choice of cuts.
-ghost use Rattle.std.specs.Prelude.{◌≡◌, ◌≤◌, ◌∷◌, [], ℕ, List, Ok, IfOk, IfErr};
+ghost use Rattle.std.specs.Prelude.{◌≤◌, ◌∷◌, [], ℕ, List, Ok, IfOk, IfErr};
 ghost use Rattle.ci_elf.specs.Rules.{IsReadAs};
 ghost use Rattle.ci_log.specs.Books.{Spells};
 ghost use Rattle.ci_vread.specs.Spelling.{Spell};
-ghost use Rattle.ci_calls.specs.Evaluations.{Evaluates};
 ghost use Rattle.ci_calls.specs.Files.{book_input, new_file_input, units_input};
-ghost use Rattle.ci_calls.specs.Inputs.{Input, AreRead};
-ghost use Rattle.ci_calls.specs.Refused.{name_in, AreUnread, IsRefusedBy};
+ghost use Rattle.ci_calls.specs.Inputs.{Input};
+ghost use Rattle.ci_calls.specs.Reads.{HaveRead, HaveNotRead, IsSuccessOf, IsRefusalOf};
+ghost use Rattle.ci_calls.specs.Refused.{name_in};
 ghost use Rattle.ci_find.specs.Profiled.{IsProfiled};
 ghost use Rattle.ci_find.specs.CheckCommand.{check_inputs, IsCheckMade, IsCheckRefused};
 ghost use Rattle.ci_find.specs.Chosen.{check_names_of, instance_from, settings_by};
@@ -55,14 +55,12 @@ pub fn evaluate<'a, F: Shelf>(
     shelf: &mut F,
 ) -> Result<Success<'a>, Refusal<'a>>
     requires { settings.now.steps ≤ 4294967296 }
-    ensures made { IfOk result (Evaluates (F.state shelf.old).files
+    ensures made { IfOk result (IsSuccessOf F.read_may_fail F.write_may_fail (F.state shelf.old) (F.state shelf.new)
         (check_inputs file.now (check_names_of names.now) (name_in settings.now.table) (name_in settings.now.input))
         (IsCheckMade (settings_by settings.now))) }
-    ensures refused { IfErr result (IsRefusedBy F.read_may_fail (F.state shelf.old) (F.state shelf.new)
+    ensures refused { IfErr result (IsRefusalOf F.read_may_fail F.write_may_fail (F.state shelf.old) (F.state shelf.new)
         (check_inputs file.now (check_names_of names.now) (name_in settings.now.table) (name_in settings.now.input))
         (IsCheckRefused (settings_by settings.now))) }
-    ensures files_stay { (F.state shelf.new).files ≡ (F.state shelf.old).files }
-    ensures no_write { (F.state shelf.new).write_faults ≡ (F.state shelf.old).write_faults }
 {
     let image = read_image(alloc, file, shelf)?;
     let choice = read_choice(alloc, names, shelf)?;
@@ -88,17 +86,14 @@ fn read_choice<'a, F: Shelf>(
     shelf: &mut F,
 ) -> Result<ChoiceFiles, Refusal<'a>>
     ensures read { IfOk result (λ choice. (units_text : List ℕ) × (logs_text : List ℕ)
-        × AreRead (F.state shelf.old).files
+        × HaveRead F.read_may_fail F.write_may_fail (F.state shelf.old) (F.state shelf.new)
         (new_file_input names.now.new.now ∷ units_input names.now.units.now ∷ book_input names.now.logs.now ∷ [])
         (choice.new.items ∷ units_text ∷ logs_text ∷ [])
         × Spell units_text choice.modules.items × Spells logs_text choice.book) }
-    ensures refused { IfErr result (λ refusal. (others : List Input) → AreUnread F.read_may_fail
+    ensures refused { IfErr result (λ refusal. (others : List Input) → HaveNotRead F.read_may_fail F.write_may_fail
         (F.state shelf.old) (F.state shelf.new)
         (new_file_input names.now.new.now ∷ units_input names.now.units.now ∷ book_input names.now.logs.now ∷ others)
         refusal) }
-    ensures never_falls { (F.state shelf.old).read_faults ≤ (F.state shelf.new).read_faults }
-    ensures files_stay { (F.state shelf.new).files ≡ (F.state shelf.old).files }
-    ensures no_write { (F.state shelf.new).write_faults ≡ (F.state shelf.old).write_faults }
 {
     let new = read_new_file(alloc, names.new, shelf)?;
     let modules = read_units(alloc, names.units, shelf)?;

@@ -3,8 +3,8 @@ ghost use Rattle.std.specs.Prelude.{◌≡◌, ◌≤◌, ◌++◌, ℕ, List, O
 ghost use Rattle.ci_block.specs.CustomWords.{HasNoCustomWord};
 ghost use Rattle.ci_machine.specs.Words.{AreBytes};
 ghost use Rattle.ci_calls.specs.Files.{optional_bytes, AreGiven, AreLatencies, input_bytes};
-ghost use Rattle.ci_calls.specs.Inputs.{Input, AreRead};
-ghost use Rattle.ci_calls.specs.Refused.{name_in, AreUnread};
+ghost use Rattle.ci_calls.specs.Reads.{HaveRead, HaveNotRead};
+ghost use Rattle.ci_calls.specs.Refused.{name_in};
 ghost use Rattle.ci_find.specs.Profiled.{IsProfiled, run_files};
 ghost use Rattle.ci_find.specs.Unprofiled.{IsUnprofiledCause};
 
@@ -63,14 +63,12 @@ pub fn read_run_files<'a, F: Shelf>(
 ) -> Result<RunFiles, Refusal<'a>>
     ensures read { IfOk result (λ files. (table_bytes : Option (List ℕ)) × (input_bytes_are : Option (List ℕ))
         × AreGiven (name_in table.entry) table_bytes × AreGiven (name_in input.entry) input_bytes_are
-        × AreRead (F.state shelf.old).files (run_files (name_in table.entry) (name_in input.entry))
+        × HaveRead F.read_may_fail F.write_may_fail (F.state shelf.old) (F.state shelf.new)
+        (run_files (name_in table.entry) (name_in input.entry))
         (optional_bytes table_bytes ++ optional_bytes input_bytes_are)
         × AreLatencies table_bytes files.table × (files.input.items ≡ input_bytes input_bytes_are)) }
-    ensures refused { IfErr result (AreUnread F.read_may_fail (F.state shelf.old) (F.state shelf.new)
+    ensures refused { IfErr result (HaveNotRead F.read_may_fail F.write_may_fail (F.state shelf.old) (F.state shelf.new)
         (run_files (name_in table.entry) (name_in input.entry))) }
-    ensures never_falls { (F.state shelf.old).read_faults ≤ (F.state shelf.new).read_faults }
-    ensures files_stay { (F.state shelf.new).files ≡ (F.state shelf.old).files }
-    ensures no_write { (F.state shelf.new).write_faults ≡ (F.state shelf.old).write_faults }
 {
     let table = read_table(alloc, table, shelf)?;
     let input = read_input(alloc, input, shelf)?;

@@ -1,17 +1,18 @@
 //! Which command the words mean, and what it makes of its files, or why it makes nothing.
-ghost use Rattle.std.specs.Prelude.{◌≡◌, ℕ, Bool, List, Option, IfOk, IfErr, map};
+ghost use Rattle.std.specs.Prelude.{◌≡◌, ℕ, Bool, List, IfOk, IfErr, map};
 ghost use Rattle.std.specs.String.{string_bytes};
 ghost use Rattle.ci_words.specs.Ranges.{KeepsRanges, KeepsPlaces};
 ghost use Rattle.ci_words.specs.Read.{reading_of};
-ghost use Rattle.ci_calls.specs.Evaluations.{Evaluates};
-ghost use Rattle.ci_calls.specs.Refused.{IsRefusedBy};
+ghost use Rattle.ci_calls.specs.Reads.{IsSuccessOf, IsRefusalOf};
 ghost use Rattle.ci_words.specs.declared.tables.OptionName.TheVariants as option;
 ghost use Rattle.ci_words.specs.Words.{words_set};
-ghost use Rattle.ci_find.specs.Commands.{inputs_by, settings_of, IsPlanOf, MakesBy, RefusesBy};
+ghost use Rattle.ci_find.specs.ChoiceReading.{settings_of, IsPlanOf};
+ghost use Rattle.ci_find.specs.Commands.{inputs_by, MakesBy, RefusesBy};
 ghost use Rattle.ci_find.specs.Chosen.{settings_by, KeepsChoiceRanges};
-ghost use Rattle.ci_find.specs.Endings.{IsDone};
-ghost use Rattle.ci_find.specs.Explained.{Explains};
-ghost use Rattle.ci_io.specs.Outcomes.{Files, ShelfState};
+ghost use Rattle.ci_find.specs.EndsBy.{IsDueBy, IsRefusalBy};
+ghost use Rattle.ci_io.specs.CallLists.{Call};
+ghost use Rattle.ci_io.specs.MadeCalls.{AreMade};
+ghost use Rattle.ci_io.specs.Outcomes.{ShelfState};
 
 use crate::check::{self, CheckNames};
 use crate::choice::ChoiceSettings;
@@ -33,11 +34,12 @@ pub fn evaluate<'a, F: Shelf>(
     words: &'a Vec<String>,
     shelf: &mut F,
 ) -> Result<Success<'a>, Refusal<'a>>
-    ensures done { IfOk result (IsDone (F.state shelf.old).files (map string_bytes words.now.items)) }
-    ensures refused { IfErr result
-        (Explains F.read_may_fail (F.state shelf.old) (F.state shelf.new) (map string_bytes words.now.items)) }
-    ensures files_stay { (F.state shelf.new).files ≡ (F.state shelf.old).files }
-    ensures no_write { (F.state shelf.new).write_faults ≡ (F.state shelf.old).write_faults }
+    ensures done { IfOk result (λ success. (reads : List Call)
+        × AreMade F.read_may_fail F.write_may_fail (F.state shelf.old) (F.state shelf.new) reads
+        × IsDueBy (map string_bytes words.now.items) reads success) }
+    ensures refused { IfErr result (λ refusal. (reads : List Call)
+        × AreMade F.read_may_fail F.write_may_fail (F.state shelf.old) (F.state shelf.new) reads
+        × IsRefusalBy (map string_bytes words.now.items) reads refusal) }
 {
     match read_words(alloc, words.as_slice()) {
         Ok(said) => evaluate_command(alloc, said.command(), &said, shelf),
@@ -55,12 +57,10 @@ fn evaluate_command<'a, F: Shelf>(
 ) -> Result<Success<'a>, Refusal<'a>>
     requires ranges { KeepsRanges command (reading_of words.now) }
     requires places { KeepsPlaces command (reading_of words.now) }
-    ensures made { IfOk result (Evaluates (F.state shelf.old).files
+    ensures made { IfOk result (IsSuccessOf F.read_may_fail F.write_may_fail (F.state shelf.old) (F.state shelf.new)
         (inputs_by command (reading_of words.now)) (MakesBy command (reading_of words.now))) }
-    ensures refused { IfErr result (IsRefusedBy F.read_may_fail (F.state shelf.old) (F.state shelf.new)
+    ensures refused { IfErr result (IsRefusalOf F.read_may_fail F.write_may_fail (F.state shelf.old) (F.state shelf.new)
         (inputs_by command (reading_of words.now)) (RefusesBy command (reading_of words.now))) }
-    ensures files_stay { (F.state shelf.new).files ≡ (F.state shelf.old).files }
-    ensures no_write { (F.state shelf.new).write_faults ≡ (F.state shelf.old).write_faults }
 {
     let file = words.name_at(0);
     match command {
@@ -86,12 +86,10 @@ fn evaluate_best<'a, F: Shelf>(
     shelf: &mut F,
 ) -> Result<Success<'a>, Refusal<'a>>
     requires { KeepsRanges CommandName.Best (reading_of words.now) }
-    ensures made { IfOk result (Evaluates (F.state shelf.old).files
+    ensures made { IfOk result (IsSuccessOf F.read_may_fail F.write_may_fail (F.state shelf.old) (F.state shelf.new)
         (inputs_by CommandName.Best (reading_of words.now)) (MakesBy CommandName.Best (reading_of words.now))) }
-    ensures refused { IfErr result (IsRefusedBy F.read_may_fail (F.state shelf.old) (F.state shelf.new)
+    ensures refused { IfErr result (IsRefusalOf F.read_may_fail F.write_may_fail (F.state shelf.old) (F.state shelf.new)
         (inputs_by CommandName.Best (reading_of words.now)) (RefusesBy CommandName.Best (reading_of words.now))) }
-    ensures files_stay { (F.state shelf.new).files ≡ (F.state shelf.old).files }
-    ensures no_write { (F.state shelf.new).write_faults ≡ (F.state shelf.old).write_faults }
 {
     let leaders = words.words(alloc, OptionName::Leader)?;
     let settings = BestSettings {
@@ -114,12 +112,10 @@ fn evaluate_run<'a, F: Shelf>(
     shelf: &mut F,
 ) -> Result<Success<'a>, Refusal<'a>>
     requires { KeepsRanges CommandName.Run (reading_of words.now) }
-    ensures made { IfOk result (Evaluates (F.state shelf.old).files
+    ensures made { IfOk result (IsSuccessOf F.read_may_fail F.write_may_fail (F.state shelf.old) (F.state shelf.new)
         (inputs_by CommandName.Run (reading_of words.now)) (MakesBy CommandName.Run (reading_of words.now))) }
-    ensures refused { IfErr result (IsRefusedBy F.read_may_fail (F.state shelf.old) (F.state shelf.new)
+    ensures refused { IfErr result (IsRefusalOf F.read_may_fail F.write_may_fail (F.state shelf.old) (F.state shelf.new)
         (inputs_by CommandName.Run (reading_of words.now)) (RefusesBy CommandName.Run (reading_of words.now))) }
-    ensures files_stay { (F.state shelf.new).files ≡ (F.state shelf.old).files }
-    ensures no_write { (F.state shelf.new).write_faults ≡ (F.state shelf.old).write_faults }
 {
     let settings = RunSettings {
         steps: words.number(OptionName::Steps),
@@ -137,12 +133,10 @@ fn evaluate_eval<'a, F: Shelf>(
     shelf: &mut F,
 ) -> Result<Success<'a>, Refusal<'a>>
     requires { KeepsPlaces CommandName.Eval (reading_of words.now) }
-    ensures made { IfOk result (Evaluates (F.state shelf.old).files
+    ensures made { IfOk result (IsSuccessOf F.read_may_fail F.write_may_fail (F.state shelf.old) (F.state shelf.new)
         (inputs_by CommandName.Eval (reading_of words.now)) (MakesBy CommandName.Eval (reading_of words.now))) }
-    ensures refused { IfErr result (IsRefusedBy F.read_may_fail (F.state shelf.old) (F.state shelf.new)
+    ensures refused { IfErr result (IsRefusalOf F.read_may_fail F.write_may_fail (F.state shelf.old) (F.state shelf.new)
         (inputs_by CommandName.Eval (reading_of words.now)) (RefusesBy CommandName.Eval (reading_of words.now))) }
-    ensures files_stay { (F.state shelf.new).files ≡ (F.state shelf.old).files }
-    ensures no_write { (F.state shelf.new).write_faults ≡ (F.state shelf.old).write_faults }
 {
     let number = words.number_at(1) as u32;
     let arguments = (words.word_at(2), words.word_at(3), words.word_at(4));
@@ -157,12 +151,10 @@ fn evaluate_find<'a, F: Shelf>(
 ) -> Result<Success<'a>, Refusal<'a>>
     requires ranges { KeepsRanges CommandName.Find (reading_of words.now) }
     requires places { KeepsPlaces CommandName.Find (reading_of words.now) }
-    ensures made { IfOk result (Evaluates (F.state shelf.old).files
+    ensures made { IfOk result (IsSuccessOf F.read_may_fail F.write_may_fail (F.state shelf.old) (F.state shelf.new)
         (inputs_by CommandName.Find (reading_of words.now)) (MakesBy CommandName.Find (reading_of words.now))) }
-    ensures refused { IfErr result (IsRefusedBy F.read_may_fail (F.state shelf.old) (F.state shelf.new)
+    ensures refused { IfErr result (IsRefusalOf F.read_may_fail F.write_may_fail (F.state shelf.old) (F.state shelf.new)
         (inputs_by CommandName.Find (reading_of words.now)) (RefusesBy CommandName.Find (reading_of words.now))) }
-    ensures files_stay { (F.state shelf.new).files ≡ (F.state shelf.old).files }
-    ensures no_write { (F.state shelf.new).write_faults ≡ (F.state shelf.old).write_faults }
 {
     let leaders = words.words(alloc, OptionName::Leader)?;
     let names = FindNames {
@@ -183,12 +175,10 @@ fn evaluate_check<'a, F: Shelf>(
 ) -> Result<Success<'a>, Refusal<'a>>
     requires ranges { KeepsRanges CommandName.Check (reading_of words.now) }
     requires places { KeepsPlaces CommandName.Check (reading_of words.now) }
-    ensures made { IfOk result (Evaluates (F.state shelf.old).files
+    ensures made { IfOk result (IsSuccessOf F.read_may_fail F.write_may_fail (F.state shelf.old) (F.state shelf.new)
         (inputs_by CommandName.Check (reading_of words.now)) (MakesBy CommandName.Check (reading_of words.now))) }
-    ensures refused { IfErr result (IsRefusedBy F.read_may_fail (F.state shelf.old) (F.state shelf.new)
+    ensures refused { IfErr result (IsRefusalOf F.read_may_fail F.write_may_fail (F.state shelf.old) (F.state shelf.new)
         (inputs_by CommandName.Check (reading_of words.now)) (RefusesBy CommandName.Check (reading_of words.now))) }
-    ensures files_stay { (F.state shelf.new).files ≡ (F.state shelf.old).files }
-    ensures no_write { (F.state shelf.new).write_faults ≡ (F.state shelf.old).write_faults }
 {
     let leaders = words.words(alloc, OptionName::Leader)?;
     let names = CheckNames {
@@ -203,10 +193,11 @@ fn evaluate_check<'a, F: Shelf>(
 /// What `load` makes of the seed that the words say.
 fn evaluate_load<'a>(alloc: Global, words: &Words<'a>) -> Result<Success<'a>, Refusal<'a>>
     requires { KeepsPlaces CommandName.Load (reading_of words.now) }
-    ensures made { (told : Option Files) → IfOk result (Evaluates told
+    ensures made { (read_may_fail write_may_fail : List ℕ → Bool) (shelf : ShelfState)
+        → IfOk result (IsSuccessOf read_may_fail write_may_fail shelf shelf
         (inputs_by CommandName.Load (reading_of words.now)) (MakesBy CommandName.Load (reading_of words.now))) }
-    ensures refused { (may_fail : List ℕ → Bool) (before after : ShelfState)
-        → IfErr result (IsRefusedBy may_fail before after
+    ensures refused { (read_may_fail write_may_fail : List ℕ → Bool) (shelf : ShelfState)
+        → IfErr result (IsRefusalOf read_may_fail write_may_fail shelf shelf
         (inputs_by CommandName.Load (reading_of words.now)) (RefusesBy CommandName.Load (reading_of words.now))) }
 {
     let seed = words.number_at(0) as u32;

@@ -10,8 +10,8 @@ ghost use Rattle.ci_select.specs.Histories.{is_take};
 ghost use Rattle.ci_select.specs.Instances.{AreOfSomeFile};
 ghost use Rattle.ci_select.specs.LegalBooks.{IsLegal};
 ghost use Rattle.ci_select.specs.UnitNumbers.{AreUnits};
-ghost use Rattle.ci_calls.specs.Evaluations.{Evaluates};
-ghost use Rattle.ci_calls.specs.Refused.{name_in, IsRefusedBy};
+ghost use Rattle.ci_calls.specs.Reads.{IsSuccessOf, IsRefusalOf};
+ghost use Rattle.ci_calls.specs.Refused.{name_in};
 ghost use Rattle.ci_find.specs.Profiled.{IsProfiled};
 ghost use Rattle.ci_find.specs.FindCommand.{find_inputs, is_spent, summary, summary_line, written};
 ghost use Rattle.ci_find.specs.FindCommand.{IsChoice, IsFindMade, IsFindRefused};
@@ -70,14 +70,12 @@ pub fn evaluate<'a, F: Shelf>(
     shelf: &mut F,
 ) -> Result<Success<'a>, Refusal<'a>>
     requires { settings.now.steps ≤ 4294967296 }
-    ensures made { IfOk result (Evaluates (F.state shelf.old).files
+    ensures made { IfOk result (IsSuccessOf F.read_may_fail F.write_may_fail (F.state shelf.old) (F.state shelf.new)
         (find_inputs file.now (name_in settings.now.table) (name_in settings.now.input))
         (IsFindMade (names_of names.now) (settings_by settings.now))) }
-    ensures refused { IfErr result (IsRefusedBy F.read_may_fail (F.state shelf.old) (F.state shelf.new)
+    ensures refused { IfErr result (IsRefusalOf F.read_may_fail F.write_may_fail (F.state shelf.old) (F.state shelf.new)
         (find_inputs file.now (name_in settings.now.table) (name_in settings.now.input))
         (IsFindRefused (settings_by settings.now))) }
-    ensures files_stay { (F.state shelf.new).files ≡ (F.state shelf.old).files }
-    ensures no_write { (F.state shelf.new).write_faults ≡ (F.state shelf.old).write_faults }
 {
     let image = read_image(alloc, file, shelf)?;
     let RunFiles { table, input } = read_run_files(alloc, settings.table, settings.input, shelf)?;

@@ -1,12 +1,18 @@
 //! The commands of the program.
 #![tactic(auto)]
 
-ghost use Rattle.std.specs.Prelude.{◌≡◌, ◌≢◌, ◌⊎◌, ℕ, [], ◌∷◌, Some, IfSome, Contains, map};
+ghost use Rattle.std.specs.Prelude.{◌≡◌, ◌≢◌, ◌⊎◌, ℕ, List, [], ◌∷◌, Some, IfSome, Contains, map};
 ghost use Rattle.std.specs.String.{string_bytes};
+ghost use Rattle.ci_io.specs.CallLists.{Call};
+ghost use Rattle.ci_io.specs.MadeCalls.{AreMade, ArePut};
 ghost use Rattle.ci_calls.specs.Finishing.{changed};
+ghost use Rattle.ci_find.specs.EndsBy.{AreLeftBy, EndsBy, HasCause, StaysBy};
 ghost use Rattle.ci_find.specs.Endings.{Ends, IsDue, IsAnswered};
 ghost use Rattle.ci_find.specs.Endings.{HasNoRefusal, HasNoFault, AreLeft, HasPrinted};
-ghost use Rattle.ci_find.specs.Headline.{AreChosen};
+ghost use Rattle.ci_find.specs.FirstFiles.{FirstFilesAreWhole};
+ghost use Rattle.ci_find.specs.Headline.{AreChosenBy};
+ghost use Rattle.ci_find.specs.HeadlineOverFiles.{AreChosenOver};
+ghost use Rattle.ci_find.specs.SinceCalls.{since};
 
 use ci_calls::{finish, refuse};
 use ci_io::{Shelf, Sink};
@@ -47,8 +53,10 @@ mod load;
 ///   program that uses their units, and puts a line of numbers and the output. It reads and writes no file.
 ///
 /// Files are read in the order that the words have them, then units, table, input, each with its limit and its form
-/// tested before the next; only what gives status 7, 8 or 11 is tested once all are read. Every refusal puts one fault
-/// line:
+/// tested before the next; only what gives status 7, 8 or 11 is tested once all are read. Nothing is written before all
+/// are read, and the text is put once all is written. The contract says so of the calls that are made on any shelf and
+/// any sink, by their names, their bytes and their answers, and of the files where the shelf tells them. Every refusal
+/// puts one fault line:
 ///
 /// - 1, `fault 1 usage`: the words have no reading.
 /// - 2, `fault 2 read NAME`: the file isn't there, or reading it failed.
@@ -70,7 +78,41 @@ mod load;
 /// - 12, `fault 12 no memory`: memory ran out.
 /// - 13, `fault 13 asm KIND LINE COLUMN`: the file holds no assembler text. Where it isn't UTF-8 the numbers are 1 1 1.
 pub fn run<F: Shelf, O: Sink>(alloc: Global, words: &Vec<String>, shelf: &mut F, out: &mut O) -> u8
-    // It ends as it has to, over the files that the shelf tells.
+    // Over every shelf and every sink: just the calls were made on them that their lists have since the call began.
+    ensures called { AreMade F.read_may_fail F.write_may_fail (F.state shelf.old) (F.state shelf.new)
+        (since (F.state shelf.old).calls (F.state shelf.new).calls) }
+    ensures put { ArePut (O.state out.old) (O.state out.new)
+        (since (O.state out.old).calls (O.state out.new).calls) }
+    // By these calls it ends as it has to.
+    ensures ends_by { EndsBy (map string_bytes words.now.items)
+        (since (F.state shelf.old).calls (F.state shelf.new).calls)
+        (since (O.state out.old).calls (O.state out.new).calls)
+        result }
+    // Another status than 0 and 12 has a cause: the refusal that is due, or a write or a put that failed.
+    ensures cause { HasCause (map string_bytes words.now.items)
+        (since (F.state shelf.old).calls (F.state shelf.new).calls)
+        (since (O.state out.old).calls (O.state out.new).calls)
+        result }
+    // A refusal writes nothing.
+    ensures no_write { StaysBy (since (F.state shelf.old).calls (F.state shelf.new).calls) result }
+    // Each write is of a whole file of the success that is due; where it isn't done, the status says so.
+    ensures writes { AreLeftBy (map string_bytes words.now.items)
+        (since (F.state shelf.old).calls (F.state shelf.new).calls)
+        (since (O.state out.old).calls (O.state out.new).calls)
+        result }
+    // Where `find` succeeds, the new executable with its units runs as the old one does, wherever that is tame; the
+    // profiled run is, and costs less by the gain in the line, where it ended otherwise than by a refused access; each
+    // unit computes the operations of its cut, and each cut that was taken is the best of its block as that stood then.
+    ensures headline { result ≡ 0 → AreChosenBy (map string_bytes words.now.items)
+        (since (F.state shelf.old).calls (F.state shelf.new).calls)
+        (since (O.state out.old).calls (O.state out.new).calls) }
+    // Where `find` stops at a write or at its put, or for want of memory, the files that it wrote before are the first
+    // of the four of a choice, each whole.
+    ensures first_files { FirstFilesAreWhole (map string_bytes words.now.items)
+        (since (F.state shelf.old).calls (F.state shelf.new).calls)
+        (since (O.state out.old).calls (O.state out.new).calls)
+        result }
+    // Over the files that the shelf tells, and what the sink tells that it took, it ends as it has to.
     ensures ends { Ends (map string_bytes words.now.items)
         (changed F.read_may_fail F.write_may_fail
         (F.state shelf.old) (F.state shelf.new) (O.state out.old) (O.state out.new))
@@ -91,11 +133,9 @@ pub fn run<F: Shelf, O: Sink>(alloc: Global, words: &Vec<String>, shelf: &mut F,
         (changed F.read_may_fail F.write_may_fail
         (F.state shelf.old) (F.state shelf.new) (O.state out.old) (O.state out.new))
         result }
-    // Where `find` succeeds, the new executable with its units runs as the old one does, wherever that is tame; the
-    // profiled run is, and costs less by the gain in the line, where it ended otherwise than by a refused access; each
-    // unit computes the operations of its cut, and each cut that was taken is the best of its block as that stood then.
-    ensures headline { result ≡ 0
-        → AreChosen (map string_bytes words.now.items) (F.state shelf.old).files (F.state shelf.new).files
+    // The headline of what the files held, and of what they hold.
+    ensures headline_over_files { result ≡ 0
+        → AreChosenOver (map string_bytes words.now.items) (F.state shelf.old).files (F.state shelf.new).files
         (O.state out.old) (O.state out.new) }
     // Where nothing is refused and nothing fails, the call succeeds, or memory runs out.
     ensures complete { HasNoRefusal (F.state shelf.old).files (map string_bytes words.now.items)
@@ -114,7 +154,11 @@ pub fn run<F: Shelf, O: Sink>(alloc: Global, words: &Vec<String>, shelf: &mut F,
 
 /// Makes what the words say, or refuses it, and tells the status.
 fn answer<F: Shelf, O: Sink>(alloc: Global, words: &Vec<String>, shelf: &mut F, out: &mut O) -> u8
-    ensures { Ends (map string_bytes words.now.items)
+    ensures called { (calls : List Call) × (puts : List Call)
+        × AreMade F.read_may_fail F.write_may_fail (F.state shelf.old) (F.state shelf.new) calls
+        × ArePut (O.state out.old) (O.state out.new) puts
+        × EndsBy (map string_bytes words.now.items) calls puts result }
+    ensures ends { Ends (map string_bytes words.now.items)
         (changed F.read_may_fail F.write_may_fail
         (F.state shelf.old) (F.state shelf.new) (O.state out.old) (O.state out.new))
         result }

@@ -1,3 +1,5 @@
 mod FilesOf
 mod RaisedCounter
 mod WithFile
+mod Walks
+pub mod CallLaws

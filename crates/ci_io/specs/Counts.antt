@@ -5,11 +5,6 @@ use Rattle.std.specs.Prelude.{ℕ, ◌+◌, ◌-◌, ◌^◌, min, List, Contain
 abbrev pub raised : ℕ → ℕ
 raised n = min (n + 1) (2 ^ 64 - 1)
 
--- how many reads and how many writes failed
-pub record FaultCounts : Type 0 where
-  pub reads : ℕ
-  pub writes : ℕ
-
 -- how many calls were made, and the numbers of the calls that are to fail; the first call has number 1
 pub record CallsMade : Type 0 where
   pub made : ℕ

@@ -3,3 +3,7 @@ pub mod Maps
 pub mod MemoryStates
 pub mod Outcomes
 pub mod Reads
+pub mod CallLists
+pub mod CallCodes
+pub mod Noted
+pub mod MadeCalls

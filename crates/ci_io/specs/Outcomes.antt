@@ -3,23 +3,27 @@ use Rattle.std.specs.Prelude.{◌≡◌, ℕ, ◌<◌, ◌-◌, ◌^◌, ◌⊎�
 use Rattle.std.specs.Ordering.{nat_cmp}
 use Rattle.std.specs.Cmp.Lexicographic.{slice_cmp}
 use Rattle.std.specs.FinMap as map
+use Rattle.ci_io.specs.CallLists.{Call}
 
 -- files by name: the bytes of each name that has some
 abbrev pub Files : Type 0
 Files = map.FinMap (slice_cmp nat_cmp) (List ℕ)
 
--- what is known of a shelf: its files by name, where it tells them, and how many reads and how many writes failed
+-- what is known of a shelf: its files by name, where it tells them, how many reads and how many writes failed, and the
+-- calls that were made on it, the first of them first
 pub record ShelfState : Type 0 where
   pub files : Option Files
   pub read_faults : ℕ
   pub write_faults : ℕ
+  pub calls : List Call
 
 -- What is known of a sink: the bytes that it took, where it tells them, how many puts failed, and how many ran out of
--- memory.
+-- memory; and the calls of `put`.
 pub record SinkState : Type 0 where
   pub taken : Option (List ℕ)
   pub faults : ℕ
   pub memory_faults : ℕ
+  pub calls : List Call
 
 -- A count of faults rose. A counter stays at its last value once it has reached it, and may have risen there.
 abbrev pub Rises : ℕ → ℕ → Type 0

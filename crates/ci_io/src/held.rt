@@ -2,6 +2,7 @@
 ghost use Rattle.std.specs.Prelude.{◌≡◌, ◌≢◌, ◌≤◌, OnOk, OnErr, IfOk, vec_len};
 ghost use Rattle.std.specs.FinMap as map;
 ghost use Rattle.ci_io.specs.Maps.{files_of};
+ghost use Rattle.ci_io.specs.CallLists.{answer_of};
 ghost use Rattle.ci_io.specs.Reads.{IsReadOf};
 
 use crate::ShelfErr;
@@ -17,7 +18,7 @@ pub fn read_held(
     name: &str,
     limit: u64,
 ) -> Result<Vec<u8>, ShelfErr>
-    ensures of_the_file { IsReadOf (files_of files.now) name.now limit result }
+    ensures of_the_file { IsReadOf (files_of files.now) name.now limit (answer_of result) }
     ensures within_limit { IfOk result (λ bytes. vec_len bytes ≤ limit) }
     ensures no_fault { result ≢ Err ShelfErr.Fault }
 {

@@ -9,7 +9,9 @@ pub use system::{FileShelf, StdSink};
 
 mod calls;
 mod held;
+mod histories;
 mod memory;
+mod replacing;
 mod shelves;
 mod sinks;
 mod sure;

@@ -1,8 +1,9 @@
 //! A shelf of files.
 ghost use Rattle.std.specs.Prelude.{◌≡◌, ◌≢◌, ℕ, ◌≤◌, Bool, IsTrue, List, Option, None, Some, IfSome, IfOk, OnOk};
-ghost use Rattle.std.specs.Prelude.{OnErr, IsErrOf, vec_len};
+ghost use Rattle.std.specs.Prelude.{OnErr, IsErrOf, vec_len, [], ◌∷◌, ◌++◌};
 ghost use Rattle.std.specs.Option.{option_map};
 ghost use Rattle.ci_io.specs.Outcomes.{ShelfState, Rises, with_file};
+ghost use Rattle.ci_io.specs.CallLists.{read as made_read, write as made_write, answer_of};
 ghost use Rattle.ci_io.specs.Reads.{IsReadOf};
 
 use std::alloc::Global;
@@ -20,11 +21,12 @@ pub enum ShelfErr {
     NoMemory,
 }
 
-/// Files by name, and two counts of faults, of reads and of writes.
+/// Files by name, two counts of faults, of reads and of writes, and the calls that were made.
 ///
-/// A shelf may tell its files, as one in memory does. Of one over real files nothing is known.
+/// A shelf may tell its files, as one in memory does. Of one over real files only the calls are known: what was asked,
+/// and what was answered.
 pub trait Shelf {
-    /// The files by name, where the shelf tells them, and how many reads and how many writes failed.
+    /// The files by name, where the shelf tells them, how many reads and how many writes failed, and the calls so far.
     ghost state: { Self → ShelfState };
 
     /// Whether reading the file of a name may fail.
@@ -40,8 +42,11 @@ pub trait Shelf {
     /// `Absent` where the shelf tells its files and none has the name; `TooLarge` where the file has more than `limit`
     /// bytes; `Fault` where reading failed; `NoMemory`.
     fn read(&mut self, alloc: Global, name: &str, limit: u64) -> Result<Vec<u8>, ShelfErr>
+        // The calls grow by this one, with its answer.
+        ensures called { (state self.new).calls
+            ≡ (state self.old).calls ++ made_read name.now limit (answer_of result) ∷ [] }
         // Where the shelf tells its files, the answer is that of the name's file.
-        ensures of_the_file { IfSome (state self.old).files (λ held. IsReadOf held name.now limit result) }
+        ensures of_the_file { IfSome (state self.old).files (λ held. IsReadOf held name.now limit (answer_of result)) }
         ensures within_limit { IfOk result (λ bytes. vec_len bytes ≤ limit) }
         ensures absent_where_told { IsErrOf result ShelfErr.Absent → (state self.old).files ≢ None }
         ensures fault_where_it_may { IsErrOf result ShelfErr.Fault → IsTrue (read_may_fail name.now) }
@@ -53,13 +58,16 @@ pub trait Shelf {
         ensures files_stay { (state self.new).files ≡ (state self.old).files }
         ensures writes_stay { (state self.new).write_faults ≡ (state self.old).write_faults };
 
-    /// Makes the name hold exactly these bytes. All other files stay.
+    /// Makes the name hold exactly these bytes. All other files stay, where the shelf tells its files.
     ///
     /// # Errors
     ///
     /// `Fault` where writing failed, and then the name holds any bytes or nothing; `NoMemory`, and then no file
     /// changed. No other error comes.
     fn write(&mut self, alloc: Global, name: &str, bytes: &[u8]) -> Result<(), ShelfErr>
+        // The calls grow by this one, with its outcome.
+        ensures called { (state self.new).calls
+            ≡ (state self.old).calls ++ made_write name.now bytes.now result ∷ [] }
         ensures ok { OnOk result ((state self.new).files
             ≡ option_map (with_file name.now (Some bytes.now)) (state self.old).files) }
         ensures fault { IsErrOf result ShelfErr.Fault → (content : Option (List ℕ))

@@ -1,6 +1,7 @@
 //! A sink of output bytes.
-ghost use Rattle.std.specs.Prelude.{◌≡◌, ◌≢◌, ℕ, ◌≤◌, ◌++◌, take, Err, OnOk, IsErrOf};
+ghost use Rattle.std.specs.Prelude.{◌≡◌, ◌≢◌, ℕ, ◌≤◌, ◌++◌, [], ◌∷◌, take, Err, OnOk, IsErrOf};
 ghost use Rattle.std.specs.Option.{option_map};
+ghost use Rattle.ci_io.specs.CallLists.{put as made_put};
 ghost use Rattle.ci_io.specs.Outcomes.{SinkState, Rises};
 
 /// Why a sink did not take all bytes.
@@ -16,7 +17,8 @@ pub enum SinkErr {
 ///
 /// A sink may tell the bytes that it took, as one in memory does. Of standard output nothing is known.
 pub trait Sink {
-    /// The bytes taken so far, where the sink tells them, how many puts failed, and how many ran out of memory.
+    /// The bytes taken so far, where the sink tells them, how many puts failed, how many ran out of memory, and the
+    /// calls so far.
     ghost state: { Self → SinkState };
 
     /// Takes all the bytes.
@@ -26,6 +28,8 @@ pub trait Sink {
     /// `Fault` where writing failed, and then only the first of the bytes, some or none, were taken; `NoMemory`, and
     /// then none was.
     fn put(&mut self, bytes: &[u8]) -> Result<(), SinkErr>
+        // The calls grow by this one, with its outcome.
+        ensures called { (state self.new).calls ≡ (state self.old).calls ++ made_put bytes.now result ∷ [] }
         ensures ok { OnOk result ((state self.new).taken
             ≡ option_map (λ before. before ++ bytes.now) (state self.old).taken) }
         ensures fault { IsErrOf result SinkErr.Fault → (n : ℕ)

@@ -1,11 +1,16 @@
 //! The program: hands the words and the system's files and output to `ci_find::run`.
 #![tactic(auto)]
 
-ghost use Rattle.std.specs.Prelude.{map};
+ghost use Rattle.std.specs.Prelude.{◌≡◌, map};
 ghost use Rattle.std.specs.String.{string_bytes};
 ghost use Rattle.std.specs.Process.{exit_status};
+ghost use Rattle.ci_io.specs.MadeCalls.{AreMade, ArePut};
 ghost use Rattle.ci_calls.specs.Finishing.{changed};
+ghost use Rattle.ci_find.specs.EndsBy.{EndsBy};
 ghost use Rattle.ci_find.specs.Endings.{Ends};
+ghost use Rattle.ci_find.specs.FirstFiles.{FirstFilesAreWhole};
+ghost use Rattle.ci_find.specs.Headline.{AreChosenBy};
+ghost use Rattle.ci_find.specs.SinceCalls.{since};
 
 use ci_find::run;
 use ci_io::{FileShelf, Shelf, Sink, StdSink};
@@ -44,7 +49,27 @@ fn exit_code<F: Shelf, O: Sink>(
     shelf: &mut F,
     out: &mut O,
 ) -> ExitCode
-    ensures { Ends (map string_bytes words.now.items)
+    // Over every shelf and every sink: just these calls were made on them.
+    ensures called { AreMade F.read_may_fail F.write_may_fail (F.state shelf.old) (F.state shelf.new)
+        (since (F.state shelf.old).calls (F.state shelf.new).calls) }
+    ensures put { ArePut (O.state out.old) (O.state out.new)
+        (since (O.state out.old).calls (O.state out.new).calls) }
+    // By these calls it ends as it has to.
+    ensures ends_by { EndsBy (map string_bytes words.now.items)
+        (since (F.state shelf.old).calls (F.state shelf.new).calls)
+        (since (O.state out.old).calls (O.state out.new).calls)
+        (exit_status result) }
+    // Where `find` succeeds, the headline holds of the bytes in them.
+    ensures headline { exit_status result ≡ 0 → AreChosenBy (map string_bytes words.now.items)
+        (since (F.state shelf.old).calls (F.state shelf.new).calls)
+        (since (O.state out.old).calls (O.state out.new).calls) }
+    // Where `find` stops at a write or at its put, the files that it wrote before are whole.
+    ensures first_files { FirstFilesAreWhole (map string_bytes words.now.items)
+        (since (F.state shelf.old).calls (F.state shelf.new).calls)
+        (since (O.state out.old).calls (O.state out.new).calls)
+        (exit_status result) }
+    // Over the files that the shelf tells, and what the sink tells that it took, it ends as it has to.
+    ensures ends { Ends (map string_bytes words.now.items)
         (changed F.read_may_fail F.write_may_fail
         (F.state shelf.old) (F.state shelf.new) (O.state out.old) (O.state out.new))
         (exit_status result) }

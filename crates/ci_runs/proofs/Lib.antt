@@ -10,3 +10,4 @@ pub mod Bound
 pub mod Accounts
 pub mod WholeRuns
 pub mod FoldedFileLaws
+mod Rows

@@ -1,7 +1,7 @@
 //! The file with the block.
-ghost use Rattle.std.specs.Prelude.{◌≡◌, ◌≤◌, ◌∷◌, ℕ, List, IfOk, IfErr, length};
-ghost use Rattle.ci_calls.specs.Inputs.{Input, IsGood};
-ghost use Rattle.ci_calls.specs.Refused.{AreUnread};
+ghost use Rattle.std.specs.Prelude.{[], ◌∷◌, ℕ, List, IfOk, IfErr};
+ghost use Rattle.ci_calls.specs.Inputs.{Input};
+ghost use Rattle.ci_calls.specs.Reads.{HaveRead, HaveNotRead};
 ghost use Rattle.ci_commands.specs.BestCommand.{block_input};
 ghost use Rattle.ci_commands.specs.BlockFiles.{IsFileOf, IsWithinLimit};
 
@@ -30,13 +30,12 @@ pub fn read_block_file<'a, F: Shelf>(
     shelf: &mut F,
 ) -> Result<BlockFile, Refusal<'a>>
     ensures read { IfOk result (λ file. (bytes : List ℕ)
-        × IsGood (F.state shelf.old).files (block_input at name.now) bytes × IsFileOf at bytes file) }
+        × HaveRead F.read_may_fail F.write_may_fail (F.state shelf.old) (F.state shelf.new)
+        (block_input at name.now ∷ []) (bytes ∷ []) × IsFileOf at bytes file) }
     ensures within_limit { IfOk result IsWithinLimit }
-    ensures refused { IfErr result (λ refusal. (others : List Input) → AreUnread F.read_may_fail
+    // Whatever files come after it.
+    ensures refused { IfErr result (λ refusal. (others : List Input) → HaveNotRead F.read_may_fail F.write_may_fail
         (F.state shelf.old) (F.state shelf.new) (block_input at name.now ∷ others) refusal) }
-    ensures never_falls { (F.state shelf.old).read_faults ≤ (F.state shelf.new).read_faults }
-    ensures files_stay { (F.state shelf.new).files ≡ (F.state shelf.old).files }
-    ensures no_write { (F.state shelf.new).write_faults ≡ (F.state shelf.old).write_faults }
 {
     match at {
         Some(address) => {

@@ -4,4 +4,5 @@ use Rattle.ci_calls.proofs.inputs.read_input.Goals as goal
 
 pub returns-in-Some-clause-read : goal.returns-in-Some-clause-read
 returns-in-Some-clause-read g c =
-    rw c.in-Some.is (input_given _ _ c.read_file.result c.read_file.ensures.there c.read_file.ensures.within_limit)
+    rw c.in-Some.is (input_given g.F.Shelf.read_may_fail g.F.Shelf.write_may_fail _ _ _ c.read_file.result
+    c.read_file.ensures.read c.read_file.ensures.within_limit)

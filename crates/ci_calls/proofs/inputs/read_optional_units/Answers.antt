@@ -6,4 +6,4 @@ pub returns-in_ok-read_units-in-Some-clause-read :
     goal.returns-in_ok-read_units-in-Some-clause-read
 returns-in_ok-read_units-in-Some-clause-read g c =
     let read = c.in_ok-read_units-in-Some.ensures.read in
-    rw c.in-Some.is (Some read.0, refl, (read.1, tt), read.2)
+    rw c.in-Some.is (Some read.0, refl, read.1, read.2)

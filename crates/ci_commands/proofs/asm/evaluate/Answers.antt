@@ -1,7 +1,7 @@
 -- The words of the text that the file holds, or its first fault.
 use Rattle.std.proofs.Common.{[], ◌∷◌, inl, refl}
 use Rattle.std.proofs.lemmas.Result.{err_from_is_err_and}
-use Rattle.ci_calls.proofs.InputLaws.{one_read}
+use Rattle.ci_calls.proofs.InputLaws.{one_read, read_without_memory}
 use Rattle.ci_commands.proofs.Causes.{unread_text}
 use Rattle.ci_commands.proofs.asm.evaluate.Goals as goal
 
@@ -9,18 +9,28 @@ pub returns-in_err-bytes-clause-refused : goal.returns-in_err-bytes-clause-refus
 returns-in_err-bytes-clause-refused g c =
     let p = err_from_is_err_and c.from_residual-in_err-bytes.result c.from_residual-in_err-bytes.ensures.1 in
     let bad = rw c.as_slice.ensures.value at c.in_err-bytes.ensures.fault in
-    let read = c.in_ok-read.ensures in
+    let file = c.in_ok-read.ensures in
     rw (p.1, p.2) (inl
-    (unread_text g.F.Shelf.read_may_fail (g.F.Shelf.state c.args.shelf.now) (g.F.Shelf.state c.read_file.new.shelf)
-    c.args.text.now c.in_ok-read.read.items read.there read.within_limit c.in_err-bytes.field-0.0 bad))
+    (unread_text g.F.Shelf.read_may_fail g.F.Shelf.write_may_fail (g.F.Shelf.state c.args.shelf.now)
+    (g.F.Shelf.state c.read_file.new.shelf) c.args.text.now c.in_ok-read.read.items file.read file.within_limit
+    c.in_err-bytes.field-0.0 bad))
+
+pub returns-in_err-vec-clause-refused : goal.returns-in_err-vec-clause-refused
+returns-in_err-vec-clause-refused g c =
+    let p = err_from_is_err_and c.from_residual-in_err-vec.result c.from_residual-in_err-vec.ensures.1 in
+    let assembled = rw c.as_slice.ensures.value at c.in_ok-bytes.ensures.bytes in
+    let file = c.in_ok-read.ensures in
+    rw (p.1, p.2) (inl (read_without_memory _ _ _ _ _ _
+    (one_read _ _ _ _ _ c.in_ok-read.read.items file.read file.within_limit (assembled.0, assembled.1))))
 
 pub returns-clause-made : goal.returns-clause-made
 returns-clause-made g c =
     let bytes = c.in_ok-read.read.items in
     let assembled = rw c.as_slice.ensures.value at c.in_ok-bytes.ensures.bytes in
+    let file = c.in_ok-read.ensures in
     record {
-      read = bytes ∷ [];
-      files = one_read _ _ bytes c.in_ok-read.ensures.there c.in_ok-read.ensures.within_limit (assembled.0, assembled.1);
+      answered = bytes ∷ [];
+      read = one_read _ _ _ _ _ bytes file.read file.within_limit (assembled.0, assembled.1);
       made = record {
         bytes = bytes;
         words = assembled.0;

@@ -1,12 +1,10 @@
 -- The line of the best cut of the block that the file holds, or why it holds none.
-use Rattle.std.proofs.Common.{[], ◌∷◌, append-nil, ℕ, List, Option, inl, refl, subst}
+use Rattle.std.proofs.Common.{[], ◌∷◌, append-nil, inl, refl}
 use Rattle.std.proofs.lemmas.Result.{err_from_is_err_and}
-use Rattle.ci_io.specs.Outcomes.{Files}
 use Rattle.ci_calls.specs.Files.{table_input, optional_input, optional_bytes}
 use Rattle.ci_calls.specs.Refused.{name_in}
-use Rattle.ci_calls.specs.Inputs.{AreRead}
-use Rattle.ci_calls.proofs.InputLaws.{unread_behind}
-use Rattle.ci_commands.specs.BestCommand.{best_inputs, block_input, HoldsNoBlock, IsBestRefused}
+use Rattle.ci_calls.proofs.InputLaws.{HaveRead-append, unread_behind}
+use Rattle.ci_commands.specs.BestCommand.{best_inputs, HoldsNoBlock, IsBestRefused}
 use Rattle.ci_commands.proofs.Causes.{refused_by}
 use Rattle.ci_commands.proofs.best.evaluate.Goals as goal
 
@@ -18,50 +16,38 @@ returns-in_err-block-clause-refused g c =
 pub returns-in_err-table-clause-refused : goal.returns-in_err-table-clause-refused
 returns-in_err-table-clause-refused g c =
     let p = err_from_is_err_and c.from_residual-in_err-table.result c.from_residual-in_err-table.ensures.1 in
-    let file = c.in_ok-block.ensures in
-    let settings = c.args.settings.now in
-    rw (p.1, p.2) (inl
-    (unread_behind g.F.Shelf.read_may_fail (g.F.Shelf.state c.args.shelf.now) (g.F.Shelf.state c.read_block_file.new.shelf)
-    (g.F.Shelf.state c.read_table.new.shelf) (block_input settings.at c.args.file.now ∷ [])
-    (optional_input table_input (name_in settings.table)) (file.read.0 ∷ []) c.in_err-table.field-0.0 file.files_stay
-    file.never_falls (file.read.1, tt) (rw append-nil at (c.in_err-table.ensures.refused []))))
+    rw (p.1, p.2) (inl (unread_behind _ _ _ _ _ _ _ _ _ c.in_ok-block.ensures.read.1
+    (rw append-nil at (c.in_err-table.ensures.refused []))))
 
 pub returns-in_err-line-clause-refused : goal.returns-in_err-line-clause-refused
 returns-in_err-line-clause-refused g c =
     let p = err_from_is_err_and c.from_residual-in_err-line.result c.from_residual-in_err-line.ensures.1 in
-    let file = c.in_ok-block.ensures in
+    let file = c.in_ok-block.ensures.read in
     let table = c.in_ok-table.ensures.read in
     let settings = c.args.settings.now in
-    let bytes : List ℕ = file.read.0 in
-    let inputs = optional_input table_input (name_in settings.table) in
     rw (p.1, p.2)
-    (refused_by g.F.Shelf.read_may_fail (g.F.Shelf.state c.args.shelf.now) (g.F.Shelf.state c.read_table.new.shelf)
-    (best_inputs settings.at c.args.file.now (name_in settings.table)) (bytes ∷ optional_bytes table.0)
-    (file.read.1, subst (λ (told : Option Files). AreRead told inputs (optional_bytes table.0)) file.files_stay table.2)
-    (IsBestRefused settings.at settings.leaders.now) (HoldsNoBlock settings.at settings.leaders.now bytes)
+    (refused_by g.F.Shelf.read_may_fail g.F.Shelf.write_may_fail (g.F.Shelf.state c.args.shelf.now)
+    (g.F.Shelf.state c.read_table.new.shelf) (best_inputs settings.at c.args.file.now (name_in settings.table))
+    (file.0 ∷ optional_bytes table.0) (HaveRead-append _ _ _ _ _ _ _ _ _ file.1 table.2)
+    (IsBestRefused settings.at settings.leaders.now) (HoldsNoBlock settings.at settings.leaders.now file.0)
     (λ refusal unsupported. record {
-      bytes = bytes;
+      bytes = file.0;
       others = optional_bytes table.0;
       read_is = refl;
       unsupported = unsupported;
     })
-    c.in_err-line.field-0.0 (c.in_err-line.ensures.cause settings.at bytes file.read.2))
+    c.in_err-line.field-0.0 (c.in_err-line.ensures.cause settings.at file.0 file.2))
 
 pub returns-clause-made : goal.returns-clause-made
 returns-clause-made g c =
-    let file = c.in_ok-block.ensures in
+    let file = c.in_ok-block.ensures.read in
     let table = c.in_ok-table.ensures.read in
-    let settings = c.args.settings.now in
-    let found = c.in_ok-line.ensures.done settings.at file.read.0 file.read.2 in
-    let inputs = optional_input table_input (name_in settings.table) in
+    let found = c.in_ok-line.ensures.done c.args.settings.now.at file.0 file.2 in
     record {
-      read = file.read.0 ∷ optional_bytes table.0;
-      files = (
-        file.read.1,
-        subst (λ (told : Option Files). AreRead told inputs (optional_bytes table.0)) file.files_stay table.2,
-      );
+      answered = file.0 ∷ optional_bytes table.0;
+      read = HaveRead-append _ _ _ _ _ _ _ _ _ file.1 table.2;
       made = record {
-        bytes = file.read.0;
+        bytes = file.0;
         table = table.0;
         read_is = refl;
         table_given = table.1;

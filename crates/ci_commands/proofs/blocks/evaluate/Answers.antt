@@ -16,8 +16,9 @@ returns-in_err-text-clause-refused g c =
     let p = err_from_is_err_and c.from_residual-in_err-text.result c.from_residual-in_err-text.ensures.1 in
     let image = c.in_ok-image.ensures.read in
     rw (p.1, p.2)
-    (refused_by g.F.Shelf.read_may_fail (g.F.Shelf.state c.args.shelf.now) (g.F.Shelf.state c.read_image.new.shelf)
-    (blocks_inputs c.args.file.now) (image.0 ∷ []) (image.1, tt) IsBlocksRefused (IsFirstCustomWord c.in_ok-image.image)
+    (refused_by g.F.Shelf.read_may_fail g.F.Shelf.write_may_fail (g.F.Shelf.state c.args.shelf.now)
+    (g.F.Shelf.state c.read_image.new.shelf) (blocks_inputs c.args.file.now) (image.0 ∷ []) image.1 IsBlocksRefused
+    (IsFirstCustomWord c.in_ok-image.image)
     (λ refusal custom. record { bytes = image.0; read_is = refl; file = c.in_ok-image.image; file_is = image.2; custom = custom })
     c.in_err-text.field-0.0 c.in_err-text.ensures.cause)
 
@@ -25,8 +26,8 @@ pub returns-clause-made : goal.returns-clause-made
 returns-clause-made g c =
     let image = c.in_ok-image.ensures.read in
     record {
-      read = image.0 ∷ [];
-      files = (image.1, tt);
+      answered = image.0 ∷ [];
+      read = image.1;
       made = record {
         bytes = image.0;
         read_is = refl;

@@ -1,14 +1,22 @@
 -- The listing of the words that the file holds.
-use Rattle.std.proofs.Common.{[], ◌∷◌, refl}
-use Rattle.ci_calls.proofs.InputLaws.{one_read}
+use Rattle.std.proofs.Common.{[], ◌∷◌, inl, refl}
+use Rattle.std.proofs.lemmas.Result.{err_from_is_err_and}
+use Rattle.ci_calls.proofs.InputLaws.{one_read, read_without_memory}
 use Rattle.ci_commands.proofs.dis.evaluate.Goals as goal
+
+pub returns-in_err-text-clause-refused : goal.returns-in_err-text-clause-refused
+returns-in_err-text-clause-refused g c =
+    let p = err_from_is_err_and c.from_residual-in_err-text.result c.from_residual-in_err-text.ensures.1 in
+    let file = c.in_ok-bytes.ensures in
+    rw (p.1, p.2) (inl (read_without_memory _ _ _ _ _ _
+    (one_read _ _ _ _ _ c.in_ok-bytes.bytes.items file.read file.within_limit tt)))
 
 pub returns-clause-made : goal.returns-clause-made
 returns-clause-made g c =
     let bytes = c.in_ok-bytes.bytes.items in
     record {
-      read = bytes ∷ [];
-      files = one_read _ _ bytes c.in_ok-bytes.ensures.there c.in_ok-bytes.ensures.within_limit tt;
+      answered = bytes ∷ [];
+      read = one_read _ _ _ _ _ bytes c.in_ok-bytes.ensures.read c.in_ok-bytes.ensures.within_limit tt;
       made = record {
         bytes = bytes;
         read_is = refl;

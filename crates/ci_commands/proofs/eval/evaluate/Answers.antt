@@ -3,6 +3,7 @@ use Rattle.std.proofs.Common.{[], ◌∷◌, inl, inr, length, refl, arith}
 use Rattle.std.proofs.lemmas.Bool.Decides.{nat_tests}
 use Rattle.std.proofs.lemmas.Option.{slice_get_read}
 use Rattle.std.proofs.lemmas.Result.{err_from_is_err_and}
+use Rattle.ci_calls.proofs.InputLaws.{read_without_memory}
 use Rattle.ci_commands.proofs.eval.evaluate.Goals as goal
 
 pub returns-in_err-modules-clause-refused : goal.returns-in_err-modules-clause-refused
@@ -14,8 +15,8 @@ pub returns-in_default-clause-refused : goal.returns-in_default-clause-refused
 returns-in_default-clause-refused g c =
     let file = c.in_ok-modules.ensures.read in
     inr (record {
-      read = file.0 ∷ [];
-      files = (file.1, tt);
+      answered = file.0 ∷ [];
+      read = file.1;
       refused = record {
         bytes = file.0;
         read_is = refl;
@@ -25,14 +26,19 @@ returns-in_default-clause-refused g c =
       };
     })
 
+pub returns-in_err-text-clause-refused : goal.returns-in_err-text-clause-refused
+returns-in_err-text-clause-refused g c =
+    let p = err_from_is_err_and c.from_residual-in_err-text.result c.from_residual-in_err-text.ensures.1 in
+    rw (p.1, p.2) (inl (read_without_memory _ _ _ _ _ _ c.in_ok-modules.ensures.read.1))
+
 pub returns-clause-made : goal.returns-clause-made
 returns-clause-made g c =
     let file = c.in_ok-modules.ensures.read in
     let modules = c.in_ok-modules.modules.items in
     let found = rw c.deref.ensures.value at c.in-Some.ensures.lookup in
     record {
-      read = file.0 ∷ [];
-      files = (file.1, tt);
+      answered = file.0 ∷ [];
+      read = file.1;
       made = record {
         bytes = file.0;
         read_is = refl;

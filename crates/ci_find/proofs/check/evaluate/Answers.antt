@@ -1,12 +1,11 @@
 -- That the files of a choice are accepted, or the first file that is not read, or why they are refused.
-use Rattle.std.proofs.Common.{[], ◌∷◌, ◌++◌, ◌∙◌, ℕ, List, Option, Ok, arith, inl, subst, sym, ◌≤◌}
+use Rattle.std.proofs.Common.{[], ◌∷◌, ◌++◌, ℕ, List, Ok, inl, subst, sym}
 use Rattle.std.proofs.lemmas.Result.{err_from_is_err_and}
-use Rattle.ci_io.specs.Outcomes.{Files}
 use Rattle.ci_elf.specs.Rules.{IsReadAs}
 use Rattle.ci_calls.specs.Files.{book_input, executable_input, new_file_input, units_input, optional_bytes}
-use Rattle.ci_calls.specs.Inputs.{AreRead}
+use Rattle.ci_calls.specs.Reads.{HaveRead}
 use Rattle.ci_calls.specs.Refused.{name_in}
-use Rattle.ci_calls.proofs.InputLaws.{unread_behind}
+use Rattle.ci_calls.proofs.InputLaws.{HaveRead-append, unread_behind}
 use Rattle.ci_find.specs.Chosen.{check_names_of, settings_by}
 use Rattle.ci_find.specs.CheckCommand.{check_inputs}
 use Rattle.ci_find.specs.Profiled.{run_files, RunFiles, IsProfiled, Profiled}
@@ -22,7 +21,8 @@ bytes_of_run g c = optional_bytes c.in_ok-table.ensures.read.0 ++ optional_bytes
 
 -- all files of the command are read
 all_files : (g : Over) (c : In_ok-table g)
-    → AreRead (g.F.Shelf.state c.args.shelf.now).files
+    → HaveRead g.F.Shelf.read_may_fail g.F.Shelf.write_may_fail (g.F.Shelf.state c.args.shelf.now)
+    (g.F.Shelf.state c.read_run_files.new.shelf)
     (check_inputs c.args.file.now (check_names_of c.args.names.now) (name_in c.args.settings.now.table)
     (name_in c.args.settings.now.input))
     (c.in_ok-image.ensures.read.0 ∷ c.in_ok-choice.choice.new.items ∷ c.in_ok-choice.ensures.read.0
@@ -30,16 +30,15 @@ all_files : (g : Over) (c : In_ok-table g)
 all_files g c =
     let names = c.args.names.now in
     let settings = c.args.settings.now in
-    let image = c.in_ok-image.ensures in
-    let choice = c.in_ok-choice.ensures in
-    let run = c.in_ok-table.ensures.read in
-    all_read (g.F.Shelf.state c.args.shelf.now).files (g.F.Shelf.state c.read_image.new.shelf).files
-    (g.F.Shelf.state c.read_choice.new.shelf).files image.files_stay (choice.files_stay ∙ image.files_stay)
-    (executable_input c.args.file.now)
+    let image = c.in_ok-image.ensures.read in
+    let choice = c.in_ok-choice.ensures.read in
+    all_read g.F.Shelf.read_may_fail g.F.Shelf.write_may_fail (g.F.Shelf.state c.args.shelf.now)
+    (g.F.Shelf.state c.read_image.new.shelf) (g.F.Shelf.state c.read_choice.new.shelf)
+    (g.F.Shelf.state c.read_run_files.new.shelf) (executable_input c.args.file.now)
     (new_file_input names.new.now ∷ units_input names.units.now ∷ book_input names.logs.now ∷ [])
-    (run_files (name_in settings.table) (name_in settings.input)) image.read.0
-    (c.in_ok-choice.choice.new.items ∷ choice.read.0 ∷ choice.read.1 ∷ []) (bytes_of_run g c) image.read.1 choice.read.2
-    run.4
+    (run_files (name_in settings.table) (name_in settings.input)) image.0
+    (c.in_ok-choice.choice.new.items ∷ choice.0 ∷ choice.1 ∷ []) (bytes_of_run g c) image.1 choice.2
+    c.in_ok-table.ensures.read.4
 
 -- what the executable, the table and the input say
 abbrev run_of : (g : Over) (c : In_ok-table g)
@@ -78,38 +77,35 @@ returns-in_err-choice-clause-refused g c =
     let p = err_from_is_err_and c.from_residual-in_err-choice.result c.from_residual-in_err-choice.ensures.1 in
     let names = c.args.names.now in
     let settings = c.args.settings.now in
-    let image = c.in_ok-image.ensures in
-    let bytes : List ℕ = image.read.0 in
+    let image = c.in_ok-image.ensures.read in
+    let bytes : List ℕ = image.0 in
     let files = run_files (name_in settings.table) (name_in settings.input) in
     rw (p.1, p.2)
-    (inl (unread_behind g.F.Shelf.read_may_fail (g.F.Shelf.state c.args.shelf.now)
+    (inl (unread_behind g.F.Shelf.read_may_fail g.F.Shelf.write_may_fail (g.F.Shelf.state c.args.shelf.now)
     (g.F.Shelf.state c.read_image.new.shelf) (g.F.Shelf.state c.read_choice.new.shelf)
     (executable_input c.args.file.now ∷ [])
     (new_file_input names.new.now ∷ units_input names.units.now ∷ book_input names.logs.now ∷ files)
-    (bytes ∷ []) c.in_err-choice.field-0.0 image.files_stay image.never_falls (image.read.1, tt)
-    (c.in_err-choice.ensures.refused files)))
+    (bytes ∷ []) c.in_err-choice.field-0.0 image.1 (c.in_err-choice.ensures.refused files)))
 
 pub returns-in_err-table-clause-refused : goal.returns-in_err-table-clause-refused
 returns-in_err-table-clause-refused g c =
     let p = err_from_is_err_and c.from_residual-in_err-table.result c.from_residual-in_err-table.ensures.1 in
     let names = c.args.names.now in
     let settings = c.args.settings.now in
-    let image = c.in_ok-image.ensures in
-    let choice = c.in_ok-choice.ensures in
-    let held = c.in_ok-choice.choice in
-    let bytes : List ℕ = image.read.0 in
+    let image = c.in_ok-image.ensures.read in
+    let choice = c.in_ok-choice.ensures.read in
+    let bytes : List ℕ = image.0 in
     let inputs = new_file_input names.new.now ∷ units_input names.units.now ∷ book_input names.logs.now ∷ [] in
-    let read = held.new.items ∷ choice.read.0 ∷ choice.read.1 ∷ [] in
-    let never_falls : (g.F.Shelf.state c.args.shelf.now).read_faults
-    ≤ (g.F.Shelf.state c.read_choice.new.shelf).read_faults =
-    omega (arith, image.never_falls, choice.never_falls) in
+    let answered = c.in_ok-choice.choice.new.items ∷ choice.0 ∷ choice.1 ∷ [] in
+    let read =
+    HaveRead-append g.F.Shelf.read_may_fail g.F.Shelf.write_may_fail (g.F.Shelf.state c.args.shelf.now)
+    (g.F.Shelf.state c.read_image.new.shelf) (g.F.Shelf.state c.read_choice.new.shelf)
+    (executable_input c.args.file.now ∷ []) inputs (bytes ∷ []) answered image.1 choice.2 in
     rw (p.1, p.2)
-    (inl (unread_behind g.F.Shelf.read_may_fail (g.F.Shelf.state c.args.shelf.now)
+    (inl (unread_behind g.F.Shelf.read_may_fail g.F.Shelf.write_may_fail (g.F.Shelf.state c.args.shelf.now)
     (g.F.Shelf.state c.read_choice.new.shelf) (g.F.Shelf.state c.read_run_files.new.shelf)
     (executable_input c.args.file.now ∷ inputs) (run_files (name_in settings.table) (name_in settings.input))
-    (bytes ∷ read) c.in_err-table.field-0.0 (choice.files_stay ∙ image.files_stay) never_falls
-    (image.read.1, subst (λ (told : Option Files). AreRead told inputs read) image.files_stay choice.read.2)
-    c.in_err-table.ensures.refused))
+    (bytes ∷ answered) c.in_err-table.field-0.0 read c.in_err-table.ensures.refused))
 
 pub returns-in_err-profiled-clause-refused : goal.returns-in_err-profiled-clause-refused
 returns-in_err-profiled-clause-refused g c =
@@ -120,8 +116,8 @@ returns-in_err-profiled-clause-refused g c =
     let refusal = c.in_err-profiled.field-0.0 in
     rw (p.1, p.2)
     (unprofiled_refused c.in_ok-choice.choice c.in_ok-image.ensures.read.0 choice.0 choice.1 (bytes_of_run g here) choice.3
-    choice.4 (settings_by settings) g.F.Shelf.read_may_fail (g.F.Shelf.state c.args.shelf.now)
-    (g.F.Shelf.state c.read_run_files.new.shelf)
+    choice.4 (settings_by settings) g.F.Shelf.read_may_fail g.F.Shelf.write_may_fail
+    (g.F.Shelf.state c.args.shelf.now) (g.F.Shelf.state c.read_run_files.new.shelf)
     (check_inputs c.args.file.now (check_names_of c.args.names.now) (name_in settings.table) (name_in settings.input))
     (all_files g here) (run_of g here) refusal
     (subst (λ (input : List ℕ). IsUnprofiledCause c.in_ok-image.image input settings.steps refusal)
@@ -131,7 +127,7 @@ pub judge-answer-requires-clause-image : goal.judge-answer-requires-clause-image
 judge-answer-requires-clause-image g c =
     let read = c.in_ok-image.ensures.read in
     subst (λ (bytes : List ℕ). IsReadAs bytes (Ok c.in_ok-image.image)) (sym read.2.same_bytes)
-    (read.1.well_formed, read.2)
+    (read.1.fit.0.well_formed, read.2)
 
 pub returns-clause-made : goal.returns-clause-made
 returns-clause-made g c =
@@ -140,7 +136,8 @@ returns-clause-made g c =
     let settings = c.args.settings.now in
     let choice = c.in_ok-choice.ensures.read in
     judged_made c.in_ok-choice.choice c.in_ok-image.ensures.read.0 choice.0 choice.1 (bytes_of_run g here) choice.3 choice.4
-    (settings_by settings) (g.F.Shelf.state c.args.shelf.now).files
+    (settings_by settings) g.F.Shelf.read_may_fail g.F.Shelf.write_may_fail
+    (g.F.Shelf.state c.args.shelf.now) (g.F.Shelf.state c.read_run_files.new.shelf)
     (check_inputs c.args.file.now (check_names_of c.args.names.now) (name_in settings.table) (name_in settings.input))
     (all_files g here) profiled c.judge-answer.result c.judge-answer.ensures
 
@@ -151,7 +148,7 @@ returns-clause-refused g c =
     let settings = c.args.settings.now in
     let choice = c.in_ok-choice.ensures.read in
     judged_refused c.in_ok-choice.choice c.in_ok-image.ensures.read.0 choice.0 choice.1 (bytes_of_run g here) choice.3 choice.4
-    (settings_by settings) g.F.Shelf.read_may_fail (g.F.Shelf.state c.args.shelf.now)
-    (g.F.Shelf.state c.read_run_files.new.shelf)
+    (settings_by settings) g.F.Shelf.read_may_fail g.F.Shelf.write_may_fail
+    (g.F.Shelf.state c.args.shelf.now) (g.F.Shelf.state c.read_run_files.new.shelf)
     (check_inputs c.args.file.now (check_names_of c.args.names.now) (name_in settings.table) (name_in settings.input))
     (all_files g here) profiled c.judge-answer.result c.judge-answer.ensures

@@ -1,12 +1,13 @@
 -- The settings are those that the words say, and the numbers are in the ranges of the options of `find`.
-use Rattle.std.proofs.Common.{◌≡◌, ◌∙◌, ap, arith, subst, IfOk}
+use Rattle.std.proofs.Common.{◌≡◌, ◌∙◌, inl, ap, arith, subst, IfOk}
+use Rattle.std.proofs.lemmas.Result.{err_from_is_err_and}
 use Rattle.std.specs.Prelude.{IfErr}
 use Rattle.ci_words.specs.Read.{reading_of}
 use Rattle.ci_words.specs.Words.{name_at, name_set}
 use Rattle.ci_words.specs.declared.tables.OptionName.TheVariants as option
-use Rattle.ci_calls.specs.Evaluations.{Evaluates}
-use Rattle.ci_calls.specs.Refused.{IsRefusedBy}
-use Rattle.ci_find.specs.Commands.{find_names, settings_of}
+use Rattle.ci_calls.specs.Reads.{IsSuccessOf, IsRefusalOf}
+use Rattle.ci_calls.proofs.InputLaws.{nothing_read}
+use Rattle.ci_find.specs.ChoiceReading.{find_names, settings_of}
 use Rattle.ci_find.specs.FindCommand.{FindNames, find_inputs, IsFindMade, IsFindRefused}
 use Rattle.ci_find.specs.Profiled.{Settings}
 use Rattle.ci_find.proofs.ChoiceWords.{find_ranges, made_by, refused_by}
@@ -20,6 +21,12 @@ evaluate-requires g c =
     let same = c.choice_settings-settings.ensures.settings (c.as_slice.ensures.value ∙ c.in_ok-leaders.ensures) in
     let steps = ap (λ (s : Settings). s.steps) same in
     omega (arith, steps, (find_ranges (reading_of c.args.words.now) c.requires.ranges).steps)
+
+pub returns-in_err-leaders-clause-refused : goal.returns-in_err-leaders-clause-refused
+returns-in_err-leaders-clause-refused g c =
+    let p = err_from_is_err_and c.from_residual.result c.from_residual.ensures.1 in
+    rw (p.1, p.2)
+    (inl (nothing_read g.F.Shelf.read_may_fail g.F.Shelf.write_may_fail (g.F.Shelf.state c.args.shelf.now) _))
 
 pub returns-clause-made : goal.returns-clause-made
 returns-clause-made g c =
@@ -40,10 +47,12 @@ returns-clause-made g c =
       report = c.name_at-4.ensures i;
     } in
     made_by reading plan c.choice_settings-settings.ensures.plan
-    (find_inputs (name_at reading 0) (name_set reading option.Table) (name_set reading option.Input)) c.evaluate.result
-    (g.F.Shelf.state c.args.shelf.now).files (λ p. IsFindMade (find_names reading) (settings_of reading p))
+    (find_inputs (name_at reading 0) (name_set reading option.Table) (name_set reading option.Input))
+    g.F.Shelf.read_may_fail g.F.Shelf.write_may_fail (g.F.Shelf.state c.args.shelf.now)
+    (g.F.Shelf.state c.evaluate.new.shelf) (λ p. IsFindMade (find_names reading) (settings_of reading p)) c.evaluate.result
     (subst (λ T. T)
-    (λ i. IfOk c.evaluate.result (Evaluates (g.F.Shelf.state c.args.shelf.now).files
+    (λ i. IfOk c.evaluate.result (IsSuccessOf g.F.Shelf.read_may_fail g.F.Shelf.write_may_fail
+    (g.F.Shelf.state c.args.shelf.now) (g.F.Shelf.state c.evaluate.new.shelf)
     (find_inputs (c.name_at-5.ensures i) (same i).table (same i).input) (IsFindMade (names_are i) (same i))))
     c.evaluate.ensures.made)
 
@@ -53,11 +62,11 @@ returns-clause-refused g c =
     let plan = c.choice_settings-settings.result.plan in
     let same = c.choice_settings-settings.ensures.settings (c.as_slice.ensures.value ∙ c.in_ok-leaders.ensures) in
     refused_by reading plan c.choice_settings-settings.ensures.plan
-    (find_inputs (name_at reading 0) (name_set reading option.Table) (name_set reading option.Input)) c.evaluate.result
-    g.F.Shelf.read_may_fail (g.F.Shelf.state c.args.shelf.now) (g.F.Shelf.state c.evaluate.new.shelf)
-    (λ p. IsFindRefused (settings_of reading p))
+    (find_inputs (name_at reading 0) (name_set reading option.Table) (name_set reading option.Input))
+    g.F.Shelf.read_may_fail g.F.Shelf.write_may_fail (g.F.Shelf.state c.args.shelf.now)
+    (g.F.Shelf.state c.evaluate.new.shelf) (λ p. IsFindRefused (settings_of reading p)) c.evaluate.result
     (subst (λ T. T)
-    (λ i. IfErr c.evaluate.result (IsRefusedBy g.F.Shelf.read_may_fail (g.F.Shelf.state c.args.shelf.now)
-    (g.F.Shelf.state c.evaluate.new.shelf)
+    (λ i. IfErr c.evaluate.result (IsRefusalOf g.F.Shelf.read_may_fail g.F.Shelf.write_may_fail
+    (g.F.Shelf.state c.args.shelf.now) (g.F.Shelf.state c.evaluate.new.shelf)
     (find_inputs (c.name_at-5.ensures i) (same i).table (same i).input) (IsFindRefused (same i))))
     c.evaluate.ensures.refused)

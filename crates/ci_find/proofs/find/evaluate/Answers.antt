@@ -1,56 +1,102 @@
 -- The choice for the executable, or why there is none.
-use Rattle.std.proofs.Common.{◌++◌, ℕ, List, Option, Ok, subst, sym}
+use Rattle.std.proofs.Common.{[], ◌∷◌, ◌++◌, ℕ, List, Ok, inl, subst, sym}
 use Rattle.std.proofs.lemmas.Result.{err_from_is_err_and}
-use Rattle.ci_io.specs.Outcomes.{Files}
 use Rattle.ci_elf.specs.Rules.{IsReadAs}
-use Rattle.ci_calls.specs.Files.{optional_bytes}
-use Rattle.ci_calls.specs.Inputs.{AreRead}
+use Rattle.ci_calls.specs.Files.{executable_input, optional_bytes}
+use Rattle.ci_calls.specs.Reads.{HaveRead}
 use Rattle.ci_calls.specs.Refused.{name_in}
-use Rattle.ci_find.specs.Profiled.{run_files}
+use Rattle.ci_calls.proofs.InputLaws.{HaveRead-append, read_without_memory, unread_behind}
+use Rattle.ci_find.specs.Profiled.{RunFiles, run_files}
 use Rattle.ci_find.specs.FindCommand.{find_inputs}
 use Rattle.ci_find.specs.Chosen.{names_of, settings_by}
 use Rattle.ci_find.proofs.ProfiledRuns.{files_of, find_refused, find_made}
+use Rattle.ci_find.proofs.find.evaluate.Given.{Over}
 use Rattle.ci_find.proofs.find.evaluate.Goals as goal
+use Rattle.ci_find.proofs.find.evaluate.Goals.{In_ok-table}
+
+-- the bytes of the table and the input
+abbrev bytes_of_run : (g : Over) (c : In_ok-table g) → List (List ℕ)
+bytes_of_run g c = optional_bytes c.in_ok-table.ensures.read.0 ++ optional_bytes c.in_ok-table.ensures.read.1
+
+-- all files of the command are read
+all_files : (g : Over) (c : In_ok-table g)
+    → HaveRead g.F.Shelf.read_may_fail g.F.Shelf.write_may_fail (g.F.Shelf.state c.args.shelf.now)
+    (g.F.Shelf.state c.read_run_files.new.shelf)
+    (find_inputs c.args.file.now (name_in c.args.settings.now.table) (name_in c.args.settings.now.input))
+    (c.in_ok-image.ensures.read.0 ∷ bytes_of_run g c)
+all_files g c =
+    let settings = c.args.settings.now in
+    let image = c.in_ok-image.ensures.read in
+    let bytes : List ℕ = image.0 in
+    HaveRead-append g.F.Shelf.read_may_fail g.F.Shelf.write_may_fail (g.F.Shelf.state c.args.shelf.now)
+    (g.F.Shelf.state c.read_image.new.shelf) (g.F.Shelf.state c.read_run_files.new.shelf)
+    (executable_input c.args.file.now ∷ []) (run_files (name_in settings.table) (name_in settings.input)) (bytes ∷ [])
+    (bytes_of_run g c) image.1 c.in_ok-table.ensures.read.4
+
+-- what the executable, the table and the input say
+abbrev run_of : (g : Over) (c : In_ok-table g)
+    → RunFiles (settings_by c.args.settings.now) c.in_ok-image.ensures.read.0 (bytes_of_run g c)
+run_of g c =
+    let image = c.in_ok-image.ensures.read in
+    let run = c.in_ok-table.ensures.read in
+    files_of (settings_by c.args.settings.now) image.0 run.0 run.1 c.in_ok-image.image c.in_ok-table.field-0.table run.2
+    run.3 image.2 run.5
+
+pub returns-in_err-image-clause-refused : goal.returns-in_err-image-clause-refused
+returns-in_err-image-clause-refused g c =
+    let p = err_from_is_err_and c.from_residual.result c.from_residual.ensures.1 in
+    let settings = c.args.settings.now in
+    rw (p.1, p.2) (inl (c.in_err-image.ensures.refused (run_files (name_in settings.table) (name_in settings.input))))
+
+pub returns-in_err-table-clause-refused : goal.returns-in_err-table-clause-refused
+returns-in_err-table-clause-refused g c =
+    let p = err_from_is_err_and c.from_residual-in_err-table.result c.from_residual-in_err-table.ensures.1 in
+    let settings = c.args.settings.now in
+    let image = c.in_ok-image.ensures.read in
+    let bytes : List ℕ = image.0 in
+    rw (p.1, p.2)
+    (inl (unread_behind g.F.Shelf.read_may_fail g.F.Shelf.write_may_fail (g.F.Shelf.state c.args.shelf.now)
+    (g.F.Shelf.state c.read_image.new.shelf) (g.F.Shelf.state c.read_run_files.new.shelf)
+    (executable_input c.args.file.now ∷ []) (run_files (name_in settings.table) (name_in settings.input)) (bytes ∷ [])
+    c.in_err-table.field-0.0 image.1 c.in_err-table.ensures.refused))
 
 pub returns-in_err-profiled-clause-refused : goal.returns-in_err-profiled-clause-refused
 returns-in_err-profiled-clause-refused g c =
     let p = err_from_is_err_and c.from_residual-in_err-profiled.result c.from_residual-in_err-profiled.ensures.1 in
+    let here = (goal.at.returns-in_err-profiled-clause-refused g c).In_ok-table in
     let settings = c.args.settings.now in
-    let image = c.in_ok-image.ensures in
-    let read = c.in_ok-table.ensures.read in
-    let inputs = run_files (name_in settings.table) (name_in settings.input) in
-    let others : List (List ℕ) = optional_bytes read.0 ++ optional_bytes read.1 in
-    let files = c.in_ok-table.field-0 in
-    let run = files_of (settings_by settings) image.read.0 read.0 read.1 c.in_ok-image.image files.table read.2 read.3
-    image.read.2 read.5 in
     rw (p.1, p.2)
-    (find_refused (settings_by settings) image.read.0 others
-    (find_inputs c.args.file.now (name_in settings.table) (name_in settings.input)) run files.input.items
-    read.6 g.F.Shelf.read_may_fail (g.F.Shelf.state c.args.shelf.now)
-    (g.F.Shelf.state c.read_run_files.new.shelf)
-    (image.read.1, subst (λ (told : Option Files). AreRead told inputs others) image.files_stay read.4)
+    (find_refused (settings_by settings) c.in_ok-image.ensures.read.0 (bytes_of_run g here)
+    (find_inputs c.args.file.now (name_in settings.table) (name_in settings.input)) (run_of g here)
+    c.in_ok-table.field-0.input.items c.in_ok-table.ensures.read.6 g.F.Shelf.read_may_fail g.F.Shelf.write_may_fail
+    (g.F.Shelf.state c.args.shelf.now) (g.F.Shelf.state c.read_run_files.new.shelf) (all_files g here)
     c.in_err-profiled.field-0.0 c.in_err-profiled.ensures.cause)
 
 pub success_of-outcome-requires-clause-image : goal.success_of-outcome-requires-clause-image
 success_of-outcome-requires-clause-image g c =
     let read = c.in_ok-image.ensures.read in
     subst (λ (bytes : List ℕ). IsReadAs bytes (Ok c.in_ok-image.image)) (sym read.2.same_bytes)
-    (read.1.well_formed, read.2)
+    (read.1.fit.0.well_formed, read.2)
+
+pub returns-in_err-success-clause-refused : goal.returns-in_err-success-clause-refused
+returns-in_err-success-clause-refused g c =
+    let p = err_from_is_err_and c.from_residual-in_err-success.result c.from_residual-in_err-success.ensures.1 in
+    let here = (goal.at.returns-in_err-success-clause-refused g c).In_ok-table in
+    let settings = c.args.settings.now in
+    rw (p.1, p.2)
+    (inl (read_without_memory g.F.Shelf.read_may_fail g.F.Shelf.write_may_fail (g.F.Shelf.state c.args.shelf.now)
+    (g.F.Shelf.state c.read_run_files.new.shelf)
+    (find_inputs c.args.file.now (name_in settings.table) (name_in settings.input))
+    (c.in_ok-image.ensures.read.0 ∷ bytes_of_run g here) (all_files g here)))
 
 pub returns-clause-made : goal.returns-clause-made
 returns-clause-made g c =
+    let here = (goal.at.returns-clause-made g c).In_ok-table in
     let settings = c.args.settings.now in
-    let image = c.in_ok-image.ensures in
-    let read = c.in_ok-table.ensures.read in
-    let inputs = run_files (name_in settings.table) (name_in settings.input) in
-    let others : List (List ℕ) = optional_bytes read.0 ++ optional_bytes read.1 in
-    let files = c.in_ok-table.field-0 in
-    let run = files_of (settings_by settings) image.read.0 read.0 read.1 c.in_ok-image.image files.table read.2 read.3
-    image.read.2 read.5 in
     let profiled = c.in_ok-profiled.profiled in
-    find_made (settings_by settings) image.read.0 others
-    (find_inputs c.args.file.now (name_in settings.table) (name_in settings.input)) run files.input.items
-    read.6 (g.F.Shelf.state c.args.shelf.now).files
-    (image.read.1, subst (λ (told : Option Files). AreRead told inputs others) image.files_stay read.4)
+    find_made (settings_by settings) c.in_ok-image.ensures.read.0 (bytes_of_run g here)
+    (find_inputs c.args.file.now (name_in settings.table) (name_in settings.input)) (run_of g here)
+    c.in_ok-table.field-0.input.items c.in_ok-table.ensures.read.6 g.F.Shelf.read_may_fail g.F.Shelf.write_may_fail
+    (g.F.Shelf.state c.args.shelf.now) (g.F.Shelf.state c.read_run_files.new.shelf) (all_files g here)
     profiled.profile profiled.analysis.blocks profiled.analysis.live c.in_ok-profiled.ensures.done
     (names_of c.args.names.now) c.in_ok-success.success c.in_ok-success.ensures

@@ -5,6 +5,7 @@ use Rattle.ci_io.proofs.system.StdSinkSink.TheImpl.Goals as goal
 
 pub put-tells : goal.put-tells
 put-tells g c = record {
+  called = c.ensures.called;
   ok = OnOk-always c.result (◌≡◌ {A = Option (List ℕ)} None None) refl;
   fault = λ _. (0, refl);
   no_memory = λ _. refl;
