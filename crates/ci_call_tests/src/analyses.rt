@@ -1,6 +1,6 @@
 //! Worked calls of `blocks`, and of `best` on blocks of executables, over a file in memory.
 use crate::common::{
-    calls, expect_by, expect_lines, expect_of, expect_of_text, expect_of_texts, program,
+    calls, change, expect_by, expect_lines, expect_of, expect_of_text, expect_of_texts, program,
 };
 use std::alloc::{AllocError, Global};
 use std::process::Abort;
@@ -25,19 +25,6 @@ const BREAK: u32 = 0x0010_0073;
 
 /// A load from the address in its own result, and a sum of both results so far.
 const LOAD_AND_SUM: [u32; 2] = [0x0002A283, 0x00A282B3];
-
-/// Writes words into a file, the lowest byte of each first, each at its offset.
-fn change(rt: &impl Abort, bytes: &mut Vec<u8>, edits: &[(usize, u32)]) {
-    for (offset, word) in edits {
-        assert!(rt; *offset <= 1_000);
-        assert!(rt; *offset + 4 <= bytes.len());
-        let [first, second, third, fourth] = word.to_le_bytes();
-        bytes[*offset] = first;
-        bytes[*offset + 1] = second;
-        bytes[*offset + 2] = third;
-        bytes[*offset + 3] = fourth;
-    }
-}
 
 /// Asserts what `blocks` puts of the executable of these parts, changed by the edits.
 fn expect_blocks(

@@ -1,9 +1,9 @@
 //! Worked calls of `find` and `check`, over several files in memory.
 use crate::common::{
-    answer, calls, expect_failing, expect_of_text, expect_over, files_of, hold, program,
-    unit_of_sums,
+    answer, calls, expect_call, expect_failing, expect_files, expect_of_text, expect_over,
+    files_of, hold, program, unit_of_sums,
 };
-use ci_io::{MemShelf, MemSink, SureShelf, SureSink};
+use ci_io::{MemShelf, MemSink, SureShelf};
 use std::alloc::{AllocError, Global};
 use std::collections::BTreeMap;
 use std::process::Abort;
@@ -66,22 +66,6 @@ fn shelf_of(alloc: Global, bytes: Vec<u8>) -> Result<SureShelf, AllocError> {
     Ok(SureShelf::new(file_of(alloc, bytes)?))
 }
 
-/// Calls the program over a shelf, and asserts its status and what it put.
-fn call(
-    rt: &(impl Abort + AllocGlobal),
-    shelf: &mut SureShelf,
-    text: &str,
-    status: u8,
-    put: &[u8],
-) {
-    let alloc = rt.alloc();
-    let mut out = SureSink::new(alloc);
-    let answer = answer(alloc, text, shelf, &mut out);
-    assert_eq!(rt; answer.ok(), Some(status), "the status of {text}");
-    assert_eq!(rt; out.taken(), put, "what {text} put");
-    drop(out);
-}
-
 /// Asserts what a file of the shelf holds.
 fn expect_file(rt: &impl Abort, files: &BTreeMap<String, Vec<u8>>, name: &str, bytes: &[u8]) {
     match files.get(name) {
@@ -94,11 +78,11 @@ fn expect_file(rt: &impl Abort, files: &BTreeMap<String, Vec<u8>>, name: &str, b
 fn a_choice_and_its_check(rt: HostRuntime) -> Result<(), AllocError> {
     let mut shelf = shelf_of(rt.alloc(), calls(&rt)?)?;
     let summary = b"cuts 2 units 2 skipped 0 gain 8\n";
-    call(&rt, &mut shelf, "find F N U L R", 0, summary);
+    expect_call(&rt, &mut shelf, "find F N U L R", 0, summary);
     expect_file(&rt, shelf.files(), "R", calls_report());
     let text = b"\xe8\x1d\x00\x00end exit 00000000 steps 61 cost 67\n";
-    call(&rt, &mut shelf, "run N --units U", 0, text);
-    call(&rt, &mut shelf, "check F N U L", 0, b"accepted\n");
+    expect_call(&rt, &mut shelf, "run N --units U", 0, text);
+    expect_call(&rt, &mut shelf, "check F N U L", 0, b"accepted\n");
     drop(shelf);
     Ok(())
 }
@@ -118,10 +102,10 @@ fn expect_folded(
 fn a_choice_over_a_load(rt: HostRuntime) -> Result<(), AllocError> {
     let mut shelf = shelf_of(rt.alloc(), over_a_load(&rt)?)?;
     let summary = b"cuts 1 units 1 skipped 0 gain 1\n";
-    call(&rt, &mut shelf, "find F N U L R --out 1", 0, summary);
+    expect_call(&rt, &mut shelf, "find F N U L R --out 1", 0, summary);
     expect_file(&rt, shelf.files(), "U", unit_of_sums().as_bytes());
     let line = b"end access 00000000 4 steps 3 cost 3\n";
-    call(&rt, &mut shelf, "run N --units U", 0, line);
+    expect_call(&rt, &mut shelf, "run N --units U", 0, line);
     let outcome = expect_folded(&rt, shelf.files());
     drop(shelf);
     outcome
@@ -152,8 +136,7 @@ fn expect_check(
 ) -> Result<(), AllocError> {
     let files = files_of_choice(rt, book)?;
     let text = "check F N U L --out 1";
-    expect_over(rt, files, text, status, line.as_bytes());
-    Ok(())
+    expect_over(rt, files, text, status, line.as_bytes())
 }
 
 /// The same of the right book with one text in the place of another.
@@ -176,7 +159,10 @@ fn books_that_are_refused(rt: HostRuntime) -> Result<(), AllocError> {
     let gains_more = "fault 11 rejected 0 00010074 10 5\n";
     expect_changed(&rt, "FFG", "FFF", 11, gains_more)?;
     expect_changed(&rt, "end none\n", "end none\nx", 10, "fault 10 log 4 97\n")?;
-    expect_changed(&rt, "end none\n", "end none", 10, "fault 10 log 3 0\n")
+    expect_changed(&rt, "end none\n", "end none", 10, "fault 10 log 3 0\n")?;
+    expect_check(&rt, "", 10, "fault 10 log 3 0\n")?;
+    expect_check(&rt, "ci-lag 1\n", 10, "fault 10 log 1 0\n")?;
+    expect_check(&rt, "ci-log 1\nend nine\n", 10, "fault 10 log 2 14\n")
 }
 
 #[test]
@@ -192,62 +178,143 @@ fn programs_that_are_not_chosen_from(rt: HostRuntime) -> Result<(), AllocError> 
     expect_of_text(&rt, &touching, "check F N U L", 2, "fault 2 read N\n")
 }
 
-/// Asserts how `find` ends where the call of this number of the shelf fails, and that these files hold what they hold
-/// on another shelf, where none did.
-fn expect_write(
+/// A call of `find` that reads three files and then writes four.
+fn find() -> &'static str {
+    "find OLD NEW UNITS LOGS REPORT --out 1 --table T --input I"
+}
+
+/// The files that it writes, in their order.
+fn written() -> &'static [&'static str] {
+    &["UNITS", "LOGS", "REPORT", "NEW"]
+}
+
+/// The files before the call: the executable with the load, an empty table and input, and each file that it writes with
+/// these bytes, if it is there.
+fn files_before(
     rt: &(impl Abort + AllocGlobal),
-    sure: &SureShelf,
-    failing: u64,
-    line: &str,
-    whole: &[&str],
-) -> Result<(), AllocError> {
+    there: Option<&[u8]>,
+) -> Result<BTreeMap<String, Vec<u8>>, AllocError> {
     let alloc = rt.alloc();
-    let faults = vec![in alloc; failing]?;
-    let mut shelf = MemShelf::new(file_of(alloc, calls(rt)?)?, faults);
-    let mut out = SureSink::new(alloc);
-    let answer = answer(alloc, "find F N U L R", &mut shelf, &mut out);
-    assert_eq!(rt; answer.ok(), Some(3));
-    assert_eq!(rt; out.taken(), line.as_bytes());
-    drop(out);
-    for name in whole {
-        if let Some(bytes) = sure.files().get(*name) {
-            expect_file(rt, shelf.files(), name, bytes.as_slice());
+    let mut files = files_of(alloc, None, Some(b""), Some(b""))?;
+    let old = over_a_load(rt)?;
+    let held = hold(alloc, &mut files, "OLD", Some(old.as_slice()));
+    drop(old);
+    held?;
+    for name in written() {
+        hold(alloc, &mut files, name, there)?;
+    }
+    Ok(files)
+}
+
+/// The files after so many of its writes, each with the bytes that the file has among these.
+fn files_after(
+    rt: &(impl Abort + AllocGlobal),
+    there: Option<&[u8]>,
+    whole: &BTreeMap<String, Vec<u8>>,
+    writes: usize,
+) -> Result<BTreeMap<String, Vec<u8>>, AllocError> {
+    let mut files = files_before(rt, there)?;
+    for (place, name) in written().iter().enumerate() {
+        if place < writes {
+            let bytes = whole.get(*name).map(|bytes| bytes.as_slice());
+            hold(rt.alloc(), &mut files, name, bytes)?;
         }
     }
+    Ok(files)
+}
+
+/// Calls of the shelf that fail, the status and the line of the call then, and how many of its writes were made.
+fn failing_calls() -> &'static [(u64, u8, &'static str, usize)] {
+    &[
+        (1, 2, "fault 2 read OLD\n", 0),
+        (2, 2, "fault 2 read T\n", 0),
+        (3, 2, "fault 2 read I\n", 0),
+        (4, 3, "fault 3 write UNITS\n", 0),
+        (5, 3, "fault 3 write LOGS\n", 1),
+        (6, 3, "fault 3 write REPORT\n", 2),
+        (7, 3, "fault 3 write NEW\n", 3),
+    ]
+}
+
+/// Asserts how the call ends where the call of this number of the shelf fails, and what all files hold then. On a shelf
+/// in memory a file whose write fails stays as it was.
+fn expect_failing_call(
+    rt: &(impl Abort + AllocGlobal),
+    there: Option<&[u8]>,
+    whole: &BTreeMap<String, Vec<u8>>,
+    failing: u64,
+    status: u8,
+    line: &str,
+    writes: usize,
+) -> Result<(), AllocError> {
+    let faults = vec![in rt.alloc(); failing]?;
+    let mut shelf = MemShelf::new(files_before(rt, there)?, faults);
+    expect_call(rt, &mut shelf, find(), status, line.as_bytes());
+    let due = files_after(rt, there, whole, writes);
+    expect_files(rt, line, shelf.files(), due?);
     drop(shelf);
     Ok(())
 }
 
-/// The same for each write, in their order. The first call of the shelf is the read of `F`.
-fn expect_writes(rt: &(impl Abort + AllocGlobal), sure: &SureShelf) -> Result<(), AllocError> {
-    expect_write(rt, sure, 2, "fault 3 write U\n", &[])?;
-    expect_write(rt, sure, 3, "fault 3 write L\n", &["U"])?;
-    expect_write(rt, sure, 4, "fault 3 write R\n", &["U", "L"])?;
-    expect_write(rt, sure, 5, "fault 3 write N\n", &["U", "L", "R"])
+/// The same for each of these calls of the shelf.
+fn expect_failing_calls(
+    rt: &(impl Abort + AllocGlobal),
+    there: Option<&[u8]>,
+    whole: &BTreeMap<String, Vec<u8>>,
+    rows: &[(u64, u8, &str, usize)],
+) -> Result<(), AllocError> {
+    for (failing, status, line, writes) in rows {
+        expect_failing_call(rt, there, whole, *failing, *status, line, *writes)?;
+    }
+    Ok(())
 }
 
-#[test]
-fn writes_that_fail(rt: HostRuntime) -> Result<(), AllocError> {
-    let mut sure = shelf_of(rt.alloc(), calls(&rt)?)?;
-    let summary = b"cuts 2 units 2 skipped 0 gain 8\n";
-    call(&rt, &mut sure, "find F N U L R", 0, summary);
-    let outcome = expect_writes(&rt, &sure);
-    drop(sure);
-    outcome
-}
-
-#[test]
-fn a_summary_that_is_not_put(rt: HostRuntime) -> Result<(), AllocError> {
+/// Asserts how the call ends where its summary isn't put, and that all its files are whole.
+fn expect_no_summary(
+    rt: &(impl Abort + AllocGlobal),
+    there: Option<&[u8]>,
+    whole: &BTreeMap<String, Vec<u8>>,
+) -> Result<(), AllocError> {
     let alloc = rt.alloc();
     let mut out = MemSink::new(alloc, vec![in alloc; 1u64]?);
-    let mut shelf = shelf_of(alloc, over_a_load(&rt)?)?;
-    let answer = answer(alloc, "find F N U L R --out 1", &mut shelf, &mut out);
+    let mut shelf = SureShelf::new(files_before(rt, there)?);
+    let answer = answer(alloc, find(), &mut shelf, &mut out);
     assert_eq!(rt; answer.ok(), Some(3));
     assert_eq!(rt; out.taken(), b"fault 3 write -\n".as_slice());
     drop(out);
-    expect_file(&rt, shelf.files(), "U", unit_of_sums().as_bytes());
+    let due = files_after(rt, there, whole, 4);
+    expect_files(rt, "a put", shelf.files(), due?);
     drop(shelf);
     Ok(())
+}
+
+/// Asserts how the call ends where each of its calls fails in turn, of the shelf and then of the sink, over files that
+/// it writes with these bytes before, if they are there. What is whole is told by a call where none fails.
+fn expect_failures(
+    rt: &(impl Abort + AllocGlobal),
+    there: Option<&[u8]>,
+) -> Result<(), AllocError> {
+    let mut sure = SureShelf::new(files_before(rt, None)?);
+    let summary = b"cuts 1 units 1 skipped 0 gain 1\n";
+    expect_call(rt, &mut sure, find(), 0, summary);
+    // The three files that it read, and the four that it wrote.
+    assert_eq!(rt; sure.files().len(), 7);
+    expect_file(rt, sure.files(), "UNITS", unit_of_sums().as_bytes());
+    let outcome = expect_failing_calls(rt, there, sure.files(), failing_calls());
+    let no_summary = expect_no_summary(rt, there, sure.files());
+    drop(sure);
+    outcome?;
+    no_summary
+}
+
+#[test]
+fn calls_that_fail_before_new_files(rt: HostRuntime) -> Result<(), AllocError> {
+    expect_failures(&rt, None)
+}
+
+#[test]
+fn calls_that_fail_over_old_files(rt: HostRuntime) -> Result<(), AllocError> {
+    expect_failures(&rt, Some(b"before"))
 }
 
 /// Asserts how a call ends where the call of this number of the shelf, a read, fails.
@@ -261,10 +328,9 @@ fn expect_read(
     expect_failing(rt, files, failing, text, 2, line)
 }
 
-// Only `check` reads more than one file.
+// The first four reads of `check` are those of the files of a choice.
 #[test]
 fn files_of_a_choice_that_are_not_read(rt: HostRuntime) -> Result<(), AllocError> {
-    expect_read(&rt, "find F N U L R", 1, "fault 2 read F\n")?;
     expect_read(&rt, "check F N U L", 1, "fault 2 read F\n")?;
     expect_read(&rt, "check F N U L", 2, "fault 2 read N\n")?;
     expect_read(&rt, "check F N U L", 3, "fault 2 read U\n")?;

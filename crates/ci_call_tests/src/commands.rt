@@ -1,6 +1,8 @@
 //! Worked calls, over one file `F` and a sink in memory.
-use crate::common::{answer, expect, expect_each, expect_failing, files_of, sums};
-use ci_io::{MemSink, SureShelf, SureSink};
+use crate::common::{
+    answer, expect, expect_call, expect_each, expect_failing, expect_of, files_of, sums,
+};
+use ci_io::{MemSink, SureShelf};
 use std::alloc::{AllocError, Global};
 use std::process::Abort;
 
@@ -204,30 +206,6 @@ fn files_not_read(rt: HostRuntime) -> Result<(), AllocError> {
     expect_each(&rt, None, calls_of_one_file(), 2, "fault 2 read F\n")
 }
 
-/// Calls the program over a file of so many bytes, newlines, and asserts its status and the line that it put.
-fn expect_of_newlines(
-    rt: &(impl Abort + AllocGlobal),
-    size: usize,
-    text: &str,
-    status: u8,
-    line: &str,
-) -> Result<(), AllocError> {
-    let bytes = vec![in rt.alloc(); 10u8; size]?;
-    let outcome = expect(rt, Some(bytes.as_slice()), text, status, line);
-    drop(bytes);
-    outcome
-}
-
-// One byte more than each limit. A text of empty lines up to its limit has no words.
-#[test]
-fn files_too_large(rt: HostRuntime) -> Result<(), AllocError> {
-    let line = "fault 4 too large F\n";
-    expect_of_newlines(&rt, 1025, "best F", 4, line)?;
-    expect_of_newlines(&rt, 1_048_577, "asm F OUT", 4, line)?;
-    expect_of_newlines(&rt, 1_048_577, "dis F", 4, line)?;
-    expect_of_newlines(&rt, 1_048_576, "asm F OUT", 0, "")
-}
-
 /// Words that are no block.
 fn no_blocks() -> &'static [(&'static [u32], &'static str, &'static str)] {
     &[
@@ -289,24 +267,16 @@ fn puts_that_fail(rt: HostRuntime) -> Result<(), AllocError> {
     expect_puts(&rt, 2, "")
 }
 
-/// Assembles the text `F` to `OUT`, and asserts the status, the bytes that the sink took, and those of `OUT`, if it is
-/// there.
+/// Assembles the text `F` to `OUT`, and asserts the bytes of `OUT`, and that nothing was put.
 fn expect_assembly(
     rt: &(impl Abort + AllocGlobal),
     text: &[u8],
-    status: u8,
-    line: &str,
-    written: Option<&[u8]>,
+    written: &[u8],
 ) -> Result<(), AllocError> {
-    let alloc = rt.alloc();
-    let mut shelf = SureShelf::new(files_of(alloc, Some(text), None, None)?);
-    let mut out = SureSink::new(alloc);
-    let answer = answer(alloc, "asm F OUT", &mut shelf, &mut out);
-    assert_eq!(rt; answer.ok(), Some(status));
-    assert_eq!(rt; out.taken(), line.as_bytes());
-    drop(out);
+    let mut shelf = SureShelf::new(files_of(rt.alloc(), Some(text), None, None)?);
+    expect_call(rt, &mut shelf, "asm F OUT", 0, b"");
     let found = shelf.files().get("OUT").map(|bytes| bytes.as_slice());
-    assert_eq!(rt; found, written);
+    assert_eq!(rt; found, Some(written));
     drop(shelf);
     Ok(())
 }
@@ -314,17 +284,38 @@ fn expect_assembly(
 #[test]
 fn texts(rt: HostRuntime) -> Result<(), AllocError> {
     let sum: &[u8] = &[0xB3, 0x02, 0xB5, 0x00];
-    expect_assembly(&rt, b"add x5, x10, x11\n", 0, "", Some(sum))?;
+    expect_assembly(&rt, b"add x5, x10, x11\n", sum)?;
     let branch: &[u8] = &[0x63, 0x90, 0x04, 0x00];
-    expect_assembly(&rt, b"T: bne x9, x0, T\n", 0, "", Some(branch))?;
-    expect_assembly(&rt, b"", 0, "", Some(&[]))
+    expect_assembly(&rt, b"T: bne x9, x0, T\n", branch)?;
+    expect_assembly(&rt, b"", &[])
+}
+
+/// Texts outside the grammar, and what is said of them. The first isn't UTF-8.
+fn wrong_texts() -> &'static [(&'static [u8], &'static str)] {
+    &[
+        (&[0xFF], "fault 13 asm 1 1 1\n"),
+        (b"foo\n", "fault 13 asm 2 1 1\n"),
+        (b"add x5, x10\n", "fault 13 asm 3 1 12\n"),
+        (b"addi x5, x5, 4096\n", "fault 13 asm 4 1 14\n"),
+        (b"jal x1, T\n", "fault 13 asm 5 1 9\n"),
+        (b"T:\nT:\n", "fault 13 asm 6 2 1\n"),
+    ]
+}
+
+/// Asserts what `asm` says of texts outside the grammar.
+fn expect_no_assemblies(
+    rt: &(impl Abort + AllocGlobal),
+    rows: &[(&[u8], &str)],
+) -> Result<(), AllocError> {
+    for (text, line) in rows {
+        expect_of(rt, *text, "asm F OUT", 13, line.as_bytes())?;
+    }
+    Ok(())
 }
 
 #[test]
 fn texts_with_faults(rt: HostRuntime) -> Result<(), AllocError> {
-    expect_assembly(&rt, b"add x5, x10\n", 13, "fault 13 asm 3 1 12\n", None)?;
-    expect_assembly(&rt, b"foo\n", 13, "fault 13 asm 2 1 1\n", None)?;
-    expect_assembly(&rt, &[0xFF], 13, "fault 13 asm 1 1 1\n", None)
+    expect_no_assemblies(&rt, wrong_texts())
 }
 
 /// Bytes, and the lines of their words: a unit word, a read of the hidden register and a word of neither table are in

@@ -65,25 +65,55 @@ pub(crate) fn answer(
     Ok(answer)
 }
 
-/// Calls the program over these files, and asserts its status and the bytes that it put.
+/// Calls the program over a shelf, and asserts its status and the bytes that it put.
+pub(crate) fn expect_call(
+    rt: &(impl Abort + AllocGlobal),
+    shelf: &mut impl Shelf,
+    text: &str,
+    status: u8,
+    put: &[u8],
+) {
+    let alloc = rt.alloc();
+    let mut out = SureSink::new(alloc);
+    let answer = answer(alloc, text, shelf, &mut out);
+    assert_eq!(rt; answer.ok(), Some(status), "the status of {text}");
+    assert_eq!(rt; out.taken(), put, "what {text} put");
+    drop(out);
+}
+
+/// Asserts that files are those that they should be, all of them and no other.
+pub(crate) fn expect_files(
+    rt: &impl Abort,
+    text: &str,
+    files: &BTreeMap<String, Vec<u8>>,
+    due: BTreeMap<String, Vec<u8>>,
+) {
+    assert!(rt; *files == due, "the files after {text}");
+    drop(due);
+}
+
+/// Calls the program over these files, and asserts its status and the bytes that it put, and of a call that is refused
+/// that it left all files as they were.
 pub(crate) fn expect_over(
     rt: &(impl Abort + AllocGlobal),
     files: BTreeMap<String, Vec<u8>>,
     text: &str,
     status: u8,
     put: &[u8],
-) {
-    let alloc = rt.alloc();
+) -> Result<(), AllocError> {
+    let before = files.clone()?;
     let mut shelf = SureShelf::new(files);
-    let mut out = SureSink::new(alloc);
-    let answer = answer(alloc, text, &mut shelf, &mut out);
+    expect_call(rt, &mut shelf, text, status, put);
+    if status == 0 {
+        drop(before);
+    } else {
+        expect_files(rt, text, shelf.files(), before);
+    }
     drop(shelf);
-    assert_eq!(rt; answer.ok(), Some(status), "the status of {text}");
-    assert_eq!(rt; out.taken(), put, "what {text} put");
-    drop(out);
+    Ok(())
 }
 
-/// The same where the call of this number of the shelf fails.
+/// The same of the status and the line where the call of this number of the shelf fails.
 pub(crate) fn expect_failing(
     rt: &(impl Abort + AllocGlobal),
     files: BTreeMap<String, Vec<u8>>,
@@ -92,14 +122,9 @@ pub(crate) fn expect_failing(
     status: u8,
     line: &str,
 ) -> Result<(), AllocError> {
-    let alloc = rt.alloc();
-    let mut shelf = MemShelf::new(files, vec![in alloc; failing]?);
-    let mut out = SureSink::new(alloc);
-    let answer = answer(alloc, text, &mut shelf, &mut out);
+    let mut shelf = MemShelf::new(files, vec![in rt.alloc(); failing]?);
+    expect_call(rt, &mut shelf, text, status, line.as_bytes());
     drop(shelf);
-    assert_eq!(rt; answer.ok(), Some(status), "the status of {text}");
-    assert_eq!(rt; out.taken(), line.as_bytes(), "what {text} put");
-    drop(out);
     Ok(())
 }
 
@@ -112,8 +137,7 @@ pub(crate) fn expect(
     line: &str,
 ) -> Result<(), AllocError> {
     let files = files_of(rt.alloc(), file, None, None)?;
-    expect_over(rt, files, text, status, line.as_bytes());
-    Ok(())
+    expect_over(rt, files, text, status, line.as_bytes())
 }
 
 /// The same for each of these calls.
@@ -139,8 +163,7 @@ pub(crate) fn expect_of(
     put: &[u8],
 ) -> Result<(), AllocError> {
     let files = files_of(rt.alloc(), Some(file), None, None)?;
-    expect_over(rt, files, text, status, put);
-    Ok(())
+    expect_over(rt, files, text, status, put)
 }
 
 /// The same for each of these calls, of which each puts a line.
@@ -165,8 +188,7 @@ pub(crate) fn expect_by(
     put: &[u8],
 ) -> Result<(), AllocError> {
     let files = files_of(rt.alloc(), Some(file), Some(table.as_bytes()), None)?;
-    expect_over(rt, files, text, status, put);
-    Ok(())
+    expect_over(rt, files, text, status, put)
 }
 
 /// The executable of a text, with some values behind it.
@@ -181,6 +203,19 @@ pub(crate) fn program(
     assert!(rt; constants.len() <= 100);
     assert!(rt; values.len() <= 100);
     frame(rt.alloc(), text, constants, values)
+}
+
+/// Writes words into a file, the lowest byte of each first, each at its offset.
+pub(crate) fn change(rt: &impl Abort, bytes: &mut Vec<u8>, edits: &[(usize, u32)]) {
+    for (offset, word) in edits {
+        assert!(rt; *offset <= 1_000);
+        assert!(rt; *offset + 4 <= bytes.len());
+        let [first, second, third, fourth] = word.to_le_bytes();
+        bytes[*offset] = first;
+        bytes[*offset + 1] = second;
+        bytes[*offset + 2] = third;
+        bytes[*offset + 3] = fourth;
+    }
 }
 
 /// Calls the program over the executable of a text alone, and asserts its status and the line that it put.

@@ -52,8 +52,7 @@ fn expect_with_units(
     let (file, table) = (Some(bytes.as_slice()), Some(b"read = 5".as_slice()));
     let files = files_with(rt.alloc(), file, Some(units.as_bytes()), table);
     drop(bytes);
-    expect_over(rt, files?, text, 0, line.as_bytes());
-    Ok(())
+    expect_over(rt, files?, text, 0, line.as_bytes())
 }
 
 #[test]
@@ -92,8 +91,7 @@ fn expect_with(
 ) -> Result<(), AllocError> {
     let files = files_with(rt.alloc(), file, units, table)?;
     let text = "run --input I --table T --units U F";
-    expect_over(rt, files, text, status, line.as_bytes());
-    Ok(())
+    expect_over(rt, files, text, status, line.as_bytes())
 }
 
 /// The same over a break alone, and the other files.
@@ -123,16 +121,4 @@ fn units_in_their_order(rt: HostRuntime) -> Result<(), AllocError> {
     expect_break(&rt, sums, None, 2, "fault 2 read T\n")?;
     expect_break(&rt, sums, Some(b"="), 6, "fault 6 table 1\n")?;
     expect_break(&rt, sums, Some(b""), 2, "fault 2 read I\n")
-}
-
-// One byte more than the limit, and as many as it.
-#[test]
-fn units_at_the_limit(rt: HostRuntime) -> Result<(), AllocError> {
-    let blanks = vec![in rt.alloc(); b' '; 4_194_305]?;
-    let units = blanks.as_slice();
-    let above = expect_break(&rt, Some(units), None, 4, "fault 4 too large U\n");
-    let at = expect_break(&rt, units.get(1..), None, 2, "fault 2 read T\n");
-    drop(blanks);
-    above?;
-    at
 }

@@ -13,10 +13,20 @@ mod commands;
 #[cfg(test)]
 mod common;
 #[cfg(test)]
+mod damaged;
+#[cfg(test)]
 mod extended;
+#[cfg(test)]
+mod latencies;
+#[cfg(test)]
+mod limits;
 #[cfg(test)]
 mod load;
 #[cfg(test)]
+mod plans;
+#[cfg(test)]
 mod runs;
+#[cfg(test)]
+mod steps;
 #[cfg(test)]
 mod units;

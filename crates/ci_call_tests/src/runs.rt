@@ -97,124 +97,20 @@ fn a_run_with_input(rt: HostRuntime) -> Result<(), AsmFault> {
     drop(bytes);
     without?;
     let echoed = b"hello\n\xffend break steps 10 cost 10\n";
-    expect_over(&rt, files?, "run F --input I", 0, echoed);
+    expect_over(&rt, files?, "run F --input I", 0, echoed)?;
     Ok(())
-}
-
-/// The place of a byte of the calls, what it is changed to, and the rule that is broken then.
-fn broken_rules() -> &'static [(usize, u8, &'static str)] {
-    &[
-        (0, 0, "fault 5 elf 2 0 0\n"),
-        (4, 2, "fault 5 elf 3 4 2\n"),
-        (31, 0x10, "fault 5 elf 1 268435508 0\n"),
-        (52, 3, "fault 5 elf 3 52 3\n"),
-        (72, 0xEF, "fault 5 elf 4 0 0\n"),
-        (94, 1, "fault 5 elf 5 0 1\n"),
-        (107, 0x10, "fault 5 elf 9 0 0\n"),
-        (312, 0x78, "fault 5 elf 7 1 0\n"),
-        (88, 116, "fault 5 elf 6 0 1\n"),
-        (24, 0x75, "fault 5 elf 8 0 0\n"),
-    ]
-}
-
-/// Asserts what `run` says of an executable in which one byte was changed.
-fn expect_changed(
-    rt: &(impl Abort + AllocGlobal),
-    good: &[u8],
-    place: usize,
-    byte: u8,
-    line: &str,
-) -> Result<(), AllocError> {
-    let mut bytes = Vec::from_slice(rt.alloc(), good)?;
-    if let Some(there) = bytes.get_mut(place) {
-        *there = byte;
-    }
-    let outcome = expect_of(rt, bytes.as_slice(), "run F", 5, line.as_bytes());
-    drop(bytes);
-    outcome
-}
-
-/// The same for each of these changes.
-fn expect_changes(
-    rt: &(impl Abort + AllocGlobal),
-    good: &[u8],
-    rows: &[(usize, u8, &str)],
-) -> Result<(), AllocError> {
-    for (place, byte, line) in rows {
-        expect_changed(rt, good, *place, *byte, line)?;
-    }
-    Ok(())
-}
-
-// One byte of a good executable is changed for each rule, in their order.
-#[test]
-fn no_executables(rt: HostRuntime) -> Result<(), AllocError> {
-    let good = calls(&rt)?;
-    let outcome = expect_changes(&rt, good.as_slice(), broken_rules());
-    drop(good);
-    outcome
-}
-
-/// Asserts what `run` says of the first bytes of an executable.
-fn expect_front(
-    rt: &(impl Abort + AllocGlobal),
-    length: usize,
-    line: &str,
-) -> Result<(), AllocError> {
-    let mut bytes = program(rt, &[0x00000013], &[], &[])?;
-    bytes.truncate(length);
-    let outcome = expect_of(rt, bytes.as_slice(), "run F", 5, line.as_bytes());
-    drop(bytes);
-    outcome
-}
-
-#[test]
-fn executables_cut_short(rt: HostRuntime) -> Result<(), AllocError> {
-    expect_front(&rt, 51, "fault 5 elf 1 0 0\n")?;
-    expect_front(&rt, 60, "fault 5 elf 1 52 0\n")
-}
-
-/// Writes a number into bytes, the lowest byte first.
-fn put(bytes: &mut Vec<u8>, place: usize, number: u32) {
-    for (k, byte) in number.to_le_bytes().iter().enumerate() {
-        if let Some(there) = bytes.get_mut(place.saturating_add(k)) {
-            *there = *byte;
-        }
-    }
-}
-
-/// Asserts what `run` says of an executable whose text is a section of so many words behind the table of sections.
-fn expect_of_words(
-    rt: &(impl Abort + AllocGlobal),
-    words: u32,
-    line: &str,
-) -> Result<(), AllocError> {
-    let mut bytes = program(rt, &[0x00000013], &[], &[])?;
-    bytes.resize(2_000_000, 0)?;
-    put(&mut bytes, 68, 2_000_000);
-    put(&mut bytes, 72, 2_000_000);
-    put(&mut bytes, 84, 0);
-    put(&mut bytes, 172, 0x10000 + 1000);
-    put(&mut bytes, 176, 1000);
-    put(&mut bytes, 180, words.wrapping_mul(4));
-    let outcome = expect_of(rt, bytes.as_slice(), "run F", 5, line.as_bytes());
-    drop(bytes);
-    outcome
-}
-
-// One word too many, and as many as may be.
-#[test]
-fn a_text_of_too_many_words(rt: HostRuntime) -> Result<(), AllocError> {
-    expect_of_words(&rt, 262_145, "fault 5 elf 9 0 0\n")?;
-    expect_of_words(&rt, 262_144, "fault 5 elf 8 0 0\n")
 }
 
 /// Texts that are no tables, and what is said of them.
 fn wrong_tables() -> &'static [(&'static str, &'static str)] {
     &[
         ("=", "fault 6 table 1\n"),
+        ("x", "fault 6 table 1\n"),
         ("reed = 1", "fault 6 table 2\n"),
+        ("[hardware]\nload = 1", "fault 6 table 2\n"),
         ("read = 0", "fault 6 table 3 read\n"),
+        ("software = 1", "fault 6 table 3 software\n"),
+        ("[software]\nadd = 0", "fault 6 table 3 software.add\n"),
         ("pad = 2", "fault 6 table 4 software.add\n"),
     ]
 }
@@ -268,14 +164,8 @@ fn expect_run(
     line: &str,
 ) -> Result<(), AllocError> {
     let files = files_of(rt.alloc(), file, table, input)?;
-    expect_over(
-        rt,
-        files,
-        "run F --input I --table T",
-        status,
-        line.as_bytes(),
-    );
-    Ok(())
+    let text = "run F --input I --table T";
+    expect_over(rt, files, text, status, line.as_bytes())
 }
 
 /// The same over a break alone, and the other files.
@@ -314,43 +204,6 @@ fn a_block_after_its_table(rt: HostRuntime) -> Result<(), AllocError> {
     expect_by(&rt, block, "read = 0", text, 6, b"fault 6 table 3 read\n")?;
     let line = b"fault 7 unsupported 00000002 00000000\n";
     expect_by(&rt, block, "", text, 7, line)
-}
-
-// One byte more than each limit, and as many as the limit.
-
-#[test]
-fn long_tables(rt: HostRuntime) -> Result<(), AllocError> {
-    let long = vec![in rt.alloc(); 10u8; 65_537]?;
-    let table = long.as_slice();
-    let above = expect_break(&rt, Some(table), Some(b""), 4, "fault 4 too large T\n");
-    let ends = "end break steps 1 cost 1\n";
-    let at = expect_break(&rt, table.get(1..), Some(b""), 0, ends);
-    drop(long);
-    above?;
-    at
-}
-
-#[test]
-fn long_inputs(rt: HostRuntime) -> Result<(), AllocError> {
-    let long = vec![in rt.alloc(); 10u8; 16_777_217]?;
-    let input = long.as_slice();
-    let above = expect_break(&rt, Some(b""), Some(input), 4, "fault 4 too large I\n");
-    let ends = "end break steps 1 cost 1\n";
-    let at = expect_break(&rt, Some(b""), input.get(1..), 0, ends);
-    drop(long);
-    above?;
-    at
-}
-
-#[test]
-fn long_executables(rt: HostRuntime) -> Result<(), AllocError> {
-    let long = vec![in rt.alloc(); 10u8; 16_777_217]?;
-    let file = long.as_slice();
-    let above = expect_run(&rt, Some(file), None, None, 4, "fault 4 too large F\n");
-    let at = expect_run(&rt, file.get(1..), None, None, 5, "fault 5 elf 2 0 0\n");
-    drop(long);
-    above?;
-    at
 }
 
 /// The files of a run with units, a table and an input.

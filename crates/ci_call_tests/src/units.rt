@@ -103,25 +103,3 @@ fn calls_that_are_refused(rt: HostRuntime) -> Result<(), AllocError> {
     expect_each(&rt, sums, unreadable(), 1, "fault 1 usage\n")?;
     expect(&rt, None, "eval F 0 0x0 0x0 0x0", 2, "fault 2 read F\n")
 }
-
-/// Asserts what `eval` says of so many blanks, which spell no module.
-fn expect_of_blanks(
-    rt: &(impl Abort + AllocGlobal),
-    size: usize,
-    status: u8,
-    line: &str,
-) -> Result<(), AllocError> {
-    let blanks = vec![in rt.alloc(); b' '; size]?;
-    let file = Some(blanks.as_slice());
-    let outcome = expect(rt, file, "eval F 0 0x0 0x0 0x0", status, line);
-    drop(blanks);
-    outcome
-}
-
-// As many as the limit, and one byte more.
-#[test]
-fn texts_at_the_limit(rt: HostRuntime) -> Result<(), AllocError> {
-    let line = "fault 7 unsupported 00000000 00000000\n";
-    expect_of_blanks(&rt, 4_194_304, 7, line)?;
-    expect_of_blanks(&rt, 4_194_305, 4, "fault 4 too large F\n")
-}

@@ -60,6 +60,7 @@ fn lines() -> &'static [(&'static str, u32)] {
         ("fence 4095, x31, x1", 0xffff_808f),
         ("ci 0, x5, x10, x11, x12", 0x60b5_028b),
         ("ci 3, x5, x10, x11, x12", 0x60b5_328b),
+        ("ci 31, x31, x1, x2, x3", 0x1e20_ff8b),
         ("cread x6", 0x0000_032b),
         (".word 0x00000013", 0x0000_0013),
         (".word 0xffffffff", 0xffff_ffff),

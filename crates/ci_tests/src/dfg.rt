@@ -291,3 +291,63 @@ fn the_register_that_is_zero(rt: HostRuntime) -> Result<(), AllocError> {
         ],
     )
 }
+
+/// lw x5, 0(x10); lw x6, 0(x11); add x28, x29, x30; sw x7, 0(x12); sw x8, 0(x13); lw x9, 0(x14)
+// Each two accesses stay in order, loads too. The sum between them is free.
+#[test]
+fn accesses_in_their_order(rt: HostRuntime) -> Result<(), AllocError> {
+    expect_nodes(
+        &rt,
+        rt.alloc(),
+        &[
+            0x0005_2283,
+            0x0005_A303,
+            0x01EE_8E33,
+            0x0076_2023,
+            0x0086_A023,
+            0x0007_2483,
+        ],
+        &[
+            (&[Entry(10)], &[], true),
+            (&[Entry(11)], &[0], true),
+            (&[Entry(29), Entry(30)], &[], true),
+            (&[Entry(12), Entry(7)], &[0, 1], false),
+            (&[Entry(13), Entry(8)], &[0, 1, 3], false),
+            (&[Entry(14)], &[0, 1, 3, 4], true),
+        ],
+    )
+}
+
+/// beq x14, x15, 8; jal x1, 8; jalr x1, 0(x14); ebreak; fence 255, x0, x0; auipc x28, 1; a word that is no instruction
+fn terminators() -> &'static [u32] {
+    &[
+        0x00F7_0463,
+        0x0080_00EF,
+        0x0007_00E7,
+        0x0010_0073,
+        0x0FF0_000F,
+        0x0000_1E17,
+        0xFFFF_FFFF,
+    ]
+}
+
+/// Asserts that a sum has an arc into a word behind it, to which nothing else ties it, or that it has none.
+fn expect_arc(rt: &impl Abort, alloc: Global, word: u32, before: &[u8]) -> Result<(), AllocError> {
+    let graph = graph_of(rt, alloc, &[0x00B5_02B3, word])?;
+    assert_eq!(rt; graph.nodes().len(), 2);
+    assert_eq!(rt; graph.nodes()[1].before, set_of(before), "{word:08x}");
+    drop(graph);
+    Ok(())
+}
+
+// Not so lui x28, 1; sw x7, 0(x12); and add x28, x29, x30.
+#[test]
+fn the_terminator_stays_behind(rt: HostRuntime) -> Result<(), AllocError> {
+    for word in terminators() {
+        expect_arc(&rt, rt.alloc(), *word, &[0])?;
+    }
+    for word in [0x0000_1E37, 0x0076_2023, 0x01EE_8E33] {
+        expect_arc(&rt, rt.alloc(), word, &[])?;
+    }
+    Ok(())
+}

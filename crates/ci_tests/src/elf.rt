@@ -120,6 +120,8 @@ fn each_segment_is_tested(rt: HostRuntime) -> Result<(), AllocError> {
     let rows: &[Row<'_>] = &[
         (&[(84, 3)], Some(ElfFault::WrongKind(84, 3))),
         (&[(84, 6), (92, 0x1_0000), (104, 4)], None),
+        // Without memory, a segment may have its bytes anywhere.
+        (&[(88, 0xffff_ffff), (100, 4)], None),
         (&[(56, 0xffff_ffff)], Some(ElfFault::Short(0xffff_ffff))),
         (&[(72, 4)], Some(ElfFault::BadSegment(0))),
         (&[(92, 0xfffe_fffc), (104, 4)], None),
@@ -169,6 +171,12 @@ fn each_section_is_tested(rt: HostRuntime) -> Result<(), AllocError> {
             &[(172, 0x1_0070), (176, 112)],
             Some(ElfFault::BadSection(1)),
         ),
+        // Text over the file header, and over the section headers.
+        (&[(172, 0x1_0000), (176, 0)], Some(ElfFault::BadSection(1))),
+        (
+            &[(68, 280), (72, 280), (180, 8)],
+            Some(ElfFault::BadSection(1)),
+        ),
         // A symbol table at the end of the file: entries of no size, of 16 bytes, half an entry, and one past the end.
         (&[(204, 2)], Some(ElfFault::BadSection(2))),
         (&[(204, 2), (236, 16)], None),
@@ -210,7 +218,11 @@ fn the_text_is_tested(rt: HostRuntime) -> Result<(), AllocError> {
         // No text, and text without a whole word.
         (&[(180, 0)], Some(ElfFault::EntryNotText)),
         (&[(180, 3)], Some(ElfFault::EntryNotText)),
+        // Of one flag alone, of a third one too, and of another type.
         (&[(168, 4)], Some(ElfFault::EntryNotText)),
+        (&[(168, 2)], Some(ElfFault::EntryNotText)),
+        (&[(168, 7)], None),
+        (&[(164, 8)], Some(ElfFault::EntryNotText)),
     ];
     are_faults(&rt, rt.alloc(), rows)
 }

@@ -1,7 +1,7 @@
 //! Runs of small programs, whose outcomes were worked out by hand or by other simulators.
 use crate::common::{calls, expect_counts, opening, table};
 use ci_emu::{End, Outcome, Profile, run, step};
-use ci_isa::Width;
+use ci_isa::{Reg, Width};
 use ci_lat::Table;
 use ci_machine::State;
 use std::alloc::{AllocError, Global};
@@ -117,6 +117,78 @@ fn makes_one_step(rt: HostRuntime) -> Result<(), Fail> {
     drop(state);
     first?;
     second?;
+    Ok(())
+}
+
+/// A word at 10074, the outcome of its step, and the pc and x1 behind it. Before it x1 has 7.
+type Told = (u32, Outcome, u32, u32);
+
+/// Jumps, branches and loads of which some end the run.
+fn directed() -> &'static [Told] {
+    &[
+        // jal x1, 2; jalr x1, 6(x0); jal x1, 4; jalr x1, 5(x0)
+        (
+            0x0020_00ef,
+            Outcome::Ended(End::Misaligned(0x10076)),
+            0x10074,
+            7,
+        ),
+        (0x0060_00e7, Outcome::Ended(End::Misaligned(6)), 0x10074, 7),
+        (0x0040_00ef, Outcome::Next, 0x10078, 0x10078),
+        (0x0050_00e7, Outcome::Next, 4, 0x10078),
+        // beq x0, x0, 2; bne x0, x0, 2; beq x0, x0, 8
+        (
+            0x0000_0163,
+            Outcome::Ended(End::Misaligned(0x10076)),
+            0x10074,
+            7,
+        ),
+        (0x0000_1163, Outcome::Next, 0x10078, 7),
+        (0x0000_0463, Outcome::Next, 0x1007c, 7),
+        // lw x1, 0(x0); lw x0, 0(x0); lw x0, 0(x2); lw x1, 0(x2)
+        (
+            0x0000_2083,
+            Outcome::Ended(End::Access(0, Width::Word)),
+            0x10074,
+            7,
+        ),
+        (
+            0x0000_2003,
+            Outcome::Ended(End::Access(0, Width::Word)),
+            0x10074,
+            7,
+        ),
+        (0x0001_2003, Outcome::Next, 0x10078, 7),
+        (0x0001_2083, Outcome::Next, 0x10078, 0),
+        // ebreak, and a word that is no instruction
+        (0x0010_0073, Outcome::Ended(End::Break), 0x10074, 7),
+        (
+            0xffff_ffff,
+            Outcome::Ended(End::Illegal(0xffff_ffff)),
+            0x10074,
+            7,
+        ),
+    ]
+}
+
+/// Makes the step of a word, and fails where it is another one.
+fn check_directed(rt: &impl Abort, alloc: Global, told: Told) -> Result<(), Fail> {
+    let (word, outcome, pc, value) = told;
+    let link = Reg::new(1).expect(rt, "the number of a register");
+    let mut state = opening(rt, alloc, &[word], &[], &[], b"")?;
+    state.set_register(link, 7);
+    let made = check_step(rt, &mut state, outcome, pc);
+    assert_eq!(rt; state.register(link), value, "{word:08x}");
+    drop(state);
+    made?;
+    Ok(())
+}
+
+#[test]
+fn a_step_that_ends_changes_nothing(rt: HostRuntime) -> Result<(), Fail> {
+    for told in directed() {
+        check_directed(&rt, rt.alloc(), *told)?;
+    }
     Ok(())
 }
 

@@ -282,6 +282,10 @@ fn others() -> &'static [u32] {
         0x0000_2063,
         0x0000_3003,
         0x0000_3023,
+        0x0000_3063,
+        0x0000_6003,
+        0x0000_7003,
+        0x0000_7023,
         0x0200_1013,
         0x4000_1013,
         0x0200_5013,
@@ -289,7 +293,14 @@ fn others() -> &'static [u32] {
         0x0400_0033,
         0x0000_100f,
         0x3020_0073,
+        0x0000_00f3,
+        0x0000_8073,
+        0x0020_0073,
+        0x2000_0033,
+        0x4000_4033,
         0x0000_102b,
+        0x0000_802b,
+        0x8000_002b,
     ]
 }
 
@@ -299,22 +310,6 @@ fn reads_no_other_word(rt: HostRuntime) {
         is_no_row(&rt, *word);
     }
     assert_eq!(rt; encode(&insn_at(0xffff_ffff)), 0xffff_ffff);
-}
-
-/// Asserts the class of the instruction of a word, whether it may be in a unit, and whether it ends a block.
-fn expect_kind(rt: &impl Abort, word: u32, due: Class, eligible: bool, terminator: bool) {
-    let insn = insn_at(word);
-    assert_eq!(rt; class(&insn), due);
-    assert_eq!(rt; is_eligible(&insn), eligible);
-    assert_eq!(rt; is_terminator(&insn), terminator);
-}
-
-#[test]
-fn knows_the_kinds(rt: HostRuntime) {
-    expect_kind(&rt, 0x0000_0013, Class::Free, false, false);
-    expect_kind(&rt, 0x01f3_1293, Class::ShiftConst, true, false);
-    expect_kind(&rt, 0x0273_42b3, Class::Div, false, false);
-    expect_kind(&rt, 0x0000_0073, Class::System, false, true);
 }
 
 /// Asserts what registers an instruction reads or writes.
@@ -355,6 +350,114 @@ fn knows_the_registers(rt: HostRuntime) {
     let no_op = insn_at(0x0000_0013);
     expect_registers(&rt, &no_op, &[], &[]);
     assert!(rt; !writes_register(&no_op, 0));
+}
+
+/// What an instruction may be in a block.
+#[derive(Clone, Copy)]
+enum Place {
+    /// In a unit.
+    Unit,
+    /// Anywhere, but in no unit.
+    Block,
+    /// Only last.
+    End,
+}
+
+/// A word, the class of its instruction, where that may stand, and what registers it reads and writes.
+type Told = (u32, Class, Place, &'static [u8], &'static [u8]);
+
+/// Operations on x6 and x7, or on x6 and a constant.
+fn kinds_of_operations() -> &'static [Told] {
+    &[
+        (0x0073_02b3, Class::Add, Place::Unit, &[6, 7], &[5]),
+        (0x4073_02b3, Class::Add, Place::Unit, &[6, 7], &[5]),
+        (0x0073_12b3, Class::Shift, Place::Unit, &[6, 7], &[5]),
+        (0x0073_22b3, Class::Compare, Place::Unit, &[6, 7], &[5]),
+        (0x0073_32b3, Class::Compare, Place::Unit, &[6, 7], &[5]),
+        (0x0073_42b3, Class::Logic, Place::Unit, &[6, 7], &[5]),
+        (0x0073_52b3, Class::Shift, Place::Unit, &[6, 7], &[5]),
+        (0x4073_52b3, Class::Shift, Place::Unit, &[6, 7], &[5]),
+        (0x0073_62b3, Class::Logic, Place::Unit, &[6, 7], &[5]),
+        (0x0073_72b3, Class::Logic, Place::Unit, &[6, 7], &[5]),
+        (0x0273_02b3, Class::Mul, Place::Unit, &[6, 7], &[5]),
+        (0x0273_12b3, Class::Mulh, Place::Unit, &[6, 7], &[5]),
+        (0x0273_22b3, Class::Mulh, Place::Unit, &[6, 7], &[5]),
+        (0x0273_32b3, Class::Mulh, Place::Unit, &[6, 7], &[5]),
+        (0x0273_42b3, Class::Div, Place::Block, &[6, 7], &[5]),
+        (0x0273_52b3, Class::Div, Place::Block, &[6, 7], &[5]),
+        (0x0273_62b3, Class::Div, Place::Block, &[6, 7], &[5]),
+        (0x0273_72b3, Class::Div, Place::Block, &[6, 7], &[5]),
+        (0xfff3_0293, Class::Add, Place::Unit, &[6], &[5]),
+        (0x7ff3_2293, Class::Compare, Place::Unit, &[6], &[5]),
+        (0x8003_3293, Class::Compare, Place::Unit, &[6], &[5]),
+        (0x0643_4293, Class::Logic, Place::Unit, &[6], &[5]),
+        (0xf9c3_6293, Class::Logic, Place::Unit, &[6], &[5]),
+        (0x0ff3_7293, Class::Logic, Place::Unit, &[6], &[5]),
+        (0x01f3_1293, Class::ShiftConst, Place::Unit, &[6], &[5]),
+        (0x0013_5293, Class::ShiftConst, Place::Unit, &[6], &[5]),
+        (0x4113_5293, Class::ShiftConst, Place::Unit, &[6], &[5]),
+        (0x1234_52b7, Class::Lui, Place::Unit, &[], &[5]),
+        // With x0: add x0, x6, x7; add x5, x0, x0; addi x0, x6, 1; addi x0, x0, 1; lui x0, 1; mv x5, x0.
+        (0x0073_0033, Class::Add, Place::Block, &[6, 7], &[]),
+        (0x0000_02b3, Class::Add, Place::Unit, &[], &[5]),
+        (0x0013_0013, Class::Add, Place::Block, &[6], &[]),
+        (0x0010_0013, Class::Add, Place::Block, &[], &[]),
+        (0x0000_1037, Class::Lui, Place::Block, &[], &[]),
+        (0x0000_0293, Class::Add, Place::Unit, &[], &[5]),
+    ]
+}
+
+/// All others.
+fn kinds_of_others() -> &'static [Told] {
+    &[
+        // lw x5, 0(x6); lbu x0, 0(x6); sw x7, 0(x6); sb x0, 0(x6)
+        (0x0003_2283, Class::Load, Place::Block, &[6], &[5]),
+        (0x0003_4003, Class::Load, Place::Block, &[6], &[]),
+        (0x0073_2023, Class::Store, Place::Block, &[6, 7], &[]),
+        (0x0003_0023, Class::Store, Place::Block, &[6], &[]),
+        // auipc x5, 1; jal x1, 8; jal x0, 8; jalr x1, 0(x6); jalr x0, 0(x1); beq x6, x7, 8; bgeu x6, x0, 8
+        (0x0000_1297, Class::Auipc, Place::End, &[], &[5]),
+        (0x0080_00ef, Class::Jump, Place::End, &[], &[1]),
+        (0x0080_006f, Class::Jump, Place::End, &[], &[]),
+        (0x0003_00e7, Class::Jump, Place::End, &[6], &[1]),
+        (0x0000_8067, Class::Jump, Place::End, &[1], &[]),
+        (0x0073_0463, Class::Branch, Place::End, &[6, 7], &[]),
+        (0x0003_7463, Class::Branch, Place::End, &[6], &[]),
+        // fence 4095, x31, x1; ecall; ebreak; a word that is no instruction
+        (0xffff_808f, Class::Fence, Place::End, &[], &[]),
+        (
+            0x0000_0073,
+            Class::System,
+            Place::End,
+            &[10, 11, 12, 17],
+            &[10],
+        ),
+        (0x0010_0073, Class::System, Place::End, &[], &[]),
+        (0xffff_ffff, Class::Free, Place::End, &[], &[]),
+        // ci 0, x5, x10, x11, x12; cread x6; addi x0, x0, 0
+        (0x60b5_028b, Class::Free, Place::Block, &[10, 11, 12], &[5]),
+        (0x0000_032b, Class::Free, Place::Block, &[], &[6]),
+        (0x0000_0013, Class::Free, Place::Block, &[], &[]),
+    ]
+}
+
+/// Asserts what these words stand for, by the extended table.
+fn expect_kinds(rt: &impl Abort, rows: &[Told]) {
+    for (word, due, place, read, written) in rows {
+        let insn = decode_x(*word).unwrap_or(Insn::Illegal { word: *word });
+        assert_eq!(rt; class(&insn), *due, "the class of {word:08x}");
+        let may_join = matches!(place, Place::Unit);
+        assert_eq!(rt; is_eligible(&insn), may_join, "whether {word:08x} joins");
+        let ends = matches!(place, Place::End);
+        assert_eq!(rt; is_terminator(&insn), ends, "whether {word:08x} ends");
+        expect_registers(rt, &insn, read, written);
+    }
+}
+
+#[test]
+fn knows_each_instruction(rt: HostRuntime) {
+    expect_kinds(&rt, kinds_of_operations());
+    expect_kinds(&rt, kinds_of_others());
 }
 
 #[test]

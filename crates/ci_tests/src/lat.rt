@@ -1,8 +1,8 @@
 //! Texts of tables and what they give.
 use ci_lat::{Key, LatFault, Table};
 use ci_word::Class;
+use std::alloc::AllocError;
 use std::process::Abort;
-use std::test::Fail;
 
 // Long tables are the answers of functions, so that the proof of a test looks at none of them.
 
@@ -127,17 +127,35 @@ fn faults() -> &'static [(&'static [u8], LatFault)] {
     ]
 }
 
-/// Keys and what they print as.
+/// The classes in the order in which their keys are looked at, with their words. The first eight have a delay.
+fn classes() -> &'static [(Class, &'static str)] {
+    &[
+        (Class::Add, "add"),
+        (Class::Logic, "logic"),
+        (Class::Shift, "shift"),
+        (Class::ShiftConst, "shift_const"),
+        (Class::Compare, "compare"),
+        (Class::Lui, "lui"),
+        (Class::Mul, "mul"),
+        (Class::Mulh, "mulh"),
+        (Class::Load, "load"),
+        (Class::Store, "store"),
+        (Class::Branch, "branch"),
+        (Class::Jump, "jump"),
+        (Class::Auipc, "auipc"),
+        (Class::Div, "div"),
+        (Class::Fence, "fence"),
+        (Class::System, "system"),
+    ]
+}
+
+/// The other keys, and what they print as.
 fn names() -> &'static [(Key, &'static str)] {
     &[
         (Key::Read, "read"),
         (Key::Pad, "pad"),
         (Key::Software, "software"),
         (Key::Hardware, "hardware"),
-        (Key::SoftwareOf(Class::Add), "software.add"),
-        (Key::SoftwareOf(Class::System), "software.system"),
-        (Key::HardwareOf(Class::ShiftConst), "hardware.shift_const"),
-        (Key::HardwareOf(Class::Mulh), "hardware.mulh"),
     ]
 }
 
@@ -209,11 +227,99 @@ fn ends_of_ranges_are_taken(rt: HostRuntime) -> Result<(), LatFault> {
     Ok(())
 }
 
+/// Asserts what a key prints as: the name of the table that it stands in, and its own.
+fn expect_name(
+    rt: &(impl Abort + AllocGlobal),
+    key: Key,
+    part: &str,
+    name: &str,
+) -> Result<(), AllocError> {
+    let printed = format!(in rt.alloc(); "{key}")?;
+    let due = format!(in rt.alloc(); "{part}{name}")?;
+    assert_eq!(rt; printed.as_str(), due.as_str());
+    Ok(())
+}
+
 #[test]
-fn keys_print_as_their_names(rt: HostRuntime) -> Result<(), Fail> {
+fn keys_print_as_their_names(rt: HostRuntime) -> Result<(), AllocError> {
     for (key, name) in names() {
-        let text = format!(in rt.alloc(); "{key}")?;
-        assert_eq!(rt; text.as_str(), *name);
+        expect_name(&rt, *key, "", name)?;
+    }
+    for (k, (class, word)) in classes().iter().enumerate() {
+        expect_name(&rt, Key::SoftwareOf(*class), "software.", word)?;
+        if k < 8 {
+            expect_name(&rt, Key::HardwareOf(*class), "hardware.", word)?;
+        }
+    }
+    Ok(())
+}
+
+/// Asserts that this is the fault of a table's text.
+fn expect_fault(rt: &(impl Abort + AllocGlobal), text: &str, fault: LatFault) {
+    assert!(rt; text.len() < 1000);
+    let found = Table::from_toml(rt.alloc(), text.as_bytes()).err();
+    assert!(rt; found == Some(fault), "{text}");
+}
+
+/// A text, and behind it the key of each class from the last one down to this one, with this value.
+fn text_down_to(
+    rt: &impl AllocGlobal,
+    before: &str,
+    classes: &[(Class, &'static str)],
+    value: u32,
+) -> Result<String, AllocError> {
+    let mut text = String::from_str(rt.alloc(), before)?;
+    for (_, word) in classes.iter().rev() {
+        write!(text, "{word} = {value}\n")?;
+    }
+    Ok(text)
+}
+
+/// Asserts that of the keys of these classes, all of this value, the first one has the fault.
+fn expect_first(
+    rt: &(impl Abort + AllocGlobal),
+    before: &str,
+    classes: &[(Class, &'static str)],
+    value: u32,
+    fault: LatFault,
+) -> Result<(), AllocError> {
+    let text = text_down_to(rt, before, classes, value)?;
+    expect_fault(rt, text.as_str(), fault);
+    drop(text);
+    Ok(())
+}
+
+// Behind each key that is out of its range stand all those before it, which aren't.
+#[test]
+fn keys_are_looked_at_in_order(rt: HostRuntime) -> Result<(), AllocError> {
+    let all = classes();
+    for (k, (class, _)) in all.iter().enumerate() {
+        let fault = LatFault::OutOfRange(Key::SoftwareOf(*class));
+        let rest = all.get(k..).unwrap_or(&[]);
+        expect_first(&rt, "hardware = 1\n[software]\n", rest, 1001, fault)?;
+    }
+    let delayed = all.get(..8).unwrap_or(&[]);
+    for (k, (class, _)) in delayed.iter().enumerate() {
+        let fault = LatFault::OutOfRange(Key::HardwareOf(*class));
+        let rest = delayed.get(k..).unwrap_or(&[]);
+        expect_first(&rt, "pad = 9\n[hardware]\n", rest, 100_001, fault)?;
+    }
+    Ok(())
+}
+
+// Those of the first eight classes behind this one are as great as `pad`, and this one and those before it aren't.
+#[test]
+fn pad_is_compared_in_order(rt: HostRuntime) -> Result<(), AllocError> {
+    let all = classes();
+    for (k, (class, _)) in all.iter().enumerate() {
+        let fault = if k < 8 {
+            LatFault::PadTooLarge(Key::SoftwareOf(*class))
+        } else {
+            LatFault::PadTooLarge(Key::Read)
+        };
+        let before = all.get(..k).unwrap_or(&[]);
+        let text = "pad = 40\nread = 39\n[software]\n";
+        expect_first(&rt, text, before, 40, fault)?;
     }
     Ok(())
 }

@@ -261,6 +261,48 @@ fn equal_units_share_a_number(rt: HostRuntime) -> Result<(), Fail> {
     outcome
 }
 
+/// The unit of one instruction, whose value is live.
+fn unit_of_one(
+    rt: &impl Abort,
+    alloc: Global,
+    insn: Insn,
+    operands: &[Source],
+) -> Result<Unit, Fail> {
+    unit_of_all(rt, alloc, &[insn], &[(operands, true)])
+}
+
+/// Puts the units of sll x5, x10, x0; slli x5, x10, 0; lui x5, 0; and add x5, x0, x0 into an empty table, and asserts
+/// their numbers.
+fn expect_classes(rt: &impl Abort, alloc: Global, table: &mut UnitTable) -> Result<(), Fail> {
+    let unit = unit_of_one(rt, alloc, alu(rt, Op::Sll, 5, 10, 0), &[Entry(10)])?;
+    assert_eq!(rt; number(rt, table, unit)?, 0);
+    let by_constant = Insn::AluImm {
+        op: Op::Sll,
+        rd: register(rt, 5),
+        rs1: register(rt, 10),
+        imm: 0,
+    };
+    let unit = unit_of_one(rt, alloc, by_constant, &[Entry(10)])?;
+    assert_eq!(rt; number(rt, table, unit)?, 1);
+    let zero = Insn::Lui {
+        rd: register(rt, 5),
+        upper: 0,
+    };
+    let unit = unit_of_one(rt, alloc, zero, &[])?;
+    assert_eq!(rt; number(rt, table, unit)?, 2);
+    let unit = unit_of_one(rt, alloc, alu(rt, Op::Add, 5, 0, 0), &[])?;
+    assert_eq!(rt; number(rt, table, unit)?, 3);
+    Ok(())
+}
+
+#[test]
+fn units_of_other_classes_are_others(rt: HostRuntime) -> Result<(), Fail> {
+    let mut table = UnitTable::new(rt.alloc());
+    let outcome = expect_classes(&rt, rt.alloc(), &mut table);
+    drop(table);
+    outcome
+}
+
 #[test]
 fn words_of_sums(rt: HostRuntime) -> Result<(), Fail> {
     let alloc = rt.alloc();
