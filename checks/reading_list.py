@@ -1,173 +1,230 @@
 #!/usr/bin/env python3
-"""Prints what a reader has to believe of the contract of the top call, and compares its size with README.md.
+"""Tells what a reader has to believe of each claim of README.md, and compares its size with README.md.
 
-    reading_list.py
+    reading_list.py [--claim CLAIM]
 
-The top call is `run` of ci_find. Its contract cites definitions by `ghost use`, and so do the traits that it takes; a
-file of definitions imports others by `use`. The list has every file of definitions that is reached so, whole, by crate
-and with its lines. What the code declares is reached too, by such a citation or as the type of a field: of that the
-list has the declaration alone, with its comments and contract, and for a type with a model the line of the model's
-value. What the toolchain's library and its ports define is not counted, and only named.
+A claim is `contract`, the whole contract of the top call (`run` of ci_find); `headline`, its clause of this name; or
+the number of a point of README.md's "What you can rely on". What a claim reaches is what its clauses name, what that
+names, and so on: definitions, by item, and what the code declares, by its comments, types and contract and the value by
+which it is modelled. A point that speaks of some commands alone needs only the cases of these in the table of what
+commands do. What the toolchain's library and its ports define isn't counted.
 
-It ends with status 1 where a file is among them whose first comment says that it serves private contracts or holds
-lemmas, where a proof is, and where README.md has another number of files or lines.
+Without `--claim`, the size of each claim is printed, and the names of all definitions are looked up. With it, what the
+claim reaches is printed file by file, each behind those that it stands on.
+
+It ends with status 1 where a name leads nowhere or into a proof, where a claim reaches an item of a file whose first
+comment says that it serves private contracts or holds lemmas, where the points of README.md aren't those of this
+script, where a clause of the contract carries none of them, and where README.md has other sizes; and where a made-up
+change of a definition isn't noticed.
 """
-import functools
-import os
+import argparse
+import dataclasses
 import re
 import sys
 
-TOP = os.path.join(os.path.dirname(os.path.abspath(__file__)), "..")
-CALL = "ci_find", "run"
-# The modules of definitions that the toolchain makes of what the code declares.
-OF_THE_CODE = ("declared", "contracts")
-IMPORT = re.compile(r"^[ \t]*(?:ghost )?use Rattle\.([\w.]+?)(?:\.\{([^}]*)\})?(?: as (\w+))?;?[ \t]*$", re.M)
+import reached
+from reached import Fault
+
+RUN = "crates/ci_find/src/lib.rt", "run"
+# The table of what commands do, of which a claim may need the cases of some commands alone.
+COMMANDS = "crates/ci_find/specs/Commands.antt", "call_by"
 PRIVATE = re.compile(r"private contracts|no public clause|^lemmas\b|the model of `\w+` alone", re.I)
-DECLARED = r"^(?:pub(?:\([a-z]+\))? )?(?:unsafe )?(?:struct|enum|trait|const|static|type|fn) %s\b"
+CHOICES = "Find", "Check"
+LAWS = "crates/ci_find/src/laws.rt"
+READERS = "Best", "Blocks", "Run", *CHOICES
 
 
-@functools.lru_cache(maxsize=None)
-def text_of(name):
-    """The text of a file of the repository."""
-    with open(os.path.join(TOP, name), encoding="utf-8") as file:
-        return file.read()
+@dataclasses.dataclass
+class Claim:
+    """The clauses of the top call that carry a claim, all of them where none are named; the commands that it speaks of,
+    all of them where none are named; and other functions that carry it, too."""
+    clauses: tuple = None
+    commands: tuple = None
+    others: tuple = ()
 
 
-def crates():
-    """The repository's crates, each with those that it uses."""
-    lines = re.sub(r"#.*", "", text_of("crates.txt")).splitlines()
-    return {name.strip(): rest.replace(",", " ").split() for name, _, rest in (line.partition(":") for line in lines)
-            if name.strip()}
+# How a call ends, by the calls that it made.
+ENDS = "called", "put", "ends_by"
+
+CLAIMS = {
+    "contract": Claim(),
+    "headline": Claim(("headline",)),
+    "1": Claim(ENDS, ("Find",)),
+    "2": Claim(ENDS, CHOICES, ((LAWS, "check_accepts_choices"),)),
+    "3": Claim(("headline", "headline_over_files")),
+    "4": Claim(ENDS, ("Best",)),
+    "5": Claim(ENDS, ("Best", "Find")),
+    "6": Claim(ENDS, ("Best",)),
+    "7": Claim(ENDS, ("Blocks",)),
+    "8": Claim(ENDS, ("Run",)),
+    "9": Claim(ENDS, ("Asm", "Dis"), (("crates/ci_asm/src/disassembler.rt", "show"),)),
+    "10": Claim(ENDS, ("Eval",)),
+    "11": Claim(ENDS, READERS),
+    "12": Claim((*ENDS, "cause", "ends", "due", "statuses", "complete", "printed")),
+    "13": Claim(("no_write", "writes", "files_stay", "left")),
+    "14": Claim((*ENDS, "first_files", "ends", "complete", "left")),
+}
 
 
-CRATES = crates()
+def find(reader, claim):
+    """What a claim reaches."""
+    roots = [("clauses", *RUN, claim.clauses), *(("code", *other) for other in claim.others)]
+    return reached.Reached(reader, roots, {COMMANDS: claim.commands} if claim.commands else {})
 
 
-def imports(text):
-    """The imports of a text: each a path, the names that it brings in, and what these are called here."""
-    for path, names, alias in IMPORT.findall(text):
-        brought = [name.split() for name in names.split(",") if name.strip()]
-        yield path, [name[0] for name in brought], {alias} | {name[-1] for name in brought}
+def unresolved(reader):
+    """What is wrong with the imports and the names of all files of definitions."""
+    for file in reader.sources.all_definitions():
+        try:
+            definitions = reader.sources.definitions(file)
+            for path, pairs, alias in definitions.imports:
+                for name in [name for name, _ in pairs] or [None] * bool(alias):
+                    reader.sources.target(path, name)
+        except Fault as fault:
+            yield f"{file}: {fault}"
+            continue
+        for name in definitions.items:
+            try:
+                yield from (text for kind, text, _ in reader.named(file, name) if kind == "fault")
+            except Fault as fault:
+                yield str(fault)
 
 
-def words(text):
-    """The names that a text of code or definitions has outside comments."""
-    return set(re.findall(r"\w+", re.sub(r"//.*|--.*", "", text)))
+def private(reader, found):
+    """The files of what is reached whose first comment says that they are for nobody above."""
+    for file in sorted({file for file, _ in found.items}):
+        if PRIVATE.search(reader.sources.definitions(file).comment):
+            names = ", ".join(sorted(name for other, name in found.items if other == file))
+            yield f"{file} isn't for public contracts, by its first comment: {names}"
 
 
-def item(text, name):
-    """The lines of the item of this name in a text of code: its comments, attributes and contract, and its body where
-    it is no function. A type with a model has the line of the model's value, too. None where no item has the name."""
-    declared = re.search(DECLARED % re.escape(name), text, re.M)
-    if not declared:
-        return None
-    lines = text.splitlines()
-    first = last = text.count("\n", 0, declared.start())
-    if not re.search(r"[;}]$", lines[first]):
-        last = next(n for n in range(first, len(lines)) if re.match(r"[})\]{]", lines[n]))
-    while first > 0 and re.match(r"///|#\[", lines[first - 1]):
-        first -= 1
-    found = [line for line in lines[first:last + 1] if line != "{"]
-    model = re.search(r"^impl(?:<.*?>)? Model for %s\b.*?^}" % name, text, re.M | re.S)
-    return found + re.findall(r"^ *ghost Value = .*", model.group(), re.M) if model else found
+def points(found):
+    """What README.md says that isn't so of its points, and of the sizes of the contract and of the headline."""
+    text = " ".join(reached.read("README.md").split())
+    numbers = re.findall(r"^(\d+)\. ", reached.read("README.md"), re.M)
+    if numbers != [name for name in CLAIMS if name.isdigit()]:
+        yield f"README.md has the points {', '.join(numbers)}"
+    of_all, of_headline = ([f"{len(part):,}" for part in (one.items, one.declared)]
+                           + [f"{sum(part.values()):,}" for part in (one.items, one.declared)]
+                           for one in (found["contract"], found["headline"]))
+    said = (f"in all {of_all[0]} definitions with {of_all[2]} lines, and {of_all[1]} declarations with {of_all[3]}; "
+            f"for the headline {of_headline[0]} with {of_headline[2]}, and {of_headline[1]} with {of_headline[3]}.")
+    if said not in text:
+        yield f"README.md doesn't say '{said}'"
 
 
-def declaring(crate, name, module=()):
-    """The file of a crate's code that declares an item: that of the module, where it is known, or the first one."""
-    folder, found = f"crates/{crate}/src", []
-    for path, _, files in sorted(os.walk(os.path.join(TOP, folder))):
-        for file in sorted(files):
-            code = os.path.relpath(os.path.join(path, file), TOP)
-            if file.endswith(".rt") and item(text_of(code), name):
-                found.append(code)
-    stem = "/".join([folder, *module])
-    return next((code for code in found if code in (f"{stem}.rt", f"{stem}/mod.rt")), found[0] if found else None)
+def uncarried(reader, contract):
+    """What of the contract of the top call carries no point, and whether it still has the table of commands."""
+    carrying = {clause for name, claim in CLAIMS.items() if name.isdigit() for clause in claim.clauses}
+    for clause in reader.sources.code(RUN[0]).clauses(RUN[1]):
+        if clause[0] not in carrying:
+            yield f"the clause {clause[0]} of `{RUN[1]}` carries no point of README.md"
+    if COMMANDS not in contract.items:
+        yield f"the contract doesn't reach {COMMANDS[1]} of {COMMANDS[0]}"
 
 
-class List:
-    """What is reached, step by step."""
-
-    def __init__(self):
-        self.files = {}
-        self.declared = {}
-        self.library = set()
-        self.waiting = []
-
-    def follow(self, text, wanted=None):
-        """Everything that a text imports, or of that what brings in one of some names, waits to be looked at."""
-        for path, names, called in imports(text):
-            if wanted is None or wanted & called:
-                self.waiting.append((path, names))
-
-    def declare(self, crate, name, module=()):
-        """Counts an item of a crate's code, and follows what its clauses cite, and the types and traits that it
-        names."""
-        code = declaring(crate, name, module)
-        if code is None or (code, name) in self.declared:
-            return code is not None
-        text = text_of(code)
-        lines = item(text, name)
-        self.declared[code, name] = len(lines)
-        self.follow(text, words("\n".join(lines)))
-        for word in sorted(words("\n".join(lines))):
-            if word[0].isupper():
-                any(self.declare(other, word) for other in [crate, *CRATES[crate]])
-        return True
-
-    def look(self, path, names):
-        """Counts what an import of some names from a path leads to."""
-        crate, *parts = path.split(".")
-        if crate not in CRATES:
-            self.library.add(path)
-        elif parts[0] == "specs" and parts[1] in OF_THE_CODE:
-            *module, last = [part for part in parts[2:] if part != "TheVariants"]
-            for name in names if last == "TheConstants" else [last]:
-                if not self.declare(crate, name, module):
-                    sys.exit(f"the code of {crate} declares no {name}")
-        elif "/".join(parts) not in self.files.setdefault(crate, {}):
-            text = text_of(f"crates/{crate}/{'/'.join(parts)}.antt")
-            self.files[crate]["/".join(parts)] = text
-            self.follow(text)
-
-    def run(self):
-        """Begins at the contract of the top call."""
-        if not self.declare(*CALL):
-            sys.exit(f"{CALL[0]} has no {CALL[1]}")
-        while self.waiting:
-            self.look(*self.waiting.pop())
+def counts(reader, found):
+    """How many items are reached, with how many lines, how many names lead nowhere, and how many files are private."""
+    return len(found.items), sum(found.items.values()), len(found.faults), len(list(private(reader, found)))
 
 
-def first_comment(text):
-    """The comment with which a text begins."""
-    return " ".join(line[2:].strip() for line in re.match(r"(?:--.*\n)*", text).group().splitlines())
+def untold(reader, found):
+    """What is told wrongly where a definition is changed: some record that the headline reaches, and its file."""
+    file, record = next(place for place in sorted(found.items) for item in
+                        [reader.sources.definitions(place[0]).items[place[1]]]
+                        if item.kind == "record" and not item.sections)
+    text = reader.sources.text(file)
+    lines, last = text.splitlines(), reader.sources.definitions(file).items[record].last
+    field = "\n".join([*lines[:last + 1], "  pub added_field : added_item", *lines[last + 1:], ""])
+    item = "\n-- an item that is made up\nabbrev pub added_item : Type 0\nadded_item = Type 0\n"
+    for changed, expected, said in (
+            (text, (0, 0, 0, 0), "no change at all"),
+            (text + item, (0, 0, 0, 0), "a definition that nothing names"),
+            (field + item, (1, 4, 0, 0), "a definition that a field names"),
+            (field, (0, 1, 1, 0), "a field that names nothing"),
+            ("-- For private contracts only.\n" + text, (0, 0, 0, 1), "a file that is for private contracts")):
+        other = reached.Reader(reached.Sources({file: changed}))
+        after = find(other, CLAIMS["headline"])
+        told = tuple(there - here for there, here in zip(counts(other, after), counts(reader, found)))
+        if told != expected:
+            yield f"of {said} in {file} {told} is told, in place of {expected}"
+
+
+def lowest_first(sources):
+    """The crates, each behind those that it stands on."""
+    done = []
+
+    def visit(crate):
+        if crate in sources.crates and crate not in done:
+            for other in sources.crates[crate]:
+                visit(other)
+            done.append(crate)
+
+    for crate in sources.crates:
+        visit(crate)
+    return done
+
+
+def in_order(sources, found):
+    """The files of what is reached, each behind those that it stands on, and the code of a crate before its
+    definitions."""
+    crates, files, done = lowest_first(sources), {file for file, _ in found.items}, []
+
+    def visit(file):
+        if file in files and file not in done:
+            for path, _, _ in sources.definitions(file).imports:
+                visit(f"crates/{path.removeprefix('Rattle.').replace('.', '/')}.antt")
+            done.append(file)
+
+    for file in sorted(files):
+        visit(file)
+    code = sorted({file for file, _ in found.declared})
+    return sorted(code + done, key=lambda file: crates.index(file.split("/")[1]))
+
+
+def show(sources, found):
+    """Prints what is reached, file by file: where each item begins, how many lines it has, and its name."""
+    for file in in_order(sources, found):
+        if file.endswith(".rt"):
+            names = [(sources.code(file).span(name)[0] + 1, lines, name)
+                     for (other, name), lines in found.declared.items() if other == file]
+        else:
+            names = [(sources.definitions(file).items[name].first + 1, lines, name)
+                     for (other, name), lines in found.items.items() if other == file]
+        lines = sum(lines for _, lines, _ in names)
+        print(f"{file}: {len(names)} items with {lines} of {len(sources.text(file).splitlines())} lines")
+        for first, lines, name in sorted(names):
+            print(f"  {first:4} {lines:4} {name}")
+    print(f"of the toolchain's library and ports: {', '.join(sorted(found.library))}")
+
+
+def summary(sources, found):
+    """Prints the sizes of claims."""
+    print("claim     definitions  lines  declarations  lines  files of definitions  their lines")
+    for name, one in found.items():
+        files = {file for file, _ in one.items}
+        whole = sum(len(sources.text(file).splitlines()) for file in files)
+        print(f"{name:9} {len(one.items):11,} {sum(one.items.values()):6,} {len(one.declared):13} "
+              f"{sum(one.declared.values()):6,} {len(files):21} {whole:12,}")
 
 
 def main():
-    found = List()
-    found.run()
-    faults, files, lines = [], 0, 0
-    for crate in (name for name in CRATES if name in found.files):
-        sizes = {name: len(text.splitlines()) for name, text in found.files[crate].items()}
-        files, lines = files + len(sizes), lines + sum(sizes.values())
-        print(f"{crate}: {len(sizes)} files, {sum(sizes.values())} lines")
-        for name, size in sorted(sizes.items()):
-            print(f"  {size:4} {name}.antt")
-            if name.startswith("proofs/"):
-                faults.append(f"{crate}/{name}.antt is a proof")
-            if PRIVATE.search(first_comment(found.files[crate][name])):
-                faults.append(f"{crate}/{name}.antt isn't for public contracts, by its first comment")
-    print("declared by the code:")
-    for (name, word), size in sorted(found.declared.items()):
-        print(f"  {size:4} {word} of {name}")
-    declared = sum(found.declared.values())
-    print(f"of the toolchain's library and ports: {', '.join(sorted(found.library))}")
-    total = f"{files} files with {lines:,} lines of definitions, and {declared} lines of declarations"
-    print(total)
-    if total not in " ".join(text_of("README.md").split()):
-        faults.append(f"README.md doesn't say '{total}'")
-    for fault in faults:
+    parser = argparse.ArgumentParser(description="Tells what a reader has to believe of each claim of README.md.")
+    parser.add_argument("--claim", choices=CLAIMS, help="print what this claim reaches")
+    chosen = parser.parse_args().claim
+    reader = reached.Reader(reached.Sources())
+    found = {name: find(reader, claim) for name, claim in CLAIMS.items() if chosen in (None, name)}
+    faults = [fault for one in found.values() for fault in (*one.faults, *private(reader, one))]
+    if chosen:
+        show(reader.sources, found[chosen])
+    summary(reader.sources, found)
+    if not chosen:
+        faults += [*unresolved(reader), *points(found), *uncarried(reader, found["contract"]),
+                   *untold(reader, found["headline"])]
+    for fault in dict.fromkeys(faults):
         print(fault)
     return 1 if faults else 0
 
 
-sys.exit(main())
+if __name__ == "__main__":
+    sys.exit(main())

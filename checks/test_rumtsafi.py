@@ -235,6 +235,25 @@ class Built(Repository):
             self.assertEqual(status, 1)
             self.assertTrue(told.startswith(f"{USAGE}rumtsafi: {why}"), told)
 
+    def test_many_words_are_looked_at_once(self):
+        self.use("one")
+        leaders = [word for number in range(5000) for word in ("--leader", hex(number))]
+        begun = os.times().children_user
+        for words, why in ((["dis", *map(str, range(10000))], "dis takes FILE, and '1' is a word too many"),
+                           (["blocks", "a", *leaders, "b"], "blocks takes FILE, and 'b' is a word too many")):
+            self.assertEqual(self.use(*words, STATUS="1")[2], f"{USAGE}rumtsafi: {why}\n")
+        # To look at all words for each of them takes minutes.
+        self.assertLess(os.times().children_user - begun, 20)
+
+    def test_too_little_stack_is_told_before_the_program_runs(self):
+        self.ship("echo ran")
+        script = os.path.join(self.root, "rumtsafi")
+        for kibibytes, want in (256, (0, "ran\n", "")), (255, (70, "", "rumtsafi: a call may take 256 KiB of stack, and "
+                                                               "'ulimit -s' allows 255: the program was not run\n")):
+            done = subprocess.run(["bash", "-c", f'ulimit -S -s {kibibytes}; exec "$@"', "bash", script, "best", "a"],
+                                  env=self.environment(), capture_output=True, text=True, check=False)
+            self.assertEqual((done.returncode, done.stdout, done.stderr), want)
+
     def test_what_a_choice_rests_on_is_told_by_its_report(self):
         self.ship('[ "$1" = find ] && echo a choice')
         cut_off = ("the run of 'an elf' didn't exit: --steps cut it off after 8 steps, "
@@ -260,6 +279,12 @@ class Built(Repository):
                     self.assertEqual(told, "".join(f"rumtsafi: {note}" for note in notes))
         for report in "/dev/null", "/dev/stderr", "missing":
             self.assertEqual(self.use("find", "a", "b", "c", "d", report), (0, "a choice\n", ""))
+        logs = os.path.join(self.room, "logs")
+        for length, note in (2 ** 28, ""), (2 ** 28 + 1, "rumtsafi: 'logs' has 268435457 bytes, and check reads "
+                                            "268435456: a smaller --budget makes it shorter\n"):
+            with open(logs, "wb") as file:
+                file.truncate(length)
+            self.assertEqual(self.use("find", "a", "b", "c", "logs", "missing"), (0, "a choice\n", note))
         # A note that can't be written changes nothing.
         script = os.path.join(self.root, "rumtsafi")
         done = subprocess.run(["bash", "-c", '"$@" 2> /dev/full', "bash", script, "find", *"abcd", "a report"],
@@ -392,8 +417,28 @@ class Shipped(Repository):
         process = self.start("one")
         self.assertEqual(process.stdout.readline(), "begun\n")
         process.send_signal(signal.SIGTERM)
-        self.assertEqual(process.wait(timeout=10), 143)
+        # That of the program, or that of the signal, where the program has ended by then.
+        self.assertIn(process.wait(timeout=10), (3, 143))
         self.assertTrue(os.path.exists(mark))
+        process.communicate()
+
+    def test_no_signal_leaves_the_program_behind(self):
+        self.ship("echo $$; exec sleep 30")
+        for name in ("HUP", "INT", "QUIT", "ABRT", "USR1", "USR2", "ALRM", "TERM", "XCPU", "VTALRM", "PROF"):
+            with self.subTest(name):
+                process = self.start("one")
+                program, number = int(process.stdout.readline()), signal.Signals[f"SIG{name}"]
+                process.send_signal(number)
+                self.assertEqual(process.wait(timeout=10), 128 + number)
+                self.assertRaises(ProcessLookupError, os.kill, program, 0)
+                process.communicate()
+
+    def test_a_signal_that_the_program_does_not_mind_changes_nothing(self):
+        self.ship("trap '' PIPE; echo begun; sleep 2; exit 7")
+        process = self.start("one")
+        self.assertEqual(process.stdout.readline(), "begun\n")
+        process.send_signal(signal.SIGPIPE)
+        self.assertEqual(process.wait(timeout=10), 7)
         process.communicate()
 
 
@@ -555,6 +600,33 @@ class AtTerminal(Repository):
             self.assertEqual(self.with_file("output", *words), (status, said.encode(), told))
             self.assertEqual(self.with_file("error", *words), (status, told.encode(), ""))
         self.assertEqual(self.use("asm", "a", "b"), (13, "fault 13 asm 5 2 14\n", ""))
+
+    def test_a_name_is_not_taken_for_another_fault(self):
+        isnt_there = "isn't there, or can't be read"
+        for status, printed, words, said in (
+                (2, "fault 2 read a\nfault 5 elf 3 4 2\n", ["dis", "a\nfault 5 elf 3 4 2"],
+                 f"a?fault 5 elf 3 4 2 {isnt_there}"),
+                (2, "fault 2 read a\nfault 2 read b\n", ["dis", "a\nfault 2 read b"], f"a?fault 2 read b {isnt_there}"),
+                (2, "fault 2 read a\n\n", ["dis", "a\n"], f"a? {isnt_there}"),
+                (3, "fault 3 write a\nfault 3 write -\n", ["asm", "b", "a\nfault 3 write -"],
+                 "a?fault 3 write - can't be written"),
+                (3, "fault 3 write a\nfault 3 write -\n", ["run", "b"], "standard output didn't take the answer"),
+                (3, "cuts 1 fault 3 write -\n", ["find", *"abcde"], "standard output didn't take the answer"),
+                (2, "fault 3 write a\nfault 2 read b\n", ["dis", "b"], None), (2, "fault 2 read b", ["dis", "b"], None),
+                (0, "fault 2 read a\nend break\nfault 2 read a\n", ["run", "a"], None)):
+            with self.subTest(printed=printed, words=words):
+                text = "".join(f"\\{byte:03o}" for byte in printed.encode())
+                self.ship(f"printf '{text}'; exit {status}")
+                told = f"rumtsafi: {said}\n".encode() if said else b""
+                self.assertEqual(self.at_terminal(*words), (status, printed.encode() + told))
+                self.assertEqual(self.with_file("output", *words), (status, told, printed))
+
+    def test_a_fault_line_is_found_in_a_file_that_has_more(self):
+        self.ship("echo fault 2 read a; exit 2")
+        for words in ("exec > out; echo fault 5 elf 2 0 0", "echo fault 5 elf 2 0 0 > out; exec >> out"):
+            shell = ["bash", "-c", f'cd "{self.room}"; {words}; "$@"', "bash"]
+            self.assertEqual(self.with_file("output", "dis", "a", shell=shell),
+                             (2, b"rumtsafi: a isn't there, or can't be read\n", ""))
 
     def test_what_went_elsewhere_is_not_said(self):
         self.ship("echo fault 2 read a; exit 2")

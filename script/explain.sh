@@ -13,6 +13,25 @@ call_of() {
     echo "$command"
 }
 
+# Prints the fault line of a call, by all that it printed and its status; fails where there is none.
+#
+# A name in the line may have newlines, and behind them what looks like a fault line of another name. So the line is all
+# that was printed, from the first byte to the last newline. A part of the answer stands before it only where standard
+# output didn't take the rest: then the line is one and the same, and the call has written what files it writes.
+fault_line() {
+    local line=${1%$'\n'} status=$2 call=$3
+    # The usage says more of status 1.
+    [[ $1 == *$'\n' && $status != [01] ]] || return 1
+    if [[ $status == 3 && $line == *'fault 3 write -' ]]; then
+        case $call:$line in
+            # A name, since these put no answer that begins so.
+            'asm:fault 3 write '* | 'find:fault 3 write '*) ;;
+            *) line='fault 3 write -' ;;
+        esac
+    fi
+    [[ $line == "fault $status "* ]] && echo "$line"
+}
+
 # Says a fault line of a call in words, by the first row of docs/faults.tsv that fits both.
 explain_fault() {
     local line=$1 call=$2 pattern of words names name value at
@@ -52,9 +71,9 @@ is_among() {
     [[ $1 =~ ^[a-z]+$ && " $2 " == *" $1 "* ]]
 }
 
-# Why words have no reading, where that can be told.
+# Why words have no reading, where that can be told. It looks at each word once.
 explain_words() {
-    local command=${1-} word names=() files=() seen='' options=yes
+    local command=${1-} words=("$@") at=1 names=() files=() seen='' options=yes
     # shellcheck source=script/words.sh
     . "$root/script/words.sh"
     [ "$#" -gt 0 ] || { echo "a command is missing; there are: $commands"; return; }
@@ -62,24 +81,23 @@ explain_words() {
         -h | --help | --version | --build) echo "$command stands alone"; return ;;
     esac
     is_among "$command" "$commands" || { echo "there is no command '$command'; there are: $commands"; return; }
-    shift
-    while [ "$#" -gt 0 ]; do
-        word=$1
-        shift
-        case $options$word in
+    while [ "$at" -lt "${#words[@]}" ]; do
+        case $options${words[at]} in
             yes--) options=no ;;
             yes--*)
-                explain_option "$command" "$word" "$@" && return
-                [[ $word == *=* ]] || shift
+                # The word behind it, which is its value where it has no `=`, is handed over where there is one.
+                explain_option "$command" "${words[at]}" ${words[at + 1]+"${words[at + 1]}"} && return
+                [[ ${words[at]} == *=* ]] || at=$((at + 1))
                 ;;
-            yes-?*) echo "$command has no option '$word'"; return ;;
-            *) names+=("$word") ;;
+            yes-?*) echo "$command has no option '${words[at]}'"; return ;;
+            *) names+=("${words[at]}") ;;
         esac
+        at=$((at + 1))
     done
     explain_names "$command" "${names[@]}" || explain_needed "$command" || explain_files "$command" "${files[@]}"
 }
 
-# Says what is wrong with an option of a command, given with the words behind it; fails where nothing is. It adds the
+# Says what is wrong with an option of a command, given with the word behind it; fails where nothing is. It adds the
 # option to `seen`, and a file that it names to `files`.
 explain_option() {
     local command=$1 word=$2 option
@@ -87,8 +105,12 @@ explain_option() {
     option=${word#--}
     option=${option%%=*}
     is_among "$option" "${options_of[$command]}" || { echo "$command has no option '--$option'"; return; }
-    ! is_among "$option" "$seen" || is_among "$option" "$repeated" || { echo "--$option stands twice"; return; }
-    seen="$seen $option"
+    if ! is_among "$option" "$seen"; then
+        seen="$seen $option"
+    elif ! is_among "$option" "$repeated"; then
+        echo "--$option stands twice"
+        return
+    fi
     if [[ $word == *=* ]]; then
         explain_value "--$option" "$option" "${word#*=}"
     elif [ "$#" = 0 ]; then
@@ -147,20 +169,20 @@ explain_names() {
 
 # Says which file of a command is named twice. Where nothing else is wrong with the words, the command would write it.
 explain_files() {
-    local command=$1 name other seen=()
+    local command=$1 name
+    local -A named=()
     shift
     for name; do
-        for other in "${seen[@]}"; do
-            [ "$name" != "$other" ] || { echo "$command can't write '$name', which it names twice"; return; }
-        done
-        seen+=("$name")
+        [ -z "${named["/$name"]-}" ] || { echo "$command can't write '$name', which it names twice"; return; }
+        named["/$name"]=yes
     done
 }
 
-# Says by the report of a choice where the run of OLD didn't exit, and what may find more where searches were given up.
+# Says by the report of a choice where the run of OLD didn't exit, and what may find more where searches were given up;
+# and by the length of LOGS that it can't be checked.
 # The words are those of a call of find that wrote the files. A report that is none of a file system's is left alone.
 explain_choice() {
-    local names=() options=yes
+    local names=() options=yes length most=268435456
     shift
     while [ "$#" -gt 0 ]; do
         case $options$1 in
@@ -171,6 +193,11 @@ explain_choice() {
         esac
         shift
     done
+    if [ -f "${names[3]}" ]; then
+        length=$(stat -L -c %s -- "${names[3]}")
+        [ "$length" -le "$most" ] ||
+            echo "'${names[3]}' has $length bytes, and check reads $most: a smaller --budget makes it shorter"
+    fi
     [[ $(readlink -f -- "${names[4]}") != /dev/* ]] && [ -f "${names[4]}" ] && [ -r "${names[4]}" ] || return 0
     old=${names[0]} awk '
         $1 == "profile" && $2 != "exit" {
