@@ -29,4 +29,7 @@ pub mod TextPlaceLaws
 pub mod SameHeaders
 pub mod TextChangeLaws
 pub mod PatchLaws
+pub mod RunLaws
+pub mod EntryLaws
+pub mod TableLaws
 pub mod Rows

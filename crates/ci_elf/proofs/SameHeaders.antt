@@ -1,12 +1,12 @@
 -- The headers and symbols of a file stay where its text alone is changed.
-use Rattle.std.proofs.Common.{lit≤, add-zero, ◌==◌, ◌&&◌, nat_lt, bit_and, ◌≡◌, ℕ, ◌+◌, ◌*◌, ◌<◌, ◌≤◌, inl, inr, true}
-use Rattle.std.proofs.Common.{cond, List, [], ◌∷◌, length, get_or, refl, ◌∙◌, ap, arith}
+use Rattle.std.proofs.Common.{lit≤, add-zero, ◌==◌, ◌&&◌, nat_lt, bit_and, ◌≡◌, ℕ, zero, suc, ◌+◌, ◌*◌, ◌<◌, ◌≤◌, ◌||◌, inl, inr, true}
+use Rattle.std.proofs.Common.{cond, List, [], length, get_or, refl, ◌∙◌, ap, arith}
 use Rattle.std.proofs.lemmas.Bool.{cases_Bool}
 use Rattle.ci_elf.specs.Fields.{field, e_entry, e_phoff, e_shoff, e_flags, e_phentsize, e_phnum, e_shentsize, e_shnum}
 use Rattle.ci_elf.specs.Fields.{program_header, p_type, p_offset, p_vaddr, p_filesz, p_memsz, is_loadable}
 use Rattle.ci_elf.specs.Fields.{section_header, sh_type, sh_flags, sh_addr, sh_offset, sh_size, sh_entsize}
 use Rattle.ci_elf.specs.Fields.{is_symbol_table, is_text, st_value}
-use Rattle.ci_elf.specs.Executables.{Executable, IsImageOf, symbol_count, symbols_in, symbols_of}
+use Rattle.ci_elf.specs.Executables.{Executable, IsImageOf, has_entry, has_entry_below, symbol_count, symbols_in, symbols_of}
 use Rattle.ci_elf.specs.Rules.{KeepsRules, IsApartFrom, IsAlone, rules}
 use Rattle.ci_elf.specs.TextChanges.{ChangeText}
 use Rattle.ci_elf.proofs.SameFields.{AgreeIn, field_same, each_same}
@@ -126,12 +126,23 @@ module _ (old new : List ℕ) (file : Executable) (kept : KeepsRules old (rules 
         rw same_section.offset (field_same new old (sh_offset old n) (sh_size old n) 4 (sh_offset old n + 16 * k + 4)
         (agree (sh_offset old n) (sh_size old n) (λ m _ alone. alone.symbols n exists table)) (omega arith) (omega arith))
 
-    values_same : cond (is_symbol_table new n) (symbols_in new n) [] ≡ cond (is_symbol_table old n) (symbols_in old n) []
-    values_same = rw (same_section.table, same_section.size) (elim (cases_Bool (is_symbol_table old n)) [
-      | inl is ↦ rw is (each_same (symbol_count old n) (λ k. st_value new n k ∷ []) (λ k. st_value old n k ∷ [])
-          (λ k below. ap (λ v. v ∷ []) (value_same is k below)))
-      | inr is ↦ rw is refl
-    ])
+    entry_same : (place : ℕ) → has_entry new n place ≡ has_entry old n place
+    unfolding has_entry
+    entry_same place = rw (same_section.table, same_section.offset, same_section.size) refl
+
+  entries_same : (n : ℕ) → n ≤ e_shnum old → (place : ℕ) → has_entry_below new n place ≡ has_entry_below old n place
+  unfolding has_entry_below
+  entries_same zero h place = refl
+  entries_same (suc n) h place = λ i. entry_same n (omega arith) place i || entries_same n (omega arith) place i
+
+  values_same : (n : ℕ) → n < e_shnum old → cond (is_symbol_table new n) (symbols_in new n) [] ≡ cond (is_symbol_table old n) (symbols_in old n) []
+  values_same n h =
+      let section = same_section n h in
+      rw (section.table, section.size) (elim (cases_Bool (is_symbol_table old n)) [
+        | inl is ↦ rw is (each_same (symbol_count old n) _ _ (λ k below.
+            rw (section.offset, entries_same n (omega arith) (sh_offset old n + 16 * k), value_same n h is k below) refl))
+        | inr is ↦ rw is refl
+      ])
 
   pub same_headers : HaveSameHeaders new old
   unfolding e_entry e_flags e_phentsize e_phnum e_shentsize symbols_of

@@ -1,12 +1,13 @@
 -- What an executable file means: its segments, its text and its symbols.
-use Rattle.std.specs.Prelude.{◌≡◌, ℕ, ◌+◌, ◌-◌, ◌*◌, ◌/◌, ◌%◌, ◌<◌, ◌≤◌, ◌⊎◌, ◌&&◌, Bool, if◌then◌else◌, List, [], ◌∷◌}
-use Rattle.std.specs.Prelude.{length, nat_lt, nat_le, slice_index, slice_index_or, IsTrue}
+use Rattle.std.specs.Prelude.{◌≡◌, ℕ, zero, suc, ◌+◌, ◌-◌, ◌*◌, ◌/◌, ◌%◌, ◌==◌, ◌<◌, ◌≤◌, ◌⊎◌, Bool, false, not, ◌&&◌}
+use Rattle.std.specs.Prelude.{◌||◌, if◌then◌else◌, List, [], ◌∷◌, length, nat_lt, nat_le, slice_index, slice_index_or}
+use Rattle.std.specs.Prelude.{IsTrue}
 use Rattle.std.specs.List.{AllPairs, Contains, list_any, sum_by}
 use Rattle.std.specs.List.Sorted.{IsPermutation}
 use Rattle.ci_elf.specs.declared.segments.Segment.{Segment}
 use Rattle.ci_elf.specs.declared.ranges.Range.{Range}
 use Rattle.ci_elf.specs.Fields.{field, e_entry, e_phnum, e_shnum, p_offset, p_vaddr, p_filesz, p_memsz, is_loadable}
-use Rattle.ci_elf.specs.Fields.{sh_addr, sh_size, is_symbol_table, is_text, st_value}
+use Rattle.ci_elf.specs.Fields.{sh_addr, sh_offset, sh_size, is_symbol_table, is_text, st_value}
 use Rattle.ci_reading.specs.Broken.{each_below, those_below}
 
 -- an executable file and what it means
@@ -35,15 +36,33 @@ segment_of bytes n = record {
 unfoldable pub segments_of : List ℕ → List Segment
 segments_of bytes = those_below (e_phnum bytes) (is_loadable bytes) (segment_of bytes)
 
+-- an entry of 16 bytes begins at the place, where entries stand one behind the other from `start` to `end`
+abbrev pub begins_entry : (start end place : ℕ) → Bool
+begins_entry start end place = nat_le start place && (nat_lt place end && ((place - start) % 16 == 0))
+
+-- section n is a symbol table with an entry that begins at the place in the file
+unfoldable pub has_entry : List ℕ → ℕ → ℕ → Bool
+has_entry bytes n place =
+    is_symbol_table bytes n && begins_entry (sh_offset bytes n) (sh_offset bytes n + sh_size bytes n) place
+
+-- one of the sections 0, 1, .., n - 1 has an entry there
+unfoldable pub has_entry_below : List ℕ → ℕ → ℕ → Bool
+has_entry_below bytes zero place = false
+has_entry_below bytes (suc n) place = has_entry bytes n place || has_entry_below bytes n place
+
 -- how many entries the symbol table has that section n is
 abbrev pub symbol_count : List ℕ → ℕ → ℕ
 symbol_count bytes n = sh_size bytes n / 16
 
--- the values of the entries of section n
-abbrev pub symbols_in : List ℕ → ℕ → List ℕ
-symbols_in bytes n = each_below (symbol_count bytes n) (λ k. st_value bytes n k ∷ [])
+-- no section before section n has its entry k
+abbrev pub is_new_entry : List ℕ → ℕ → ℕ → Bool
+is_new_entry bytes n k = not (has_entry_below bytes n (sh_offset bytes n + 16 * k))
 
--- the value of every entry of every symbol table
+-- the values of the entries of section n that no section before it has
+abbrev pub symbols_in : List ℕ → ℕ → List ℕ
+symbols_in bytes n = those_below (symbol_count bytes n) (is_new_entry bytes n) (st_value bytes n)
+
+-- The value of every entry of every symbol table. An entry that several tables have counts once, at the first of them.
 unfoldable pub symbols_of : List ℕ → List ℕ
 symbols_of bytes = each_below (e_shnum bytes) (λ n. if is_symbol_table bytes n then symbols_in bytes n else [])
 

@@ -7,6 +7,7 @@ pub mod Parts
 pub mod SectionChecks
 pub mod RangeChecks
 pub mod WordPlaces
+pub mod Runs
 pub mod SymbolChecks
 pub mod Frames
 pub mod WordLists

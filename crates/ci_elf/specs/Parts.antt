@@ -16,6 +16,14 @@ part start size = record { start = start; end = start + size }
 abbrev pub Overlap : Part → Part → Type 0
 Overlap p q = max p.start q.start < min p.end q.end
 
+-- The whole has the places of the part, and those of the other one, and goes no further than these two.
+pub record IsWidened (p other whole : Part) : Type 0 where
+  pub start : whole.start ≤ p.start
+  pub end : p.end ≤ whole.end
+  pub from : other.start < other.end → whole.start ≤ other.start
+  pub to : other.start < other.end → other.end ≤ whole.end
+  pub last : (end : ℕ) → p.end ≤ end → (other.start < other.end → other.end ≤ end) → whole.end ≤ end
+
 -- no two of the parts share a place
 abbrev pub AreApart : List Part → Type 0
 AreApart parts = AllPairs (λ p q. min p.end q.end ≤ max p.start q.start) parts

@@ -131,7 +131,8 @@ impl Image {
         &self.ranges
     }
 
-    /// The values of the symbols, in the order of the file's tables.
+    /// The values of the symbols, in the order of the file's tables. An entry that several tables have counts once, at
+    /// the first of them.
     pub fn symbols(&self) -> &[u32]
         ensures { result.now ≡ self.now.symbols }
     {

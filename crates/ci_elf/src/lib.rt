@@ -33,3 +33,4 @@ mod sections;
 mod segments;
 mod sharing;
 mod symbols;
+mod taken;

@@ -13,7 +13,7 @@ pub(crate) struct Part {
 }
 
 impl Part {
-    ghost use Rattle.ci_elf.specs.Parts.{Overlap, part};
+    ghost use Rattle.ci_elf.specs.Parts.{IsWidened, Overlap, part};
 
     /// The part of this size.
     pub(crate) fn new(start: u32, size: u32) -> Self
@@ -23,6 +23,20 @@ impl Part {
         Part {
             start,
             end: start + u64::from(size),
+        }
+    }
+
+    /// From the first place of the two to the last, where the other has places.
+    pub(crate) fn widened(self, other: Part) -> Self
+        ensures { IsWidened self other result }
+    {
+        if other.start < other.end {
+            Part {
+                start: self.start.min(other.start),
+                end: self.end.max(other.end),
+            }
+        } else {
+            self
         }
     }
 

@@ -71,7 +71,7 @@ fn section_at(bytes: &[u8], n: u32) -> Section
 
 /// Section `n`, where that is a symbol table.
 #[tactic(auto, unfolding(crate::specs::Fields::is_symbol_table))]
-pub(crate) fn symbol_table_at(bytes: &[u8], n: u32) -> Option<Section>
+fn symbol_table_at(bytes: &[u8], n: u32) -> Option<Section>
     requires tables { HasTables bytes.now }
     requires exists { n < e_shnum bytes.now }
     ensures { result ≡ symbol_section bytes.now n }
@@ -124,7 +124,7 @@ pub(crate) fn text_parts(alloc: Global, bytes: &[u8]) -> Result<Vec<Part>, Alloc
 }
 
 /// The file part of section `n` where that is a symbol table, or none.
-fn symbol_part(bytes: &[u8], n: u32) -> Part
+pub(crate) fn symbol_part(bytes: &[u8], n: u32) -> Part
     requires tables { HasTables bytes.now }
     requires exists { n < e_shnum bytes.now }
     ensures { result ≡ symbols_at bytes.now n }

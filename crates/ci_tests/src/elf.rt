@@ -382,6 +382,49 @@ fn symbols_are_read_in_order(rt: HostRuntime) -> Result<(), Fail> {
     Ok(())
 }
 
+/// A file with two symbol tables at these offsets, of these sizes, over its constants and values: from
+/// offset 124 on stand the words 0 to 11.
+fn with_tables(
+    rt: &impl Abort,
+    alloc: Global,
+    first: (u32, u32),
+    second: (u32, u32),
+) -> Result<Vec<u8>, AllocError> {
+    let values = [4, 5, 6, 7, 8, 9, 10, 11];
+    let mut bytes = frame(alloc, &[0x13, 0x73], &[0, 1, 2, 3], &values)?;
+    change(rt, &mut bytes, &[(256, 2), (288, 16)]);
+    change(rt, &mut bytes, &[(268, first.0), (272, first.1)]);
+    change(rt, &mut bytes, &[(296, 2), (328, 16)]);
+    change(rt, &mut bytes, &[(308, second.0), (312, second.1)]);
+    Ok(bytes)
+}
+
+#[test]
+fn shared_symbols_count_once(rt: HostRuntime) -> Result<(), Fail> {
+    // The second table begins at the last entry of the first one, and goes on behind it.
+    let bytes = with_tables(&rt, rt.alloc(), (124, 32), (140, 32))?;
+    expect_symbols(&rt, rt.alloc(), &bytes, &[1, 5, 9])?;
+    // The second table has the entry of the first one between two others.
+    let bytes = with_tables(&rt, rt.alloc(), (140, 16), (124, 48))?;
+    expect_symbols(&rt, rt.alloc(), &bytes, &[5, 1, 9])?;
+    Ok(())
+}
+
+#[test]
+fn symbols_that_overlap_all_count(rt: HostRuntime) -> Result<(), Fail> {
+    // The entries of the second table begin four bytes behind those of the first one.
+    let bytes = with_tables(&rt, rt.alloc(), (124, 32), (128, 32))?;
+    expect_symbols(&rt, rt.alloc(), &bytes, &[1, 5, 2, 6])?;
+    Ok(())
+}
+
+#[test]
+fn a_table_twice_counts_once(rt: HostRuntime) -> Result<(), Fail> {
+    let bytes = with_tables(&rt, rt.alloc(), (140, 32), (140, 32))?;
+    expect_symbols(&rt, rt.alloc(), &bytes, &[5, 9])?;
+    Ok(())
+}
+
 /// How many headers each table of the large file has.
 const MANY: u32 = 65_535;
 
