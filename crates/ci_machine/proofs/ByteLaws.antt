@@ -1,6 +1,6 @@
 -- Bytes on pages, in runs: how they are read, and what they are after a write.
 use Rattle.std.proofs.Common.{◌≡◌, ◌≢◌, ℕ, zero, suc, ◌+◌, ◌-◌, ◌*◌, ◌/◌, ◌%◌, ◌<◌, ◌≤◌, ◌⊎◌, inl, inr, Bool, true, false, cond, eqb, not, max}
-use Rattle.std.proofs.Common.{List, [], ◌∷◌, ◌++◌, length, get_or, set, take, drop, Option, Some, None, is_some, refl, sym, ap, ◌∙◌, arith, ◌||◌, ◌&&◌}
+use Rattle.std.proofs.Common.{List, [], ◌∷◌, ◌++◌, length, get_or, set, replicate, take, drop, Option, Some, None, is_some, refl, sym, ap, ◌∙◌, arith, ◌||◌, ◌&&◌}
 use Rattle.std.proofs.lemmas.Bool.{cases_eq, cases_lt}
 use Rattle.std.proofs.lemmas.Bool.Decides.{nat_tests}
 use Rattle.std.proofs.lemmas.List.{get_or-set_same, get_or-set_other, length-set, length-take-le, length-drop}
@@ -227,6 +227,44 @@ zeros_more bytes start middle end x low high = by_test (lies_in start middle x)
       | inl lt ↦ inl lt
       | inr past ↦ elim (not_inside middle end x neither) [ inl lt ↦ absurd (omega arith) | inr behind ↦ inr behind ]
     ])))))
+
+-- what lies between two addresses is 0 either way
+pub zeros_within : (bytes : ℕ → ℕ) (start end low high x : ℕ) → start ≤ low → high ≤ end
+    → zeroed (zeroed bytes low high) start end x ≡ zeroed bytes start end x
+zeros_within bytes start end low high x from to = by_test (lies_in start end x)
+    (λ is. taken _ _ _ is ∙ sym (taken _ _ _ is))
+    (λ none. passed _ _ _ none ∙ passed _ _ _ (outside low high x (elim (not_inside start end x none) [
+      | inl lt ↦ inl (omega arith)
+      | inr past ↦ inr (omega arith)
+    ])) ∙ sym (passed _ _ _ none))
+
+pub zeros_already : (bytes : ℕ → ℕ) (start end x : ℕ) → (lies_in start end x ≡ true → bytes x ≡ 0) → bytes x ≡ zeroed bytes start end x
+zeros_already bytes start end x zeros = by_test (lies_in start end x)
+    (λ is. zeros is ∙ sym (taken _ _ _ is))
+    (λ none. sym (passed _ _ _ none))
+
+pub pages_within : (numbers : ℕ → Bool) (from to number n : ℕ) → from ≤ number → number < to
+    → without_pages (without_pages numbers number (number + 1)) from to n ≡ without_pages numbers from to n
+pages_within numbers from to number n low high = by_test (lies_in from to n)
+    (λ is. ap (λ b. not b && without_pages numbers number (number + 1) n) is ∙ sym (ap (λ b. not b && numbers n) is))
+    (λ none. ap (λ b. not (lies_in from to n) && (not b && numbers n)) (outside number (number + 1) n (elim (not_inside from to n none) [
+      | inl lt ↦ inl (omega arith)
+      | inr past ↦ inr (omega arith)
+    ])))
+
+pub pages_already : (numbers : ℕ → Bool) (from to n : ℕ) → (lies_in from to n ≡ true → numbers n ≡ false)
+    → numbers n ≡ without_pages numbers from to n
+pages_already numbers from to n gone = by_test (lies_in from to n)
+    (λ is. gone is ∙ sym (ap (λ b. not b && numbers n) is))
+    (λ none. sym (ap (λ b. not b && numbers n) none))
+
+-- a run of zeros
+pub zeros_run : (bytes : ℕ → ℕ) (n a : ℕ) → ((k : ℕ) → k < n → bytes (a + k) ≡ 0) → replicate n 0 ≡ run_of bytes n a
+zeros_run bytes zero a zeros = refl
+zeros_run bytes (suc n) a zeros =
+    let first : bytes a ≡ 0 = ap bytes (omega arith) ∙ zeros 0 (omega arith) in
+    let more = zeros_run bytes n (a + 1) (λ k lt. ap bytes (omega arith) ∙ zeros (k + 1) (omega arith)) in
+    λ k. sym first k ∷ more k
 
 -- a run behind others
 pub run_more : (bytes : ℕ → ℕ) (row : List ℕ) (a done count x : ℕ) → done + count ≤ length row

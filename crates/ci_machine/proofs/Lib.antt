@@ -19,6 +19,7 @@ mod ExtendedRows
 pub mod EditLaws
 pub mod SearchLaws
 pub mod PageLaws
+pub mod MissingPages
 pub mod ByteLaws
 pub mod SpanLaws
 pub mod AccessLaws

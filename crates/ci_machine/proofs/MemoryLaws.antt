@@ -10,12 +10,13 @@ use Rattle.ci_machine.specs.Accesses.{addresses, bytes_at, joined, with_bytes}
 use Rattle.ci_machine.specs.Programs.{lies_in, stack_start, stack_end}
 use Rattle.ci_machine.specs.Spans.{in_spans}
 use Rattle.ci_machine.specs.Pages.{content, has, room}
-use Rattle.ci_machine.specs.PageTables.{run_of, written, zeroed, with_pages, without_pages, pages_to}
-use Rattle.ci_machine.specs.Layouts.{mapped_in, IsLaidOut, IsPaged}
+use Rattle.ci_machine.specs.PageTables.{missing, run_of, written, zeroed, with_pages, without_pages, pages_to}
+use Rattle.ci_machine.specs.Layouts.{heap_limit, mapped_in, IsLaidOut, IsPaged}
 use Rattle.ci_machine.specs.Memories.{with_heap_moved}
 use Rattle.ci_machine.proofs.TestLaws.{by_test, taken, passed, lies_in-bounds, bounds-lies_in, outside, neither_first, neither_second, or_second}
 use Rattle.ci_machine.proofs.ByteLaws.{not_inside}
 use Rattle.ci_machine.proofs.AccessLaws.{mod_small}
+use Rattle.ci_machine.proofs.MissingPages.{missing_fewer}
 
 -- ---- bytes that are read
 
@@ -142,24 +143,39 @@ module _ (spans : List Span) (segments : List Segment) (start old loaded : ℕ) 
       (λ none. none)
 
   module _ (pages : Pages) (paged : IsPaged pages spans start old loaded) where
-    abbrev mapped : ℕ → Bool
-    mapped = mapped_in spans start old
+    -- ---- a page of the heap is made
 
-    -- each mapped byte is on a page
-    pub mapped_has : (x : ℕ) → mapped x ≡ true → has pages (x / 4096) ≡ true
-    mapped_has x is =
-        by_test (in_spans spans x)
-        (λ there. paged.covered x there)
-        (λ none. let bounds = lies_in-bounds start old x (or_second (in_spans spans x) _ is none) in
-        paged.heap (x / 4096) (omega (arith, bounds.0)) (omega (arith, bounds.1)))
+    -- it is one of those that the heap may come to meet
+    may_meet : (x : ℕ) → lies_in start old x ≡ true → (start / 4096 ≤ x / 4096) × (x / 4096 < pages_to (heap_limit start loaded))
+    may_meet x is =
+        let bounds = lies_in-bounds start old x is in
+        (omega (arith, bounds.0), omega (arith, bounds.1, laid.ordered, laid.top, laid.fits))
+
+    pub room_to_make : (x : ℕ) → lies_in start old x ≡ true → has pages (x / 4096) ≡ false → 0 < room pages
+    room_to_make x is none =
+        let meets = may_meet x is in
+        omega (arith, paged.room, missing_fewer (has pages) (x / 4096) (start / 4096) (pages_to (heap_limit start loaded)) none meets.0 meets.1)
+
+    pub paged_made : (new : Pages) (x : ℕ) → lies_in start old x ≡ true → has pages (x / 4096) ≡ false → content new ≡ content pages
+        → has new ≡ with_pages (has pages) (x / 4096) (x / 4096 + 1) → room pages ≡ room new + 1 → IsPaged new spans start old loaded
+    paged_made new x is none same added rooms = record {
+      covered = λ y there. ap (λ f. f (y / 4096)) added
+          ∙ or_true (lies_in (x / 4096) (x / 4096 + 1) (y / 4096)) (has pages (y / 4096)) (paged.covered y there);
+      clean = λ y out. ap (λ f. f y) same ∙ paged.clean y out;
+      room =
+          let meets = may_meet x is in
+          omega (
+            arith,
+            paged.room,
+            rooms,
+            missing_fewer (has pages) (x / 4096) (start / 4096) (pages_to (heap_limit start loaded)) none meets.0 meets.1,
+            ap (λ numbers. missing numbers (start / 4096) (pages_to (heap_limit start loaded))) added,
+          );
+    }
 
     -- ---- the end moves up
 
-    module _ (new : Pages) (end : ℕ) (may : IsRoom start loaded end) (up : old ≤ end) (same : content new ≡ content pages)
-        (added : has new ≡ with_pages (has pages) (pages_to old) (pages_to end)) where
-      pub room_for : pages_to end - pages_to old ≤ room pages
-      room_for = omega (arith, paged.room, may.small, may.top, may.ordered, laid.fits)
-
+    module _ (end : ℕ) (may : IsRoom start loaded end) (up : old ≤ end) where
       heap_still : (x : ℕ) → lies_in old end x ≡ false → lies_in start end x ≡ lies_in start old x
       heap_still x none = elim (not_inside old end x none) [
         | inl lt ↦ by_test (lies_in start old x)
@@ -172,7 +188,7 @@ module _ (spans : List Span) (segments : List Segment) (start old loaded : ℕ) 
       ]
 
       -- the bytes that came were 0 all along
-      pub moved_up : (x : ℕ) → shown (mapped_in spans start end) (content new) x
+      pub moved_up : (x : ℕ) → shown (mapped_in spans start end) (content pages) x
           ≡ with_heap_moved old end (shown (mapped_in spans start old) (content pages)) x
       moved_up x =
           by_test (lies_in old end x)
@@ -181,8 +197,8 @@ module _ (spans : List Span) (segments : List Segment) (start old loaded : ℕ) 
           let was : mapped_in spans start old x ≡ false =
           ap (λ b. b || lies_in start old x) free ∙ outside start old x (inr bounds.0) in
           taken _ _ _ (or_true (in_spans spans x) _ (bounds-lies_in start end x (omega (arith, bounds.0, laid.ordered)) bounds.1))
-          ∙ ap Some (ap (λ f. f x) same ∙ paged.clean x was) ∙ sym (taken _ _ _ is))
-          (λ none. (λ k. cond (in_spans spans x || heap_still x none k) (Some (same k x)) None)
+          ∙ ap Some (paged.clean x was) ∙ sym (taken _ _ _ is))
+          (λ none. (λ k. cond (in_spans spans x || heap_still x none k) (Some (content pages x)) None)
           ∙ sym (passed _ _ _ (outside end old x (elim (cases_lt x end) [ inl lt ↦ inl lt | inr past ↦ inr (omega arith) ])))
           ∙ sym (passed _ _ _ none))
 
@@ -193,27 +209,20 @@ module _ (spans : List Span) (segments : List Segment) (start old loaded : ℕ) 
         top = may.top;
         clear = λ some. may.clear;
         counted = laid.counted;
-        fits = laid.fits;
+        fits = may.small;
         below = laid.below;
       }
 
-      kept : (n : ℕ) → has pages n ≡ true → has new n ≡ true
-      kept n was = ap (λ f. f n) added ∙ or_true (lies_in (pages_to old) (pages_to end) n) (has pages n) was
-
-      pub paged_up : room pages ≤ room new + (pages_to end - pages_to old) → IsPaged new spans start end loaded
-      paged_up rooms = record {
-        covered = λ x is. kept (x / 4096) (paged.covered x is);
-        heap = λ n low high. elim (cases_lt n (pages_to old)) [
-          | inl lt ↦ kept n (paged.heap n low lt)
-          | inr from ↦ ap (λ f. f n) added ∙ ap (λ b. b || has pages n) (bounds-lies_in (pages_to old) (pages_to end) n from high)
-        ];
-        clean = λ x none. ap (λ f. f x) same ∙ paged.clean x
+      pub paged_up : IsPaged pages spans start end loaded
+      paged_up = record {
+        covered = paged.covered;
+        clean = λ x none. paged.clean x
             (ap (λ b. b || lies_in start old x) (neither_first _ _ none)
             ∙ (elim (not_inside start end x (neither_second _ _ none)) [
               | inl lt ↦ outside start old x (inl lt)
               | inr past ↦ outside start old x (inr (omega arith))
             ]));
-        room = omega (arith, paged.room, rooms);
+        room = paged.room;
       }
 
     -- ---- the end moves down
@@ -221,16 +230,6 @@ module _ (spans : List Span) (segments : List Segment) (start old loaded : ℕ) 
     module _ (end : ℕ) (ordered : start ≤ end) (down : end < old) where
       clear_old : (leb old stack_start || leb stack_end start) ≡ true
       clear_old = laid.clear (omega arith)
-
-      pub heap_pages : (n : ℕ) → pages_to end ≤ n → n < pages_to old → has pages n ≡ true
-      heap_pages n low high = paged.heap n (omega arith) high
-
-      pub rest_there : (numbers : ℕ → Bool) → numbers ≡ without_pages (has pages) (pages_to end) (pages_to old)
-          → 0 < end % 4096 → numbers (end / 4096) ≡ true
-      rest_there numbers is some =
-          ap (λ f. f (end / 4096)) is
-          ∙ (λ k. not (outside (pages_to end) (pages_to old) (end / 4096) (inl (omega arith)) k)
-          && paged.heap (end / 4096) (omega arith) (omega arith) k)
 
       module _ (new : Pages) (cleared : content new ≡ zeroed (content pages) end (pages_to old * 4096))
           (gone : has new ≡ without_pages (has pages) (pages_to end) (pages_to old)) where
@@ -280,7 +279,7 @@ module _ (spans : List Span) (segments : List Segment) (start old loaded : ℕ) 
           top = omega (arith, laid.top);
           clear = λ some. less_clear start end old (omega arith) clear_old;
           counted = laid.counted;
-          fits = laid.fits;
+          fits = omega (arith, laid.fits);
           below = laid.below;
         }
           where
@@ -300,15 +299,15 @@ module _ (spans : List Span) (segments : List Segment) (start old loaded : ℕ) 
           ])
         ]
 
-        pub paged_down : room new ≡ room pages + (pages_to old - pages_to end) → IsPaged new spans start end loaded
+        pub paged_down : ((low high : ℕ) → missing (has new) low high + room pages ≤ missing (has pages) low high + room new)
+            → IsPaged new spans start end loaded
         paged_down rooms = record {
           covered = λ x is. kept_page (x / 4096) (span_page x is) (paged.covered x is);
-          heap = λ n low high. kept_page n (inl high) (paged.heap n low (omega arith));
           clean = λ x none. ap (λ f. f x) cleared
               ∙ by_test (lies_in end (pages_to old * 4096) x)
               (λ is. taken _ _ _ is)
               (λ out. passed _ _ _ out ∙ paged.clean x (was_none x none out));
-          room = omega (arith, paged.room, rooms);
+          room = omega (arith, paged.room, rooms (start / 4096) (pages_to (heap_limit start loaded)));
         }
           where
             was_none : (x : ℕ) → mapped_in spans start end x ≡ false → lies_in end (pages_to old * 4096) x ≡ false → mapped_in spans start old x ≡ false

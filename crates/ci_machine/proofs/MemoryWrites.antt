@@ -16,14 +16,16 @@ use Rattle.ci_machine.specs.Memories.{is_mapped, memory_of}
 use Rattle.ci_machine.specs.Pages.{content, has, room}
 use Rattle.ci_machine.specs.PageTables.{run_of, written}
 use Rattle.ci_machine.proofs.AccessLaws.{bytes_at_mapped, mod_small}
-use Rattle.ci_machine.proofs.MemoryLaws.{mapped_has, run_read, row_written, row_clean}
-use Rattle.ci_machine.proofs.TestLaws.{by_test, taken, passed}
+use Rattle.ci_machine.specs.Programs.{lies_in}
+use Rattle.ci_machine.specs.Spans.{in_spans}
+use Rattle.ci_machine.proofs.MemoryLaws.{run_read, row_written, row_clean}
+use Rattle.ci_machine.proofs.TestLaws.{by_test, either_first, taken, passed}
 
 module _ (memory : Memory) where
-  -- a mapped byte is on a page
-  pub has_page : (x : ℕ) → is_mapped memory x ≡ true → has memory.pages (x / 4096) ≡ true
-  unfolding is_mapped HasLayout HasPages
-  has_page x is = mapped_has memory.spans.spans.items memory.segments.items memory.heap_start memory.heap_end memory.loaded memory.laid_out memory.pages memory.paged x is
+  -- a mapped byte is on a page, or the heap's
+  pub has_page : (x : ℕ) → is_mapped memory x ≡ true → lies_in memory.heap_start memory.heap_end x ≡ false → has memory.pages (x / 4096) ≡ true
+  unfolding is_mapped HasPages
+  has_page x is off = memory.paged.covered x (either_first (in_spans memory.spans.spans.items x) (lies_in memory.heap_start memory.heap_end x) is off)
 
   pub seen : (x : ℕ) → is_mapped memory x ≡ true → memory_of memory x ≡ Some (content memory.pages x)
   unfolding memory_of
@@ -69,11 +71,14 @@ module _ (memory : Memory) where
     unfolding is_mapped HasLayout HasPages
     paged_written same rooms = record {
       covered = λ x is. ap (λ f. f (x / 4096)) same ∙ memory.paged.covered x is;
-      heap = λ n low high. ap (λ f. f n) same ∙ memory.paged.heap n low high;
       clean = λ x none. ap (λ f. f x) wrote
           ∙ row_clean (is_mapped memory) (content memory.pages) row a fits each x none (memory.paged.clean x none);
-      room = omega (arith, memory.paged.room, rooms);
+      room = rw (same, rooms) memory.paged.room;
     }
+
+-- what is mapped stays so where the memory is as it was
+pub same_mapped : (old new : Memory) → memory_of new ≡ memory_of old → (x : ℕ) → is_mapped new x ≡ is_mapped old x
+same_mapped old new same x = sym (is_seen new x) ∙ ap (λ memory. is_some (memory x)) same ∙ is_seen old x
 
 -- a range that is mapped, by its parts
 pub in_range : (memory : ℕ → Option ℕ) (a n : ℕ) → is_some (range_at memory a n) ≡ true

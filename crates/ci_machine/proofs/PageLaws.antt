@@ -1,6 +1,6 @@
 -- The table of pages: which page a number has, also after a page was written, added or taken away.
 use Rattle.std.proofs.Common.{◌≡◌, ◌≢◌, ℕ, zero, suc, ◌<◌, ◌⊎◌, inl, inr, cond, eqb, List, [], ◌∷◌, length, get_or}
-use Rattle.std.proofs.Common.{Some, None, is_some, IsSome, refl, sym, ap, ◌∙◌, arith}
+use Rattle.std.proofs.Common.{◌≤◌, ◌-◌, ◌/◌, ◌%◌, true, false, Option, Some, None, is_some, IfSome, IsSome, refl, sym, ap, ◌∙◌, arith, true≢false}
 use Rattle.std.specs.List.{insert, remove}
 use Rattle.std.specs.Ordering.{nat_cmp}
 use Rattle.std.specs.FinMap as map
@@ -12,7 +12,9 @@ use Rattle.std.proofs.lemmas.List.Edits.{length-insert, length-remove}
 use Rattle.ci_region.proofs.MapLaws.{get-insert_same, get-insert_other, get-remove_other, live_differs, len-take, len-write, len-give}
 use Rattle.ci_machine.specs.declared.pages.Entry.{Entry}
 use Rattle.ci_machine.specs.declared.pages.Page.{Page}
-use Rattle.ci_machine.specs.PageTables.{page_in, entry_at, IsTable, IsPlace, IsGap}
+use Rattle.ci_machine.specs.declared.pages.Pages.{Pages}
+use Rattle.ci_machine.specs.Pages.{content, has, page_at}
+use Rattle.ci_machine.specs.PageTables.{byte_on, page_in, entry_at, HasTable, IsTable, IsPlace, IsGap}
 use Rattle.ci_machine.proofs.EditLaws.{insert_each, insert_pairs, remove_each, remove_pairs}
 
 abbrev Frames : Type 0
@@ -237,3 +239,46 @@ module _ (table : List Entry) (frames : Frames) (known : IsTable table frames) (
     live = remove_each table at _ place.below (λ a. IsSome (map.get fewer a.slot)) (λ i lt apart. ap is_some (kept i lt apart) ∙ known.live i lt);
     counted = omega (arith, len-give frames (entry_at table at).slot (known.live at place.below), known.counted, length-remove table at place.below);
   }
+
+-- ---- what stands in a table of pages
+
+-- the page of a number that the table has is there
+pub has_there : (pages : Pages) (number place : ℕ) → IsPlace pages.table.items number place → has pages number ≡ true
+unfolding has page_at HasTable
+has_there pages number place there = ap is_some (page_in_place _ _ pages.table_is number place there) ∙ pages.table_is.live place there.below
+
+-- the same, where the place was looked for
+pub has_found : (pages : Pages) (number : ℕ) (found : Option ℕ) → is_some found ≡ true → IfSome found (IsPlace pages.table.items number)
+    → has pages number ≡ true
+has_found pages number (Some place) is there = has_there pages number place there
+has_found pages number None is there = absurd (true≢false (sym is))
+
+-- where a number would go there is no page of it
+pub has_not : (pages : Pages) (number place : ℕ) → IsGap pages.table.items number place → has pages number ≡ false
+unfolding has page_at HasTable
+has_not pages number place gap = ap is_some (page_in_gap _ _ pages.table_is number place gap)
+
+-- no byte of a page that isn't there is other than 0
+pub content_none : (pages : Pages) (x : ℕ) → has pages (x / 4096) ≡ false → content pages x ≡ 0
+unfolding content has
+content_none pages x none = nothing_on (page_at pages (x / 4096)) none
+  where
+    nothing_on : (page : Option Page) → is_some page ≡ false → byte_on page (x % 4096) ≡ 0
+    nothing_on None none = refl
+    nothing_on (Some page) none = absurd (true≢false none)
+
+-- the numbers from the last one below another on
+pub gap_behind : (pages : Pages) (from to number place : ℕ) → from ≤ number → number < to
+    → ((i : ℕ) → i < place → (entry_at pages.table.items i).number < to)
+    → ((i : ℕ) → place ≤ i → i < length pages.table.items → to ≤ (entry_at pages.table.items i).number)
+    → place ≤ length pages.table.items
+    → (0 < place → (entry_at pages.table.items (place - 1)).number < from) → IsGap pages.table.items number place
+unfolding HasTable
+gap_behind pages from to number place low high before behind within last = record {
+  within = within;
+  smaller = λ i lt. elim (cases_eq i (place - 1)) [
+    | inl same ↦ omega (arith, last (omega arith), ap (λ j. (entry_at pages.table.items j).number) same)
+    | inr apart ↦ omega (arith, last (omega arith), pages.table_is.ascending i (place - 1) (omega arith) (omega arith))
+  ];
+  greater = λ i past lt. omega (arith, behind i past lt);
+}

@@ -1,6 +1,6 @@
 -- Windows: what an access that lies in one meets, and windows that are made, put in and forgotten.
 use Rattle.std.proofs.Common.{◌≡◌, ℕ, ◌+◌, ◌-◌, ◌/◌, ◌%◌, ◌<◌, ◌≤◌, inl, inr, Bool, true, List, set, replicate, max, min}
-use Rattle.std.proofs.Common.{sym, ap, subst, ◌∙◌, arith}
+use Rattle.std.proofs.Common.{◌||◌, refl, sym, ap, subst, ◌∙◌, arith}
 use Rattle.std.proofs.lemmas.Bool.{cases_eq}
 use Rattle.std.proofs.lemmas.List.{get_or-set_same, get_or-set_other, length-set, length-replicate, get_or-replicate}
 use Rattle.ci_machine.specs.declared.memory.Memory.{Memory}
@@ -11,7 +11,8 @@ use Rattle.ci_machine.specs.Layouts.{mapped_in}
 use Rattle.ci_machine.specs.PageTables.{IsPlace}
 use Rattle.ci_machine.specs.Programs.{lies_in}
 use Rattle.ci_machine.specs.Windows.{AreWindows, HasWindows, IsWindow, window_at}
-use Rattle.ci_machine.proofs.TestLaws.{bounds-lies_in}
+use Rattle.ci_machine.specs.Spans.{in_spans}
+use Rattle.ci_machine.proofs.TestLaws.{by_test, bounds-lies_in, lies_in-bounds, either_second, or_second}
 
 -- ---- an access that lies in a window
 
@@ -52,7 +53,31 @@ part_on_page table mapped span a base place all begins there = record {
     same : max span.start base < base + min (span.end - base) 4096 → a / 4096 ≡ max span.start base / 4096
     same lt = omega arith
 
+-- more addresses are mapped
+wider : (table : List Entry) (mapped more : ℕ → Bool) (window : Window) → ((x : ℕ) → mapped x ≡ true → more x ≡ true)
+    → IsWindow table mapped window → IsWindow table more window
+wider table mapped more window rises is = record {
+  placed = is.placed;
+  numbered = is.numbered;
+  on_page = is.on_page;
+  each = λ x low high. rises x (is.each x low high);
+}
+
 -- ---- all windows
+
+-- the heap's end moves up
+pub windows_up : (table : List Entry) (spans : List Span) (windows : List Window) (start old end : ℕ) → old ≤ end
+    → AreWindows windows table spans start old → AreWindows windows table spans start end
+windows_up table spans windows start old end up were = record {
+  long = were.long;
+  all = λ i lt. wider table (mapped_in spans start old) (mapped_in spans start end) (window_at windows i) still (were.all i lt);
+}
+  where
+    still : (x : ℕ) → mapped_in spans start old x ≡ true → mapped_in spans start end x ≡ true
+    still x is = by_test (in_spans spans x)
+        (λ there. ap (λ b. b || lies_in start end x) there)
+        (λ none. let bounds = lies_in-bounds start old x (or_second (in_spans spans x) (lies_in start old x) is none) in
+        ap (λ b. in_spans spans x || b) (bounds-lies_in start end x bounds.0 (omega (arith, bounds.1))) ∙ either_second (in_spans spans x) true refl)
 
 module _ (table : List Entry) (spans : List Span) (start end : ℕ) where
   pub no_windows : (window : Window) → window ≡ record { start = 0; end = 0; place = 0 }

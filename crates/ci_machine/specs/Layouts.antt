@@ -8,7 +8,7 @@ use Rattle.ci_elf.specs.declared.segments.Segment.{Segment}
 use Rattle.ci_machine.specs.declared.pages.Pages.{Pages}
 use Rattle.ci_machine.specs.declared.spans.Span.{Span}
 use Rattle.ci_machine.specs.Pages.{content, has, room}
-use Rattle.ci_machine.specs.PageTables.{pages_to}
+use Rattle.ci_machine.specs.PageTables.{missing, pages_to}
 use Rattle.ci_machine.specs.Programs.{extent_of, lies_in, loaded_size, maximum_end, stack_start, stack_end}
 use Rattle.ci_machine.specs.Spans.{in_spans}
 
@@ -21,24 +21,23 @@ abbrev pub heap_limit : ℕ → ℕ → ℕ
 heap_limit start loaded = start + min (67108864 - loaded) (0xffff0000 - start)
 
 -- Where the heap lies: behind the segments, of which it has no byte, and clear of the stack. The segments' bytes and
--- the stack's are counted.
+-- the stack's are counted, and the heap's fit beside them.
 pub record IsLaidOut (spans : List Span) (segments : List Segment) (start end loaded : ℕ) : Type 0 where
   pub begins : start ≡ (maximum_end (map extent_of segments) + 15) / 16 * 16
   pub ordered : start ≤ end
   pub top : end ≤ 0xffff0000
   pub clear : start < end → (nat_le end stack_start || nat_le stack_end start) ≡ true
   pub counted : loaded ≡ loaded_size (map extent_of segments)
-  pub fits : loaded ≤ 67108864
+  pub fits : loaded + (end - start) ≤ 67108864
   pub below : (address : ℕ) → in_spans spans address ≡ true
       → (nat_lt address start || lies_in stack_start stack_end address) ≡ true
 
--- Each mapped byte is on a page, and what isn't mapped is 0. The pages that the heap meets are there, and there is room
--- for those that it may come to meet.
+-- Each byte of a span is on a page, and what isn't mapped is 0. Of the pages that the heap may come to meet there is
+-- room for all that aren't there; what it has on such a page is 0.
 pub record IsPaged (pages : Pages) (spans : List Span) (start end loaded : ℕ) : Type 0 where
   pub covered : (address : ℕ) → in_spans spans address ≡ true → has pages (address / 4096) ≡ true
-  pub heap : (number : ℕ) → start / 4096 ≤ number → number < pages_to end → has pages number ≡ true
   pub clean : (address : ℕ) → mapped_in spans start end address ≡ false → content pages address ≡ 0
-  pub room : pages_to (heap_limit start loaded) ≤ room pages + pages_to end
+  pub room : missing (has pages) (start / 4096) (pages_to (heap_limit start loaded)) ≤ room pages
 
 -- The same, shut, so that they stay apart from what is known of a state.
 unfoldable pub HasLayout : List Span → List Segment → ℕ → ℕ → ℕ → Type 0

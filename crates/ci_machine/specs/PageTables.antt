@@ -7,6 +7,7 @@ use Rattle.std.specs.FinMap as map
 use Rattle.std.proofs.Props.{props}
 use native.Mathlib.Nat.{ℕ_set}
 use native.Mathlib.Bridge.{le_prop}
+use Rattle.ci_word.specs.Numbers.{count_below}
 use Rattle.ci_machine.specs.declared.pages.Entry.{Entry}
 use Rattle.ci_machine.specs.declared.pages.Page.{Page}
 use Rattle.ci_machine.specs.Programs.{lies_in}
@@ -67,6 +68,10 @@ with_pages numbers from to number = lies_in from to number || numbers number
 
 abbrev pub without_pages : (ℕ → Bool) → ℕ → ℕ → ℕ → Bool
 without_pages numbers from to number = not (lies_in from to number) && numbers number
+
+-- how many page numbers from one up to another aren't among them
+abbrev pub missing : (ℕ → Bool) → ℕ → ℕ → ℕ
+missing numbers from to = count_below (to - from) (λ k. not (numbers (from + k)))
 
 -- the first page number behind the bytes below an address
 abbrev pub pages_to : ℕ → ℕ

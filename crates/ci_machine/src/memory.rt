@@ -10,7 +10,7 @@ ghost use Rattle.ci_isa.specs.Effects.{width_bytes};
 ghost use Rattle.ci_machine.specs.Accesses.{addresses, bytes_at, bytes_of_number, number_of_bytes, with_bytes};
 ghost use Rattle.ci_elf.specs.declared.ranges.Range.{Range};
 ghost use Rattle.ci_machine.specs.Programs.{lies_in, stack_end, stack_start};
-ghost use Rattle.ci_machine.specs.PageTables.{IsPlace};
+ghost use Rattle.ci_machine.specs.PageTables.{IsGap, IsPlace};
 ghost use Rattle.ci_machine.specs.Windows.{HasWindows, HasWindows-prop, IsWindow};
 ghost use Rattle.ci_machine.specs.Layouts.{HasLayout, HasLayout-prop, HasPages, HasPages-prop};
 
@@ -57,6 +57,7 @@ impl Memory {
     ghost use Rattle.ci_machine.specs.Calls.{may_end_at, range_at};
     ghost use Rattle.ci_machine.specs.Memories.{is_mapped, memory_of, program_in, segments_of, with_heap_moved};
     ghost use Rattle.ci_machine.specs.Memories.{with_number};
+    ghost use Rattle.ci_machine.specs.Pages.{has};
 
     /// How many bytes from the address on are mapped together: none where the first is not.
     fn left(&self, address: u32) -> u32
@@ -108,14 +109,75 @@ impl Memory {
         self.spans.around(address)
     }
 
-    /// The mapped addresses on the page of an address.
+    /// The mapped addresses on the page of an address, whose number stands there in the table.
+    fn window_on(&self, place: usize, address: u32) -> Window
+        requires { IsPlace self.now.pages.table.items (address / 4096) place }
+        ensures { IsWindow self.now.pages.table.items (is_mapped self.now) result }
+    {
+        Window::of(self.mapped_around(address), address - address % PAGE, place)
+    }
+
+    /// The mapped addresses on the page of an address, and none where it isn't there.
     fn window_around(&self, address: u32) -> Window
         ensures { IsWindow self.now.pages.table.items (is_mapped self.now) result }
     {
-        let span = self.mapped_around(address);
         match self.pages.find(address / PAGE) {
-            Some(place) => Window::of(span, address - address % PAGE, place),
+            Some(place) => self.window_on(place, address),
             None => Window::none(),
+        }
+    }
+
+    /// Makes the page of an address of the heap, whose number would go there in the table. All windows are forgotten,
+    /// since the numbers behind it change their places.
+    fn make_page(&mut self, place: usize, address: u32)
+        requires gap { IsGap self.old.pages.table.items (address / 4096) place }
+        requires heap { lies_in self.old.heap_start self.old.heap_end address ≡ true }
+        ensures place { IsPlace self.new.pages.table.items (address / 4096) place }
+        ensures kept { (number : ℕ) → has self.old.pages number ≡ true → has self.new.pages number ≡ true }
+        ensures memory { memory_of self.new ≡ memory_of self.old }
+        ensures end { self.new.heap_end ≡ self.old.heap_end }
+        ensures segments { segments_of self.new ≡ segments_of self.old }
+    {
+        self.pages.add_at(place, address / PAGE);
+        self.windows = [Window::none(); WINDOWS];
+    }
+
+    /// Where the number of the page of an address stands in the table. A page of the heap that isn't there is made.
+    fn place_of(&mut self, address: u32) -> Option<usize>
+        ensures place { IfSome result (IsPlace self.new.pages.table.items (address / 4096)) }
+        ensures mapped { is_mapped self.old address ≡ true → is_some result ≡ true }
+        ensures kept { (number : ℕ) → has self.old.pages number ≡ true → has self.new.pages number ≡ true }
+        ensures memory { memory_of self.new ≡ memory_of self.old }
+        ensures end { self.new.heap_end ≡ self.old.heap_end }
+        ensures segments { segments_of self.new ≡ segments_of self.old }
+    {
+        match self.pages.search(address / PAGE) {
+            Ok(place) => Some(place),
+            Err(place) => {
+                if !self.in_heap(address) {
+                    return None;
+                }
+                self.make_page(place, address);
+                Some(place)
+            }
+        }
+    }
+
+    /// Makes the pages of so many addresses from one on that aren't there, where all are mapped and none lies past the
+    /// last address.
+    fn make_pages(&mut self, address: u32, count: usize)
+        requires fits { address + count ≤ 2 ^ 32 }
+        requires mapped { (k : ℕ) → k < count → is_mapped self.old (address + k) ≡ true }
+        ensures there { (k : ℕ) → k < count → has self.new.pages ((address + k) / 4096) ≡ true }
+        ensures memory { memory_of self.new ≡ memory_of self.old }
+        ensures end { self.new.heap_end ≡ self.old.heap_end }
+        ensures segments { segments_of self.new ≡ segments_of self.old }
+    {
+        let mut done = 0;
+        while done < count {
+            let next = address + done as u32;
+            self.place_of(next);
+            done += (PAGE - next % PAGE) as usize;
         }
     }
 
@@ -125,8 +187,10 @@ impl Memory {
         ensures end { self.new.heap_end ≡ self.old.heap_end }
         ensures segments { segments_of self.new ≡ segments_of self.old }
     {
-        let window = self.window_around(address);
-        self.windows[(address / PAGE) as usize % WINDOWS] = window;
+        if let Some(place) = self.place_of(address) {
+            let window = self.window_on(place, address);
+            self.windows[(address / PAGE) as usize % WINDOWS] = window;
+        }
     }
 
     /// Whether so many bytes from an address on are all mapped. Addresses wrap.
@@ -241,7 +305,10 @@ impl Memory {
         ensures end { self.new.heap_end ≡ self.old.heap_end }
         ensures segments { segments_of self.new ≡ segments_of self.old }
     {
-        self.pages.store(address, Width::Byte, u32::from(byte));
+        match self.place_of(address) {
+            Some(place) => self.store_at(place, address, Width::Byte, u32::from(byte)),
+            None => unreachable!(),
+        }
     }
 
     /// Writes bytes from an address on, each wherever it is, where all are mapped. Addresses wrap.
@@ -355,6 +422,7 @@ impl Memory {
         ensures end { self.new.heap_end ≡ self.old.heap_end }
         ensures segments { segments_of self.new ≡ segments_of self.old }
     {
+        self.make_pages(address, bytes.len());
         self.pages.write_all(address, bytes);
     }
 
@@ -370,10 +438,8 @@ impl Memory {
         while done < count {
             let place = address + done;
             let run = (count - done).min(PAGE - place % PAGE);
-            match output.extend_from_slice(self.pages.run(place, run)) {
-                Ok(()) => done += run,
-                Err(_) => unreachable!(),
-            }
+            self.pages.append_run(output, place, run);
+            done += run;
         }
     }
 
@@ -405,7 +471,7 @@ impl Memory {
         }
     }
 
-    /// Moves the heap's end up.
+    /// Moves the heap's end up. The pages that it comes to meet are made when they are looked at, or written.
     fn grow(&mut self, end: u32)
         requires may { may_end_at (program_in self.old []) end ≡ true }
         requires up { self.old.heap_end ≤ end }
@@ -413,9 +479,7 @@ impl Memory {
         ensures end { self.new.heap_end ≡ end }
         ensures segments { segments_of self.new ≡ segments_of self.old }
     {
-        self.pages.add_all(pages_to(self.heap_end), pages_to(end));
         self.heap_end = end;
-        self.windows = [Window::none(); WINDOWS];
     }
 
     /// Moves the heap's end down. What it leaves becomes 0.

@@ -3,12 +3,12 @@
 
 ghost use Rattle.std.specs.Prelude.{◌≡◌, ℕ, ◌+◌, ◌-◌, ◌*◌, ◌/◌, ◌%◌, ◌<◌, ◌≤◌, true, false, Some, None, IfSome, IfOk};
 ghost use Rattle.std.specs.Prelude.{IfErr};
-ghost use Rattle.std.specs.Prelude.{◌^◌, length, vec_capacity, vec_len, slice_index, List, []};
+ghost use Rattle.std.specs.Prelude.{◌^◌, ◌++◌, length, replicate, vec_capacity, vec_len, slice_index, List, []};
 ghost use Rattle.std.specs.List.{insert};
 ghost use Rattle.ci_isa.specs.Effects.{width_bytes};
 ghost use Rattle.ci_machine.specs.Accesses.{bytes_of_number, number_of_bytes};
-ghost use Rattle.ci_machine.specs.PageTables.{HasTable, HasTable-prop, IsPlace, IsGap, run_of, written, zeroed};
-ghost use Rattle.ci_machine.specs.PageTables.{with_pages, without_pages, pages_to};
+ghost use Rattle.ci_machine.specs.PageTables.{HasTable, HasTable-prop, IsPlace, IsGap, entry_at, run_of, written};
+ghost use Rattle.ci_machine.specs.PageTables.{missing, pages_to, with_pages, without_pages, zeroed};
 
 use crate::bytes::{number_at, put_number};
 use ci_isa::Width;
@@ -69,6 +69,30 @@ fn insert_reserved(table: &mut Vec<Entry>, place: usize, entry: Entry)
     }
 }
 
+/// Puts bytes behind others, for which there is room.
+fn append_reserved(output: &mut Vec<u8>, bytes: &[u8])
+    requires { vec_len output.old + length bytes.now ≤ vec_capacity output.old }
+    ensures items { output.new.items ≡ output.old.items ++ bytes.now }
+    ensures capacity { vec_capacity output.old ≤ vec_capacity output.new }
+{
+    match output.extend_from_slice(bytes) {
+        Ok(()) => {}
+        Err(_) => unreachable!(),
+    }
+}
+
+/// Puts so many zeros behind others, for which there is room.
+fn append_zeros(output: &mut Vec<u8>, count: usize)
+    requires { vec_len output.old + count ≤ vec_capacity output.old }
+    ensures items { output.new.items ≡ output.old.items ++ replicate count 0 }
+    ensures capacity { vec_capacity output.old ≤ vec_capacity output.new }
+{
+    match output.resize(output.len() + count, 0) {
+        Ok(()) => {}
+        Err(_) => unreachable!(),
+    }
+}
+
 impl Pages {
     ghost use Rattle.ci_machine.specs.Pages.{content, has, page_at, room};
 
@@ -83,7 +107,7 @@ impl Pages {
     }
 
     /// Where the number stands in the table, or where it would go.
-    fn search(&self, number: u32) -> Result<usize, usize>
+    pub(crate) fn search(&self, number: u32) -> Result<usize, usize>
         ensures found { IfOk result (IsPlace self.now.table.items number) }
         ensures absent { IfErr result (IsGap self.now.table.items number) }
     {
@@ -111,23 +135,14 @@ impl Pages {
         self.frames.get(self.table[place].slot)
     }
 
-    /// The page of a number, which is there.
-    fn page(&self, number: u32) -> &Page
-        requires { has self.now number ≡ true }
-        ensures { page_at self.now number ≡ Some result.now }
-    {
-        match self.find(number) {
-            Some(place) => self.page_there(place),
-            None => unreachable!(),
-        }
-    }
-
-    /// The byte at an address whose page is there.
+    /// The byte at an address.
     pub(crate) fn byte(&self, address: u32) -> u8
-        requires { has self.now (address / 4096) ≡ true }
         ensures { result ≡ content self.now address }
     {
-        self.page(address / PAGE).bytes[(address % PAGE) as usize]
+        match self.find(address / PAGE) {
+            Some(place) => self.page_there(place).bytes[(address % PAGE) as usize],
+            None => 0,
+        }
     }
 
     /// The number of the bytes at an address, on one page, whose number stands there in the table.
@@ -141,15 +156,28 @@ impl Pages {
         number_at(&page.bytes, (address % PAGE) as usize, width)
     }
 
-    /// So many bytes from an address on, on one page that is there.
-    pub(crate) fn run(&self, address: u32, count: u32) -> &[u8]
-        requires there { has self.now (address / 4096) ≡ true }
+    /// So many bytes from an address on, on one page, whose number stands there in the table.
+    fn run(&self, place: usize, address: u32, count: u32) -> &[u8]
+        requires there { IsPlace self.now.table.items (address / 4096) place }
         requires inside { address % 4096 + count ≤ 4096 }
         ensures { result.now ≡ run_of (content self.now) count address }
     {
-        let page = self.page(address / PAGE);
+        let page = self.page_there(place);
         let offset = (address % PAGE) as usize;
         &page.bytes[offset..offset + count as usize]
+    }
+
+    /// Puts so many bytes from an address on, on one page, behind others, for which there is room.
+    pub(crate) fn append_run(&self, output: &mut Vec<u8>, address: u32, count: u32)
+        requires inside { address % 4096 + count ≤ 4096 }
+        requires room { vec_len output.old + count ≤ vec_capacity output.old }
+        ensures items { output.new.items ≡ output.old.items ++ run_of (content self.now) count address }
+        ensures capacity { vec_capacity output.old ≤ vec_capacity output.new }
+    {
+        match self.find(address / PAGE) {
+            Some(place) => append_reserved(output, self.run(place, address, count)),
+            None => append_zeros(output, count as usize),
+        }
     }
 
     /// Writes the low bytes of a number at an address, on one page, whose number stands there in the table.
@@ -167,20 +195,18 @@ impl Pages {
         put_number(&mut page.bytes, (address % PAGE) as usize, width, value);
     }
 
-    /// Writes the low bytes of a number at an address, on one page that is there.
-    pub(crate) fn store(&mut self, address: u32, width: Width, value: u32)
-        requires there { has self.old (address / 4096) ≡ true }
-        requires inside { address % 4096 + width_bytes width ≤ 4096 }
-        ensures content { content self.new
-            ≡ written (content self.old) address (bytes_of_number (width_bytes width) value) }
+    /// Writes bytes from an address on, on one page, whose number stands there in the table.
+    fn write_at(&mut self, place: usize, address: u32, bytes: &[u8])
+        requires there { IsPlace self.old.table.items (address / 4096) place }
+        requires inside { address % 4096 + length bytes.now ≤ 4096 }
+        ensures content { content self.new ≡ written (content self.old) address bytes.now }
         ensures has { has self.new ≡ has self.old }
         ensures room { room self.new ≡ room self.old }
         ensures table { self.new.table.items ≡ self.old.table.items }
     {
-        match self.find(address / PAGE) {
-            Some(place) => self.store_at(place, address, width, value),
-            None => unreachable!(),
-        }
+        let offset = (address % PAGE) as usize;
+        let page = self.frames.get_mut(self.table[place].slot);
+        page.bytes[offset..offset + bytes.len()].copy_from_slice(bytes);
     }
 
     /// Writes bytes from an address on, on one page that is there.
@@ -193,11 +219,7 @@ impl Pages {
         ensures table { self.new.table.items ≡ self.old.table.items }
     {
         match self.find(address / PAGE) {
-            Some(place) => {
-                let offset = (address % PAGE) as usize;
-                let page = self.frames.get_mut(self.table[place].slot);
-                page.bytes[offset..offset + bytes.len()].copy_from_slice(bytes);
-            }
+            Some(place) => self.write_at(place, address, bytes),
             None => unreachable!(),
         }
     }
@@ -234,9 +256,10 @@ impl Pages {
     }
 
     /// Adds a page of zeros, whose number would go there in the table.
-    fn add_at(&mut self, place: usize, number: u32)
+    pub(crate) fn add_at(&mut self, place: usize, number: u32)
         requires gap { IsGap self.old.table.items number place }
         requires room { 0 < room self.old }
+        ensures place { IsPlace self.new.table.items number place }
         ensures content { content self.new ≡ content self.old }
         ensures has { has self.new ≡ with_pages (has self.old) number (number + 1) }
         ensures room { room self.old ≡ room self.new + 1 }
@@ -259,47 +282,73 @@ impl Pages {
         }
     }
 
-    /// Takes away a page, which is there.
-    fn remove(&mut self, number: u32)
-        requires { has self.old number ≡ true }
-        ensures content { content self.new ≡ zeroed (content self.old) (number * 4096) ((number + 1) * 4096) }
-        ensures has { has self.new ≡ without_pages (has self.old) number (number + 1) }
-        ensures room { room self.new ≡ room self.old + 1 }
+    /// The first place in the table whose number isn't below a number.
+    fn place_from(&self, number: u32) -> usize
+        ensures within { result ≤ length self.now.table.items }
+        ensures smaller { (i : ℕ) → i < result → (entry_at self.now.table.items i).number < number }
+        ensures others { (i : ℕ) → result ≤ i → i < length self.now.table.items
+            → number ≤ (entry_at self.now.table.items i).number }
     {
-        match self.find(number) {
-            Some(place) => {
-                prove!(self.frames.used() <= self.frames.capacity());
-                let entry = self.table.remove(place);
-                self.frames.give(entry.slot);
-            }
-            None => unreachable!(),
+        match self.search(number) {
+            Ok(place) => place,
+            Err(place) => place,
         }
     }
 
-    /// Takes away the pages from one number up to another, which are all there.
+    /// Where the last number from one up to another stands in the table.
+    fn last_between(&self, from: u32, to: u32) -> Option<usize>
+        ensures some { IfSome result (λ place. (number : ℕ) × IsPlace self.now.table.items number place
+            × (from ≤ number) × (number < to)) }
+        ensures none { result ≡ None → (number : ℕ) → from ≤ number → number < to → has self.now number ≡ false }
+    {
+        let end = self.place_from(to);
+        if end == 0 {
+            return None;
+        }
+        if self.table[end - 1].number < from {
+            return None;
+        }
+        Some(end - 1)
+    }
+
+    /// Takes away the page whose number stands there in the table.
+    fn remove_at(&mut self, place: usize)
+        requires { place < length self.old.table.items }
+        ensures content { (number : ℕ) → IsPlace self.old.table.items number place
+            → content self.new ≡ zeroed (content self.old) (number * 4096) ((number + 1) * 4096) }
+        ensures has { (number : ℕ) → IsPlace self.old.table.items number place
+            → has self.new ≡ without_pages (has self.old) number (number + 1) }
+        ensures room { room self.new ≡ room self.old + 1 }
+        ensures fewer { length self.new.table.items + 1 ≡ length self.old.table.items }
+    {
+        prove!(self.frames.used() <= self.frames.capacity());
+        let entry = self.table.remove(place);
+        self.frames.give(entry.slot);
+    }
+
+    /// Takes away the pages from one number up to another that are there, the last one first. Each leaves room for
+    /// another.
     pub(crate) fn remove_all(&mut self, from: u32, to: u32)
-        requires ordered { from ≤ to }
-        requires there { (number : ℕ) → from ≤ number → number < to → has self.old number ≡ true }
         ensures content { content self.new ≡ zeroed (content self.old) (from * 4096) (to * 4096) }
         ensures has { has self.new ≡ without_pages (has self.old) from to }
-        ensures room { room self.new ≡ room self.old + (to - from) }
+        ensures room { (low high : ℕ) → missing (has self.new) low high + room self.old
+            ≤ missing (has self.old) low high + room self.new }
     {
-        let mut end = to;
-        while end > from {
-            end -= 1;
-            self.remove(end);
+        while let Some(place) = self.last_between(from, to) {
+            self.remove_at(place);
         }
     }
 
-    /// Writes zeros from an address up to the end of its page, which is there unless it begins at the address.
+    /// Writes zeros from an address up to the end of its page. One that isn't there has no other bytes.
     pub(crate) fn clear_rest(&mut self, address: u32)
-        requires { 0 < address % 4096 → has self.old (address / 4096) ≡ true }
         ensures content { content self.new ≡ zeroed (content self.old) address (pages_to address * 4096) }
         ensures has { has self.new ≡ has self.old }
         ensures room { room self.new ≡ room self.old }
     {
         if address % PAGE > 0 {
-            self.write(address, &zeros().bytes[(address % PAGE) as usize..]);
+            if let Some(place) = self.find(address / PAGE) {
+                self.write_at(place, address, &zeros().bytes[(address % PAGE) as usize..]);
+            }
         }
     }
 }

@@ -118,7 +118,7 @@ fn heap_pages(heap_start: u32, loaded: u32) -> u32
     pages_to(limit) - heap_start / PAGE
 }
 
-/// Pages of zeros: those that the spans and the heap's start meet, and room for those that the heap may come to meet.
+/// Pages of zeros: those that the spans meet, and room for those that the heap may come to meet.
 fn opening_pages(
     alloc: Global,
     spans: &Spans,
@@ -130,14 +130,11 @@ fn opening_pages(
     ensures content { IfOk result (λ pages. (address : ℕ) → content pages address ≡ 0) }
     ensures covered { IfOk result (λ pages. (address : ℕ) → in_spans spans.now.spans.items address ≡ true
         → has pages (address / 4096) ≡ true) }
-    ensures heap { IfOk result (λ pages. (number : ℕ) → heap_start / 4096 ≤ number → number < pages_to heap_start
-        → has pages number ≡ true) }
-    ensures room { IfOk result (λ pages. pages_to (heap_limit heap_start loaded) ≤ room pages + pages_to heap_start) }
+    ensures room { IfOk result (λ pages. pages_to (heap_limit heap_start loaded) - heap_start / 4096 ≤ room pages) }
 {
     let count = spans.page_count() + heap_pages(heap_start, loaded);
     let mut pages = Pages::new(alloc, count)?;
     spans.add_pages(&mut pages);
-    pages.add_all(heap_start / PAGE, pages_to(heap_start));
     Ok(pages)
 }
 

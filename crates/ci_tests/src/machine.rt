@@ -350,6 +350,95 @@ fn keeps_no_bytes_of_pages_that_went(rt: HostRuntime) -> Result<(), Fail> {
     expect_of_small(&rt, rt.alloc(), pages_that_went())
 }
 
+/// Bytes of the heap that were never stored to, and one that was.
+fn untouched_bytes() -> &'static [Step] {
+    &[
+        Step::Answer((214, (0x2ffff, 0, 0)), 0x2ffff),
+        Step::Load(0x2f000, Width::Word, Ok(0)),
+        Step::Near(0x2f004, Width::Word, Ok(0)),
+        Step::Near(0x2f008, Width::Half, Ok(0)),
+        Step::Near(0x2fffe, Width::Half, Err(Unmapped)),
+        Step::Near(0x2dffe, Width::Word, Ok(0)),
+        Step::Store(0x2f008, Width::Half, 0x1234, Ok(())),
+        Step::Near(0x2f006, Width::Word, Ok(0x12340000)),
+        Step::Load(0x2f008, Width::Word, Ok(0x1234)),
+    ]
+}
+
+#[test]
+fn has_zeros_where_nothing_was_stored(rt: HostRuntime) -> Result<(), Fail> {
+    expect(&rt, rt.alloc(), untouched_bytes())
+}
+
+/// Bytes of the heap that were stored, went and came again, beside some that stayed.
+fn bytes_that_went() -> &'static [Step] {
+    &[
+        Step::Answer((214, (0x24000, 0, 0)), 0x24000),
+        Step::Store(0x22ffc, Width::Word, 0x01020304, Ok(())),
+        Step::Store(0x21802, Width::Word, 0x0d0c0b0a, Ok(())),
+        Step::Answer((214, (0x21804, 0, 0)), 0x21804),
+        Step::Load(0x21802, Width::Half, Ok(0x0b0a)),
+        Step::Near(0x22ffc, Width::Word, Err(Unmapped)),
+        Step::Answer((214, (0x24000, 0, 0)), 0x24000),
+        Step::Near(0x22ffc, Width::Word, Ok(0)),
+        Step::Load(0x21802, Width::Word, Ok(0x0b0a)),
+    ]
+}
+
+#[test]
+fn keeps_no_bytes_that_went(rt: HostRuntime) -> Result<(), Fail> {
+    expect(&rt, rt.alloc(), bytes_that_went())
+}
+
+/// Stores on pages of the heap that are far apart, the last one first, whose pages go from the last one on.
+fn far_stores() -> &'static [Step] {
+    &[
+        Step::Answer((214, (0x3f00000, 0, 0)), 0x3f00000),
+        Step::Store(0x3efffff, Width::Byte, 5, Ok(())),
+        Step::Store(0x2000000, Width::Word, 6, Ok(())),
+        Step::Near(0x3efffff, Width::Byte, Ok(5)),
+        Step::Store(0x1000000, Width::Word, 7, Ok(())),
+        Step::Near(0x3efffff, Width::Byte, Ok(5)),
+        Step::Near(0x2000000, Width::Word, Ok(6)),
+        Step::Answer((214, (0x2000000, 0, 0)), 0x2000000),
+        Step::Near(0x1000000, Width::Word, Ok(7)),
+        Step::Near(0x2000000, Width::Word, Err(Unmapped)),
+        Step::Answer((214, (0x3f00000, 0, 0)), 0x3f00000),
+        Step::Near(0x3efffff, Width::Byte, Ok(0)),
+        Step::Near(0x2000000, Width::Word, Ok(0)),
+        Step::Near(0x1000000, Width::Word, Ok(7)),
+    ]
+}
+
+#[test]
+fn keeps_far_pages_apart(rt: HostRuntime) -> Result<(), Fail> {
+    expect(&rt, rt.alloc(), far_stores())
+}
+
+/// Calls over pages of the heap that nothing was stored to, and stores over their ends.
+fn over_untouched_pages() -> &'static [Step] {
+    &[
+        Step::Answer((214, (0x30000, 0, 0)), 0x30000),
+        Step::Answer((64, (1, 0x21fff, 2)), 2),
+        Step::Store(0x24001, Width::Byte, 7, Ok(())),
+        Step::Answer((64, (1, 0x23fff, 4)), 4),
+        Step::Output(&[0, 0, 0, 0, 7, 0]),
+        Step::Answer((63, (0, 0x25ffe, 5)), 5),
+        Step::Load(0x25ffe, Width::Word, Ok(0x6c6c6568)),
+        Step::Load(0x26002, Width::Half, Ok(0x6f)),
+        Step::Store(0x27fff, Width::Half, 0xbbaa, Ok(())),
+        Step::Load(0x27ffc, Width::Word, Ok(0xaa000000)),
+        Step::Load(0x28000, Width::Word, Ok(0xbb)),
+        Step::Store(0x2ffff, Width::Half, 0xbbaa, Err(Unmapped)),
+        Step::Load(0x2ffff, Width::Byte, Ok(0)),
+    ]
+}
+
+#[test]
+fn crosses_untouched_pages(rt: HostRuntime) -> Result<(), Fail> {
+    expect(&rt, rt.alloc(), over_untouched_pages())
+}
+
 /// Loads that keep where they looked, over bytes that go, and come again.
 fn near_loads() -> &'static [Step] {
     &[

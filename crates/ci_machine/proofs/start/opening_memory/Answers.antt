@@ -1,6 +1,9 @@
 use Rattle.std.proofs.Common.{◌≡◌, ◌+◌, ◌*◌, ◌/◌, ◌||◌, ◌∙◌, ℕ, List, Bool, Some, None, cond, true, false, map, refl, ap, sym, arith}
 use Rattle.ci_elf.specs.declared.segments.Segment.{Segment}
-use Rattle.ci_machine.specs.Layouts.{HasLayout, HasPages}
+use Rattle.ci_machine.specs.Layouts.{HasLayout, HasPages, heap_limit}
+use Rattle.ci_machine.specs.Pages.{has}
+use Rattle.ci_machine.specs.PageTables.{pages_to}
+use Rattle.ci_machine.proofs.MissingPages.{missing_few}
 use Rattle.ci_machine.specs.Windows.{HasWindows}
 use Rattle.ci_machine.proofs.WindowLaws.{no_windows}
 use Rattle.ci_machine.specs.Memories.{is_mapped, memory_of, segments_of}
@@ -53,12 +56,16 @@ invariant_of-result c =
       };
       paged = record {
         covered = λ x is. ap (λ f. f (x / 4096)) c.load_segments.ensures.has ∙ c.in_ok-pages.ensures.covered x is;
-        heap = λ n low high. ap (λ f. f n) c.load_segments.ensures.has ∙ c.in_ok-pages.ensures.heap n low high;
         clean = λ x none. c.load_segments.ensures.content x
             ∙ opening_clean file formed x
             (neither_first (in_segments file.segments x) (lies_in stack_start stack_end x)
             (sym (c.in_ok-spans.ensures x) ∙ neither_first (in_spans c.in_ok-spans.spans.spans.items x) (lies_in start start x) none));
-        room = omega (arith, c.in_ok-pages.ensures.room, c.load_segments.ensures.room);
+        room = omega (
+          arith,
+          missing_few (has c.load_segments.new.pages) (start / 4096) (pages_to (heap_limit start c.loaded_size-loaded.result)),
+          c.in_ok-pages.ensures.room,
+          c.load_segments.ensures.room,
+        );
       };
       seen = no_windows c.load_segments.new.pages.table.items c.in_ok-spans.spans.spans.items start start _ c.none.ensures;
     }

@@ -1,32 +1,13 @@
-use Rattle.std.proofs.Common.{◌≡◌, ◌*◌, ◌≤◌, ℕ, ◌∙◌, arith}
+use Rattle.std.proofs.Common.{◌≡◌, ◌*◌, ◌≤◌, ℕ, ap, ◌∙◌, arith}
 use Rattle.ci_machine.specs.Memories.{memory_of, is_mapped, segments_of}
 use Rattle.ci_machine.specs.Pages.{content, has}
-use Rattle.ci_machine.specs.PageTables.{pages_to, without_pages, zeroed}
+use Rattle.ci_machine.specs.PageTables.{missing, pages_to, without_pages, zeroed}
 use Rattle.ci_machine.specs.Layouts.{HasLayout, HasPages}
 use Rattle.ci_machine.specs.Windows.{HasWindows}
 use Rattle.ci_machine.proofs.WindowLaws.{no_windows}
 use Rattle.ci_machine.proofs.ByteLaws.{zeros_more}
-use Rattle.ci_machine.proofs.MemoryLaws.{fits_there, room_tells, heap_pages, rest_there, moved_down, laid_down, paged_down}
+use Rattle.ci_machine.proofs.MemoryLaws.{fits_there, room_tells, moved_down, laid_down, paged_down}
 use Rattle.ci_machine.proofs.memory.Memory.shrink.Goals as goal
-
-pub remove_all-requires-clause-there : goal.remove_all-requires-clause-there
-unfolding segments_of HasLayout HasPages
-remove_all-requires-clause-there c =
-    let old = c.args.self.now in
-    let may = room_tells old.heap_start old.loaded c.args.end
-    ((λ k. fits_there (old.laid_out.begins k) (old.laid_out.counted k) c.args.end) ∙ c.requires.may) in
-    λ n low high. heap_pages old.spans.spans.items old.segments.items old.heap_start old.heap_end old.loaded old.laid_out old.pages old.paged
-    c.args.end may.ordered c.requires.down n (omega (arith, c.pages_to.ensures)) (omega (arith, c.pages_to-2.ensures))
-
-pub clear_rest-requires : goal.clear_rest-requires
-unfolding segments_of HasLayout HasPages
-clear_rest-requires c =
-    let old = c.args.self.now in
-    let may = room_tells old.heap_start old.loaded c.args.end
-    ((λ k. fits_there (old.laid_out.begins k) (old.laid_out.counted k) c.args.end) ∙ c.requires.may) in
-    rest_there old.spans.spans.items old.segments.items old.heap_start old.heap_end old.loaded old.laid_out old.pages old.paged
-    c.args.end may.ordered c.requires.down (has c.remove_all.new.self)
-    (c.remove_all.ensures.has ∙ (λ k. without_pages (has old.pages) (c.pages_to.ensures k) (c.pages_to-2.ensures k)))
 
 -- both that are zeroed lie side by side
 joined : (bytes : ℕ → ℕ) (end old low high : ℕ) → low ≡ pages_to end → high ≡ pages_to old → end ≤ old
@@ -51,7 +32,12 @@ invariant_of-self c =
           c.args.end may.ordered c.requires.down c.clear_rest.new.self cleared gone;
       paged = paged_down old.spans.spans.items old.segments.items old.heap_start old.heap_end old.loaded old.laid_out old.pages old.paged
           c.args.end may.ordered c.requires.down c.clear_rest.new.self cleared gone
-          (omega (arith, c.clear_rest.ensures.room, c.remove_all.ensures.room, c.pages_to.ensures, c.pages_to-2.ensures));
+          (λ low high. omega (
+            arith,
+            c.remove_all.ensures.room low high,
+            c.clear_rest.ensures.room,
+            ap (λ numbers. missing numbers low high) c.clear_rest.ensures.has,
+          ));
       seen = no_windows c.clear_rest.new.self.table.items old.spans.spans.items old.heap_start c.args.end _ c.none-self.ensures;
     }
 
