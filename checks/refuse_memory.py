@@ -9,11 +9,13 @@ program and the C library. Then each call runs under limits on its address space
 has to end with status 12, or as it does with all memory, and its files have to be those that come with that: of the
 files that `find` writes some first ones are whole and the others as before, and no other file changes. The fault line
 may be missing only as long as the words aren't there yet. Where a limit is so small that the system can't start the
-program, that is counted by itself. An end by a signal is a fault; where there is gdb, it shows the place.
+program, or can't give it the stack that it touches before its first call of the system, that is counted by itself. A
+later end by a signal is a fault; where there is gdb, it shows the place.
 
 It takes a minute or two, and is no part of the gate. It ends with status 0 where all ends are as they have to be, and
 where there is no C compiler, with a line that says so.
 """
+import dataclasses
 import os
 import re
 import resource
@@ -25,6 +27,9 @@ import tempfile
 import outcomes
 from outcomes import NO_MEMORY, OWN
 
+# How often a call that does nothing is made, to see whether a limit lets the program begin: where the stack lies differs
+# from run to run.
+TRIALS = 5
 COMPILER, HERE = "cc", os.path.dirname(os.path.abspath(__file__))
 # How many growths of a call are refused, and how many limits are tried.
 GROWTHS, LIMITS = 500, 150
@@ -81,7 +86,7 @@ class Checked:
         silent = True
         for size in self.sizes():
             end = self.limited(size)
-            if not is_started(end) and (end.printed, end.files) == (b"", {}):
+            if (end.printed, end.files) == (b"", {}) and (not is_started(end) or end.status < 0 and not self.begins(size)):
                 self.unstarted += 1
                 continue
             silent = silent and (end.status != NO_MEMORY or end.printed == b"")
@@ -103,6 +108,14 @@ class Checked:
 
     def limited(self, size):
         return self.run(preexec_fn=lambda: resource.setrlimit(resource.RLIMIT_AS, (size, size)))
+
+    def begins(self, size):
+        """Whether the program always gets under a limit as far as to its words: as many as the call has, which it then
+        can't read."""
+        call, self.call = self.call, dataclasses.replace(self.call, words=self.call.words.upper())
+        ends = [self.limited(size) for _ in range(TRIALS)]
+        self.call = call
+        return all(end.status >= 0 for end in ends)
 
     def place(self, size):
         """Where a signal ends the run under a limit, by gdb."""

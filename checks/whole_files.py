@@ -3,10 +3,11 @@
 
     whole_files.py PROGRAM
 
-An output that is present keeps its mode and owner, and a link stays a link; where the bytes find no room, the old file
-stays whole, and nothing stands beside it; devices, pipes and what no file can be made beside are written in place; and
-while many runs write the same names, each of these always is the whole file of one of them. For the folders that can't
-be written to it makes calls as another user where it is root's, and skips them where there is none.
+An output that is present keeps its mode and owner, and a link stays a link; where the bytes find no room, or the
+system gives too little stack, the old file stays whole, and nothing stands beside it; devices, pipes and what no file
+can be made beside are written in place; and while many runs write the same names, each of these always is the whole
+file of one of them. For the folders that can't be written to it makes calls as another user where it is root's, and
+skips them where there is none.
 """
 import contextlib
 import os
@@ -22,6 +23,8 @@ SAMPLES = os.path.join(os.path.dirname(os.path.abspath(__file__)), "..", "sample
 TEXT, WORDS, OLD = b"ecall\n" * 3, b"\x73\0\0\0" * 3, b"the old file\n" * 9
 NOBODY = 65534
 RUNS, ROUNDS = 12, 6
+# Less stack than a search takes, and enough for a call of `asm`.
+STACK = 131072
 LIMIT = 60
 
 
@@ -157,6 +160,18 @@ def see_limits(here):
     here.left("a call that is killed", "out", "out.tmp0")
 
 
+def see_stack(here):
+    """Where the system gives less stack than a call may take, a call ends before it reads or writes."""
+    def limited():
+        resource.setrlimit(resource.RLIMIT_CORE, (0, 0))
+        resource.setrlimit(resource.RLIMIT_STACK, (STACK, STACK))
+
+    here.put("out", OLD)
+    here.same("a call that has little stack", here.asm("out", preexec_fn=limited, env={}), (-signal.SIGSEGV, b""))
+    here.same("the old file after it", here.bytes_of("out"), OLD)
+    here.left("a call that has little stack", "out")
+
+
 def see_devices(here):
     os.symlink("/dev/full", here.at("out"))
     for name in ("/dev/full", "out"):
@@ -241,7 +256,8 @@ def main():
         program = shutil.copy(sys.argv[1], os.path.join(folder, "program"))
         os.mkdir(os.path.join(folder, "files"), 0o755)
         here = Folder(program, os.path.join(folder, "files"))
-        for see in (see_modes, see_names_beside, see_links, see_limits, see_devices, see_folders, see_runs_at_once):
+        for see in (see_modes, see_names_beside, see_links, see_limits, see_stack, see_devices, see_folders,
+                    see_runs_at_once):
             see(here)
             here.clear()
     print(f"{here.compared} facts compared: {here.faults} faults")

@@ -21,19 +21,33 @@ use std::{env, io};
 /// The status where the system doesn't give the words.
 const NO_WORDS: u8 = 16;
 
-/// The status where it doesn't because memory ran out.
+/// The status where memory ran out before there were words, or a call.
 const NO_MEMORY: u8 = 12;
+
+/// How many bytes of stack a call may take: a search among 256 operations takes the most, as measured.
+const STACK: usize = 221184;
 
 fn main(rt: HostRuntime) -> ExitCode {
     match words(&rt) {
-        Ok(words) => {
+        // A byte of the stack is never 2, but the compiler doesn't know.
+        Ok(words) if touch_stack(words.len()) < 2 => {
             let mut shelf = FileShelf::new(&rt);
             let mut out = StdSink::new(&rt);
             exit_code(rt.alloc(), &words, &mut shelf, &mut out)
         }
+        Ok(_) => ExitCode::from(NO_MEMORY),
         Err(error) if error.kind() == io::ErrorKind::OutOfMemory => ExitCode::from(NO_MEMORY),
         Err(_) => ExitCode::from(NO_WORDS),
     }
+}
+
+/// Writes to all the stack that a call may take. Where the system doesn't give it, the process ends here, before a file
+/// is read or written, and not in the midst of its writes.
+#[inline(never)]
+fn touch_stack(place: usize) -> u8 {
+    let mut room = [0u8; STACK];
+    room[place % STACK] = 1;
+    room[place / 2 % STACK]
 }
 
 /// The words after the program's name. A word that isn't UTF-8 is an error.
