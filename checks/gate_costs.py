@@ -3,7 +3,7 @@
 
     gate_costs.py [--write] [COMMAND ..]
 
-COMMAND is `rt ci --anew`, at the top of the repository, if left out; its output is passed on, and its status is that of
+COMMAND is `rt ci`, at the top of the repository, if left out; its output is passed on, and its status is that of
 this script. Meanwhile the processes that it starts are looked at twice a second: those of the prover name their crate,
 those of tests say so, and those of must-fail edits work in a folder of their own. The seconds of one processor that
 each took are summed by crate. How many edits there were, and how many of them the prover refused for a name that they
@@ -109,7 +109,7 @@ def table(sums, edits, minutes):
 def main():
     words = sys.argv[1:]
     write = words[:1] == ["--write"]
-    command = words[write:] or ["rt", "ci", "--anew"]
+    command = words[write:] or ["rt", "ci"]
     began, edits = time.monotonic(), collections.Counter()
     with subprocess.Popen(command, cwd=TOP, stdout=subprocess.PIPE, text=True, errors="replace") as gate:
         sampler = Sampler(gate.pid)

@@ -12,7 +12,10 @@ import textwrap
 
 TOP = os.path.dirname(os.path.dirname(os.path.realpath(__file__)))
 FIND_OPTIONS = "in", "out", "count", "budget", "steps", "input", "table", "leader"
-IN_WORDS = 'root=$1; . "$root/script/explain.sh"; explain_fault "$2" "$(call_of "${@:3}")"'
+# Prints the fault line of a call, by all that it printed and its status, and behind a zero byte what that says.
+IN_WORDS = r'''root=$1; . "$root/script/explain.sh"; IFS= read -r -d '' printed; call=$(call_of "${@:3}")
+line=$(fault_line "$printed" "$2" "$call" && echo .) || exit; line=${line%$'\n'.}
+printf '%s\0' "$line"; explain_fault "$line" "$call"'''
 COLUMNS = 80
 # The values of the options that are no numbers and no files.
 ADDRESS = re.compile("0x[0-9A-Fa-f]{1,8}")
@@ -49,10 +52,10 @@ def call(*words):
         fail(f"{program()} can't be run: {error.strerror}")
     if done.returncode == 0:
         return done.stdout
-    line = (done.stdout.decode(errors="replace").splitlines() or [f"status {done.returncode}"])[-1]
-    said = subprocess.run(["bash", "-c", IN_WORDS, "bash", TOP, line, *words], stdout=subprocess.PIPE, text=True,
-                          check=False).stdout.strip()
-    raise Refused(line, said)
+    said = subprocess.run(["bash", "-c", IN_WORDS, "bash", TOP, str(done.returncode), *words], stdout=subprocess.PIPE,
+                          input=done.stdout.replace(b"\0", b"") + b"\0", check=False).stdout.decode(errors="replace")
+    line, _, meaning = said.partition("\0")
+    raise Refused(line or done.stdout.decode(errors="replace").rstrip() or f"status {done.returncode}", meaning.strip())
 
 
 def told(*words):
