@@ -87,8 +87,10 @@ def tools(command):
 
 
 def made(commands):
-    """The files that a block of examples makes, by the words behind `-o` and `>`."""
-    return {name for command in commands for name in re.findall(r"(?:-o|>) ?([\w./-]+)", command.text)}
+    """The files that a block of examples makes: the words behind `-o` and `>`, and those of `find` behind its first."""
+    text = "\n".join(command.text for command in commands)
+    found = re.findall(r"rumtsafi find [\w./-]+((?: [\w./-]+){4})", text)
+    return {*re.findall(r"(?:-o|>) ?([\w./-]+)", text), *" ".join(found).split()}
 
 
 def missing(commands, lost):
