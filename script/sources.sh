@@ -49,5 +49,5 @@ built_from() {
 
 # Whether a program runs on this machine. To list an empty file is a call of the program that succeeds.
 runs() {
-    [ -x "$1" ] && "$1" dis /dev/null > /dev/null 2>&1
+    { [ -x "$1" ] && "$1" dis /dev/null; } > /dev/null 2>&1
 }
