@@ -9,7 +9,7 @@ program and the C library. Then each call runs under limits on its address space
 has to end with status 12, or as it does with all memory, and its files have to be those that come with that: of the
 files that `find` writes some first ones are whole and the others as before, and no other file changes. The fault line
 may be missing only as long as the words aren't there yet. Where a limit is so small that the system can't start the
-program, or can't give it the stack that it touches before its first call of the system, that is counted by itself. A
+program, or can't give it the stack that it touches before it reads or writes a file, that is counted by itself. A
 later end by a signal is a fault; where there is gdb, it shows the place.
 
 It takes a minute or two, and is no part of the gate. It ends with status 0 where all ends are as they have to be, and
@@ -27,8 +27,8 @@ import tempfile
 import outcomes
 from outcomes import NO_MEMORY, OWN
 
-# How often a call that does nothing is made, to see whether a limit lets the program begin: where the stack lies differs
-# from run to run.
+# How often a call that does nothing is made, to see whether a limit lets the program begin: where the stack lies
+# differs from run to run.
 TRIALS = 5
 COMPILER, HERE = "cc", os.path.dirname(os.path.abspath(__file__))
 # How many growths of a call are refused, and how many limits are tried.
@@ -86,7 +86,8 @@ class Checked:
         silent = True
         for size in self.sizes():
             end = self.limited(size)
-            if (end.printed, end.files) == (b"", {}) and (not is_started(end) or end.status < 0 and not self.begins(size)):
+            nothing = (end.printed, end.files) == (b"", {})
+            if nothing and (not is_started(end) or end.status < 0 and not self.begins(size)):
                 self.unstarted += 1
                 continue
             silent = silent and (end.status != NO_MEMORY or end.printed == b"")

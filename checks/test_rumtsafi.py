@@ -248,11 +248,11 @@ class Built(Repository):
     def test_too_little_stack_is_told_before_the_program_runs(self):
         self.ship("echo ran")
         # As the program itself, this one doesn't even begin with less.
-        self.write("bin/rumtsafi", '#!/bin/sh\n[ "$(ulimit -s)" -ge 256 ] || kill -SEGV $$\n'
+        self.write("bin/rumtsafi", '#!/bin/sh\n[ "$(ulimit -s)" -ge 512 ] || kill -SEGV $$\n'
                                    '[ "$*" = "dis /dev/null" ] || echo ran\n')
         script = os.path.join(self.root, "rumtsafi")
-        for kibibytes, want in (256, (0, "ran\n", "")), (255, (70, "", "rumtsafi: a call may take 256 KiB of stack, and "
-                                                               "'ulimit -s' allows 255: the program was not run\n")):
+        told = "rumtsafi: a call has to have 512 KiB of stack, and 'ulimit -s' allows 511: the program was not run\n"
+        for kibibytes, want in (512, (0, "ran\n", "")), (511, (70, "", told)):
             done = subprocess.run(["bash", "-c", f'ulimit -S -s {kibibytes}; exec "$@"', "bash", script, "best", "a"],
                                   env=self.environment(), capture_output=True, text=True, check=False)
             self.assertEqual((done.returncode, done.stdout, done.stderr), want)

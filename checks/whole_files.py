@@ -19,12 +19,20 @@ import subprocess
 import sys
 import tempfile
 
+import shared  # noqa: F401  (it lets the modules of views/ be imported)
+import executable
+
 SAMPLES = os.path.join(os.path.dirname(os.path.abspath(__file__)), "..", "samples")
 TEXT, WORDS, OLD = b"ecall\n" * 3, b"\x73\0\0\0" * 3, b"the old file\n" * 9
 NOBODY = 65534
 RUNS, ROUNDS = 12, 6
-# Less stack than a search takes, and enough for a call of `asm`.
-STACK = 131072
+# Stack in KiB: less than a search takes and enough for a call of `asm`, and more than enough for all.
+LITTLE_STACK, MUCH_STACK = 128, 1024
+# How often a call is made to see whether a stack suffices: where it lies differs from run to run.
+TRIALS = 10
+# A block that a search goes through to its end, as deep as it can be: `xor x5, x5, x10` again and again, and what ends
+# the program.
+CHAIN, EXIT = 0x00A2C2B3, (0x05D00893, 0x00000513, 0x00000073)
 LIMIT = 60
 
 
@@ -161,15 +169,28 @@ def see_limits(here):
 
 
 def see_stack(here):
-    """Where the system gives less stack than a call may take, a call ends before it reads or writes."""
-    def limited():
-        resource.setrlimit(resource.RLIMIT_CORE, (0, 0))
-        resource.setrlimit(resource.RLIMIT_STACK, (STACK, STACK))
+    """Where the system gives less stack than a call may take, a call ends before it reads or writes. With the least
+    stack by which it doesn't, the calls succeed that search deepest."""
+    def ends(kibibytes, *words):
+        def limited():
+            resource.setrlimit(resource.RLIMIT_CORE, (0, 0))
+            resource.setrlimit(resource.RLIMIT_STACK, (kibibytes * 1024, kibibytes * 1024))
+        return {subprocess.run([here.program, *words], cwd=here.path, stdout=subprocess.PIPE, check=False, env={},
+                               timeout=LIMIT, preexec_fn=limited).returncode for _ in range(TRIALS)}
 
     here.put("out", OLD)
-    here.same("a call that has little stack", here.asm("out", preexec_fn=limited, env={}), (-signal.SIGSEGV, b""))
+    here.same("a call that has little stack", ends(LITTLE_STACK, "asm", "text", "out"), {-signal.SIGSEGV})
     here.same("the old file after it", here.bytes_of("out"), OLD)
-    here.left("a call that has little stack", "out")
+    least, most = LITTLE_STACK, MUCH_STACK
+    while least < most:
+        middle = (least + most) // 2
+        least, most = (least, middle) if ends(middle, "asm", "text", "out") == {0} else (middle + 1, most)
+    here.put("old", executable.frame((*[CHAIN] * 253, *EXIT)))
+    here.put("block", CHAIN.to_bytes(4, "little") * 256)
+    files = "new", "units", "logs", "report"
+    for words in (("best", "block"), ("find", "old", *files), ("check", "old", *files[:3]), ("load", "7")):
+        here.same(f"{words[0]} with the least stack, {least} KiB", ends(least, *words), {0})
+    here.left("calls that have little stack", "out", "old", "block", *files)
 
 
 def see_devices(here):

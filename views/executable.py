@@ -176,11 +176,13 @@ class Image:
         self.loaded = {}
         for _, offset, address, file_size, _ in segments:
             self.loaded.update(zip(range(address, address + file_size), data[offset:offset + file_size]))
-        self.symbols = []
+        # An entry that several tables have counts once, at the first of them.
+        entries = {}
         for number in range(sections[1]):
             _, kind, _, _, offset, size = struct.unpack_from("<6I", data, sections[0] + 40 * number)
             if kind == SYMBOLS:
-                self.symbols += [struct.unpack_from("<I", data, at + 4)[0] for at in range(offset, offset + size, 16)]
+                entries.update(dict.fromkeys(range(offset, offset + size, 16)))
+        self.symbols = [struct.unpack_from("<I", data, at + 4)[0] for at in entries]
 
     def word(self, address):
         """The little-endian value of four bytes that are loaded from the file, or None."""
