@@ -351,6 +351,8 @@ fn expect_custom(
 fn the_first_word_of_a_custom_opcode(rt: HostRuntime) -> Result<(), Fail> {
     let alloc = rt.alloc();
     expect_custom(&rt, alloc, &[NOP; 2], None)?;
+    // The opcodes custom-2/rv128 and custom-3/rv128 of the same table.
+    expect_custom(&rt, alloc, &[0x0000_005b, 0x0000_007b], None)?;
     let first = CustomWord {
         address: 0x10078,
         word: 0x8000_102b,

@@ -68,6 +68,33 @@ fn fronts() -> &'static [(usize, Option<ElfFault>)] {
     ]
 }
 
+/// The smallest file with the text 00000013, the constant 1000 and the value 5, by the standard's tables of fields.
+fn words_of_a_file() -> &'static [u32] {
+    &[
+        // The file header.
+        0x464c457f, 0x00010101, 0, 0, 0x00f30002, 1, 0x10074, 52, 128, 0, 0x00200034, 0x00280002,
+        4,
+        // Program headers: the first segment may be read and executed, the second one read and written.
+        1, 0, 0x10000, 0x10000, 124, 124, 5, 4, 1, 124, 0x20000, 0x20000, 4, 4, 6, 4,
+        // The text, the constant and the value.
+        0x13, 1000, 5,
+        // Section headers: an empty one, and those of the text, the constant and the value.
+        0, 0, 0, 0, 0, 0, 0, 0, 0, 0, 0, 1, 6, 0x10074, 116, 4, 0, 0, 0, 0, 0, 1, 2, 0x10078, 120,
+        4, 0, 0, 0, 0, 0, 1, 3, 0x20000, 124, 4, 0, 0, 0, 0,
+    ]
+}
+
+#[test]
+fn a_file_has_these_words(rt: HostRuntime) -> Result<(), Fail> {
+    let mut due = Vec::new(rt.alloc());
+    for word in words_of_a_file() {
+        due.extend_from_slice(&word.to_le_bytes())?;
+    }
+    let file = frame(rt.alloc(), &[0x13], &[1000], &[5])?;
+    assert_eq!(rt; file.as_slice(), due.as_slice());
+    Ok(())
+}
+
 #[test]
 fn a_file_may_be_cut(rt: HostRuntime) -> Result<(), Fail> {
     for (len, due) in fronts() {
@@ -89,6 +116,32 @@ fn the_file_header_is_tested(rt: HostRuntime) -> Result<(), AllocError> {
         (&[(20, 2)], Some(ElfFault::WrongKind(20, 2))),
         (&[(36, 1)], Some(ElfFault::WrongKind(36, 1))),
         (&[(36, 4)], None),
+    ];
+    are_faults(&rt, rt.alloc(), rows)
+}
+
+#[test]
+fn other_fields_are_free(rt: HostRuntime) -> Result<(), AllocError> {
+    let rows: &[Row<'_>] = &[
+        // What follows the version in e_ident, then e_ehsize and e_shstrndx.
+        (
+            &[(4, 0xff01_0101), (8, 0xffff_ffff), (12, 0xffff_ffff)],
+            None,
+        ),
+        (&[(40, 0x0020_ffff), (48, 0xffff_0004)], None),
+        // Of the text's segment p_paddr, p_flags and p_align.
+        (&[(64, 0xffff_ffff), (76, 0), (80, 3)], None),
+        // Of the text's section sh_name, sh_link, sh_info, sh_addralign and sh_entsize.
+        (
+            &[
+                (160, 0xffff_ffff),
+                (184, 0xffff_ffff),
+                (188, 0xffff_ffff),
+                (192, 3),
+                (196, 3),
+            ],
+            None,
+        ),
     ];
     are_faults(&rt, rt.alloc(), rows)
 }
@@ -119,9 +172,13 @@ fn the_tables_are_tested(rt: HostRuntime) -> Result<(), AllocError> {
 fn each_segment_is_tested(rt: HostRuntime) -> Result<(), AllocError> {
     let rows: &[Row<'_>] = &[
         (&[(84, 3)], Some(ElfFault::WrongKind(84, 3))),
+        // A PT_PHDR and a PT_TLS are not loaded.
         (&[(84, 6), (92, 0x1_0000), (104, 4)], None),
+        (&[(84, 7), (92, 0x1_0000), (104, 4)], None),
         // Without memory, a segment may have its bytes anywhere.
         (&[(88, 0xffff_ffff), (100, 4)], None),
+        // Without bytes in the file, one with memory may have them anywhere, too.
+        (&[(88, 0xffff_ffff), (104, 4)], None),
         (&[(56, 0xffff_ffff)], Some(ElfFault::Short(0xffff_ffff))),
         (&[(72, 4)], Some(ElfFault::BadSegment(0))),
         (&[(92, 0xfffe_fffc), (104, 4)], None),
@@ -180,7 +237,11 @@ fn each_section_is_tested(rt: HostRuntime) -> Result<(), AllocError> {
         // A symbol table at the end of the file: entries of no size, of 16 bytes, half an entry, and one past the end.
         (&[(204, 2)], Some(ElfFault::BadSection(2))),
         (&[(204, 2), (236, 16)], None),
+        // An SHT_DYNSYM is no symbol table here.
+        (&[(204, 11)], None),
         (&[(204, 2), (236, 16), (220, 16)], None),
+        // One without entries, behind the end of the file.
+        (&[(204, 2), (236, 16), (216, 0xffff_ffff)], None),
         (
             &[(204, 2), (236, 16), (220, 8)],
             Some(ElfFault::BadSection(2)),
@@ -194,6 +255,8 @@ fn each_section_is_tested(rt: HostRuntime) -> Result<(), AllocError> {
             &[(204, 2), (236, 16), (216, 116), (220, 16)],
             Some(ElfFault::BadSection(1)),
         ),
+        // A text without bytes, which no segment loads, is none.
+        (&[(208, 6), (212, 0)], None),
         // A second text over the first.
         (
             &[(208, 6), (212, 0x1_0074), (216, 116), (220, 4)],
@@ -303,6 +366,38 @@ fn an_image_has_the_parts_of_its_file(rt: HostRuntime) -> Result<(), Fail> {
     );
     drop(image);
     Ok(())
+}
+
+/// Asserts that the text of the file that has two words, with other words at some offsets, is this range.
+fn expect_text(
+    rt: &impl Abort,
+    alloc: Global,
+    edits: &[(usize, u32)],
+    range: Range,
+) -> Result<(), Fail> {
+    let mut bytes = frame(alloc, &[0x13, 0x73], &[], &[])?;
+    change(rt, &mut bytes, edits);
+    let image = image_of(rt, alloc, &bytes)?;
+    assert_eq!(rt; image.ranges(), [range].as_slice());
+    drop(image);
+    Ok(())
+}
+
+#[test]
+fn the_text_is_whole_words(rt: HostRuntime) -> Result<(), Fail> {
+    let first = Range {
+        start: 0x1_0074,
+        words: 1,
+    };
+    let last = Range {
+        start: 0x1_0078,
+        words: 1,
+    };
+    // The section lacks the last byte of the text.
+    expect_text(&rt, rt.alloc(), &[(184, 7)], first)?;
+    // It lacks the first one, and the entry is the second word.
+    let late = [(24, 0x1_0078), (176, 0x1_0075), (180, 117), (184, 7)];
+    expect_text(&rt, rt.alloc(), &late, last)
 }
 
 /// Asserts what word an image has at an address.
@@ -415,6 +510,9 @@ fn symbols_that_overlap_all_count(rt: HostRuntime) -> Result<(), Fail> {
     // The entries of the second table begin four bytes behind those of the first one.
     let bytes = with_tables(&rt, rt.alloc(), (124, 32), (128, 32))?;
     expect_symbols(&rt, rt.alloc(), &bytes, &[1, 5, 2, 6])?;
+    // They begin eight bytes behind, half an entry.
+    let bytes = with_tables(&rt, rt.alloc(), (124, 32), (132, 32))?;
+    expect_symbols(&rt, rt.alloc(), &bytes, &[1, 5, 3, 7])?;
     Ok(())
 }
 
@@ -422,6 +520,25 @@ fn symbols_that_overlap_all_count(rt: HostRuntime) -> Result<(), Fail> {
 fn a_table_twice_counts_once(rt: HostRuntime) -> Result<(), Fail> {
     let bytes = with_tables(&rt, rt.alloc(), (140, 32), (140, 32))?;
     expect_symbols(&rt, rt.alloc(), &bytes, &[5, 9])?;
+    Ok(())
+}
+
+#[test]
+fn symbols_are_shared_with_symbol_tables_alone(rt: HostRuntime) -> Result<(), Fail> {
+    // Section 2, which is no symbol table, has the bytes of the first two entries.
+    let mut bytes = with_tables(&rt, rt.alloc(), (124, 32), (124, 48))?;
+    change(&rt, &mut bytes, &[(256, 1)]);
+    expect_symbols(&rt, rt.alloc(), &bytes, &[1, 5, 9])?;
+    Ok(())
+}
+
+#[test]
+fn tables_apart_share_symbols(rt: HostRuntime) -> Result<(), Fail> {
+    // Section 0 is a symbol table of two entries, section 2 is none, and section 3 begins at the second entry.
+    let mut bytes = with_tables(&rt, rt.alloc(), (124, 16), (140, 32))?;
+    change(&rt, &mut bytes, &[(256, 1), (176, 2), (188, 124)]);
+    change(&rt, &mut bytes, &[(192, 32), (208, 16)]);
+    expect_symbols(&rt, rt.alloc(), &bytes, &[1, 5, 9])?;
     Ok(())
 }
 

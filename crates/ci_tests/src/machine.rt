@@ -178,8 +178,10 @@ fn expect_of_small(rt: &impl Abort, alloc: Global, steps: &[Step]) -> Result<(),
 fn opens(rt: HostRuntime) -> Result<(), Fail> {
     let state = sample(&rt, rt.alloc())?;
     assert_eq!(&rt; state.pc(), 0x10004);
-    assert_eq!(&rt; state.register(x(2)), 0x7ffffff0);
-    assert_eq!(&rt; state.register(x(31)), 0);
+    for n in 0..32 {
+        let due = if n == 2 { 0x7ffffff0 } else { 0 };
+        assert_eq!(&rt; state.register(x(n)), due, "x{n}");
+    }
     assert_eq!(&rt; state.hidden(), 0);
     assert_eq!(&rt; state.output().len(), 0);
     drop(state);
@@ -279,11 +281,12 @@ fn stores(rt: HostRuntime) -> Result<(), Fail> {
     expect(&rt, rt.alloc(), some_stores())
 }
 
-/// Calls that read, of which the first two are of another file and of memory that is not there, and what they leave.
+/// Calls that read, of which the first are of another file, of memory that is not there, and both, and what they leave.
 fn some_reads() -> &'static [Step] {
     &[
         Step::Answer((63, (1, 0x7ff00000, 5)), 0xfffffff7),
         Step::Answer((63, (0, 0x7fffffff, 5)), 0xfffffff2),
+        Step::Answer((63, (1, 0x7fffffff, 5)), 0xfffffff7),
         Step::Answer((63, (0, 0x10006, 5)), 5),
         Step::Load(0x10006, Width::Word, Ok(0x6c6c6568)),
         Step::Answer((63, (0, 0x7ffffff9, 100)), 7),
@@ -304,6 +307,7 @@ fn some_writes() -> &'static [Step] {
         Step::Answer((64, (1, 0x10006, 3)), 3),
         Step::Answer((64, (2, 0x10000, 1)), 1),
         Step::Answer((64, (1, 0x1000f, 2)), 0xfffffff2),
+        Step::Answer((64, (3, 0x1000f, 2)), 0xfffffff7),
         Step::Answer((64, (1, 0xffffffff, 0)), 0),
         Step::Output(&[7, 0x88, 0x99, 1]),
     ]
@@ -517,7 +521,14 @@ fn touches() -> &'static [Step] {
         Step::Access(0x10004, Some(0x10004)),
         Step::Access(0xffff, Some(0x10000)),
         Step::Access(0x10008, None),
+        // Reads: of a file that is not open, and of more than the 12 bytes that are left, which fill what is mapped.
         Step::Moved((63, (0, 0x10007, 3)), Some(0x10007)),
+        Step::Moved((63, (1, 0x10007, 3)), None),
+        Step::Moved((63, (0, 0x10004, 100)), Some(0x10004)),
+        Step::Moved((63, (0, 0x10005, 100)), None),
+        // Writes to both files, of bytes that are not all mapped, to a file that is not open, and of other bytes.
+        Step::Moved((64, (1, 0x10007, 3)), Some(0x10007)),
+        Step::Moved((64, (2, 0x10003, 1)), Some(0x10003)),
         Step::Moved((64, (1, 0x10007, 100)), None),
         Step::Moved((64, (0, 0x10007, 3)), None),
         Step::Moved((64, (2, 0x10008, 8)), None),
