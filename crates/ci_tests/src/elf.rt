@@ -199,6 +199,11 @@ fn each_segment_is_tested(rt: HostRuntime) -> Result<(), AllocError> {
             &[(92, 0x7fff_ffff), (104, 1)],
             Some(ElfFault::BadSegment(1)),
         ),
+        // One that begins below the stack and ends above it.
+        (
+            &[(92, 0x7fe0_0000), (104, 0x30_0000)],
+            Some(ElfFault::BadSegment(1)),
+        ),
         (&[(92, 0x8000_0000), (104, 1)], None),
     ];
     are_faults(&rt, rt.alloc(), rows)
@@ -211,6 +216,12 @@ fn the_memory_is_tested(rt: HostRuntime) -> Result<(), AllocError> {
         (&[(92, 0x1_0077), (104, 1)], Some(ElfFault::Overlap(0, 1))),
         (&[(92, 0x1_0078), (104, 1)], None),
         (&[(92, 0x0_fffc), (104, 4)], None),
+        // One that begins below the first and ends in it, or above it.
+        (&[(92, 0x0_fffd), (104, 4)], Some(ElfFault::Overlap(0, 1))),
+        (
+            &[(92, 0x0_f000), (104, 0x2000)],
+            Some(ElfFault::Overlap(0, 1)),
+        ),
         // The first segment has 120 bytes of memory, and the stack 1,048,576.
         (&[(104, 66_060_168)], None),
         (&[(104, 66_060_169)], Some(ElfFault::TooLarge)),
