@@ -28,8 +28,8 @@ NOBODY = 65534
 RUNS, ROUNDS = 12, 6
 # Stack in KiB: less than a search takes and enough for a call of `asm`, and more than enough for all.
 LITTLE_STACK, MUCH_STACK = 128, 1024
-# How often a call is made to see whether a stack suffices: where it lies differs from run to run.
-TRIALS = 10
+# How often a call is made to see whether a stack suffices. Where it begins differs from run to run, by so many KiB.
+TRIALS, SPREAD = 10, 8
 # A block that a search goes through to its end, as deep as it can be: `xor x5, x5, x10` again and again, and what ends
 # the program.
 CHAIN, EXIT = 0x00A2C2B3, (0x05D00893, 0x00000513, 0x00000073)
@@ -169,7 +169,7 @@ def see_limits(here):
 
 
 def see_stack(here):
-    """Where the system gives less stack than a call may take, a call ends before it reads or writes. With the least
+    """Where the system gives less stack than a call may take, a call ends before it reads or writes. With about the least
     stack by which it doesn't, the calls succeed that search deepest."""
     def ends(kibibytes, *words):
         def limited():
@@ -185,11 +185,12 @@ def see_stack(here):
     while least < most:
         middle = (least + most) // 2
         least, most = (least, middle) if ends(middle, "asm", "text", "out") == {0} else (middle + 1, most)
+    least += SPREAD
     here.put("old", executable.frame((*[CHAIN] * 253, *EXIT)))
     here.put("block", CHAIN.to_bytes(4, "little") * 256)
     files = "new", "units", "logs", "report"
     for words in (("best", "block"), ("find", "old", *files), ("check", "old", *files[:3]), ("load", "7")):
-        here.same(f"{words[0]} with the least stack, {least} KiB", ends(least, *words), {0})
+        here.same(f"{words[0]} with {least} KiB of stack", ends(least, *words), {0})
     here.left("calls that have little stack", "out", "old", "block", *files)
 
 
