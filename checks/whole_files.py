@@ -169,8 +169,8 @@ def see_limits(here):
 
 
 def see_stack(here):
-    """Where the system gives less stack than a call may take, a call ends before it reads or writes. With about the least
-    stack by which it doesn't, the calls succeed that search deepest."""
+    """Where the system gives less stack than a call may take, a call ends before it reads or writes. With about the
+    least stack by which it doesn't, the calls succeed that search deepest."""
     def ends(kibibytes, *words):
         def limited():
             resource.setrlimit(resource.RLIMIT_CORE, (0, 0))
