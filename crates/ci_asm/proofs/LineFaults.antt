@@ -12,24 +12,25 @@ use Rattle.ci_asm.specs.declared.scanner.Kind.TheVariants.{Name, End}
 use Rattle.ci_asm.specs.declared.scanner.Token.{Token}
 use Rattle.ci_asm.specs.declared.numbers.Number.{Number}
 use Rattle.ci_asm.specs.declared.mnemonics.Mnemonic.{Mnemonic}
+use Rattle.ci_asm.specs.declared.mnemonics.Mnemonic.TheVariants.{RegisterRegister, Cread}
 use Rattle.ci_asm.specs.declared.slots.Field.{Field}
 use Rattle.ci_asm.specs.declared.slots.Field.TheVariants.{BranchOffset, JumpOffset}
 use Rattle.ci_asm.specs.declared.slots.Slot.{Slot}
-use Rattle.ci_asm.specs.declared.slots.Slot.TheVariants.{Rd, Rs1, Rs2, Rs3, Value, Comma, Open, Close}
+use Rattle.ci_asm.specs.declared.slots.Slot.TheVariants.{Rd, Rs1, Rs2, Rs3, Value, Comma, Open, Close, Further, Second}
 use Rattle.ci_asm.specs.declared.faults.Rule.{Rule}
 use Rattle.ci_asm.specs.declared.faults.Rule.TheVariants.{NoToken, NoMnemonic, NoOperand, OutOfField, Surplus}
 use Rattle.ci_asm.specs.declared.faults.Fault.{Fault}
 use Rattle.ci_asm.specs.declared.statements.Operands.{Operands}
 use Rattle.ci_asm.specs.declared.statements.Statement as code
 use Rattle.ci_asm.specs.Tokens.{next_token, register_of}
-use Rattle.ci_asm.specs.Shapes.{mnemonic_of, is_statement, is_offset, fits, slots_of}
-use Rattle.ci_asm.specs.Statements.{◌>>=◌, found, fault, at_place, no_operands, number_in, filled, ended, read_slots, mnemonic_in, read_statement}
+use Rattle.ci_asm.specs.Shapes.{mnemonic_of, is_statement, is_offset, fits, is_one, slots_of}
+use Rattle.ci_asm.specs.Statements.{◌>>=◌, found, fault, at_place, no_operands, number_in, one_in, filled, ends_before, ended, read_slots, mnemonic_in, read_statement}
 use Rattle.ci_asm.specs.Statements.{with_statement, read_line}
 use Rattle.ci_asm.specs.Programs.{kind_of}
 use Rattle.ci_asm.specs.Lexicon as lex
 use Rattle.ci_reading.specs.Tokens.{text_end, stray_byte}
 use Rattle.ci_asm.specs.Lexicon.{name, decimal_number, hex_number, word, comma, open_bracket, close_bracket, colon}
-use Rattle.ci_asm.specs.Forms.{IsIn, IsRegister, IsNumber, HasNumber, Statement, IsStatement, IsMnemonic}
+use Rattle.ci_asm.specs.Forms.{IsIn, IsRegister, IsNumber, Writes, HasNumber, Statement, IsStatement, IsMnemonic}
 use Rattle.ci_asm.specs.Assembly.{IsGoodFront, IsGoodNext, IsWhole, IsNumberDue, IsKind, no_token, no_statement, no_operand, too_short, out_of_field, surplus}
 use Rattle.ci_asm.specs.Assembly.{too_many, IsFaultOfLine}
 use Rattle.ci_asm.proofs.SoundStatements.{mnemonic_in-statement, at_place_ok}
@@ -38,7 +39,8 @@ use Rattle.ci_asm.proofs.SymbolsMet.{IsShown, Shows, Meets, next_symbol}
 use Rattle.ci_asm.proofs.TestLaws.{by_test}
 use Rattle.ci_asm.proofs.ReadOperands.{number_result, field_form, writes_is_number}
 use Rattle.ci_asm.proofs.FilledSlots.{Values, no_values, Fills, done, fill_rd, fill_rs1, fill_rs2, fill_rs3, fill_number, fill_label, fill_comma, fill_open}
-use Rattle.ci_asm.proofs.FilledSlots.{fill_close, register_result, mark_result, value_result, result_of, register_no, number_in_no, value_no, filled_shown}
+use Rattle.ci_asm.proofs.FilledSlots.{fill_close, fill_further, no_further, fill_second, further_result, second_result, one_no, second_no, due_rule, ends_parts}
+use Rattle.ci_asm.proofs.FilledSlots.{read_ends, register_result, mark_result, value_result, result_of, register_no, number_in_no, value_no, filled_shown}
 use Rattle.ci_asm.proofs.FilledSlots.{filled_end, filled_bad, filled_token, fill_step, values_of, label_text, read_step, read_stuck, read_nil}
 use Rattle.ci_asm.proofs.ReadStatements.{mnemonic_token, fills_statement, statement_slots}
 use Rattle.ci_asm.proofs.ReadLines.{mnemonic_result, mnemonic_shown, mnemonic_yes, mnemonic_no, HasBody, body_of, with_other}
@@ -50,15 +52,30 @@ Accepts (Value field) t = ((n : ℤ) × HasNumber (field_form field) t n) ⊎ ((
 Accepts Comma t = t ≡ comma
 Accepts Open t = t ≡ open_bracket
 Accepts Close t = t ≡ close_bracket
+Accepts Further t = t ≡ comma
+Accepts Second t = Writes t (pos 1)
 Accepts other t = (r : ℕ) × IsRegister t r
 
+-- tokens in the places of all these slots
 abbrev pub Fit : List Slot → List lex.Token → Type 0
 Fit [] [] = Unit {0}
 Fit [] (t ∷ ts) = ⊥
 Fit (slot ∷ slots) [] = ⊥
 Fit (slot ∷ slots) (t ∷ ts) = Accepts slot t × Fit slots ts
 
-pub fills_fit : {slots : List Slot} {ts : List lex.Token} {v w : Values} → Fills slots ts v w → Fit slots ts
+-- a statement may end before the slot
+abbrev pub MayEnd : Slot → Type 0
+MayEnd Further = Unit {0}
+MayEnd slot = ⊥
+
+-- the same of the slots of a statement, which may end before the last of them
+abbrev pub FitWhole : List Slot → List lex.Token → Type 0
+FitWhole [] [] = Unit {0}
+FitWhole [] (t ∷ ts) = ⊥
+FitWhole (slot ∷ slots) [] = MayEnd slot
+FitWhole (slot ∷ slots) (t ∷ ts) = Accepts slot t × FitWhole slots ts
+
+pub fills_fit : {slots : List Slot} {ts : List lex.Token} {v w : Values} → Fills slots ts v w → FitWhole slots ts
 fills_fit done = tt
 fills_fit (fill_rd {r} is rest) = ((r, is), fills_fit rest)
 fills_fit (fill_rs1 {r} is rest) = ((r, is), fills_fit rest)
@@ -69,10 +86,14 @@ fills_fit (fill_label {label} offset rest) = (inr (offset, (label, refl)), fills
 fills_fit (fill_comma rest) = (refl, fills_fit rest)
 fills_fit (fill_open rest) = (refl, fills_fit rest)
 fills_fit (fill_close rest) = (refl, fills_fit rest)
+fills_fit (fill_further rest) = (refl, fills_fit rest)
+fills_fit no_further = tt
+fills_fit (fill_second writes rest) = (writes, fills_fit rest)
 
-pub fit_fills : (slots : List Slot) (ts : List lex.Token) (v : Values) → Fit slots ts → (w : Values) × Fills slots ts v w
+pub fit_fills : (slots : List Slot) (ts : List lex.Token) (v : Values) → FitWhole slots ts → (w : Values) × Fills slots ts v w
 fit_fills [] [] v fit = (v, done)
 fit_fills [] (t ∷ ts) v fit = absurd fit
+fit_fills (Further ∷ slots) [] v fit = (v, no_further)
 fit_fills (slot ∷ slots) [] v fit = absurd fit
 fit_fills (Rd ∷ slots) (t ∷ ts) v fit = let more = fit_fills slots ts (record v { rd = fit.0.0 }) fit.1 in (more.0, fill_rd fit.0.1 more.1)
 fit_fills (Rs1 ∷ slots) (t ∷ ts) v fit = let more = fit_fills slots ts (record v { rs1 = fit.0.0 }) fit.1 in (more.0, fill_rs1 fit.0.1 more.1)
@@ -89,14 +110,17 @@ fit_fills (Open ∷ slots) (t ∷ ts) v fit = let more = fit_fills slots ts v fi
     (more.0, subst (λ s. Fills (Open ∷ slots) (s ∷ ts) v more.0) (sym fit.0) (fill_open more.1))
 fit_fills (Close ∷ slots) (t ∷ ts) v fit = let more = fit_fills slots ts v fit.1 in
     (more.0, subst (λ s. Fills (Close ∷ slots) (s ∷ ts) v more.0) (sym fit.0) (fill_close more.1))
+fit_fills (Further ∷ slots) (t ∷ ts) v fit = let more = fit_fills slots ts v fit.1 in
+    (more.0, subst (λ s. Fills (Further ∷ slots) (s ∷ ts) v more.0) (sym fit.0) (fill_further more.1))
+fit_fills (Second ∷ slots) (t ∷ ts) v fit = let more = fit_fills slots ts (record v { number = pos 1 }) fit.1 in (more.0, fill_second fit.0 more.1)
 
-fit_append : (slots others : List Slot) (ts rest : List lex.Token) → Fit slots ts → Fit others rest → Fit (slots ++ others) (ts ++ rest)
+fit_append : (slots others : List Slot) (ts rest : List lex.Token) → Fit slots ts → FitWhole others rest → FitWhole (slots ++ others) (ts ++ rest)
 fit_append [] others [] rest first second = second
 fit_append [] others (t ∷ ts) rest first second = absurd first
 fit_append (slot ∷ slots) others [] rest first second = absurd first
 fit_append (slot ∷ slots) others (t ∷ ts) rest first second = (first.0, fit_append slots others ts rest first.1 second)
 
-fit_rest : (slots others : List Slot) (ts rest : List lex.Token) → Fit slots ts → Fit (slots ++ others) (ts ++ rest) → Fit others rest
+fit_rest : (slots others : List Slot) (ts rest : List lex.Token) → Fit slots ts → FitWhole (slots ++ others) (ts ++ rest) → FitWhole others rest
 fit_rest [] others [] rest first both = both
 fit_rest [] others (t ∷ ts) rest first both = absurd first
 fit_rest (slot ∷ slots) others [] rest first both = absurd first
@@ -109,6 +133,8 @@ default_token (Value field) = decimal_number false (48 ∷ [])
 default_token Comma = comma
 default_token Open = open_bracket
 default_token Close = close_bracket
+default_token Further = comma
+default_token Second = decimal_number false (49 ∷ [])
 default_token other = name (codes "x" ++ decimal 0)
 
 zero_in : (field : Field) → IsIn (field_form field) (pos 0)
@@ -121,18 +147,20 @@ accepts_default (Value field) = inl (pos 0, ((lit≤ tt, refl), zero_in field))
 accepts_default Comma = refl
 accepts_default Open = refl
 accepts_default Close = refl
+accepts_default Further = refl
+accepts_default Second = (lit≤ tt, refl)
 accepts_default other = (0, (refl, lit< tt))
 
 abbrev default_tokens : List Slot → List lex.Token
 default_tokens [] = []
 default_tokens (slot ∷ slots) = default_token slot ∷ default_tokens slots
 
-fit_default : (slots : List Slot) → Fit slots (default_tokens slots)
+fit_default : (slots : List Slot) → FitWhole slots (default_tokens slots)
 fit_default [] = tt
 fit_default (slot ∷ slots) = (accepts_default slot, fit_default slots)
 
 -- tokens that fit are a statement
-fit_statement : (m : Mnemonic) (ts : List lex.Token) → is_statement m ≡ true → Fit (slots_of m) ts
+fit_statement : (m : Mnemonic) (ts : List lex.Token) → is_statement m ≡ true → FitWhole (slots_of m) ts
     → (statement : Statement) × IsStatement (mnemonic_token m ∷ ts) statement
 fit_statement m ts named fit = let f = fit_fills (slots_of m) ts no_values fit in (_, fills_statement m named f.1)
 
@@ -146,29 +174,31 @@ same_mnemonic m k at_m at_k e =
 
 -- the tokens behind a statement's mnemonic fit its slots
 statement_fit : (m : Mnemonic) (ts : List lex.Token) (statement : Statement) → is_statement m ≡ true → IsStatement (mnemonic_token m ∷ ts) statement
-    → Fit (slots_of m) ts
+    → FitWhole (slots_of m) ts
 statement_fit m ts statement named is =
     let h = statement_slots is in
     let tokens = h.tokens in
     let first : mnemonic_token m ≡ mnemonic_token h.mnemonic = cc in
     let rest : ts ≡ h.others = cc in
     let same = same_mnemonic m h.mnemonic named h.named first in
-    subst (λ k. Fit (slots_of k) ts) (sym same) (subst (Fit (slots_of h.mnemonic)) (sym rest) (fills_fit h.fills))
+    subst (λ k. FitWhole (slots_of k) ts) (sym same) (subst (FitWhole (slots_of h.mnemonic)) (sym rest) (fills_fit h.fills))
 
 -- ---- what stops the code
 
 abbrev IsValue : Slot → Type 0
 IsValue (Value field) = Unit {0}
+IsValue Second = Unit {0}
 IsValue slot = ⊥
 
 -- the symbol that doesn't fit where these slots are due, and the rule that it breaks
 data Stops : List Slot → lex.Symbol → Rule → Type 0 where
   stray : {slots : List Slot} → Stops slots stray_byte NoToken
   over : {t : lex.Token} → Stops [] (reading.token t) Surplus
-  short : {slot : Slot} {slots : List Slot} → Stops (slot ∷ slots) text_end NoOperand
+  over_further : {slots : List Slot} {t : lex.Token} → ¬ Accepts Further t → Stops (Further ∷ slots) (reading.token t) Surplus
+  short : {slot : Slot} {slots : List Slot} → ¬ MayEnd slot → Stops (slot ∷ slots) text_end NoOperand
   wrong_number : {slot : Slot} {slots : List Slot} {t : lex.Token} → IsValue slot → IsNumber t → ¬ Accepts slot t
       → Stops (slot ∷ slots) (reading.token t) OutOfField
-  wrong : {slot : Slot} {slots : List Slot} {t : lex.Token} → ¬ (IsNumber t × IsValue slot) → ¬ Accepts slot t
+  wrong : {slot : Slot} {slots : List Slot} {t : lex.Token} → ¬ MayEnd slot → ¬ (IsNumber t × IsValue slot) → ¬ Accepts slot t
       → Stops (slot ∷ slots) (reading.token t) NoOperand
 
 -- an accepted token is read
@@ -186,13 +216,17 @@ accept_ok ct (Value field) shown o (inr (offset, (label, e))) =
 accept_ok ct Comma shown o e = (_, ap (λ s. mark_result 44 s o) e)
 accept_ok ct Open shown o e = (_, ap (λ s. mark_result 40 s o) e)
 accept_ok ct Close shown o e = (_, ap (λ s. mark_result 41 s o) e)
+accept_ok ct Further shown o e = (_, ap (λ s. further_result s o) e)
+accept_ok ct Second shown o writes =
+    let m = one_no shown o writes in
+    (_, second_no shown o (writes_is_number shown (pos 1) writes) ∙ m.1)
 
 not_accepted : (ct : Token) (slot : Slot) (shown : lex.Token) (o : Operands) (rule : Rule) → result_of ct slot shown o ≡ Err rule → ¬ Accepts slot shown
 not_accepted ct slot shown o rule e = λ accepts. let ok = (accept_ok ct slot shown o accepts).1 in cc
 
 -- the rule that is broken by a token
 abbrev IsRuleFor : Slot → lex.Token → Rule → Type 0
-IsRuleFor slot t rule = ((rule ≡ OutOfField) × (IsNumber t × IsValue slot)) ⊎ ((rule ≡ NoOperand) × (¬ (IsNumber t × IsValue slot)))
+IsRuleFor slot t rule = ((rule ≡ OutOfField) × (IsNumber t × IsValue slot)) ⊎ ((rule ≡ due_rule slot) × (¬ (IsNumber t × IsValue slot)))
 
 pub err_same : {A E : Type 0} (a b : E) → ◌≡◌ {A = Result A E} (Err a) (Err b) → a ≡ b
 err_same a b e = cc
@@ -224,6 +258,14 @@ number_rule : (field : Field) (n : Option Number) (o : Operands) (rule : Rule) �
 number_rule field None o rule e = cc
 number_rule field (Some n) o rule e = cond_rule (fits field n) (record o { number = n }) rule OutOfField e
 
+further_rule : (shown : lex.Token) (o : Operands) (rule : Rule) → further_result shown o ≡ Err rule → rule ≡ Surplus
+further_rule comma o rule e = absurd (cc)
+further_rule other o rule e = cc
+
+one_rule : (n : Option Number) (o : Operands) (rule : Rule) → one_in n o ≡ Err rule → rule ≡ OutOfField
+one_rule None o rule e = cc
+one_rule (Some n) o rule e = cond_rule (is_one n) (record o { number = n }) rule OutOfField e
+
 rule_for : (ct : Token) (slot : Slot) (shown : lex.Token) (o : Operands) (rule : Rule) → result_of ct slot shown o ≡ Err rule → IsRuleFor slot shown rule
 rule_for ct (Value field) (name bytes) o rule e = inr (cond_rule (is_offset field) (record o { label = Some ct }) rule NoOperand e, λ h. h.0)
 rule_for ct (Value field) (decimal_number negative digits) o rule e = inl
@@ -237,22 +279,40 @@ rule_for ct (Value field) colon o rule e = inr (cc, λ h. h.0)
 rule_for ct Comma shown o rule e = inr (mark_rule 44 shown o rule e, λ h. h.1)
 rule_for ct Open shown o rule e = inr (mark_rule 40 shown o rule e, λ h. h.1)
 rule_for ct Close shown o rule e = inr (mark_rule 41 shown o rule e, λ h. h.1)
+rule_for ct Further shown o rule e = inr (further_rule shown o rule e, λ h. h.1)
+rule_for ct Second (decimal_number negative digits) o rule e = inl (one_rule (number_result (decimal_number negative digits)) o rule e, (tt, tt))
+rule_for ct Second (hex_number digits) o rule e = inl (one_rule (number_result (hex_number digits)) o rule e, (tt, tt))
+rule_for ct Second (name bytes) o rule e = inr (cc, λ h. h.0)
+rule_for ct Second word o rule e = inr (cc, λ h. h.0)
+rule_for ct Second comma o rule e = inr (cc, λ h. h.0)
+rule_for ct Second open_bracket o rule e = inr (cc, λ h. h.0)
+rule_for ct Second close_bracket o rule e = inr (cc, λ h. h.0)
+rule_for ct Second colon o rule e = inr (cc, λ h. h.0)
 rule_for ct other shown o rule e = inr (register_rule shown rule (bind_register (register_result shown) _ rule e), λ h. h.1)
+
+wrong_stops : (slot : Slot) (slots : List Slot) (t : lex.Token) → ¬ (IsNumber t × IsValue slot) → ¬ Accepts slot t
+    → Stops (slot ∷ slots) (reading.token t) (due_rule slot)
+wrong_stops Further slots t plain none = over_further none
+wrong_stops slot slots t plain none = wrong (λ may. may) plain none
+
+end_stops : (slot : Slot) (slots : List Slot) → ends_before slot End ≡ false → Stops (slot ∷ slots) text_end (due_rule slot)
+end_stops Further slots on = absurd (cc)
+end_stops slot slots on = short (λ may. may)
 
 -- what stands in a slot's place where it can't be filled
 filled_stops : (line : List ℕ) (slot : Slot) (slots : List Slot) (t : Token) (o : Operands) (rule : Rule) (symbol : lex.Symbol) → Shows line t symbol
-    → filled line slot t o ≡ Err rule → Stops (slot ∷ slots) symbol rule
-filled_stops line slot slots t o rule (reading.token shown) shows e =
+    → ends_before slot t.kind ≡ false → filled line slot t o ≡ Err rule → Stops (slot ∷ slots) symbol rule
+filled_stops line slot slots t o rule (reading.token shown) shows on e =
     let there = sym (filled_shown line slot t shown o shows) ∙ e in
     let none = not_accepted t slot shown o rule there in
     elim (rule_for t slot shown o rule there) [
       | inl number ↦ subst (Stops (slot ∷ slots) (reading.token shown)) (sym number.0) (wrong_number number.1.1 number.1.0 none)
-      | inr other ↦ subst (Stops (slot ∷ slots) (reading.token shown)) (sym other.0) (wrong other.1 none)
+      | inr other ↦ subst (Stops (slot ∷ slots) (reading.token shown)) (sym other.0) (wrong_stops slot slots shown other.1 none)
     ]
-filled_stops line slot slots t o rule text_end shows e =
-    let same : NoOperand ≡ rule = err_same {A = Operands} NoOperand rule (sym (filled_end line slot t o shows) ∙ e) in
-    subst (Stops (slot ∷ slots) text_end) same short
-filled_stops line slot slots t o rule stray_byte shows e =
+filled_stops line slot slots t o rule text_end shows on e =
+    let same : due_rule slot ≡ rule = err_same {A = Operands} (due_rule slot) rule (sym (filled_end line slot t o shows) ∙ e) in
+    subst (Stops (slot ∷ slots) text_end) same (end_stops slot slots (sym (ap (ends_before slot) shows) ∙ on))
+filled_stops line slot slots t o rule stray_byte shows on e =
     let same : NoToken ≡ rule = err_same {A = Operands} NoToken rule (sym (filled_bad line slot t o shows) ∙ e) in
     subst (Stops (slot ∷ slots) stray_byte) same stray
 
@@ -296,14 +356,16 @@ read_stops line [] from o f e =
     let s = next_symbol line from in
     let stop = ended_stops line (next_token line from) o f s.0 s.1 (sym (read_nil line from o) ∙ e) in
     record { filled_slots = []; due = []; front = []; symbol = s.0; split = refl; fit = tt; meets = (s.1, sym stop.1); stops = stop.0 }
-read_stops line (slot ∷ slots) from o f e = by (filled line slot (next_token line from) o) refl (λ p. read_stops line slots (next_token line from).end p f)
+read_stops line (slot ∷ slots) from o f e = by_test (ends_before slot (next_token line from).kind)
+    (λ ends. let whole = read_ends line slot slots from o ends in absurd (cc))
+    (λ on. by on (filled line slot (next_token line from) o) refl (λ p. read_stops line slots (next_token line from).end p f))
   where
-    by : (r : Result Operands Rule) → filled line slot (next_token line from) o ≡ r
+    by : ends_before slot (next_token line from).kind ≡ false → (r : Result Operands Rule) → filled line slot (next_token line from) o ≡ r
         → ((p : Operands) → read_slots line slots (next_token line from).end p ≡ Err f → IsStopped line (next_token line (next_token line from).end) slots f)
         → IsStopped line (next_token line from) (slot ∷ slots) f
-    by (Err rule) at rest =
+    by on (Err rule) at rest =
         let s = next_symbol line from in
-        let same : fault rule (next_token line from).start ≡ f = err_same {A = Operands} _ f (sym (read_stuck line slot slots from o rule at) ∙ e) in
+        let same : fault rule (next_token line from).start ≡ f = err_same {A = Operands} _ f (sym (read_stuck line slot slots from o rule on at) ∙ e) in
         record {
           filled_slots = [];
           due = slot ∷ slots;
@@ -312,9 +374,9 @@ read_stops line (slot ∷ slots) from o f e = by (filled line slot (next_token l
           split = refl;
           fit = tt;
           meets = (s.1, ap (λ g. g.place) same);
-          stops = subst (λ g. Stops (slot ∷ slots) s.0 g.rule) same (filled_stops line slot slots (next_token line from) o rule s.0 s.1 at);
+          stops = subst (λ g. Stops (slot ∷ slots) s.0 g.rule) same (filled_stops line slot slots (next_token line from) o rule s.0 s.1 on at);
         }
-    by (Ok p) at rest =
+    by on (Ok p) at rest =
         let s = next_symbol line from in
         let a = accepted line slot (next_token line from) o p s.0 s.1 at in
         let more = rest p (sym (read_step line slot slots from o p at) ∙ e) in
@@ -333,6 +395,7 @@ read_stops line (slot ∷ slots) from o f e = by (filled line slot (next_token l
 
 value_default : (slot : Slot) → IsValue slot → IsNumber (default_token slot)
 value_default (Value field) is = tt
+value_default Second is = tt
 value_default other is = absurd is
 
 number_value : (slot : Slot) (t : lex.Token) → IsNumber t → Accepts slot t → IsValue slot
@@ -340,30 +403,37 @@ number_value (Value field) t is accepts = tt
 number_value Comma t is accepts = absurd (subst IsNumber accepts is)
 number_value Open t is accepts = absurd (subst IsNumber accepts is)
 number_value Close t is accepts = absurd (subst IsNumber accepts is)
+number_value Further t is accepts = absurd (subst IsNumber accepts is)
+number_value Second t is accepts = tt
 number_value other t is accepts = absurd (subst IsNumber accepts.1.0 is)
 
 -- behind a mnemonic and tokens that fill some of its slots
 module _ (m : Mnemonic) (named : is_statement m ≡ true) (before due : List Slot) (front : List lex.Token) (split : slots_of m ≡ before ++ due)
     (fit : Fit before front) where
   -- what goes on a statement there fits the slots that are due
-  rest_fits : (rest : List lex.Token) (statement : Statement) → IsStatement (mnemonic_token m ∷ (front ++ rest)) statement → Fit due rest
+  rest_fits : (rest : List lex.Token) (statement : Statement) → IsStatement (mnemonic_token m ∷ (front ++ rest)) statement → FitWhole due rest
   rest_fits rest statement is =
-      fit_rest before due front rest fit (subst (λ slots. Fit slots (front ++ rest)) split (statement_fit m (front ++ rest) statement named is))
+      fit_rest before due front rest fit (subst (λ slots. FitWhole slots (front ++ rest)) split (statement_fit m (front ++ rest) statement named is))
 
   -- and what fits goes on to a statement
-  goes_on : (rest : List lex.Token) → Fit due rest → (statement : Statement) × IsStatement (mnemonic_token m ∷ (front ++ rest)) statement
-  goes_on rest fits = fit_statement m (front ++ rest) named (subst (λ slots. Fit slots (front ++ rest)) (sym split) (fit_append before due front rest fit fits))
+  goes_on : (rest : List lex.Token) → FitWhole due rest → (statement : Statement) × IsStatement (mnemonic_token m ∷ (front ++ rest)) statement
+  goes_on rest fits =
+      fit_statement m (front ++ rest) named (subst (λ slots. FitWhole slots (front ++ rest)) (sym split) (fit_append before due front rest fit fits))
 
   good_here : (words : ℕ) → words < 262144 → IsGoodFront words (mnemonic_token m ∷ front)
   good_here words room = let s = goes_on (default_tokens due) (fit_default due) in inr (room, (default_tokens due, s.0, s.1))
 
-  next_fits : (words : ℕ) (t : lex.Token) → IsGoodFront words (mnemonic_token m ∷ (front ++ t ∷ [])) → (others : List lex.Token) × Fit due (t ∷ others)
+  next_fits : (words : ℕ) (t : lex.Token) → IsGoodFront words (mnemonic_token m ∷ (front ++ t ∷ [])) → (others : List lex.Token) × FitWhole due (t ∷ others)
   next_fits words t (inl e) = absurd (cc)
   next_fits words t (inr (room, (others, statement, is))) =
       (others, rest_fits (t ∷ others) statement (subst (λ ts. IsStatement (mnemonic_token m ∷ ts) statement) (append_assoc front (t ∷ []) others) is))
 
-  whole_fits : (statement : Statement) → IsStatement (mnemonic_token m ∷ front) statement → Fit due []
+  whole_fits : (statement : Statement) → IsStatement (mnemonic_token m ∷ front) statement → FitWhole due []
   whole_fits statement is = rest_fits [] statement (subst (λ ts. IsStatement (mnemonic_token m ∷ ts) statement) (sym (append-nil front)) is)
+
+  -- a statement that may end there is whole
+  is_whole : FitWhole due [] → IsWhole (mnemonic_token m ∷ front)
+  is_whole fits = let s = goes_on [] fits in (s.0, subst (λ ts. IsStatement (mnemonic_token m ∷ ts) s.0) (append-nil front) s.1)
 
 -- the symbol that stops the code is no good, and of this kind
 record IsStop (words : ℕ) (front : List lex.Token) (symbol : lex.Symbol) (kind : ℕ) : Type 0 where
@@ -376,26 +446,29 @@ stop_is : (words : ℕ) (m : Mnemonic) (named : is_statement m ≡ true) (before
 stop_is words m named before due front split fit symbol rule stray = record { bad = λ good. good; is_kind = no_token }
 stop_is words m named before due front split fit symbol rule over = record {
   bad = λ good. (next_fits m named before [] front split fit words _ good).1;
-  is_kind = surplus (let s = goes_on m named before [] front split fit [] tt in
-      (s.0, subst (λ ts. IsStatement (mnemonic_token m ∷ ts) s.0) (append-nil front) s.1));
+  is_kind = surplus (is_whole m named before [] front split fit tt);
 }
-stop_is words m named before due front split fit symbol rule (short {slot} {slots}) = record {
+stop_is words m named before due front split fit symbol rule (over_further {slots} {t} none) = record {
+  bad = λ good. none (next_fits m named before (Further ∷ slots) front split fit words t good).1.0;
+  is_kind = surplus (is_whole m named before (Further ∷ slots) front split fit tt);
+}
+stop_is words m named before due front split fit symbol rule (short {slot} {slots} goes_further) = record {
   bad = no_end;
   is_kind = too_short;
 }
   where
     no_end : ¬ IsGoodNext words (mnemonic_token m ∷ front) text_end
     no_end (None, e) = absurd (cc)
-    no_end (Some statement, is) = whole_fits m named before (slot ∷ slots) front split fit statement is
+    no_end (Some statement, is) = goes_further (whole_fits m named before (slot ∷ slots) front split fit statement is)
 stop_is words m named before due front split fit symbol rule (wrong_number {slot} {slots} {t} value number none) = record {
   bad = λ good. none (next_fits m named before (slot ∷ slots) front split fit words t good).1.0;
   is_kind = out_of_field number
       (let s = goes_on m named before (slot ∷ slots) front split fit (default_tokens (slot ∷ slots)) (fit_default (slot ∷ slots)) in
       (default_token slot, default_tokens slots, s.0, value_default slot value, s.1));
 }
-stop_is words m named before due front split fit symbol rule (wrong {slot} {slots} {t} plain none) = record {
+stop_is words m named before due front split fit symbol rule (wrong {slot} {slots} {t} goes_further plain none) = record {
   bad = λ good. none (next_fits m named before (slot ∷ slots) front split fit words t good).1.0;
-  is_kind = no_operand (λ e. absurd (cc)) (λ whole. whole_fits m named before (slot ∷ slots) front split fit whole.0 whole.1)
+  is_kind = no_operand (λ e. absurd (cc)) (λ whole. goes_further (whole_fits m named before (slot ∷ slots) front split fit whole.0 whole.1))
       (λ both. plain (
         both.0,
         number_value slot both.1.0 both.1.3
@@ -565,16 +638,48 @@ line_fault words line f few e =
     by b Name at e = other b (λ end. absurd (cc)) e
     by b it at e = other b (λ end. absurd (cc)) e
 
--- ---- no statement goes on another
+-- ---- a statement goes on another by a comma and a number alone
+
+-- behind the comma before which a statement may end stands the number 1 alone
+abbrev OneBehind : List Slot → Type 0
+OneBehind [] = Unit {0}
+OneBehind (Further ∷ slots) = slots ≡ Second ∷ []
+OneBehind (slot ∷ slots) = OneBehind slots
+
+one_behind : (m : Mnemonic) → OneBehind (slots_of m)
+one_behind Cread = refl
+one_behind (RegisterRegister op) = tt
+one_behind other = tt
+
+one_behind_later : (slot : Slot) (slots : List Slot) → OneBehind (slot ∷ slots) → OneBehind slots
+one_behind_later Further slots last = subst OneBehind (sym last) tt
+one_behind_later slot slots last = last
+
+-- what goes on behind a whole statement
+abbrev pub IsFurther : lex.Token → List lex.Token → Type 0
+IsFurther t rest = (t ≡ comma) × ((u : lex.Token) × (rest ≡ u ∷ []) × IsNumber u)
+
+second_alone : (rest : List lex.Token) → FitWhole (Second ∷ []) rest → (u : lex.Token) × (rest ≡ u ∷ []) × IsNumber u
+second_alone [] fits = absurd fits
+second_alone (u ∷ []) fits = (u, refl, writes_is_number u (pos 1) fits.0)
+second_alone (u ∷ t ∷ rest) fits = absurd fits.1
+
+fit_further : (slots : List Slot) (ts : List lex.Token) (t : lex.Token) (rest : List lex.Token) → OneBehind slots → FitWhole slots ts
+    → FitWhole slots (ts ++ t ∷ rest) → IsFurther t rest
+fit_further [] [] t rest last first second = absurd second
+fit_further [] (u ∷ ts) t rest last first second = absurd first
+fit_further (Further ∷ slots) [] t rest last first second = (second.0, second_alone rest (subst (λ k. FitWhole k rest) last second.1))
+fit_further (slot ∷ slots) [] t rest last first second = absurd first
+fit_further (slot ∷ slots) (u ∷ ts) t rest last first second =
+    fit_further slots ts t rest (one_behind_later slot slots last) first.1 second.1
 
 pub statement_extends : (ts : List lex.Token) (t : lex.Token) (rest : List lex.Token) (one two : Statement) → IsStatement ts one
-    → ¬ IsStatement (ts ++ t ∷ rest) two
+    → IsStatement (ts ++ t ∷ rest) two → IsFurther t rest
 statement_extends ts t rest one two first second =
     let h = statement_slots first in
     let there = subst (λ k. IsStatement (k ++ t ∷ rest) two) h.tokens second in
-    let both : Fit (slots_of h.mnemonic) (h.others ++ t ∷ rest) = statement_fit h.mnemonic (h.others ++ t ∷ rest) two h.named there in
-    fit_rest (slots_of h.mnemonic) [] h.others (t ∷ rest) (fills_fit h.fills)
-    (subst (λ slots. Fit slots (h.others ++ t ∷ rest)) (sym (append-nil (slots_of h.mnemonic))) both)
+    let both : FitWhole (slots_of h.mnemonic) (h.others ++ t ∷ rest) = statement_fit h.mnemonic (h.others ++ t ∷ rest) two h.named there in
+    fit_further (slots_of h.mnemonic) h.others t rest (one_behind h.mnemonic) (fills_fit h.fills) both
 
 nothing_whole : ¬ IsWhole []
 nothing_whole (statement, is) = let h = statement_slots is in let tokens = h.tokens in absurd (cc)
@@ -592,7 +697,7 @@ no_number_first (t, others, statement, number, is) =
     number_no_mnemonic t h.mnemonic number (ap mnemonic_result first ∙ mnemonic_no h.mnemonic h.named)
 
 whole_no_number : (front : List lex.Token) → IsWhole front → ¬ IsNumberDue front
-whole_no_number front (one, is) (t, others, two, number, more) = statement_extends front t others one two is more
+whole_no_number front (one, is) (t, others, two, number, more) = subst IsNumber (statement_extends front t others one two is more).0 number
 
 -- a fault has one kind
 pub one_kind : {front : List lex.Token} {symbol : lex.Symbol} {kind other : ℕ} → IsKind front symbol kind → IsKind front symbol other → kind ≡ other

@@ -22,8 +22,8 @@ use Rattle.ci_asm.specs.Programs.{resolved, statement_insn, line_insn, option_le
 use Rattle.ci_asm.specs.Lines.{lines_of}
 use Rattle.ci_asm.specs.Lexicon as lex
 use Rattle.ci_reading.specs.Tokens.{text_end}
-use Rattle.ci_asm.specs.Lexicon.{name, Stands}
-use Rattle.ci_asm.specs.Forms.{Field, Statement, plain, to_label, IsIn, IsStatement}
+use Rattle.ci_asm.specs.Lexicon.{name, comma, Stands}
+use Rattle.ci_asm.specs.Forms.{Field, Statement, plain, to_label, IsIn, IsNumber, IsStatement}
 use Rattle.ci_asm.specs.Assembly as asm
 use Rattle.ci_asm.specs.Assembly.{Line, label_tokens, StandsInLine, HasStatement, IsLine, AreLines, statements_of, Defines, IsOffset}
 use Rattle.ci_asm.specs.Assembly.{IsResolved, IsGoodFront, IsFaultOfLine, IsFaultOfLabel, twice, undefined, too_far, HasFault, of_line, of_label}
@@ -246,12 +246,19 @@ module _ (program : List Line) (definitions : Definitions) (known : AreDefinitio
     | longer x rest p q ↦ absurd (no_more front x rest target.front said (statement_says line s) p q is target.is_statement)
   ]
     where
-      more : (a : List lex.Token) (x : lex.Token) (rest : List lex.Token) (one two : Statement) → IsStatement (a ++ x ∷ []) one
+      -- the last of so many tokens that are one alone
+      last_alone : (rest : List lex.Token) (x u : lex.Token) → rest ++ x ∷ [] ≡ u ∷ [] → u ≡ x
+      last_alone [] x u e = cc
+      last_alone (y ∷ []) x u e = absurd (cc)
+      last_alone (y ∷ z ∷ rest) x u e = absurd (cc)
+
+      more : (a : List lex.Token) (x : lex.Token) (rest : List lex.Token) (one two : Statement) → ¬ IsNumber x → x ≢ comma → IsStatement (a ++ x ∷ []) one
           → IsStatement ((a ++ x ∷ rest) ++ x ∷ []) two → ⊥
-      more a x [] one two first second = statement_extends (a ++ x ∷ []) x [] one two first second
-      more a x (y ∷ rest) one two first second =
-          statement_extends (a ++ x ∷ []) y (rest ++ x ∷ []) one two first
-          (subst (λ k. IsStatement k two) (append_assoc a (x ∷ y ∷ rest) (x ∷ []) ∙ sym (append_assoc a (x ∷ []) (y ∷ (rest ++ x ∷ [])))) second)
+      more a x [] one two no_number no_comma first second = no_comma (statement_extends (a ++ x ∷ []) x [] one two first second).0
+      more a x (y ∷ rest) one two no_number no_comma first second =
+          let further = statement_extends (a ++ x ∷ []) y (rest ++ x ∷ []) one two first
+          (subst (λ k. IsStatement k two) (append_assoc a (x ∷ y ∷ rest) (x ∷ []) ∙ sym (append_assoc a (x ∷ []) (y ∷ (rest ++ x ∷ [])))) second) in
+          no_number (subst IsNumber (last_alone rest x further.1.0 further.1.1) further.1.2)
 
       no_more : (a : List lex.Token) (x : lex.Token) (rest b : List lex.Token) (one two : Statement) → b ≡ a ++ x ∷ rest
           → reading.token (name (text_of line t)) ≡ reading.token x → IsStatement (a ++ name (text_of line t) ∷ []) one
@@ -261,7 +268,7 @@ module _ (program : List Line) (definitions : Definitions) (known : AreDefinitio
           let e : last ≡ x = cc in
           let there : IsStatement ((a ++ x ∷ rest) ++ last ∷ []) two = subst (λ k. IsStatement (k ++ last ∷ []) two) p second in
           let here : IsStatement ((a ++ last ∷ rest) ++ last ∷ []) two = subst (λ k. IsStatement ((a ++ k ∷ rest) ++ last ∷ []) two) (sym e) there in
-          more a last rest one two first here
+          more a last rest one two (λ is. is) (λ same. absurd (cc)) first here
 
   -- the fault that is told of a label that a statement reaches
   record IsToldReach (s : code.Statement) (t : Token) (kind : ℕ) : Type 0 where

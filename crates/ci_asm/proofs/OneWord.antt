@@ -3,7 +3,7 @@ use Rattle.std.proofs.Common.{◌≡◌, ℕ, ◌+◌, ◌*◌, ◌/◌, ◌%◌
 use Rattle.std.proofs.lemmas.Int.{ints}
 use Rattle.ci_isa.specs.declared.instruction.Insn.{Insn}
 use Rattle.ci_isa.specs.declared.instruction.Insn.TheVariants.{Alu, AluImm, Lui, Auipc, Jal, Jalr, Branch, Load, Store, Fence, Ecall, Ebreak, Unit, Cread}
-use Rattle.ci_isa.specs.declared.instruction.Insn.TheVariants.{Illegal}
+use Rattle.ci_isa.specs.declared.instruction.Insn.TheVariants.{Cput, Illegal}
 use Rattle.ci_isa.specs.Fields.{field, opcode, rd_field, funct3, rs1_field, rs2_field, funct7, immediate_format, store_format, branch_format, upper_format}
 use Rattle.ci_isa.specs.Fields.{jump_format, immediate, signed_immediate}
 use Rattle.ci_isa.specs.Table.{ConstantForm, SignedImmediate, ShiftAmount, NoForm, constant_form, operation_codes, HoldsConstant, IsWordOf}
@@ -165,5 +165,8 @@ one_word (Unit number rd rs1 rs2 rs3) w v (p, r) (q, s) =
       code =
           both r.0 s.0;
     })
-one_word (Cread rd) w v (p, r) (q, s) = same_upper w v p q (both r.2 s.2) (both r.1 s.1) (both r.0 s.0)
+one_word (Cread rd index) w v (p, r) (q, s) =
+    same_fields w v p q (record { seven = both r.2 s.2; two = both r.5 s.5; one = both r.4 s.4; three = both r.1 s.1; to = both r.3 s.3; code = both r.0 s.0 })
+one_word (Cput rs1 rs2) w v (p, r) (q, s) =
+    same_fields w v p q (record { seven = both r.2 s.2; two = both r.5 s.5; one = both r.4 s.4; three = both r.1 s.1; to = both r.3 s.3; code = both r.0 s.0 })
 one_word (Illegal word) w v (p, r) (q, s) = both r s

@@ -9,7 +9,7 @@ use Rattle.ci_asm.specs.declared.scanner.Kind.TheVariants.{Name, Numeral, Direct
 use Rattle.ci_asm.specs.declared.scanner.Token.{Token}
 use Rattle.ci_asm.specs.declared.mnemonics.Mnemonic.{Mnemonic}
 use Rattle.ci_asm.specs.declared.mnemonics.Mnemonic.TheVariants.{RegisterRegister, RegisterImmediate, Lui, Auipc, Jal, Jalr, Branch, Load, Store, Fence, Ecall}
-use Rattle.ci_asm.specs.declared.mnemonics.Mnemonic.TheVariants.{Ebreak, Custom, Cread, Data}
+use Rattle.ci_asm.specs.declared.mnemonics.Mnemonic.TheVariants.{Ebreak, Custom, Cput, Cread, Data}
 use Rattle.ci_asm.specs.declared.faults.Rule.{Rule}
 use Rattle.ci_asm.specs.declared.faults.Rule.TheVariants.{NoToken, NoMnemonic, Surplus}
 use Rattle.ci_asm.specs.declared.faults.Fault.{Fault}
@@ -89,6 +89,7 @@ mnemonic_no Fence named = found_again Fence named
 mnemonic_no Ecall named = found_again Ecall named
 mnemonic_no Ebreak named = found_again Ebreak named
 mnemonic_no Custom named = found_again Custom named
+mnemonic_no Cput named = found_again Cput named
 mnemonic_no Cread named = found_again Cread named
 mnemonic_no Data named = refl
 

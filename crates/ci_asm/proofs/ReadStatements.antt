@@ -10,20 +10,20 @@ use Rattle.ci_isa.specs.declared.instruction.Insn.TheVariants as insn
 use Rattle.ci_asm.specs.declared.numbers.Number.{Number}
 use Rattle.ci_asm.specs.declared.mnemonics.Mnemonic.{Mnemonic}
 use Rattle.ci_asm.specs.declared.mnemonics.Mnemonic.TheVariants.{RegisterRegister, RegisterImmediate, Lui, Auipc, Jal, Jalr, Branch, Load, Store, Fence, Ecall}
-use Rattle.ci_asm.specs.declared.mnemonics.Mnemonic.TheVariants.{Ebreak, Custom, Cread, Data}
+use Rattle.ci_asm.specs.declared.mnemonics.Mnemonic.TheVariants.{Ebreak, Custom, Cput, Cread, Data}
 use Rattle.ci_asm.specs.declared.slots.Slot.{Slot}
 use Rattle.ci_asm.specs.declared.slots.Slot.TheVariants.{Value}
 use Rattle.ci_asm.specs.Shapes.{name_of, is_statement, is_offset, form_name, form_field, immediate_name, immediate_field, slots_of}
-use Rattle.ci_asm.specs.Statements.{insn_of}
+use Rattle.ci_asm.specs.Statements.{result_index, insn_of}
 use Rattle.ci_asm.specs.Lexicon as lex
 use Rattle.ci_asm.specs.Lexicon.{name, word, comma}
 use Rattle.ci_asm.specs.Forms as forms
 use Rattle.ci_asm.specs.Forms.{register_immediate, IsIn, IsRegister, HasNumber, Statement, plain, to_label, IsStatement, on_registers, on_immediate, lui, auipc}
-use Rattle.ci_asm.specs.Forms.{jump, jump_label, jump_register, branch, branch_label, load, store, fence, ecall, ebreak, custom, cread, data_word}
+use Rattle.ci_asm.specs.Forms.{jump, jump_label, jump_register, branch, branch_label, load, store, fence, ecall, ebreak, custom, cput, cread, cread_second, data_word}
 use Rattle.ci_asm.proofs.TestLaws.{by_test}
 use Rattle.ci_asm.proofs.ReadOperands.{field_form, field_again, abs_signed}
 use Rattle.ci_asm.proofs.FilledSlots.{Values, no_values, values_of, OffsetLast, Fills, done, fill_rd, fill_rs1, fill_rs2, fill_rs3, fill_number, fill_label}
-use Rattle.ci_asm.proofs.FilledSlots.{fill_comma, fill_open, fill_close}
+use Rattle.ci_asm.proofs.FilledSlots.{fill_comma, fill_open, fill_close, fill_further, no_further, fill_second}
 
 -- ---- what a statement says
 
@@ -46,7 +46,8 @@ says Fence v = plain (insn.Fence (unsigned_abs v.number) v.rs1 v.rd)
 says Ecall v = plain insn.Ecall
 says Ebreak v = plain insn.Ebreak
 says Custom v = plain (insn.Unit (unsigned_abs v.number) v.rd v.rs1 v.rs2 v.rs3)
-says Cread v = plain (insn.Cread v.rd)
+says Cput v = plain (insn.Cput v.rs1 v.rs2)
+says Cread v = plain (insn.Cread v.rd (result_index (unsigned_abs v.number)))
 says Data v = plain (insn.Illegal (unsigned_abs v.number))
 
 -- the token of a mnemonic
@@ -102,7 +103,9 @@ fills_statement Custom st (fill_number {n} h (fill_comma (fill_rd d (fill_comma 
     custom (natural forms.unit_number _ n (natural_number (pos 31)) h) d a b c
 fills_statement Custom st (fill_label offset (fill_comma (fill_rd d (fill_comma (fill_rs1 a (fill_comma (fill_rs2 b (fill_comma (fill_rs3 c done))))))))) =
     absurd (cc)
-fills_statement Cread st (fill_rd a done) = cread a
+fills_statement Cput st (fill_rs1 a (fill_comma (fill_rs2 b done))) = cput a b
+fills_statement Cread st (fill_rd a no_further) = cread a
+fills_statement Cread st (fill_rd a (fill_further (fill_second h done))) = cread_second a h
 fills_statement Data st (fill_number {n} h done) = data_word (natural forms.whole_word _ n (natural_number (pos 0xffff_ffff)) h)
 fills_statement Data st (fill_label offset done) = absurd (cc)
 
@@ -148,7 +151,9 @@ statement_slots ecall = slots_from Ecall refl done
 statement_slots ebreak = slots_from Ebreak refl done
 statement_slots (custom h d a b c) =
     slots_from Custom refl (fill_number h (fill_comma (fill_rd d (fill_comma (fill_rs1 a (fill_comma (fill_rs2 b (fill_comma (fill_rs3 c done)))))))))
-statement_slots (cread a) = slots_from Cread refl (fill_rd a done)
+statement_slots (cput a b) = slots_from Cput refl (fill_rs1 a (fill_comma (fill_rs2 b done)))
+statement_slots (cread a) = slots_from Cread refl (fill_rd a no_further)
+statement_slots (cread_second a h) = slots_from Cread refl (fill_rd a (fill_further (fill_second h done)))
 statement_slots (data_word h) = slots_from Data refl (fill_number h done)
 
 -- ---- labels
@@ -170,6 +175,9 @@ keeps_label (fill_label {field} offset rest) none = let no : is_offset field ≡
 keeps_label (fill_comma rest) none = keeps_label rest none
 keeps_label (fill_open rest) none = keeps_label rest none
 keeps_label (fill_close rest) none = keeps_label rest none
+keeps_label no_further none = refl
+keeps_label (fill_further rest) none = keeps_label rest none
+keeps_label (fill_second h rest) none = keeps_label rest none
 
 -- branches and JAL alone may have a label
 abbrev pub HasLabelFor : Mnemonic → Values → Type 0
@@ -184,6 +192,7 @@ label_for Jal fills = tt
 label_for (Branch cond) fills = tt
 label_for Ecall fills = keeps_label fills tt
 label_for Ebreak fills = keeps_label fills tt
+label_for Cput fills = keeps_label fills tt
 label_for Cread fills = keeps_label fills tt
 label_for other fills = keeps_label fills (refl, tt)
 
@@ -207,6 +216,7 @@ plain_says Lui line rd rs1 rs2 rs3 number = ap (λ m. plain (insn.Lui rd (4096 *
 plain_says Auipc line rd rs1 rs2 rs3 number = ap (λ m. plain (insn.Auipc rd (4096 * m))) (abs_signed number)
 plain_says Fence line rd rs1 rs2 rs3 number = ap (λ m. plain (insn.Fence m rs1 rd)) (abs_signed number)
 plain_says Custom line rd rs1 rs2 rs3 number = ap (λ m. plain (insn.Unit m rd rs1 rs2 rs3)) (abs_signed number)
+plain_says Cread line rd rs1 rs2 rs3 number = ap (λ m. plain (insn.Cread rd (result_index m))) (abs_signed number)
 plain_says Data line rd rs1 rs2 rs3 number = ap (λ m. plain (insn.Illegal m)) (abs_signed number)
 plain_says other line rd rs1 rs2 rs3 number = refl
 
@@ -220,5 +230,6 @@ offset_last Fence = (λ e. absurd (cc), tt)
 offset_last Ecall = tt
 offset_last Ebreak = tt
 offset_last Custom = (λ e. absurd (cc), tt)
+offset_last Cput = tt
 offset_last Cread = tt
 offset_last other = (λ e. refl, tt)

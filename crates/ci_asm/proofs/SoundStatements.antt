@@ -1,8 +1,9 @@
 -- What holds of statements that were read.
-use Rattle.std.proofs.Common.{◌-◌, eqb, length-drop, ◌≡◌, ℕ, ◌<◌, ◌≤◌, Bool, true, false, cond, ◌&&◌, nat_lt, lit<, List, [], ◌∷◌, length, refl, sym, subst}
+use Rattle.std.proofs.Common.{◌-◌, eqb, ap, ◌∙◌, length-drop, ◌≡◌, ℕ, ◌<◌, ◌≤◌, Bool, true, false, cond, ◌&&◌, nat_lt, lit<, List, [], ◌∷◌, length, refl, sym, subst}
 use Rattle.std.proofs.Common.{arith, Option, Some, None, Result, Ok, Err, ◌==◌}
 use Rattle.std.proofs.lemmas.Bool.Decides.{nat_tests}
-use Rattle.std.specs.Prelude.{IfSome, IfOk, ⊤, find}
+use Rattle.std.specs.Prelude.{IfSome, IfOk, ⊤, not, find}
+use Rattle.std.proofs.lemmas.Bool.{eqb-true}
 use Rattle.std.specs.List.{list_all}
 use Rattle.ci_asm.specs.declared.scanner.Kind.{Kind}
 use Rattle.ci_asm.specs.declared.scanner.Kind.TheVariants.{Name, Numeral, Directive, Mark, End}
@@ -11,11 +12,11 @@ use Rattle.ci_asm.specs.declared.scanner.ByteClass.TheVariants.{Blank}
 use Rattle.ci_asm.specs.declared.numbers.Number.{Number}
 use Rattle.ci_asm.specs.declared.mnemonics.Mnemonic.{Mnemonic}
 use Rattle.ci_asm.specs.declared.mnemonics.Mnemonic.TheVariants.{RegisterRegister, RegisterImmediate, Jalr, Branch, Load, Store, Fence, Ecall, Ebreak, Custom}
-use Rattle.ci_asm.specs.declared.mnemonics.Mnemonic.TheVariants.{Cread, Data}
+use Rattle.ci_asm.specs.declared.mnemonics.Mnemonic.TheVariants.{Cput, Cread, Data}
 use Rattle.ci_asm.specs.declared.slots.Field.{Field}
 use Rattle.ci_asm.specs.declared.slots.Field.TheVariants.{Immediate}
 use Rattle.ci_asm.specs.declared.slots.Slot.{Slot}
-use Rattle.ci_asm.specs.declared.slots.Slot.TheVariants.{Rd, Rs1, Rs2, Rs3, Value, Comma, Open, Close}
+use Rattle.ci_asm.specs.declared.slots.Slot.TheVariants.{Rd, Rs1, Rs2, Rs3, Value, Comma, Open, Close, Further, Second}
 use Rattle.ci_asm.specs.declared.faults.Rule.{Rule}
 use Rattle.ci_asm.specs.declared.faults.Rule.TheVariants.{NoMnemonic, NoOperand, OutOfField, Surplus}
 use Rattle.ci_asm.specs.declared.faults.Fault.{Fault}
@@ -25,9 +26,9 @@ use Rattle.ci_asm.specs.declared.lines.Line.{Line}
 use Rattle.ci_asm.specs.Lexicon as lex
 use Rattle.ci_asm.specs.Tokens.{token, run_end, scan, token_by, token_at, next_token, text_of, number_of, register_at, has_one_digit, has_two_digits}
 use Rattle.ci_asm.specs.Tokens.{register_of}
-use Rattle.ci_asm.specs.Shapes.{mnemonics, mnemonic_of, is_named, is_statement, fits, is_offset, field_of, slots_of}
+use Rattle.ci_asm.specs.Shapes.{mnemonics, mnemonic_of, is_named, is_statement, fits, is_one, is_offset, field_of, slots_of}
 use Rattle.ci_asm.specs.Statements.{◌>>=◌, found, fault, at_place, zero_number, no_operands, register_in, mark_in, number_in, value_in, filled, ended}
-use Rattle.ci_asm.specs.Statements.{read_slots, mnemonic_in, read_statement, with_statement, HasRegisters, IsRead, IsLineOf}
+use Rattle.ci_asm.specs.Statements.{further_in, one_in, second_in, ends_before, read_slots, mnemonic_in, read_statement, with_statement, HasRegisters, IsRead, IsLineOf}
 
 -- ---- steps that may fail
 
@@ -49,6 +50,17 @@ cond_ok false x y rule e = absurd (cc)
 pub found_ok : {A E : Type 0} (o : Option A) (rule : E) (x : A) → found o rule ≡ Ok x → o ≡ Some x
 found_ok (Some y) rule x e = cc
 found_ok None rule x e = absurd (cc)
+
+-- a number that is 1 is this one
+abbrev pub one_number : Number
+one_number = record { negative = false; magnitude = 1 }
+
+pub one_same : (n : Number) → is_one n ≡ true → n ≡ one_number
+one_same n e = by n.negative n.magnitude e
+  where
+    by : (negative : Bool) (m : ℕ) → (not negative && eqb m 1) ≡ true → ◌≡◌ {A = Number} (record { negative = negative; magnitude = m }) one_number
+    by true m e = absurd (cc)
+    by false m e = ap (λ k. record { negative = false; magnitude = k }) (eqb-true m 1 e)
 
 -- ---- tokens stand in the line
 
@@ -97,6 +109,7 @@ register_in-below line t other r e = absurd (cc)
 -- the slot has no number of another field
 abbrev pub IsFor : Field → Slot → Type 0
 IsFor field (Value other) = other ≡ field
+IsFor field Second = fits field one_number ≡ true
 IsFor field other = ⊤
 
 abbrev pub AreFor : Field → List Slot → Type 0
@@ -114,7 +127,8 @@ slots_of-for Fence = (refl, (tt, (tt, (tt, (tt, tt)))))
 slots_of-for Ecall = tt
 slots_of-for Ebreak = tt
 slots_of-for Custom = (refl, (tt, (tt, (tt, (tt, (tt, (tt, (tt, (tt, tt)))))))))
-slots_of-for Cread = (tt, tt)
+slots_of-for Cput = (tt, (tt, (tt, tt)))
+slots_of-for Cread = (tt, (tt, (refl, tt)))
 slots_of-for Data = (refl, tt)
 slots_of-for other = (tt, (tt, (refl, tt)))
 
@@ -154,6 +168,28 @@ value_in-sound field n line t other o more start e sound = absurd (cc)
 mark_in-same : (due : ℕ) (o more : Operands) (kind : Kind) → mark_in due o kind ≡ Ok more → o ≡ more
 mark_in-same due o more (Mark b) e = (cond_ok (b == due) o more NoOperand e).1
 mark_in-same due o more other e = absurd (cc)
+
+further_in-same : (o more : Operands) (kind : Kind) → further_in o kind ≡ Ok more → o ≡ more
+further_in-same o more (Mark b) e = (cond_ok (b == 44) o more Surplus e).1
+further_in-same o more other e = absurd (cc)
+
+one_in-sound : (field : Field) (n : ℕ) (number : Option Number) (o more : Operands) → fits field one_number ≡ true → one_in number o ≡ Ok more
+    → AreSound field n o → AreSound field n more
+one_in-sound field n None o more for e sound = absurd (cc)
+one_in-sound field n (Some m) o more for e sound =
+    let c = cond_ok (is_one m) (record o { number = m }) more OutOfField e in
+    subst (AreSound field n) c.1
+    (record {
+      in_field = ap (fits field) (one_same m c.0) ∙ for;
+      in_line = sound.in_line;
+      registers = record
+          { rd = sound.registers.rd; rs1 = sound.registers.rs1; rs2 = sound.registers.rs2; rs3 = sound.registers.rs3 };
+    })
+
+second_in-sound : (field : Field) (n : ℕ) (line : List ℕ) (t : Token) (kind : Kind) (o more : Operands) → fits field one_number ≡ true
+    → second_in line t o kind ≡ Ok more → AreSound field n o → AreSound field n more
+second_in-sound field n line t Numeral o more for e sound = one_in-sound field n (number_of (text_of line t)) o more for e sound
+second_in-sound field n line t other o more for e sound = absurd (cc)
 
 ended-same : (place : ℕ) (o more : Operands) (kind : Kind) → ended place o kind ≡ Ok more → o ≡ more
 ended-same place o more End e = cc
@@ -207,6 +243,8 @@ filled-sound field n line (Value other) t o more start for e sound =
 filled-sound field n line Comma t o more start for e sound = subst (AreSound field n) (mark_in-same 44 o more t.kind e) sound
 filled-sound field n line Open t o more start for e sound = subst (AreSound field n) (mark_in-same 40 o more t.kind e) sound
 filled-sound field n line Close t o more start for e sound = subst (AreSound field n) (mark_in-same 41 o more t.kind e) sound
+filled-sound field n line Further t o more start for e sound = subst (AreSound field n) (further_in-same o more t.kind e) sound
+filled-sound field n line Second t o more start for e sound = second_in-sound field n line t t.kind o more for e sound
 
 read_slots-sound : (field : Field) (line : List ℕ) (slots : List Slot) (from : ℕ) (o more : Operands) → AreFor field slots
     → read_slots line slots from o ≡ Ok more → AreSound field (length line) o → AreSound field (length line) more
@@ -214,11 +252,19 @@ unfolding read_slots
 read_slots-sound field line [] from o more for e sound =
     subst (AreSound field (length line)) (ended-same _ o more (next_token line from).kind e) sound
 read_slots-sound field line (slot ∷ slots) from o more for e sound =
-    let t = next_token line from in
-    let b = bind_ok (at_place t.start (filled line slot t o)) _ more e in
-    let first : AreSound field (length line) b.0 = filled-sound field (length line) line slot t o b.0 (next_token-start line from) for.0
-    (at_place_ok t.start (filled line slot t o) b.0 b.1) sound in
-    read_slots-sound field line slots t.end b.0 more for.1 b.2 first
+    by (ends_before slot (next_token line from).kind) e (λ p read. read_slots-sound field line slots (next_token line from).end p more for.1 read)
+  where
+    by : (b : Bool)
+        → cond b (Ok o) (at_place (next_token line from).start (filled line slot (next_token line from) o)
+        >>= λ p. read_slots line slots (next_token line from).end p) ≡ Ok more
+        → ((p : Operands) → read_slots line slots (next_token line from).end p ≡ Ok more → AreSound field (length line) p → AreSound field (length line) more)
+        → AreSound field (length line) more
+    by true e rest = subst (AreSound field (length line)) (same_ok o more e) sound
+    by false e rest =
+        let t = next_token line from in
+        let b = bind_ok (at_place t.start (filled line slot t o)) _ more e in
+        rest b.0 b.2 (filled-sound field (length line) line slot t o b.0 (next_token-start line from) for.0
+        (at_place_ok t.start (filled line slot t o) b.0 b.1) sound)
 
 zero_fits : (field : Field) → fits field zero_number ≡ true
 zero_fits Immediate = refl

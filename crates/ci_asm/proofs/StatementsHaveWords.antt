@@ -11,12 +11,12 @@ use Rattle.ci_isa.specs.FieldBounds.{IsOfWidth, IsEven, ConstantFits, FieldsFit}
 use Rattle.ci_asm.specs.declared.numbers.Number.{Number}
 use Rattle.ci_asm.specs.declared.mnemonics.Mnemonic.{Mnemonic}
 use Rattle.ci_asm.specs.declared.mnemonics.Mnemonic.TheVariants.{RegisterRegister, RegisterImmediate, Lui, Auipc, Jal, Jalr, Branch, Load, Store, Fence, Ecall}
-use Rattle.ci_asm.specs.declared.mnemonics.Mnemonic.TheVariants.{Ebreak, Custom, Cread, Data}
+use Rattle.ci_asm.specs.declared.mnemonics.Mnemonic.TheVariants.{Ebreak, Custom, Cput, Cread, Data}
 use Rattle.ci_asm.specs.declared.slots.Field.{Field}
 use Rattle.ci_asm.specs.declared.slots.Field.TheVariants.{Immediate, Amount, Upper, BranchOffset, JumpOffset, FenceBits, UnitNumber, Whole}
 use Rattle.ci_asm.specs.declared.statements.Operands.{Operands}
 use Rattle.ci_asm.specs.Shapes.{is_statement, lowest, highest, is_offset, fits, field_of}
-use Rattle.ci_asm.specs.Statements.{HasRegisters, signed_value, insn_of}
+use Rattle.ci_asm.specs.Statements.{HasRegisters, signed_value, result_index, insn_of}
 
 -- ---- numbers in their fields
 
@@ -101,6 +101,14 @@ upper_whole m h = (omega arith, omega arith)
 upper_below : (n : Number) → fits Upper n ≡ true → n.magnitude < 2 ^ 20
 upper_below n ok = below_both n.negative n.magnitude 0 0xfffff (2 ^ 20) (lit< tt) (lit< tt) (fits_near Upper n ok)
 
+-- there are two hidden results
+index_below : (n : ℕ) → result_index n < 2
+index_below n = by (eqb n 1)
+  where
+    by : (b : Bool) → cond b 1 0 < 2
+    by true = lit< tt
+    by false = lit< tt
+
 fields_fit : (m : Mnemonic) (o : Operands) → is_statement m ≡ true → HasRegisters o → fits (field_of m) o.number ≡ true → FieldsFit (insn_of m o)
 fields_fit (RegisterRegister op) o named r ok = (r.rd, r.rs1, r.rs2)
 fields_fit (RegisterImmediate op) o named r ok = (r.rd, r.rs1, constant_fits op o.number named ok)
@@ -117,7 +125,8 @@ fields_fit Ecall o named r ok = tt
 fields_fit Ebreak o named r ok = tt
 fields_fit Custom o named r ok =
     (below_both o.number.negative o.number.magnitude 0 31 32 (lit< tt) (lit< tt) (fits_near UnitNumber o.number ok), r.rd, r.rs1, r.rs2, r.rs3)
-fields_fit Cread o named r ok = r.rd
+fields_fit Cput o named r ok = (r.rs1, r.rs2)
+fields_fit Cread o named r ok = (r.rd, index_below o.number.magnitude)
 fields_fit Data o named r ok = below_both o.number.negative o.number.magnitude 0 0xffff_ffff (2 ^ 32) (lit< tt) (lit< tt) (fits_near Whole o.number ok)
 
 -- each statement that was read has a word

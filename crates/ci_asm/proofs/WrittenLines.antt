@@ -1,6 +1,6 @@
 -- The line that shows an instruction is written token by token, and its tokens are a statement that says the instruction.
-use Rattle.std.proofs.Common.{◌≡◌, ◌≢◌, ℕ, suc, ◌*◌, ◌/◌, ◌%◌, ◌^◌, ◌<◌, ◌≤◌, inl, inr, Bool, true, false, List, [], ◌∷◌, ◌++◌, refl, sym, ap, subst, arith}
-use Rattle.std.proofs.Common.{lit≤, append-nil, Some, ℤ, pos, negsuc, neg_ℤ, ◌≤ℤ◌, ◌<ℤ◌}
+use Rattle.std.proofs.Common.{◌≡◌, ◌≢◌, ℕ, zero, suc, ◌*◌, ◌/◌, ◌%◌, ◌^◌, ◌<◌, ◌≤◌, inl, inr, Bool, true, false, List, [], ◌∷◌, ◌++◌, refl, sym, ap, subst, arith}
+use Rattle.std.proofs.Common.{lit≤, lit<, append-nil, Some, ℤ, pos, negsuc, neg_ℤ, ◌≤ℤ◌, ◌<ℤ◌}
 use Rattle.std.specs.Prelude.{codes, unsigned_abs}
 use Rattle.std.specs.List.{AllByRecursion, list_all}
 use Rattle.std.specs.Fmt.{decimal, signed_decimal, digits}
@@ -21,7 +21,7 @@ use Rattle.ci_asm.specs.Lexicon.{IsDigit, IsHexDigit, Token, name, decimal_numbe
 use Rattle.ci_asm.specs.Lexicon.{StartsWith, IsToken, Spells, line_format}
 use Rattle.ci_asm.specs.Forms.{Field, immediate, shift_amount, upper_bits, branch_offset, jump_offset, IsIn, operation_name, register_immediate, branch_name}
 use Rattle.ci_asm.specs.Forms.{load_name, store_name, Writes, HasNumber, plain, IsStatement, on_registers, on_immediate, lui, auipc, jump, jump_register}
-use Rattle.ci_asm.specs.Forms.{branch, load, store, fence, ecall, ebreak, custom, cread, data_word}
+use Rattle.ci_asm.specs.Forms.{branch, load, store, fence, ecall, ebreak, custom, cput, cread, cread_second, data_word}
 use Rattle.ci_asm.specs.Shown.{register_name, upper_text, immediate_line, shown}
 use Rattle.ci_asm.proofs.TestLaws.{and_both}
 use Rattle.ci_asm.proofs.LongestTokens.{IsNameByte, letter_yes, name_yes, begun, format_clear}
@@ -379,13 +379,28 @@ written_as (insn.Unit n rd rs1 rs2 rs3) f = record {
   states = custom (number_writes (pos n) (omega (arith, f.0)), unsigned_within n 31 (omega (arith, f.0))) (refl, f.1) (refl, f.2) (refl, f.3) (refl, f.4);
   no_colon = decimal_no_colon false _;
 }
-written_as (insn.Cread rd) f = record {
-  first = name (codes "cread");
-  others = register rd ∷ [];
-  written = spaced (codes "cread") _ _ _ (word_spelt _ refl) (last _ _ (register_spelt rd f));
-  states = cread (refl, f);
+written_as (insn.Cput rs1 rs2) f = record {
+  first = name (codes "cput");
+  others = register rs1 ∷ comma ∷ register rs2 ∷ [];
+  written = spaced (codes "cput") _ _ _ (word_spelt _ refl) (listed _ _ _ _ (register_spelt rs1 f.0) (last _ _ (register_spelt rs2 f.1)));
+  states = cput (refl, f.0) (refl, f.1);
   no_colon = name_no_colon _;
 }
+written_as (insn.Cread rd zero) f = record {
+  first = name (codes "cread");
+  others = register rd ∷ [];
+  written = spaced (codes "cread") _ _ _ (word_spelt _ refl) (last _ _ (register_spelt rd f.0));
+  states = cread (refl, f.0);
+  no_colon = name_no_colon _;
+}
+written_as (insn.Cread rd (suc zero)) f = record {
+  first = name (codes "cread");
+  others = register rd ∷ comma ∷ decimal_number false (decimal 1) ∷ [];
+  written = spaced (codes "cread") _ _ _ (word_spelt _ refl) (listed _ _ _ _ (register_spelt rd f.0) (last _ _ (plain_spelt 1 (lit< tt))));
+  states = cread_second (refl, f.0) (number_writes (pos 1) (lit< tt));
+  no_colon = name_no_colon _;
+}
+written_as (insn.Cread rd (suc (suc n))) f = absurd (omega (arith, f.1))
 written_as (insn.Illegal w) f =
     let d = eight_digits w f in
     record {

@@ -171,7 +171,11 @@ pub data IsStatement : List Token → Statement → Type 0 where
       → HasNumber unit_number v (pos n) → IsRegister w d → IsRegister x a → IsRegister y b → IsRegister z c
       → IsStatement (name (codes "ci") ∷ v ∷ comma ∷ w ∷ comma ∷ x ∷ comma ∷ y ∷ comma ∷ z ∷ [])
       (plain (insn.Unit n d a b c))
-  cread : {x : Token} {d : ℕ} → IsRegister x d → IsStatement (name (codes "cread") ∷ x ∷ []) (plain (insn.Cread d))
+  cput : {x y : Token} {a b : ℕ} → IsRegister x a → IsRegister y b
+      → IsStatement (name (codes "cput") ∷ x ∷ comma ∷ y ∷ []) (plain (insn.Cput a b))
+  cread : {x : Token} {d : ℕ} → IsRegister x d → IsStatement (name (codes "cread") ∷ x ∷ []) (plain (insn.Cread d 0))
+  cread_second : {x y : Token} {d : ℕ} → IsRegister x d → Writes y (pos 1)
+      → IsStatement (name (codes "cread") ∷ x ∷ comma ∷ y ∷ []) (plain (insn.Cread d 1))
   data_word : {x : Token} {n : ℕ}
       → HasNumber whole_word x (pos n) → IsStatement (word ∷ x ∷ []) (plain (insn.Illegal n))
 

@@ -1,7 +1,7 @@
 -- For private contracts: what the table of statements computes. The public definitions of statements are in Forms.
 -- The table of statements: the mnemonics, their names, and the shape of each statement, slot by slot.
 use Rattle.std.specs.Prelude.{ℕ, ◌%◌, ◌==◌, Bool, true, false, ◌&&◌, if◌then◌else◌, List, [], ◌∷◌, codes, Option, Some}
-use Rattle.std.specs.Prelude.{None, is_some, nat_le, find}
+use Rattle.std.specs.Prelude.{None, is_some, nat_le, not, find}
 use Rattle.std.specs.Str.{bytes_eq}
 use Rattle.ci_word.specs.declared.arithmetic.Op.{Op}
 use Rattle.ci_word.specs.declared.arithmetic.Op.TheVariants.{Add, Sub, Sll, Slt, Sltu, Xor, Srl, Sra, Or, And, Mul}
@@ -15,12 +15,12 @@ use Rattle.ci_asm.specs.declared.numbers.Number.{Number}
 use Rattle.ci_asm.specs.declared.mnemonics.Mnemonic.{Mnemonic}
 use Rattle.ci_asm.specs.declared.mnemonics.Mnemonic.TheVariants.{RegisterRegister, RegisterImmediate, Lui, Auipc, Jal}
 use Rattle.ci_asm.specs.declared.mnemonics.Mnemonic.TheVariants.{Jalr, Branch, Load, Store, Fence, Ecall, Ebreak}
-use Rattle.ci_asm.specs.declared.mnemonics.Mnemonic.TheVariants.{Custom, Cread, Data}
+use Rattle.ci_asm.specs.declared.mnemonics.Mnemonic.TheVariants.{Custom, Cput, Cread, Data}
 use Rattle.ci_asm.specs.declared.slots.Field.{Field}
 use Rattle.ci_asm.specs.declared.slots.Field.TheVariants.{Immediate, Amount, Upper, BranchOffset, JumpOffset, FenceBits}
 use Rattle.ci_asm.specs.declared.slots.Field.TheVariants.{UnitNumber, Whole}
 use Rattle.ci_asm.specs.declared.slots.Slot.{Slot}
-use Rattle.ci_asm.specs.declared.slots.Slot.TheVariants.{Rd, Rs1, Rs2, Rs3, Value, Comma, Open, Close}
+use Rattle.ci_asm.specs.declared.slots.Slot.TheVariants.{Rd, Rs1, Rs2, Rs3, Value, Comma, Open, Close, Further, Second}
 
 -- ---- the mnemonics
 
@@ -61,6 +61,7 @@ name_of Fence = codes "fence"
 name_of Ecall = codes "ecall"
 name_of Ebreak = codes "ebreak"
 name_of Custom = codes "ci"
+name_of Cput = codes "cput"
 name_of Cread = codes "cread"
 name_of Data = codes ".word"
 
@@ -79,7 +80,7 @@ mnemonics =
     ∷ Branch Eq ∷ Branch Ne ∷ Branch Lt ∷ Branch Ge ∷ Branch Ltu ∷ Branch Geu
     ∷ Load B ∷ Load H ∷ Load W ∷ Load Bu ∷ Load Hu
     ∷ Store Byte ∷ Store Half ∷ Store Word
-    ∷ Fence ∷ Ecall ∷ Ebreak ∷ Custom ∷ Cread ∷ Data ∷ []
+    ∷ Fence ∷ Ecall ∷ Ebreak ∷ Custom ∷ Cput ∷ Cread ∷ Data ∷ []
 
 abbrev pub is_named : List ℕ → Mnemonic → Bool
 is_named text m = bytes_eq text (name_of m)
@@ -128,6 +129,10 @@ fits field n =
     nat_le n.magnitude (if n.negative then lowest field else highest field) &&
     (if is_offset field then n.magnitude % 2 == 0 else true)
 
+-- the number 1
+abbrev pub is_one : Number → Bool
+is_one n = not n.negative && n.magnitude == 1
+
 -- ---- the shapes
 
 abbrev pub immediate_field : Op → Field
@@ -148,10 +153,11 @@ slots_of Fence = Value FenceBits ∷ Comma ∷ Rs1 ∷ Comma ∷ Rd ∷ []
 slots_of Ecall = []
 slots_of Ebreak = []
 slots_of Custom = Value UnitNumber ∷ Comma ∷ Rd ∷ Comma ∷ Rs1 ∷ Comma ∷ Rs2 ∷ Comma ∷ Rs3 ∷ []
-slots_of Cread = Rd ∷ []
+slots_of Cput = Rs1 ∷ Comma ∷ Rs2 ∷ []
+slots_of Cread = Rd ∷ Further ∷ Second ∷ []
 slots_of Data = Value Whole ∷ []
 
--- the field that holds the statement's number, and one that holds 0 where the statement has none
+-- The field that holds the statement's number. Where the statement has no such field, as `cread`, one that holds 0 and 1.
 abbrev pub field_of : Mnemonic → Field
 field_of (RegisterImmediate op) = immediate_field op
 field_of Lui = Upper

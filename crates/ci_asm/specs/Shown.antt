@@ -1,10 +1,10 @@
 -- The one line that an instruction is shown by.
-use Rattle.std.specs.Prelude.{ℕ, ◌/◌, false, List, [], ◌∷◌, ◌++◌, codes, Option, Some, None, ℤ}
+use Rattle.std.specs.Prelude.{ℕ, ◌/◌, ◌==◌, if◌then◌else◌, false, List, [], ◌∷◌, ◌++◌, codes, Option, Some, None, ℤ}
 use Rattle.std.specs.Fmt.{decimal, signed_decimal, digits}
 use Rattle.ci_reading.specs.Hex.{eight_hex_digits}
 use Rattle.ci_isa.specs.declared.instruction.Insn.{Insn}
 use Rattle.ci_isa.specs.declared.instruction.Insn.TheVariants.{Alu, AluImm, Lui, Auipc, Jal, Jalr, Branch, Load, Store}
-use Rattle.ci_isa.specs.declared.instruction.Insn.TheVariants.{Fence, Ecall, Ebreak, Unit, Cread, Illegal}
+use Rattle.ci_isa.specs.declared.instruction.Insn.TheVariants.{Fence, Ecall, Ebreak, Unit, Cread, Cput, Illegal}
 use Rattle.ci_asm.specs.Forms.{Field, operation_name, register_immediate, branch_name, load_name, store_name}
 
 abbrev pub register_name : ℕ → List ℕ
@@ -33,6 +33,10 @@ abbrev pub immediate_line : Option (List ℕ × Field) → List (List ℕ) → L
 immediate_line (Some (mnemonic, field)) operands = statement_line mnemonic operands
 immediate_line None operands = []
 
+-- the index of a hidden result. The index 0 isn't written
+abbrev pub index_operand : ℕ → List (List ℕ)
+index_operand index = if index == 0 then [] else decimal index ∷ []
+
 abbrev pub shown : Insn → List ℕ
 shown (Alu op rd rs1 rs2) =
     statement_line (operation_name op) (register_name rd ∷ register_name rs1 ∷ register_name rs2 ∷ [])
@@ -52,5 +56,6 @@ shown Ebreak = codes "ebreak"
 shown (Unit number rd rs1 rs2 rs3) =
     statement_line (codes "ci")
     (decimal number ∷ register_name rd ∷ register_name rs1 ∷ register_name rs2 ∷ register_name rs3 ∷ [])
-shown (Cread rd) = statement_line (codes "cread") (register_name rd ∷ [])
+shown (Cread rd index) = statement_line (codes "cread") (register_name rd ∷ index_operand index)
+shown (Cput rs1 rs2) = statement_line (codes "cput") (register_name rs1 ∷ register_name rs2 ∷ [])
 shown (Illegal word) = statement_line (codes ".word") ((codes "0x" ++ eight_hex_digits word) ∷ [])

@@ -11,10 +11,10 @@ use Rattle.ci_asm.specs.declared.numbers.Number.{Number}
 use Rattle.ci_asm.specs.declared.mnemonics.Mnemonic.{Mnemonic}
 use Rattle.ci_asm.specs.declared.mnemonics.Mnemonic.TheVariants.{RegisterRegister, RegisterImmediate, Lui, Auipc, Jal}
 use Rattle.ci_asm.specs.declared.mnemonics.Mnemonic.TheVariants.{Jalr, Branch, Load, Store, Fence, Ecall, Ebreak}
-use Rattle.ci_asm.specs.declared.mnemonics.Mnemonic.TheVariants.{Custom, Cread, Data}
+use Rattle.ci_asm.specs.declared.mnemonics.Mnemonic.TheVariants.{Custom, Cput, Cread, Data}
 use Rattle.ci_asm.specs.declared.slots.Field.{Field}
 use Rattle.ci_asm.specs.declared.slots.Slot.{Slot}
-use Rattle.ci_asm.specs.declared.slots.Slot.TheVariants.{Rd, Rs1, Rs2, Rs3, Value, Comma, Open, Close}
+use Rattle.ci_asm.specs.declared.slots.Slot.TheVariants.{Rd, Rs1, Rs2, Rs3, Value, Comma, Open, Close, Further, Second}
 use Rattle.ci_asm.specs.declared.faults.Rule.{Rule}
 use Rattle.ci_asm.specs.declared.faults.Rule.TheVariants.{NoToken, NoMnemonic, NoOperand, OutOfField, Surplus}
 use Rattle.ci_asm.specs.declared.faults.Fault.{Fault}
@@ -22,7 +22,7 @@ use Rattle.ci_asm.specs.declared.statements.Operands.{Operands}
 use Rattle.ci_asm.specs.declared.statements.Statement.{Statement}
 use Rattle.ci_asm.specs.declared.lines.Line.{Line}
 use Rattle.ci_asm.specs.Tokens.{text_of, next_token, number_of, register_of}
-use Rattle.ci_asm.specs.Shapes.{mnemonic_of, is_statement, fits, is_offset, field_of, slots_of}
+use Rattle.ci_asm.specs.Shapes.{mnemonic_of, is_statement, fits, is_one, is_offset, field_of, slots_of}
 
 infixl 10 ◌>>=◌
 abbrev pub ◌>>=◌ : {A B E : Type 0} → Result A E → (A → Result B E) → Result B E
@@ -79,6 +79,22 @@ value_in line t field o Name = if is_offset field then Ok (record o { label = So
 value_in line t field o Bad = Err NoToken
 value_in line t field o kind = Err NoOperand
 
+-- a comma, behind which the statement goes on
+abbrev pub further_in : Operands → Kind → Result Operands Rule
+further_in o (Mark b) = if b == 44 then Ok o else Err Surplus
+further_in o Bad = Err NoToken
+further_in o kind = Err Surplus
+
+-- the number 1
+abbrev pub one_in : Option Number → Operands → Result Operands Rule
+one_in None o = Err OutOfField
+one_in (Some n) o = if is_one n then Ok (record o { number = n }) else Err OutOfField
+
+abbrev pub second_in : List ℕ → Token → Operands → Kind → Result Operands Rule
+second_in line t o Numeral = one_in (number_of (text_of line t)) o
+second_in line t o Bad = Err NoToken
+second_in line t o kind = Err NoOperand
+
 -- the operands with what stands in the slot's place
 unfoldable pub filled : List ℕ → Slot → Token → Operands → Result Operands Rule
 filled line Rd t o = register_in line t t.kind >>= λ r. Ok (record o { rd = r })
@@ -89,6 +105,8 @@ filled line (Value field) t o = value_in line t field o t.kind
 filled line Comma t o = mark_in 44 o t.kind
 filled line Open t o = mark_in 40 o t.kind
 filled line Close t o = mark_in 41 o t.kind
+filled line Further t o = further_in o t.kind
+filled line Second t o = second_in line t o t.kind
 
 -- ---- the statement
 
@@ -98,12 +116,18 @@ ended place o End = Ok o
 ended place o Bad = Err (fault NoToken place)
 ended place o kind = Err (fault Surplus place)
 
+-- the statement may end before the slot, and so does the line
+abbrev pub ends_before : Slot → Kind → Bool
+ends_before Further End = true
+ends_before slot kind = false
+
 -- the slots one after the other, from a place on, and then the line's end
 unfoldable pub read_slots : List ℕ → List Slot → ℕ → Operands → Result Operands Fault
 read_slots line [] from o = ended (next_token line from).start o (next_token line from).kind
 read_slots line (slot ∷ slots) from o =
-    at_place (next_token line from).start (filled line slot (next_token line from) o) >>= λ o'. read_slots line slots
-    (next_token line from).end o'
+    if ends_before slot (next_token line from).kind then Ok o
+    else (at_place (next_token line from).start (filled line slot (next_token line from) o) >>= λ o'. read_slots line slots
+    (next_token line from).end o')
 
 -- a mnemonic
 abbrev pub mnemonic_in : List ℕ → Token → Kind → Result Mnemonic Rule
@@ -165,6 +189,10 @@ pub record IsLineOf (n : ℕ) (l : Line) : Type 0 where
 abbrev pub signed_value : Number → ℤ
 signed_value n = if n.negative then neg_ℤ (pos n.magnitude) else pos n.magnitude
 
+-- which hidden result is read: the second where the number 1 says so
+abbrev pub result_index : ℕ → ℕ
+result_index n = if n == 1 then 1 else 0
+
 -- the instruction of a statement whose operands are all numbers
 abbrev pub insn_of : Mnemonic → Operands → Insn
 insn_of (RegisterRegister op) o = insn.Alu op o.rd o.rs1 o.rs2
@@ -180,5 +208,6 @@ insn_of Fence o = insn.Fence o.number.magnitude o.rs1 o.rd
 insn_of Ecall o = insn.Ecall
 insn_of Ebreak o = insn.Ebreak
 insn_of Custom o = insn.Unit o.number.magnitude o.rd o.rs1 o.rs2 o.rs3
-insn_of Cread o = insn.Cread o.rd
+insn_of Cput o = insn.Cput o.rs1 o.rs2
+insn_of Cread o = insn.Cread o.rd (result_index o.number.magnitude)
 insn_of Data o = insn.Illegal o.number.magnitude

@@ -18,7 +18,7 @@ use std::alloc::{AllocError, Global};
 ///
 /// One space stands behind the mnemonic, and `, ` between operands. Numbers are decimal, but for
 /// the upper bits of LUI and AUIPC, in hex without leading zeros, and a word that is no
-/// instruction, in eight hex digits behind `.word`.
+/// instruction, in eight hex digits behind `.word`. The index 0 of `cread` isn't written.
 pub fn show(alloc: Global, insn: &Insn) -> Result<String, AllocError>
     requires { IsWellFormed insn.now }
     ensures text { IfOk result (λ text. string_bytes text ≡ shown insn.now) }
@@ -58,10 +58,8 @@ fn push_line(text: &mut String, insn: &Insn) -> Result<(), AllocError>
             rs2,
             rs3,
         } => push_unit(text, number, rd, rs1, rs2, rs3),
-        Insn::Cread { rd } => {
-            push_mnemonic(text, "cread")?;
-            push_register(text, rd)
-        }
+        Insn::Cread { rd, index } => push_cread(text, rd, index),
+        Insn::Cput { rs1, rs2 } => push_cput(text, rs1, rs2),
         Insn::Illegal { word } => {
             push_mnemonic(text, ".word")?;
             push_word(text, word)
@@ -160,6 +158,27 @@ fn push_unit(
     push_number(text, u32::from(number))?;
     push_first(text, rd)?;
     push_registers(text, rs1, rs2, rs3)
+}
+
+/// Appends the line of `cread`. The index 0 isn't written.
+fn push_cread(text: &mut String, rd: Reg, index: u8) -> Result<(), AllocError>
+    ensures { OnOk result (string_bytes text.new ≡ string_bytes text.old ++ shown (Insn.Cread rd index)) }
+{
+    push_mnemonic(text, "cread")?;
+    push_register(text, rd)?;
+    if index == 0 {
+        return Ok(());
+    }
+    write!(text, ", {index}")
+}
+
+/// Appends the line of `cput`.
+fn push_cput(text: &mut String, rs1: Reg, rs2: Reg) -> Result<(), AllocError>
+    ensures { OnOk result (string_bytes text.new ≡ string_bytes text.old ++ shown (Insn.Cput rs1 rs2)) }
+{
+    push_mnemonic(text, "cput")?;
+    push_first(text, rs1)?;
+    push_register(text, rs2)
 }
 
 /// Appends the mnemonic and a space.

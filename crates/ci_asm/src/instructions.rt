@@ -78,7 +78,11 @@ pub(crate) fn insn_of(mnemonic: Mnemonic, operands: Operands) -> Insn
             rs2,
             rs3,
         },
-        Mnemonic::Cread => Insn::Cread { rd },
+        Mnemonic::Cput => Insn::Cput { rs1, rs2 },
+        Mnemonic::Cread => Insn::Cread {
+            rd,
+            index: u8::from(number.magnitude == 1),
+        },
         Mnemonic::Data => Insn::Illegal {
             word: number.magnitude as u32,
         },

@@ -15,7 +15,8 @@
 //! | stores | `sw x18, 16(x11)`, first the value |
 //! | branches, JAL | `bne x9, x0, T`, `jal x1, T`: T is a label, or an offset in bytes |
 //! | others | `ecall`, `ebreak`, `fence 255, x0, x0`: the word's bits from 31 to 20, rs1, rd |
-//! | the project's own | `ci 3, x5, x10, x11, x12`: unit, rd, rs1, rs2, rs3; `cread x6` |
+//! | uses of units | `ci 3, x5, x10, x11, x12`: unit, rd, rs1, rs2, rs3 |
+//! | further operands and results of units | `cput x13, x14`; `cread x6` the first, `cread x6, 1` the second |
 //! | any word | `.word 0x00000013` |
 //!
 //! Registers are `x0` to `x31`, without leading zeros. Numbers are decimal, with a `-` directly

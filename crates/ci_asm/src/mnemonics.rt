@@ -25,13 +25,14 @@ pub(crate) enum Mnemonic {
     Ebreak,
     /// A unit word.
     Custom,
+    Cput,
     Cread,
     /// A whole word.
     Data,
 }
 
 /// All mnemonics.
-const MNEMONICS: [Mnemonic; 51] = [
+const MNEMONICS: [Mnemonic; 52] = [
     Mnemonic::RegisterRegister(Op::Add),
     Mnemonic::RegisterRegister(Op::Sub),
     Mnemonic::RegisterRegister(Op::Sll),
@@ -81,6 +82,7 @@ const MNEMONICS: [Mnemonic; 51] = [
     Mnemonic::Ecall,
     Mnemonic::Ebreak,
     Mnemonic::Custom,
+    Mnemonic::Cput,
     Mnemonic::Cread,
     Mnemonic::Data,
 ];
@@ -104,6 +106,7 @@ impl Mnemonic {
             Mnemonic::Ecall => "ecall",
             Mnemonic::Ebreak => "ebreak",
             Mnemonic::Custom => "ci",
+            Mnemonic::Cput => "cput",
             Mnemonic::Cread => "cread",
             Mnemonic::Data => ".word",
         }

@@ -1,6 +1,7 @@
 //! Numbers in the text.
 ghost use Rattle.std.specs.Prelude.{◌≡◌, ◌^◌, ◌<◌, ◌≤◌};
 ghost use Rattle.ci_asm.specs.Tokens.{number, number_of};
+ghost use Rattle.ci_asm.specs.Shapes.{is_one};
 ghost use Rattle.ci_asm.specs.Statements.{signed_value};
 
 use crate::scanner::{behind, byte_at};
@@ -11,6 +12,15 @@ use ci_reading::digit_value;
 pub(crate) struct Number {
     pub negative: bool,
     pub magnitude: u64,
+}
+
+impl Number {
+    /// Whether it is the number 1.
+    pub(crate) fn is_one(self) -> bool
+        ensures { result ≡ is_one self }
+    {
+        !self.negative && self.magnitude == 1
+    }
 }
 
 /// The number that a numeral writes, if it has at most ten digits.

@@ -1,9 +1,11 @@
 //! The shapes of statements.
 ghost use Rattle.std.specs.Prelude.{◌≡◌};
 ghost use Rattle.ci_asm.specs.Shapes.{lowest, highest, is_offset, fits, immediate_field, slots_of, field_of};
+ghost use Rattle.ci_asm.specs.Statements.{ends_before};
 
 use crate::mnemonics::Mnemonic;
 use crate::numbers::Number;
+use crate::scanner::Kind;
 use ci_word::Op;
 
 /// A field of a word that holds a number.
@@ -41,6 +43,19 @@ pub(crate) enum Slot {
     Open,
     /// A closing bracket.
     Close,
+    /// A comma, before which the statement may end.
+    Further,
+    /// The number 1, of the second hidden result.
+    Second,
+}
+
+impl Slot {
+    /// Whether the statement may end before the slot, and a token of this kind ends the line there.
+    pub(crate) fn ends_before(self, kind: Kind) -> bool
+        ensures { result ≡ ends_before self kind }
+    {
+        matches!((self, kind), (Slot::Further, Kind::End))
+    }
 }
 
 impl Field {
@@ -102,14 +117,17 @@ fn immediate_field(op: Op) -> Field
 }
 
 impl Mnemonic {
-    /// The field that holds the statement's number, and one that holds 0 where the statement has
-    /// none.
+    /// The field that holds the statement's number. Where the statement has no such field, as `cread`,
+    /// one that holds 0 and 1.
     pub(crate) fn field(self) -> Field
         ensures { result ≡ field_of self }
     {
         match self {
-            Mnemonic::RegisterRegister(_) | Mnemonic::Ecall | Mnemonic::Ebreak | Mnemonic::Cread =>
-                { Field::Amount }
+            Mnemonic::RegisterRegister(_)
+            | Mnemonic::Ecall
+            | Mnemonic::Ebreak
+            | Mnemonic::Cput
+            | Mnemonic::Cread => Field::Amount,
             Mnemonic::RegisterImmediate(op) => immediate_field(op),
             Mnemonic::Lui | Mnemonic::Auipc => Field::Upper,
             Mnemonic::Jal => Field::JumpOffset,
@@ -201,7 +219,8 @@ impl Mnemonic {
                 Slot::Comma,
                 Slot::Rs3,
             ],
-            Mnemonic::Cread => &[Slot::Rd],
+            Mnemonic::Cput => &[Slot::Rs1, Slot::Comma, Slot::Rs2],
+            Mnemonic::Cread => &[Slot::Rd, Slot::Further, Slot::Second],
             Mnemonic::Data => &[Slot::Value(Field::Whole)],
         }
     }

@@ -1,7 +1,7 @@
 //! The statement of a line.
 ghost use Rattle.std.specs.Prelude.{◌≡◌, ◌≤◌, length, IfErr};
 ghost use Rattle.ci_asm.specs.Statements.{no_operands, not_due, register_in, mark_in, number_in, value_in, filled};
-ghost use Rattle.ci_asm.specs.Statements.{ended, read_slots, mnemonic_in, read_statement};
+ghost use Rattle.ci_asm.specs.Statements.{further_in, one_in, second_in, ended, read_slots, mnemonic_in, read_statement};
 
 use crate::faults::{Fault, Rule};
 use crate::mnemonics::{Mnemonic, mnemonic_of};
@@ -103,6 +103,37 @@ fn value_in(line: &[u8], token: Token, field: Field, operands: Operands) -> Resu
     }
 }
 
+/// The operands, if the token is the comma behind which the statement goes on.
+fn further_in(operands: Operands, token: Token) -> Result<Operands, Rule>
+    ensures { result ≡ further_in operands token.kind }
+{
+    match token.kind {
+        Kind::Mark(b',') => Ok(operands),
+        Kind::Bad => Err(Rule::NoToken),
+        _ => Err(Rule::Surplus),
+    }
+}
+
+/// The operands with the number, if there is one and it is 1.
+fn one_in(number: Option<Number>, operands: Operands) -> Result<Operands, Rule>
+    ensures { result ≡ one_in number operands }
+{
+    match number {
+        Some(number) if number.is_one() => Ok(Operands { number, ..operands }),
+        _ => Err(Rule::OutOfField),
+    }
+}
+
+/// The operands with the token as the number 1, of the second hidden result.
+fn second_in(line: &[u8], token: Token, operands: Operands) -> Result<Operands, Rule>
+    ensures { result ≡ second_in line.now token operands token.kind }
+{
+    match token.kind {
+        Kind::Numeral => one_in(number_of(text_of(line, token)), operands),
+        kind => Err(not_due(kind)),
+    }
+}
+
 /// The operands with the token in the slot's place.
 #[tactic(auto, unfolding(crate::specs::Statements::filled))]
 fn filled(line: &[u8], slot: Slot, token: Token, operands: Operands) -> Result<Operands, Rule>
@@ -129,6 +160,8 @@ fn filled(line: &[u8], slot: Slot, token: Token, operands: Operands) -> Result<O
         Slot::Comma => mark_in(b',', operands, token),
         Slot::Open => mark_in(b'(', operands, token),
         Slot::Close => mark_in(b')', operands, token),
+        Slot::Further => further_in(operands, token),
+        Slot::Second => second_in(line, token, operands),
     }
 }
 
@@ -163,6 +196,9 @@ fn read_slots(
     let mut read = operands;
     for slot in slots {
         let token = next_token(line, place);
+        if slot.ends_before(token.kind) {
+            return Ok(read);
+        }
         match filled(line, *slot, token, read) {
             Ok(more) => read = more,
             Err(rule) => {

@@ -6,10 +6,10 @@ use Rattle.std.proofs.lemmas.Bool.{and_parts}
 use Rattle.std.proofs.lemmas.Bool.Decides.{nat_tests}
 use Rattle.ci_isa.specs.declared.instruction.Insn.{Insn}
 use Rattle.ci_isa.specs.declared.instruction.Insn.TheVariants.{Alu, AluImm, Lui, Auipc, Jal, Jalr, Branch, Load, Store}
-use Rattle.ci_isa.specs.declared.instruction.Insn.TheVariants.{Ecall, Unit, Cread}
+use Rattle.ci_isa.specs.declared.instruction.Insn.TheVariants.{Ecall, Unit, Cread, Cput}
 use Rattle.ci_isa.specs.FieldBounds.{FieldsFit}
 use Rattle.ci_isa.specs.Effects.{operands, results, is_kept, is_among, is_division, reads_register, writes_register}
-use Rattle.ci_isa.specs.Effects.{is_access, is_unit, is_cread, may_join, ends_block}
+use Rattle.ci_isa.specs.Effects.{is_access, is_unit, is_cread, is_cput, may_join, ends_block}
 
 -- ---- operands
 
@@ -22,6 +22,7 @@ operand_below (Load load rd rs1 offset) r fit among = grind (arith, nat_tests, f
 operand_below (Store width rs1 rs2 offset) r fit among = grind (arith, nat_tests, fit.0, fit.1)
 operand_below Ecall r fit among = grind (arith, nat_tests)
 operand_below (Unit number rd rs1 rs2 rs3) r fit among = grind (arith, nat_tests, fit.2, fit.3, fit.4)
+operand_below (Cput rs1 rs2) r fit among = grind (arith, nat_tests, fit.0, fit.1)
 operand_below insn r fit among = cc
 
 pub read_below : (insn : Insn) (r : ℕ) → FieldsFit insn → reads_register insn r ≡ true → r < 32
@@ -38,7 +39,7 @@ result_below (Jal rd offset) fit = fit.0
 result_below (Jalr rd rs1 offset) fit = fit.0
 result_below (Load load rd rs1 offset) fit = fit.0
 result_below (Unit number rd rs1 rs2 rs3) fit = fit.1
-result_below (Cread rd) fit = fit
+result_below (Cread rd index) fit = fit.0
 result_below insn fit = omega arith
 
 few_results : (insn : Insn) → length (results insn) ≤ 1
@@ -62,6 +63,7 @@ pub record Joins (insn : Insn) : Type 0 where
   pub no_access : is_access insn ≡ false
   pub no_unit : is_unit insn ≡ false
   pub no_cread : is_cread insn ≡ false
+  pub no_cput : is_cput insn ≡ false
   pub writes : writes_register insn (slice_index (results insn) 0) ≡ true
 
 kept_among : (r : ℕ) → not (r == 0) ≡ true → is_among (r ∷ []) r ≡ true
@@ -73,6 +75,7 @@ joins (Alu op rd rs1 rs2) is = record {
   no_access = refl;
   no_unit = refl;
   no_cread = refl;
+  no_cput = refl;
   writes = kept_among rd (and_parts (not (is_division op)) (not (rd == 0)) is).1;
 }
 joins (AluImm op rd rs1 imm) is = record {
@@ -80,7 +83,8 @@ joins (AluImm op rd rs1 imm) is = record {
   no_access = refl;
   no_unit = refl;
   no_cread = refl;
+  no_cput = refl;
   writes = kept_among rd (and_parts (not (is_division op)) (not (rd == 0)) is).1;
 }
-joins (Lui rd upper) is = record { acts = refl; no_access = refl; no_unit = refl; no_cread = refl; writes = kept_among rd is }
+joins (Lui rd upper) is = record { acts = refl; no_access = refl; no_unit = refl; no_cread = refl; no_cput = refl; writes = kept_among rd is }
 joins insn is = cc

@@ -1,6 +1,7 @@
 -- What a word reads as is what its row answers, and nothing else.
 use Rattle.std.proofs.Common.{◌≡◌, ℕ, ◌+◌, ◌*◌, ◌/◌, ◌%◌, ◌^◌, ◌<◌, Option, Some, None, ℤ, pos, refl, sym, ap, ◌∙◌, arith}
-use Rattle.std.specs.Prelude.{IfSome, IfNone, option_map, unwrap_or}
+use Rattle.std.specs.Prelude.{IfSome, IfNone, option_map, unwrap_or, nat_lt, if◌then◌else◌}
+use Rattle.std.proofs.lemmas.Bool.{lt-ltb}
 use Rattle.ci_word.specs.declared.arithmetic.Op.{Op}
 use Rattle.ci_word.specs.declared.arithmetic.Op.TheVariants.{Add, Sub, Sll, Slt, Sltu, Xor, Srl, Sra, Or, And, Mul, Mulh, Mulhsu, Mulhu, Div, Divu, Rem, Remu}
 use Rattle.ci_isa.specs.declared.instruction.Cond.{Cond}
@@ -11,13 +12,13 @@ use Rattle.ci_isa.specs.declared.instruction.Width.{Width}
 use Rattle.ci_isa.specs.declared.instruction.Width.TheVariants.{Byte, Half, Word}
 use Rattle.ci_isa.specs.declared.instruction.Insn.{Insn}
 use Rattle.ci_isa.specs.declared.instruction.Insn.TheVariants.{Alu, AluImm, Lui, Auipc, Jal, Jalr, Branch, Load, Store}
-use Rattle.ci_isa.specs.declared.instruction.Insn.TheVariants.{Fence, Ecall, Ebreak, Unit, Cread, Illegal}
+use Rattle.ci_isa.specs.declared.instruction.Insn.TheVariants.{Fence, Ecall, Ebreak, Unit, Cread, Cput, Illegal}
 use Rattle.ci_isa.specs.Fields.{field, rd_field, funct3, rs1_field, rs2_field, funct7, immediate_format, store_format, branch_format, signed_immediate}
 use Rattle.ci_isa.specs.Table.{operation_codes, condition_code, load_code, store_code, constant_form, HoldsConstant}
 use Rattle.ci_isa.specs.Table.{HasFieldsOf, HasFieldsOfX, Reads, ReadsX, IsWordOf, IsWellFormed, IsInsnAt}
 use Rattle.ci_isa.specs.Decoding.{condition_at, load_at, width_at, immediate_at, operation_at, shift_at, jump_row}
 use Rattle.ci_isa.specs.Decoding.{branch_row, load_row, store_row, immediate_row, shift_row, constant_row}
-use Rattle.ci_isa.specs.Decoding.{operation_row, fence_row, environment_row, unit_row, hidden_row, plain_row}
+use Rattle.ci_isa.specs.Decoding.{operation_row, fence_row, environment_row, unit_row, cread_row, cput_row, hidden_row, plain_row}
 use Rattle.ci_isa.specs.Decoding.{extended_row}
 use Rattle.ci_isa.proofs.RowSoundness.{in_extended}
 
@@ -159,7 +160,8 @@ plain_only w (Fence bits rs1 rd) r = rw r.0 (fence_only w bits rs1 rd r.1 r.2 r.
 plain_only w Ecall r = ap plain_row r
 plain_only w Ebreak r = ap plain_row r
 plain_only w (Unit number rd rs1 rs2 rs3) r = absurd r
-plain_only w (Cread rd) r = absurd r
+plain_only w (Cread rd index) r = absurd r
+plain_only w (Cput rs1 rs2) r = absurd r
 plain_only w (Illegal word) r = absurd r
 
 -- ---- the extended table
@@ -171,9 +173,16 @@ unit_only w number rd rs1 rs2 rs3 high low d a b c =
     let whole : field w 26 25 * 8 + funct3 w ≡ number = omega arith in
     λ i. Some (Unit (whole i) (d i) (a i) (b i) (c i))
 
-hidden_only : (w rd : ℕ) → rd_field w ≡ rd → field w 31 12 ≡ 0 → hidden_row w ≡ Some (Cread rd)
-unfolding hidden_row
-hidden_only w rd d zero = rw zero (λ i. Some (Cread (d i)))
+cread_only : (w rd index : ℕ) → funct3 w ≡ 0 → funct7 w ≡ 0 → rd_field w ≡ rd → rs1_field w ≡ 0 → rs2_field w ≡ index → index < 2
+    → hidden_row w ≡ Some (Cread rd index)
+unfolding hidden_row cread_row
+cread_only w rd index low high d zero b below =
+    rw high (rw low (rw zero (ap (λ t. if t then Some (Cread (rd_field w) (rs2_field w)) else None) (ap (λ n. nat_lt n 2) b ∙ lt-ltb index 2 below)
+    ∙ (λ i. Some (Cread (d i) (b i))))))
+
+cput_only : (w rs1 rs2 : ℕ) → funct3 w ≡ 1 → funct7 w ≡ 0 → rd_field w ≡ 0 → rs1_field w ≡ rs1 → rs2_field w ≡ rs2 → hidden_row w ≡ Some (Cput rs1 rs2)
+unfolding hidden_row cput_row
+cput_only w rs1 rs2 low high zero a b = rw high (rw low (rw zero (λ i. Some (Cput (a i) (b i)))))
 
 extended_only : (w : ℕ) (insn : Insn) → HasFieldsOfX w insn → extended_row w ≡ Some insn
 unfolding extended_row
@@ -190,7 +199,8 @@ extended_only w (Fence bits rs1 rd) r = rw r.0 (plain_only w (Fence bits rs1 rd)
 extended_only w Ecall r = ap extended_row r ∙ plain_only 0x0000_0073 Ecall refl
 extended_only w Ebreak r = ap extended_row r ∙ plain_only 0x0010_0073 Ebreak refl
 extended_only w (Unit number rd rs1 rs2 rs3) r = rw r.0 (unit_only w number rd rs1 rs2 rs3 r.1 r.2 r.3 r.4 r.5 r.6)
-extended_only w (Cread rd) r = rw r.0 (hidden_only w rd r.1 r.2)
+extended_only w (Cread rd index) r = rw r.0 (cread_only w rd index r.1 r.2 r.3 r.4 r.5 r.6)
+extended_only w (Cput rs1 rs2) r = rw r.0 (cput_only w rs1 rs2 r.1 r.2 r.3 r.4 r.5)
 extended_only w (Illegal word) r = absurd r
 
 -- ---- what follows for the calls
@@ -231,7 +241,8 @@ read_well_formed w insn reads = (w, stands_for insn reads)
     stands_for Ecall reads = reads
     stands_for Ebreak reads = reads
     stands_for (Unit number rd rs1 rs2 rs3) reads = reads
-    stands_for (Cread rd) reads = reads
+    stands_for (Cread rd index) reads = reads
+    stands_for (Cput rs1 rs2) reads = reads
     stands_for (Illegal word) reads = absurd reads.1
 
 pub plain_well_formed : (w : ℕ) (insn : Insn) → Reads w insn → IsWellFormed insn

@@ -1,8 +1,8 @@
 -- What a row answers is what the word reads as.
 use Rattle.std.proofs.Common.{◌≡◌, ℕ, ◌<◌, ◌^◌, Bool, ◌||◌, List, [], ◌∷◌, Option, Some, None, pos, refl, sym, arith}
-use Rattle.std.specs.Prelude.{⊤, if◌then◌else◌, ◌==◌, IfSome, option_map, find}
+use Rattle.std.specs.Prelude.{⊤, if◌then◌else◌, ◌==◌, nat_lt, IfSome, option_map, find}
 use Rattle.std.specs.List.{AllByRecursion}
-use Rattle.std.proofs.lemmas.Bool.{cond_both, eqb-true}
+use Rattle.std.proofs.lemmas.Bool.{cond_both, eqb-true, ltb-true}
 use Rattle.std.proofs.lemmas.Option.{IfSome_then}
 use Rattle.ci_word.specs.declared.arithmetic.Op.{Op}
 use Rattle.ci_word.specs.declared.arithmetic.Op.TheVariants.{Add, Sub, Sll, Slt, Sltu, Xor, Srl, Sra, Or, And, Mul, Mulh, Mulhsu, Mulhu, Div, Divu, Rem, Remu}
@@ -11,14 +11,14 @@ use Rattle.ci_isa.specs.declared.instruction.LoadKind.TheVariants.{B, H, W, Bu, 
 use Rattle.ci_isa.specs.declared.instruction.Width.TheVariants.{Byte, Half, Word}
 use Rattle.ci_isa.specs.declared.instruction.Insn.{Insn}
 use Rattle.ci_isa.specs.declared.instruction.Insn.TheVariants.{Alu, AluImm, Lui, Auipc, Jal, Jalr, Branch, Load, Store}
-use Rattle.ci_isa.specs.declared.instruction.Insn.TheVariants.{Fence, Ecall, Ebreak, Unit, Cread, Illegal}
+use Rattle.ci_isa.specs.declared.instruction.Insn.TheVariants.{Fence, Ecall, Ebreak, Unit, Cread, Cput, Illegal}
 use Rattle.ci_isa.specs.Fields.{field, opcode, rd_field, funct3, rs1_field, rs2_field, funct7, immediate_format}
 use Rattle.ci_isa.specs.Fields.{store_format, branch_format, upper_format, jump_format, immediate, signed_immediate}
 use Rattle.ci_isa.specs.Table.{operation_codes, condition_code, load_code, store_code, constant_form, HoldsConstant, HasFieldsOf, HasFieldsOfX, Reads, ReadsX}
 use Rattle.ci_isa.specs.Decoding.{condition_at, load_at, width_at, operation_among, base_at, other_at, product_at}
 use Rattle.ci_isa.specs.Decoding.{immediate_at, operation_at, shift_at, jump_row, branch_row, load_row, store_row}
 use Rattle.ci_isa.specs.Decoding.{immediate_row, shift_row, constant_row, operation_row, fence_row, environment_row}
-use Rattle.ci_isa.specs.Decoding.{unit_row, hidden_row, plain_row, extended_row}
+use Rattle.ci_isa.specs.Decoding.{unit_row, cread_row, cput_row, hidden_row, plain_row, extended_row}
 
 -- ---- choices
 
@@ -156,16 +156,32 @@ in_extended w (Fence bits rs1 rd) fields = fields
 in_extended w Ecall fields = fields
 in_extended w Ebreak fields = fields
 in_extended w (Unit number rd rs1 rs2 rs3) fields = absurd fields
-in_extended w (Cread rd) fields = absurd fields
+in_extended w (Cread rd index) fields = absurd fields
+in_extended w (Cput rs1 rs2) fields = absurd fields
 in_extended w (Illegal word) fields = absurd fields
 
 unit_found : (w : ℕ) → opcode w ≡ 0x0b → IfSome (unit_row w) (HasFieldsOfX w)
 unfolding unit_row
 unit_found w e = (e, omega arith, omega arith, refl, refl, refl, refl)
 
+cread_found : (w : ℕ) → opcode w ≡ 0x2b → funct7 w ≡ 0 → funct3 w ≡ 0 → IfSome (cread_row w) (HasFieldsOfX w)
+unfolding cread_row
+cread_found w e high low =
+    tested (rs1_field w) 0 (if nat_lt (rs2_field w) 2 then Some (Cread (rd_field w) (rs2_field w)) else None) None (HasFieldsOfX w)
+    (λ zero. cond_both (nat_lt (rs2_field w) 2) (Some (Cread (rd_field w) (rs2_field w))) None (λ answer. IfSome answer (HasFieldsOfX w))
+    (λ is. (e, low, high, refl, zero, refl, ltb-true (rs2_field w) 2 is)) (λ none. tt)) tt
+
+cput_found : (w : ℕ) → opcode w ≡ 0x2b → funct7 w ≡ 0 → funct3 w ≡ 1 → IfSome (cput_row w) (HasFieldsOfX w)
+unfolding cput_row
+cput_found w e high low = tested (rd_field w) 0 (Some (Cput (rs1_field w) (rs2_field w))) None (HasFieldsOfX w) (λ zero. (e, low, high, zero, refl, refl)) tt
+
 hidden_found : (w : ℕ) → opcode w ≡ 0x2b → IfSome (hidden_row w) (HasFieldsOfX w)
 unfolding hidden_row
-hidden_found w e = tested (field w 31 12) 0 (Some (Cread (rd_field w))) None (HasFieldsOfX w) (λ h. (e, refl, h)) tt
+hidden_found w e =
+    tested (funct7 w) 0 (if funct3 w == 0 then cread_row w else (if funct3 w == 1 then cput_row w else None)) None (HasFieldsOfX w)
+    (λ high.
+    tested (funct3 w) 0 (cread_row w) _ (HasFieldsOfX w) (cread_found w e high)
+    (tested (funct3 w) 1 (cput_row w) None (HasFieldsOfX w) (cput_found w e high) tt)) tt
 
 extended_found : (w : ℕ) → IfSome (extended_row w) (HasFieldsOfX w)
 unfolding extended_row

@@ -4,7 +4,7 @@ use Rattle.std.specs.Prelude.{true, false}
 use Rattle.std.specs.FinSet as set
 use Rattle.ci_word.specs.declared.arithmetic.Op.TheVariants.{Add}
 use Rattle.ci_isa.specs.declared.instruction.Insn.{Insn}
-use Rattle.ci_isa.specs.declared.instruction.Insn.TheVariants.{Alu, AluImm, Unit, Cread, Illegal}
+use Rattle.ci_isa.specs.declared.instruction.Insn.TheVariants.{Alu, AluImm, Unit, Cread, Cput, Illegal}
 use Rattle.ci_isa.specs.Table.{IsInsnAt}
 use Rattle.ci_isa.specs.Laws.{IsInsnAtX}
 use Rattle.ci_isa.specs.Decoding.{environment_row, plain_row}
@@ -22,8 +22,14 @@ sum = ((lit< tt, (refl, refl, refl, refl, refl, refl)), (lit< tt, (refl, refl, r
 unit : IsInsnAtX 0x60b5028b (Unit 0 5 10 11 12)
 unit = (lit< tt, (refl, refl, refl, refl, refl, refl, refl))
 
-cread : IsInsnAtX 0x0000032b (Cread 6)
-cread = (lit< tt, (refl, refl, refl))
+cread : IsInsnAtX 0x0000032b (Cread 6 0)
+cread = (lit< tt, (refl, refl, refl, refl, refl, refl, lit< tt))
+
+second_result : IsInsnAtX 0x001003ab (Cread 7 1)
+second_result = (lit< tt, (refl, refl, refl, refl, refl, refl, lit< tt))
+
+cput : IsInsnAtX 0x00e6902b (Cput 13 14)
+cput = (lit< tt, (refl, refl, refl, refl, refl, refl))
 
 no_row : plain_row 0x60b5028b ≡ None
 unfolding plain_row environment_row

@@ -3,7 +3,7 @@ use Rattle.std.proofs.Common.{◌≡◌, ℕ, ◌^◌, ◌<◌, Option, Some, No
 use Rattle.std.specs.Prelude.{◌↔◌, IfSome}
 use Rattle.std.proofs.lemmas.Bool.{cases_lt}
 use Rattle.ci_isa.specs.declared.instruction.Insn.{Insn}
-use Rattle.ci_isa.specs.declared.instruction.Insn.TheVariants.{Unit, Cread, Illegal}
+use Rattle.ci_isa.specs.declared.instruction.Insn.TheVariants.{Unit, Cread, Cput, Illegal}
 use Rattle.ci_isa.specs.Fields.{HasCustomOpcode}
 use Rattle.ci_isa.specs.Table.{HasFieldsOf, HasFieldsOfX, Reads, ReadsX, IsInsnAt}
 use Rattle.ci_isa.specs.Laws.{IsInsnAtX}
@@ -18,7 +18,8 @@ module _ (word : ℕ) (other : ¬ HasCustomOpcode word) where
   -- the rows that the extended table adds have a custom opcode
   in_plain : (insn : Insn) → HasFieldsOfX word insn → HasFieldsOf word insn
   in_plain (Unit number rd rs1 rs2 rs3) fields = absurd (other (inl fields.0))
-  in_plain (Cread rd) fields = absurd (other (inr fields.0))
+  in_plain (Cread rd index) fields = absurd (other (inr fields.0))
+  in_plain (Cput rs1 rs2) fields = absurd (other (inr fields.0))
   in_plain insn fields = fields
 
   to_plain : (insn : Insn) → ReadsX word insn → Reads word insn

@@ -15,7 +15,7 @@ use Rattle.ci_isa.specs.declared.instruction.Width.{Width}
 use Rattle.ci_isa.specs.declared.instruction.Width.TheVariants.{Byte, Half, Word}
 use Rattle.ci_isa.specs.declared.instruction.Insn.{Insn}
 use Rattle.ci_isa.specs.declared.instruction.Insn.TheVariants.{Alu, AluImm, Lui, Auipc, Jal, Jalr, Branch, Load, Store}
-use Rattle.ci_isa.specs.declared.instruction.Insn.TheVariants.{Fence, Ecall, Ebreak, Unit, Cread, Illegal}
+use Rattle.ci_isa.specs.declared.instruction.Insn.TheVariants.{Fence, Ecall, Ebreak, Unit, Cread, Cput, Illegal}
 use Rattle.ci_isa.specs.Fields.{field, opcode, rd_field, funct3, rs1_field, rs2_field, funct7, immediate_format}
 use Rattle.ci_isa.specs.Fields.{store_format, branch_format, upper_format, jump_format, immediate, signed_immediate}
 use Rattle.ci_isa.specs.Table.{operation_codes, condition_code, load_code, store_code, ConstantForm, SignedImmediate}
@@ -286,9 +286,12 @@ well_formed (Unit number rd rs1 rs2 rs3) fits =
     let high : field made.0 26 25 ≡ number / 8 = omega (arith, fits.0, made.1.at_funct7) in
     let top : field made.0 31 27 ≡ rs3 = omega (arith, fits.0, made.1.at_funct7) in
     (made.0, (made.1.below, (made.1.at_opcode, high, made.1.at_funct3, made.1.at_rd, made.1.at_rs1, made.1.at_rs2, top)))
-well_formed (Cread rd) fits =
-    let made = with_upper_fields 0x2b rd 0 (lit< tt) fits (lit< tt) in
-    (made.0, (made.1.below, (made.1.at_opcode, made.1.at_rd, made.1.at_upper)))
+well_formed (Cread rd index) fits =
+    let made = with_fields 0x2b rd 0 0 index 0 (lit< tt) fits.0 (lit< tt) (lit< tt) (omega (arith, fits.1)) (lit< tt) in
+    (made.0, (made.1.below, (made.1.at_opcode, made.1.at_funct3, made.1.at_funct7, made.1.at_rd, made.1.at_rs1, made.1.at_rs2, fits.1)))
+well_formed (Cput rs1 rs2) fits =
+    let made = with_fields 0x2b 0 1 rs1 rs2 0 (lit< tt) (lit< tt) (lit< tt) fits.0 fits.1 (lit< tt) in
+    (made.0, (made.1.below, (made.1.at_opcode, made.1.at_funct3, made.1.at_funct7, made.1.at_rd, made.1.at_rs1, made.1.at_rs2)))
 well_formed (Illegal word) fits = (word, (fits, refl))
 
 -- ---- what is well formed fits
@@ -328,5 +331,6 @@ fields_fit (Fence bits rs1 rd) (w, (below, r)) = (omega (arith, r.2), omega (ari
 fields_fit Ecall (w, (below, r)) = tt
 fields_fit Ebreak (w, (below, r)) = tt
 fields_fit (Unit number rd rs1 rs2 rs3) (w, (below, r)) = (omega (arith, r.1), omega (arith, r.3), omega (arith, r.4), omega (arith, r.5), omega (arith, r.6))
-fields_fit (Cread rd) (w, (below, r)) = omega (arith, r.1)
+fields_fit (Cread rd index) (w, (below, r)) = (omega (arith, r.3), r.6)
+fields_fit (Cput rs1 rs2) (w, (below, r)) = (omega (arith, r.4), omega (arith, r.5))
 fields_fit (Illegal word) (w, (below, r)) = omega (arith, r)

@@ -1,7 +1,7 @@
 -- For private contracts only: the instruction that a word reads as, found by its opcode and then by its other codes.
 -- What a word means is said by the table, and the public calls promise that.
 use Rattle.std.specs.Prelude.{ℕ, ◌+◌, ◌*◌, Bool, ◌==◌, ◌&&◌, ◌||◌, filter, if◌then◌else◌, List, [], ◌∷◌, Option, Some}
-use Rattle.std.specs.Prelude.{None, option_map, find, pos}
+use Rattle.std.specs.Prelude.{None, option_map, find, pos, nat_lt}
 use Rattle.ci_word.specs.declared.arithmetic.Op.{Op}
 use Rattle.ci_word.specs.declared.arithmetic.Op.TheVariants.{Add, Sub, Sll, Slt, Sltu, Xor, Srl, Sra, Or, And, Mul}
 use Rattle.ci_word.specs.declared.arithmetic.Op.TheVariants.{Mulh, Mulhsu, Mulhu, Div, Divu, Rem, Remu}
@@ -13,7 +13,7 @@ use Rattle.ci_isa.specs.declared.instruction.Width.{Width}
 use Rattle.ci_isa.specs.declared.instruction.Width.TheVariants.{Byte, Half, Word}
 use Rattle.ci_isa.specs.declared.instruction.Insn.{Insn}
 use Rattle.ci_isa.specs.declared.instruction.Insn.TheVariants.{Alu, AluImm, Lui, Auipc, Jal, Jalr, Branch, Load, Store}
-use Rattle.ci_isa.specs.declared.instruction.Insn.TheVariants.{Fence, Ecall, Ebreak, Unit, Cread}
+use Rattle.ci_isa.specs.declared.instruction.Insn.TheVariants.{Fence, Ecall, Ebreak, Unit, Cread, Cput}
 use Rattle.ci_isa.specs.Fields.{field, opcode, rd_field, funct3, rs1_field, rs2_field, funct7, immediate_format}
 use Rattle.ci_isa.specs.Fields.{store_format, branch_format, upper_format, jump_format, immediate, signed_immediate}
 use Rattle.ci_isa.specs.Table.{operation_codes, ConstantForm, SignedImmediate, ShiftAmount, NoForm, constant_form}
@@ -127,8 +127,16 @@ environment_row w = if w == 0x0000_0073 then Some Ecall else (if w == 0x0010_007
 unfoldable pub unit_row : ℕ → Option Insn
 unit_row w = Some (Unit (field w 26 25 * 8 + funct3 w) (rd_field w) (rs1_field w) (rs2_field w) (field w 31 27))
 
+unfoldable pub cread_row : ℕ → Option Insn
+cread_row w =
+    if rs1_field w == 0 then (if nat_lt (rs2_field w) 2 then Some (Cread (rd_field w) (rs2_field w)) else None) else None
+
+unfoldable pub cput_row : ℕ → Option Insn
+cput_row w = if rd_field w == 0 then Some (Cput (rs1_field w) (rs2_field w)) else None
+
 unfoldable pub hidden_row : ℕ → Option Insn
-hidden_row w = if field w 31 12 == 0 then Some (Cread (rd_field w)) else None
+hidden_row w =
+    if funct7 w == 0 then (if funct3 w == 0 then cread_row w else (if funct3 w == 1 then cput_row w else None)) else None
 
 -- ---- the tables
 

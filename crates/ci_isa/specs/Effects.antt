@@ -10,7 +10,7 @@ use Rattle.ci_isa.specs.declared.instruction.Width.{Width}
 use Rattle.ci_isa.specs.declared.instruction.Width.TheVariants.{Byte, Half, Word}
 use Rattle.ci_isa.specs.declared.instruction.Insn.{Insn}
 use Rattle.ci_isa.specs.declared.instruction.Insn.TheVariants.{Alu, AluImm, Lui, Auipc, Jal, Jalr, Branch, Load, Store}
-use Rattle.ci_isa.specs.declared.instruction.Insn.TheVariants.{Fence, Ecall, Ebreak, Unit, Cread, Illegal}
+use Rattle.ci_isa.specs.declared.instruction.Insn.TheVariants.{Fence, Ecall, Ebreak, Unit, Cread, Cput, Illegal}
 
 -- ---- what an instruction reads and writes
 
@@ -25,10 +25,11 @@ operands (Load kind rd rs1 offset) = rs1 ∷ []
 operands (Store width rs1 rs2 offset) = rs1 ∷ rs2 ∷ []
 operands Ecall = 10 ∷ 11 ∷ 12 ∷ 17 ∷ []
 operands (Unit number rd rs1 rs2 rs3) = rs1 ∷ rs2 ∷ rs3 ∷ []
+operands (Cput rs1 rs2) = rs1 ∷ rs2 ∷ []
 operands insn = []
 
--- The register that takes the instruction's result. An environment call answers in x10. Branches, stores, FENCE, EBREAK
--- and illegal words have none.
+-- The register that takes the instruction's result. An environment call answers in x10. Branches, stores, FENCE, EBREAK,
+-- `cput` and illegal words have none.
 abbrev pub results : Insn → List ℕ
 results (Alu op rd rs1 rs2) = rd ∷ []
 results (AluImm op rd rs1 imm) = rd ∷ []
@@ -39,7 +40,7 @@ results (Jalr rd rs1 offset) = rd ∷ []
 results (Load kind rd rs1 offset) = rd ∷ []
 results Ecall = 10 ∷ []
 results (Unit number rd rs1 rs2 rs3) = rd ∷ []
-results (Cread rd) = rd ∷ []
+results (Cread rd index) = rd ∷ []
 results insn = []
 
 -- the registers of a list, and then 0 for none, as many in all as said
@@ -78,7 +79,7 @@ width_bytes Word = 4
 
 -- ---- kinds
 
--- The instruction ends a block. Operations, LUI, loads, stores, unit words and `cread` don't.
+-- The instruction ends a block. Operations, LUI, loads, stores, unit words, `cread` and `cput` don't.
 abbrev pub ends_block : Insn → Bool
 ends_block (Auipc rd upper) = true
 ends_block (Jal rd offset) = true
@@ -90,15 +91,20 @@ ends_block Ebreak = true
 ends_block (Illegal word) = true
 ends_block insn = false
 
--- a unit word, which writes the hidden register too
+-- a unit word, which writes the hidden results too
 abbrev pub is_unit : Insn → Bool
 is_unit (Unit number rd rs1 rs2 rs3) = true
 is_unit insn = false
 
--- a `cread`, which reads the hidden register
+-- a `cread`, which reads a hidden result
 abbrev pub is_cread : Insn → Bool
-is_cread (Cread rd) = true
+is_cread (Cread rd index) = true
 is_cread insn = false
+
+-- a `cput`, which writes the hidden operands
+abbrev pub is_cput : Insn → Bool
+is_cput (Cput rs1 rs2) = true
+is_cput insn = false
 
 -- of an operation on two registers
 abbrev pub register_class : Op → Class
@@ -137,7 +143,7 @@ abbrev pub is_no_op : Op → ℕ → ℕ → ℤ → Bool
 is_no_op ops.Add rd rs1 imm = rd == 0 && rs1 == 0 && is_zero imm
 is_no_op op rd rs1 imm = false
 
--- unit words, `cread` and illegal words are free
+-- unit words, `cread`, `cput` and illegal words are free
 abbrev pub class_of : Insn → Class
 class_of (Alu op rd rs1 rs2) = register_class op
 class_of (AluImm op rd rs1 imm) = if is_no_op op rd rs1 imm then class.Free else constant_class op

@@ -3,7 +3,7 @@
 use Rattle.std.specs.Prelude.{◌≡◌, ℕ, ◌-◌, ◌%◌, ◌^◌, ◌<◌, ⊤, ℤ, pos, neg_ℤ, ◌≤ℤ◌, ◌<ℤ◌, unsigned_abs}
 use Rattle.ci_isa.specs.declared.instruction.Insn.{Insn}
 use Rattle.ci_isa.specs.declared.instruction.Insn.TheVariants.{Alu, AluImm, Lui, Auipc, Jal, Jalr, Branch, Load, Store}
-use Rattle.ci_isa.specs.declared.instruction.Insn.TheVariants.{Fence, Ecall, Ebreak, Unit, Cread, Illegal}
+use Rattle.ci_isa.specs.declared.instruction.Insn.TheVariants.{Fence, Ecall, Ebreak, Unit, Cread, Cput, Illegal}
 use Rattle.ci_isa.specs.Table.{ConstantForm, SignedImmediate, ShiftAmount, NoForm, constant_form}
 
 -- a number of so many bits in two's complement
@@ -34,5 +34,6 @@ FieldsFit (Fence bits rs1 rd) = (bits < 2 ^ 12) × (rs1 < 32) × (rd < 32)
 FieldsFit Ecall = ⊤
 FieldsFit Ebreak = ⊤
 FieldsFit (Unit number rd rs1 rs2 rs3) = (number < 32) × (rd < 32) × (rs1 < 32) × (rs2 < 32) × (rs3 < 32)
-FieldsFit (Cread rd) = rd < 32
+FieldsFit (Cread rd index) = (rd < 32) × (index < 2)
+FieldsFit (Cput rs1 rs2) = (rs1 < 32) × (rs2 < 32)
 FieldsFit (Illegal word) = word < 2 ^ 32

@@ -1,6 +1,6 @@
 -- Which instruction a word is: a row for each (RISC-V Unprivileged ISA 20191213, chapter 24, tables of RV32I and
 -- RV32M). The plain table has RV32I without Zifencei and Zicsr, and the extension M. The extended table adds unit
--- words in the opcode custom-0 and `cread` in the opcode custom-1, which are the project's own.
+-- words in the opcode custom-0, and `cread` and `cput` in the opcode custom-1, which are the project's own.
 use Rattle.std.specs.Prelude.{◌≡◌, ℕ, ◌/◌, ◌%◌, ◌^◌, ◌<◌, ℤ, pos}
 use Rattle.ci_word.specs.declared.arithmetic.Op.{Op}
 use Rattle.ci_word.specs.declared.arithmetic.Op.TheVariants.{Add, Sub, Sll, Slt, Sltu, Xor, Srl, Sra, Or, And, Mul}
@@ -13,7 +13,7 @@ use Rattle.ci_isa.specs.declared.instruction.Width.{Width}
 use Rattle.ci_isa.specs.declared.instruction.Width.TheVariants.{Byte, Half, Word}
 use Rattle.ci_isa.specs.declared.instruction.Insn.{Insn}
 use Rattle.ci_isa.specs.declared.instruction.Insn.TheVariants.{Alu, AluImm, Lui, Auipc, Jal, Jalr, Branch, Load, Store}
-use Rattle.ci_isa.specs.declared.instruction.Insn.TheVariants.{Fence, Ecall, Ebreak, Unit, Cread, Illegal}
+use Rattle.ci_isa.specs.declared.instruction.Insn.TheVariants.{Fence, Ecall, Ebreak, Unit, Cread, Cput, Illegal}
 use Rattle.ci_isa.specs.Fields.{field, opcode, rd_field, funct3, rs1_field, rs2_field, funct7, immediate_format}
 use Rattle.ci_isa.specs.Fields.{store_format, branch_format, upper_format, jump_format, immediate, signed_immediate}
 
@@ -124,7 +124,11 @@ abbrev pub HasFieldsOfX : ℕ → Insn → Type 0
 HasFieldsOfX w (Unit number rd rs1 rs2 rs3) =
     (opcode w ≡ 0x0b) × (field w 26 25 ≡ number / 8) × (funct3 w ≡ number % 8)
     × (rd_field w ≡ rd) × (rs1_field w ≡ rs1) × (rs2_field w ≡ rs2) × (field w 31 27 ≡ rs3)
-HasFieldsOfX w (Cread rd) = (opcode w ≡ 0x2b) × (rd_field w ≡ rd) × (field w 31 12 ≡ 0)
+HasFieldsOfX w (Cread rd index) =
+    (opcode w ≡ 0x2b) × (funct3 w ≡ 0) × (funct7 w ≡ 0) × (rd_field w ≡ rd) × (rs1_field w ≡ 0) × (rs2_field w ≡ index)
+    × (index < 2)
+HasFieldsOfX w (Cput rs1 rs2) =
+    (opcode w ≡ 0x2b) × (funct3 w ≡ 1) × (funct7 w ≡ 0) × (rd_field w ≡ 0) × (rs1_field w ≡ rs1) × (rs2_field w ≡ rs2)
 HasFieldsOfX w insn = HasFieldsOf w insn
 
 -- ---- what the calls promise

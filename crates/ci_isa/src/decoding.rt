@@ -55,7 +55,7 @@ fn extended_row(word: u32) -> Option<Insn>
 {
     match bits(word, 6, 0) {
         CUSTOM_0 => Some(unit(word)),
-        CUSTOM_1 => read_of_hidden(word),
+        CUSTOM_1 => cread_or_cput(word),
         _ => plain_row(word),
     }
 }
@@ -242,13 +242,50 @@ fn unit(word: u32) -> Insn
 
 /// A word of the opcode custom-1.
 #[tactic(auto, unfolding(crate::specs::Decoding::hidden_row))]
-fn read_of_hidden(word: u32) -> Option<Insn>
+fn cread_or_cput(word: u32) -> Option<Insn>
     ensures { result ≡ row.hidden_row word }
 {
-    if bits(word, 31, 12) != 0 {
+    if bits(word, 31, 25) != 0 {
         return None;
     }
-    Some(Insn::Cread { rd: rd(word) })
+    match bits(word, 14, 12) {
+        0 => cread(word),
+        1 => cput(word),
+        _ => None,
+    }
+}
+
+/// A word that reads a hidden result.
+#[tactic(auto, unfolding(crate::specs::Decoding::cread_row))]
+fn cread(word: u32) -> Option<Insn>
+    ensures { result ≡ row.cread_row word }
+{
+    if bits(word, 19, 15) != 0 {
+        return None;
+    }
+    let index = bits(word, 24, 20);
+    if index < 2 {
+        Some(Insn::Cread {
+            rd: rd(word),
+            index: index as u8,
+        })
+    } else {
+        None
+    }
+}
+
+/// A word that writes the hidden operands.
+#[tactic(auto, unfolding(crate::specs::Decoding::cput_row))]
+fn cput(word: u32) -> Option<Insn>
+    ensures { result ≡ row.cput_row word }
+{
+    if bits(word, 11, 7) != 0 {
+        return None;
+    }
+    Some(Insn::Cput {
+        rs1: rs1(word),
+        rs2: rs2(word),
+    })
 }
 
 fn rd(word: u32) -> Reg

@@ -19,6 +19,7 @@ pub fn operands(insn: &Insn) -> [u8; 4]
         Insn::Alu { rs1, rs2, .. } => [rs1.number(), rs2.number(), 0, 0],
         Insn::Branch { rs1, rs2, .. } => [rs1.number(), rs2.number(), 0, 0],
         Insn::Store { rs1, rs2, .. } => [rs1.number(), rs2.number(), 0, 0],
+        Insn::Cput { rs1, rs2 } => [rs1.number(), rs2.number(), 0, 0],
         Insn::AluImm { rs1, .. } => [rs1.number(), 0, 0, 0],
         Insn::Jalr { rs1, .. } => [rs1.number(), 0, 0, 0],
         Insn::Load { rs1, .. } => [rs1.number(), 0, 0, 0],
@@ -43,7 +44,7 @@ pub fn result_register(insn: &Insn) -> Reg
         Insn::Jalr { rd, .. } => rd,
         Insn::Load { rd, .. } => rd,
         Insn::Unit { rd, .. } => rd,
-        Insn::Cread { rd } => rd,
+        Insn::Cread { rd, .. } => rd,
         Insn::Ecall => Reg::new(10).unwrap(),
         _ => Reg::zero(),
     }

@@ -59,7 +59,8 @@ pub fn encode(insn: &Insn) -> u32
             rs2,
             rs3,
         } => unit_word(number, rd, rs1, rs2, rs3),
-        Insn::Cread { rd } => upper_word(CUSTOM_1, rd, 0),
+        Insn::Cread { rd, index } => cread_word(rd, index),
+        Insn::Cput { rs1, rs2 } => cput_word(rs1, rs2),
         Insn::Illegal { word } => word,
     }
 }
@@ -152,6 +153,20 @@ fn unit_word(unit: u8, rd: Reg, rs1: Reg, rs2: Reg, rs3: Reg) -> u32
         number(rs2),
         high,
     )
+}
+
+/// The word of `cread`.
+fn cread_word(rd: Reg, index: u8) -> u32
+    ensures { (w : ℕ) → ReadsX w (Insn.Cread rd index) → w ≡ result }
+{
+    word_of_fields(CUSTOM_1, number(rd), 0, 0, u32::from(index), 0)
+}
+
+/// The word of `cput`.
+fn cput_word(rs1: Reg, rs2: Reg) -> u32
+    ensures { (w : ℕ) → ReadsX w (Insn.Cput rs1 rs2) → w ≡ result }
+{
+    word_of_fields(CUSTOM_1, 0, 1, number(rs1), number(rs2), 0)
 }
 
 /// The word with this opcode and these bits in the places of rd, funct3, rs1, rs2 and funct7.

@@ -129,9 +129,15 @@ pub enum Insn {
         rs2: Reg,
         rs3: Reg,
     },
-    /// `cread`: `rd` takes the hidden register.
+    /// `cread`: `rd` takes the hidden result of this index, 0 or 1.
     Cread {
         rd: Reg,
+        index: u8,
+    },
+    /// `cput`: the hidden operands take `rs1` and `rs2`.
+    Cput {
+        rs1: Reg,
+        rs2: Reg,
     },
     /// A word that is none of these.
     Illegal {

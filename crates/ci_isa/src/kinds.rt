@@ -9,7 +9,7 @@ use ci_word::{Class, Op};
 /// Whether the instruction ends a block: a branch, JAL, JALR, ECALL, EBREAK, FENCE, AUIPC, or a word that
 /// is no instruction.
 ///
-/// A `Unit` and a `Cread` do not end a block. In a file their words are no instructions, since a file is
+/// A `Unit`, a `Cread` and a `Cput` do not end a block. In a file their words are no instructions, since a file is
 /// split into blocks by the plain table.
 pub fn is_terminator(insn: &Insn) -> bool
     ensures { result ≡ ends_block insn.now }
@@ -21,8 +21,8 @@ pub fn is_terminator(insn: &Insn) -> bool
     }
 }
 
-/// The class whose latency the instruction has. The canonical no-op `addi x0, x0, 0`, unit words, `cread`
-/// and illegal words are `Free`.
+/// The class whose latency the instruction has. The canonical no-op `addi x0, x0, 0`, unit words, `cread`,
+/// `cput` and illegal words are `Free`.
 pub fn class(insn: &Insn) -> Class
     ensures { result ≡ class_of insn.now }
 {
@@ -43,7 +43,9 @@ pub fn class(insn: &Insn) -> Class
         Insn::Store { .. } => Class::Store,
         Insn::Fence { .. } => Class::Fence,
         Insn::Ecall | Insn::Ebreak => Class::System,
-        Insn::Unit { .. } | Insn::Cread { .. } | Insn::Illegal { .. } => Class::Free,
+        Insn::Unit { .. } | Insn::Cread { .. } | Insn::Cput { .. } | Insn::Illegal { .. } => {
+            Class::Free
+        }
     }
 }
 
@@ -79,6 +81,13 @@ pub fn is_cread(insn: &Insn) -> bool
     ensures { result ≡ terms.is_cread insn.now }
 {
     matches!(insn, Insn::Cread { .. })
+}
+
+/// Whether the instruction is a `cput`.
+pub fn is_cput(insn: &Insn) -> bool
+    ensures { result ≡ terms.is_cput insn.now }
+{
+    matches!(insn, Insn::Cput { .. })
 }
 
 /// The class of an operation on two registers.

@@ -2,8 +2,8 @@
 //! what kind it is (RISC-V Unprivileged ISA 20191213, chapters 2, 7 and 24; RV32I without Zifencei and Zicsr).
 //!
 //! There are two tables of words. The plain table has RV32IM. The extended table adds unit words in the
-//! opcode custom-0, which run a unit made from a block's instructions, and `cread` in the opcode custom-1,
-//! which reads the hidden register.
+//! opcode custom-0, which run a unit made from a block's instructions, and `cread` and `cput` in the opcode
+//! custom-1, which read its further results and pass its further operands.
 #![tactic(auto)]
 
 pub use decoding::{decode, decode_x, insn_at};
@@ -12,7 +12,7 @@ pub use effects::{
 };
 pub use encoding::encode;
 pub use instruction::{Cond, Insn, LoadKind, Width};
-pub use kinds::{class, is_access, is_cread, is_eligible, is_terminator, is_unit};
+pub use kinds::{class, is_access, is_cput, is_cread, is_eligible, is_terminator, is_unit};
 pub use laws::{
     latest_writer_is_last, one_insn_at_each_word, register_tests_are_sets, tables_agree,
     well_formed_where_fields_fit,
