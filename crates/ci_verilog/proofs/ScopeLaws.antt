@@ -11,7 +11,7 @@ use Rattle.ci_verilog.specs.declared.expressions.Operator.{Operator}
 use Rattle.ci_verilog.specs.declared.expressions.Expr.TheVariants.{Two}
 use Rattle.ci_verilog.specs.declared.expressions.Term.{Term}
 use Rattle.ci_verilog.specs.declared.expressions.Wire.{Wire}
-use Rattle.ci_verilog.specs.Modules.{vector, known_by, Makes, IsSimple, IsItem, AreItems, IsTerm, IsExpr}
+use Rattle.ci_verilog.specs.Modules.{WireList, vector, known_by, Makes, IsSimple, IsItem, AreItems, IsTerm, IsExpr}
 use Rattle.ci_verilog.specs.Values.{above, joined, simple_bits, item_bits, term_bits}
 use Rattle.ci_verilog.specs.Held.{InRange, Fits, Holds, IsHeld, SimpleFits, ItemsFit}
 use Rattle.ci_verilog.proofs.VectorLaws.{above_assoc, above_nothing}
@@ -21,7 +21,7 @@ use Rattle.ci_verilog.proofs.ExpressionLaws.{simple_fits, item_fits, items_fit, 
 pub fits_in_range : (v : Vector) (w : ℕ) → Fits v w → InRange v
 fits_in_range v w fits = subst (λ n. v.value < 2 ^ n) (sym fits.width_is) fits.in_range
 
-module _ (arguments : List ℕ) (wires : List Wire) (values : List ℕ) (held : IsHeld arguments wires values) where
+module _ (arguments : List ℕ) (wires : WireList) (values : List ℕ) (held : IsHeld arguments wires values) where
   -- what is found is what these names stand for
   abbrev pub IsFound : Vector → ((List ℕ → Vector) → Vector) → Type 0
   IsFound v of = (names : List ℕ → Vector) → Holds names arguments wires values → v ≡ of names

@@ -1,15 +1,17 @@
 -- A module has one value at each list of values of its inputs.
-use Rattle.std.specs.Prelude.{◌≡◌, ℕ, zero, suc, ◌^◌, ◌<◌, ◌==◌, ◌&&◌, if◌then◌else◌, Bool, true, false, List, [], ◌∷◌, ◌++◌, map, length, codes, All}
+use Rattle.std.specs.Prelude.{◌≡◌, ℕ, zero, suc, ◌^◌, ◌<◌, ◌==◌, ◌&&◌, if◌then◌else◌, Bool, true, false, List, [], ◌∷◌, ◌++◌, map, length, codes, slice_index, Some, ◌≤◌, All}
 use Rattle.std.specs.List.{Contains}
-use Rattle.std.proofs.Common.{refl, sym, ap, ◌∙◌, subst, arith, append_assoc, append-nil, inl, inr}
-use Rattle.std.proofs.lemmas.Bool.{and_parts, and_from, eqb-true, eq-eqb}
+use Rattle.std.proofs.Common.{refl, sym, ap, ◌∙◌, subst, arith, lit<, append_assoc, append-nil, inl, inr, true≢false}
+use Rattle.std.proofs.lemmas.Bool.{and_parts, and_from, cases_lt, eqb-true, eq-eqb}
+use Rattle.std.proofs.lemmas.List.{get_or_past}
 use Rattle.std.proofs.lemmas.List.Elements.{Contains-push_cases, Contains-push, Contains-append_left}
 use Rattle.ci_verilog.specs.declared.vectors.Vector.{Vector}
 use Rattle.ci_verilog.specs.declared.expressions.Wire.{Wire}
-use Rattle.ci_verilog.specs.Modules.{Known, vector, inputs, declared_by, known_by, AreWires, Module, IsModule}
+use Rattle.ci_verilog.specs.Modules.{Known, IsInput, vector, inputs, declared_by, known_by, AreWires, Module, IsModule}
 use Rattle.ci_verilog.specs.Values.{of_width, expr_value, results_of, Settles}
-use Rattle.ci_verilog.specs.Laws.{ValueExists, ValueIsOne, ValuesAreWords}
+use Rattle.ci_verilog.specs.Laws.{ValueExists, ValueIsOne, ValuesAreWords, NarrowIgnores}
 use Rattle.ci_verilog.specs.Held.{Fits}
+use Rattle.ci_verilog.proofs.WireLaws.{input_is_word, input_is_known, known_is_input}
 use Rattle.ci_verilog.proofs.ExpressionLaws.{Agree, expr_agrees, AllFit, expr_fits}
 
 -- each wire has the value of its expression
@@ -45,29 +47,29 @@ agree_along known (wire ∷ wires) names other are settled too agree =
     ∙ ap (of_width wire.width) (expr_agrees known names other agree wire.value wire.width are.0.value)
     ∙ sym (too wire (first_wire wire wires)))))
 
-inputs_agree : (names other : List ℕ → Vector)
-    → map (λ input. names input.name) inputs ≡ map (λ input. other input.name) inputs → Agree inputs names other
-inputs_agree names other same v (zero, below, is) =
-    subst (λ k. names k.name ≡ other k.name) is (let e : names (codes "a") ≡ other (codes "a") = cc in e)
-inputs_agree names other same v (suc zero, below, is) =
-    subst (λ k. names k.name ≡ other k.name) is (let e : names (codes "b") ≡ other (codes "b") = cc in e)
-inputs_agree names other same v (suc (suc zero), below, is) =
-    subst (λ k. names k.name ≡ other k.name) is (let e : names (codes "c") ≡ other (codes "c") = cc in e)
-inputs_agree names other same v (suc (suc (suc k)), below, is) = absurd (omega arith)
+-- the inputs stand for these values
+abbrev AreGiven : Bool → List ℕ → (List ℕ → Vector) → Type 0
+AreGiven wide arguments names = (k : ℕ) (name : List ℕ) → IsInput wide name k → names name ≡ of_width 32 (slice_index arguments k)
+
+inputs_agree : (wide : Bool) (arguments : List ℕ) (names other : List ℕ → Vector) → AreGiven wide arguments names
+    → AreGiven wide arguments other → Agree (inputs wide) names other
+inputs_agree wide arguments names other given also v there =
+    let (k, is) = known_is_input wide v.name v.width there in given k v.name is ∙ sym (also k v.name is)
 
 -- two assignments of one module agree on all its names
 pub settled_agree : (m : Module) (arguments : List ℕ) (names other : List ℕ → Vector) → IsModule m → Settles m arguments names
     → Settles m arguments other → Agree (known_by m.wires) names other
 settled_agree m arguments names other is settled too =
-    agree_along inputs m.wires names other is.are_wires settled.wires_are too.wires_are
-    (inputs_agree names other (settled.inputs_are ∙ sym too.inputs_are))
+    agree_along (inputs m.wires.wide) m.wires.list names other is.are_wires settled.wires_are too.wires_are
+    (inputs_agree m.wires.wide arguments names other settled.inputs_are too.inputs_are)
 
 pub value_is_one : ValueIsOne
 value_is_one m is arguments left right of_left of_right =
     let agree = settled_agree m arguments of_left.names of_right.names is of_left.settled of_right.settled in
     of_left.results_are
     ∙ (λ t. expr_agrees (known_by m.wires) of_left.names of_right.names agree m.y 32 is.y t
-    ∷ expr_agrees (known_by m.wires) of_left.names of_right.names agree m.z 32 is.z t ∷ [])
+    ∷ expr_agrees (known_by m.wires) of_left.names of_right.names agree m.z 32 is.z t
+    ∷ expr_agrees (known_by m.wires) of_left.names of_right.names agree m.x 32 is.x t ∷ [])
     ∙ sym of_right.results_are
 
 -- ---- there are results
@@ -134,42 +136,64 @@ settling known (wire ∷ wires) names are =
         subst (λ w. names w.name ≡ of_width w.width (expr_value names w.value)) is here
     both wire wires names here rest w (suc k, below, is) = rest w (k, omega arith, is)
 
-opening : ℕ → ℕ → ℕ → List ℕ → Vector
+opening : List ℕ → List ℕ → Vector
 unfolding assigned
-opening a b c =
-    assigned (assigned (assigned (λ n. of_width 0 0) (codes "a") (of_width 32 a)) (codes "b") (of_width 32 b)) (codes "c") (of_width 32 c)
+opening values =
+    assigned (assigned (assigned (assigned (assigned (λ n. of_width 0 0) (codes "a") (of_width 32 (slice_index values 0)))
+    (codes "b") (of_width 32 (slice_index values 1))) (codes "c") (of_width 32 (slice_index values 2)))
+    (codes "d") (of_width 32 (slice_index values 3))) (codes "e") (of_width 32 (slice_index values 4))
 
-opening_inputs : (a b c : ℕ) → map (λ input. opening a b c input.name) inputs ≡ map (of_width 32) (a ∷ b ∷ c ∷ [])
+same_named : (known : Known) (name : List ℕ) → Some known ≡ Some (vector name 32) → known.name ≡ name
+same_named known name e = cc
+
+opening_inputs : (wide : Bool) (arguments : List ℕ) → AreGiven wide arguments (opening arguments)
 unfolding opening assigned
-opening_inputs a b c = refl
+opening_inputs false arguments zero name is = ap (opening arguments) (sym (same_named (vector (codes "a") 32) name is))
+opening_inputs false arguments (suc zero) name is = ap (opening arguments) (sym (same_named (vector (codes "b") 32) name is))
+opening_inputs false arguments (suc (suc zero)) name is = ap (opening arguments) (sym (same_named (vector (codes "c") 32) name is))
+opening_inputs false arguments (suc (suc (suc k))) name is = absurd cc
+opening_inputs true arguments zero name is = ap (opening arguments) (sym (same_named (vector (codes "a") 32) name is))
+opening_inputs true arguments (suc zero) name is = ap (opening arguments) (sym (same_named (vector (codes "b") 32) name is))
+opening_inputs true arguments (suc (suc zero)) name is = ap (opening arguments) (sym (same_named (vector (codes "c") 32) name is))
+opening_inputs true arguments (suc (suc (suc zero))) name is = ap (opening arguments) (sym (same_named (vector (codes "d") 32) name is))
+opening_inputs true arguments (suc (suc (suc (suc zero)))) name is = ap (opening arguments) (sym (same_named (vector (codes "e") 32) name is))
+opening_inputs true arguments (suc (suc (suc (suc (suc k))))) name is = absurd cc
 
 -- there is an assignment that settles the module
-pub settled_somehow : (m : Module) → IsModule m → (a b c : ℕ) → (names : List ℕ → Vector) × Settles m (a ∷ b ∷ c ∷ []) names
-settled_somehow m is a b c =
-    let s = settling inputs m.wires (opening a b c) is.are_wires in (
+pub settled_for : (m : Module) → IsModule m → (arguments : List ℕ) → (names : List ℕ → Vector) × Settles m arguments names
+settled_for m is arguments =
+    let s = settling (inputs m.wires.wide) m.wires.list (opening arguments) is.are_wires in (
       s.0,
       record {
-        inputs_are =
-            (λ t. s.1 (vector (codes "a") 32) (0, omega arith, refl) t ∷ s.1 (vector (codes "b") 32) (1, omega arith, refl) t
-            ∷ s.1 (vector (codes "c") 32) (2, omega arith, refl) t ∷ [])
-            ∙ opening_inputs a b c;
+        inputs_are = λ k name input.
+            s.1 (vector name 32) (input_is_known m.wires.wide name k input) ∙ opening_inputs m.wires.wide arguments k name input;
         wires_are = s.2;
       },
     )
 
--- for each list of three values
-pub settled_for : (m : Module) → IsModule m → (arguments : List ℕ) → length arguments ≡ length inputs
-    → (names : List ℕ → Vector) × Settles m arguments names
-settled_for m is [] three = absurd (omega arith)
-settled_for m is (a ∷ []) three = absurd (omega arith)
-settled_for m is (a ∷ b ∷ []) three = absurd (omega arith)
-settled_for m is (a ∷ b ∷ c ∷ []) three = settled_somehow m is a b c
-settled_for m is (a ∷ b ∷ c ∷ d ∷ more) three = absurd (omega arith)
-
 pub value_exists : ValueExists
-value_exists m is arguments three =
-    let s = settled_for m is arguments three in
+value_exists m is arguments =
+    let s = settled_for m is arguments in
     (map (expr_value s.0) (results_of m), record { names = s.0; settled = s.1; results_are = refl })
+
+-- ---- narrow modules
+
+three_inputs : (wide : Bool) (name : List ℕ) (k : ℕ) → wide ≡ false → IsInput wide name k → k < 3
+three_inputs true name k narrow is = absurd (true≢false narrow)
+three_inputs false name zero narrow is = omega arith
+three_inputs false name (suc zero) narrow is = omega arith
+three_inputs false name (suc (suc zero)) narrow is = omega arith
+three_inputs false name (suc (suc (suc k))) narrow is = absurd cc
+
+pub narrow_ignores : NarrowIgnores
+narrow_ignores m narrow arguments others results same of = record {
+  names = of.names;
+  settled = record {
+    inputs_are = λ k name is. of.settled.inputs_are k name is ∙ ap (of_width 32) (same k (three_inputs m.wires.wide name k narrow is));
+    wires_are = of.settled.wires_are;
+  };
+  results_are = of.results_are;
+}
 
 -- ---- values fit their widths
 
@@ -191,44 +215,36 @@ fit_along known (wire ∷ wires) names are settled fit =
     (subst (λ v. Fits v wire.width) (sym (settled wire (first_wire wire wires)))
     (record { width_is = refl; in_range = expr_fits known names fit wire.value wire.width are.0.value }))))
 
--- three words fit their inputs
-inputs_fit : (names : List ℕ → Vector) (arguments : List ℕ) → map (λ input. names input.name) inputs ≡ map (of_width 32) arguments
-    → All (λ n. n < 2 ^ 32) arguments → AllFit inputs names
-inputs_fit names [] are words = absurd cc
-inputs_fit names (a ∷ []) are words = absurd cc
-inputs_fit names (a ∷ b ∷ []) are words = absurd cc
-inputs_fit names (a ∷ b ∷ c ∷ []) are words = by_place
-  where
-    word : (n : ℕ) → n < 2 ^ 32 → (v : Vector) → v ≡ of_width 32 n → Fits v 32
-    word n below v e = subst (λ v. Fits v 32) (sym e) (record { width_is = refl; in_range = below })
+-- words fit their inputs
+pub word_at : (arguments : List ℕ) → All (λ n. n < 2 ^ 32) arguments → (k : ℕ) → slice_index arguments k < 2 ^ 32
+word_at arguments words k = elim (cases_lt k (length arguments)) [
+  | inl there ↦ words k 0 there
+  | inr past ↦ subst (λ n. n < 2 ^ 32) (sym (get_or_past arguments k 0 past)) (lit< tt)
+]
 
-    by_place : AllFit inputs names
-    by_place v (zero, below, is) =
-        subst (λ k. Fits (names k.name) k.width) is
-        (word a (words 0 0 (omega arith)) (names (codes "a")) (let e : names (codes "a") ≡ of_width 32 a = cc in e))
-    by_place v (suc zero, below, is) =
-        subst (λ k. Fits (names k.name) k.width) is
-        (word b (words 1 0 (omega arith)) (names (codes "b")) (let e : names (codes "b") ≡ of_width 32 b = cc in e))
-    by_place v (suc (suc zero), below, is) =
-        subst (λ k. Fits (names k.name) k.width) is
-        (word c (words 2 0 (omega arith)) (names (codes "c")) (let e : names (codes "c") ≡ of_width 32 c = cc in e))
-    by_place v (suc (suc (suc k)), below, is) = absurd (omega arith)
-inputs_fit names (a ∷ b ∷ c ∷ d ∷ more) are words = absurd cc
+inputs_fit : (wide : Bool) (names : List ℕ → Vector) (arguments : List ℕ) → AreGiven wide arguments names
+    → All (λ n. n < 2 ^ 32) arguments → AllFit (inputs wide) names
+inputs_fit wide names arguments given words v there =
+    let (k, is) = known_is_input wide v.name v.width there in
+    let word : Fits (of_width 32 (slice_index arguments k)) 32 = record { width_is = refl; in_range = word_at arguments words k } in
+    subst (λ w. Fits (names v.name) w) (sym (input_is_word wide v there))
+    (subst (λ u. Fits u 32) (sym (given k v.name is)) word)
 
 -- at words all names stand for vectors of their widths
 pub settled_fit : (m : Module) (arguments : List ℕ) (names : List ℕ → Vector) → IsModule m → Settles m arguments names
     → All (λ n. n < 2 ^ 32) arguments → AllFit (known_by m.wires) names
 settled_fit m arguments names is settled words =
-    fit_along inputs m.wires names is.are_wires settled.wires_are (inputs_fit names arguments settled.inputs_are words)
+    fit_along (inputs m.wires.wide) m.wires.list names is.are_wires settled.wires_are (inputs_fit m.wires.wide names arguments settled.inputs_are words)
 
 pub values_are_words : ValuesAreWords
 values_are_words m is arguments results words of =
     let fit = settled_fit m arguments of.names is of.settled words in
     subst (λ r. All (λ n. n < 2 ^ 32) r) (sym of.results_are)
-    (two (expr_value of.names m.y) (expr_value of.names m.z) (expr_fits (known_by m.wires) of.names fit m.y 32 is.y)
-    (expr_fits (known_by m.wires) of.names fit m.z 32 is.z))
+    (three (expr_value of.names m.y) (expr_value of.names m.z) (expr_value of.names m.x) (expr_fits (known_by m.wires) of.names fit m.y 32 is.y)
+    (expr_fits (known_by m.wires) of.names fit m.z 32 is.z) (expr_fits (known_by m.wires) of.names fit m.x 32 is.x))
   where
-    two : (y z : ℕ) → y < 2 ^ 32 → z < 2 ^ 32 → All (λ n. n < 2 ^ 32) (y ∷ z ∷ [])
-    two y z p q zero d below = p
-    two y z p q (suc zero) d below = q
-    two y z p q (suc (suc k)) d below = absurd (omega arith)
+    three : (y z x : ℕ) → y < 2 ^ 32 → z < 2 ^ 32 → x < 2 ^ 32 → All (λ n. n < 2 ^ 32) (y ∷ z ∷ x ∷ [])
+    three y z x p q r zero d below = p
+    three y z x p q r (suc zero) d below = q
+    three y z x p q r (suc (suc zero)) d below = r
+    three y z x p q r (suc (suc (suc k))) d below = absurd (omega arith)

@@ -1,7 +1,8 @@
 -- Modules of the profile, and what each of them keeps, for everybody (IEEE 1364-2005, sections 3.5.1 and 4.3, constants
 -- and vectors, 5.1, 5.2.1 and 5.4, operators, parts of vectors and widths, and 6.1, continuous assignments).
-use Rattle.std.specs.Prelude.{◌≡◌, ℕ, ◌+◌, ◌-◌, ◌*◌, ◌^◌, ◌<◌, ◌≤◌, List, [], ◌∷◌, ◌++◌, length, map, codes, ⊤}
-use Rattle.std.specs.List.{Contains}
+use Rattle.std.specs.Prelude.{◌≡◌, ℕ, ◌+◌, ◌-◌, ◌*◌, ◌^◌, ◌<◌, ◌≤◌, ◌≢◌, List, [], ◌∷◌, ◌++◌}
+use Rattle.std.specs.Prelude.{length, map, codes, slice_get, Some, Bool, true, false, ⊤}
+use Rattle.std.specs.List.{Contains, AllByRecursion}
 use Rattle.ci_verilog.specs.declared.expressions.Simple.{Simple}
 use Rattle.ci_verilog.specs.declared.expressions.Simple.TheVariants.{Whole, Bits, Number}
 use Rattle.ci_verilog.specs.declared.expressions.Item.{Item}
@@ -14,13 +15,23 @@ use Rattle.ci_verilog.specs.declared.expressions.Expr.{Expr}
 use Rattle.ci_verilog.specs.declared.expressions.Expr.TheVariants.{One, Two, Choose}
 use Rattle.ci_verilog.specs.declared.expressions.Wire.{Wire}
 
--- A module: its wires in their order, the expressions of its two results, and the cycles of one use.
+-- wires in their order: those of a wide module, of five inputs and three results, or of a narrow one, of three and two
+pub record WireList : Type 0 where
+  pub wide : Bool
+  pub list : List Wire
+
+abbrev pub wires_of : Bool → List Wire → WireList
+wires_of wide list = record { wide = wide; list = list }
+
+-- A module: its wires in their order, the expressions of its results, of which x is 0 in a narrow one, and the cycles
+-- of one use.
 pub record Module : Type 0 where
   pub number : ℕ
   pub cycles : ℕ
-  pub wires : List Wire
+  pub wires : WireList
   pub y : Expr
   pub z : Expr
+  pub x : Expr
 
 -- ---- widths
 
@@ -32,16 +43,23 @@ pub record Known : Type 0 where
 abbrev pub vector : List ℕ → ℕ → Known
 vector name width = record { name = name; width = width }
 
--- the inputs, in their order
-abbrev pub inputs : List Known
-inputs = vector (codes "a") 32 ∷ vector (codes "b") 32 ∷ vector (codes "c") 32 ∷ []
+-- the inputs, in their order: those of a narrow module, and those of a wide one
+abbrev pub inputs : Bool → List Known
+inputs false = vector (codes "a") 32 ∷ vector (codes "b") 32 ∷ vector (codes "c") 32 ∷ []
+inputs true =
+    vector (codes "a") 32 ∷ vector (codes "b") 32 ∷ vector (codes "c") 32 ∷ vector (codes "d") 32
+    ∷ vector (codes "e") 32 ∷ []
+
+-- the input of this number has the name
+abbrev pub IsInput : Bool → List ℕ → ℕ → Type 0
+IsInput wide name k = slice_get (inputs wide) k ≡ Some (vector name 32)
 
 abbrev pub declared_by : Wire → Known
 declared_by wire = vector wire.name wire.width
 
 -- the inputs and these wires
-abbrev pub known_by : List Wire → List Known
-known_by wires = inputs ++ map declared_by wires
+abbrev pub known_by : WireList → List Known
+known_by wires = inputs wires.wide ++ map declared_by wires.list
 
 -- the operator makes this width of operands of those widths
 abbrev pub Makes : Operator → ℕ → ℕ → ℕ → Type 0
@@ -97,9 +115,23 @@ abbrev pub AreWires : List Known → List Wire → Type 0
 AreWires known [] = ⊤
 AreWires known (wire ∷ wires) = IsWire known wire × AreWires (known ++ declared_by wire ∷ []) wires
 
+-- A wire may be named so: in a wide module x names a result. That d and e name inputs there is a matter of what is new.
+abbrev pub IsFree : Bool → List ℕ → Type 0
+IsFree wide name = wide ≡ true → name ≢ codes "x"
+
+abbrev pub AreFree : Bool → List Wire → Type 0
+AreFree wide = AllByRecursion (λ wire. IsFree wide wire.name)
+
+-- the result x of a narrow module, 32'h00000000
+abbrev pub nothing : Expr
+nothing = One (term.Plain (Number 32 0))
+
 -- what every module keeps
 pub record IsModule (module_ : Module) : Type 0 where
-  pub are_wires : AreWires inputs module_.wires
-  pub few : length module_.wires ≤ 2048
+  pub are_wires : AreWires (inputs module_.wires.wide) module_.wires.list
+  pub are_free : AreFree module_.wires.wide module_.wires.list
+  pub few : length module_.wires.list ≤ 2048
   pub y : IsExpr (known_by module_.wires) module_.y 32
   pub z : IsExpr (known_by module_.wires) module_.z 32
+  pub x : IsExpr (known_by module_.wires) module_.x 32
+  pub narrow : module_.wires.wide ≡ false → module_.x ≡ nothing

@@ -1,7 +1,7 @@
 -- What a module computes, for everybody (IEEE 1364-2005, section 5.1, operators on unsigned vectors, section 5.2.1,
 -- bits and parts of vectors, and section 6.1: an assigned wire always has the value of its expression).
 use Rattle.std.specs.Prelude.{◌≡◌, ℕ, ◌+◌, ◌-◌, ◌*◌, ◌/◌, ◌%◌, ◌^◌, ◌==◌, if◌then◌else◌, [], ◌∷◌}
-use Rattle.std.specs.Prelude.{nat_lt, bit_and, bit_or, bit_xor, List, map, replicate}
+use Rattle.std.specs.Prelude.{nat_lt, bit_and, bit_or, bit_xor, List, map, replicate, slice_index}
 use Rattle.std.specs.List.{Contains}
 use Rattle.ci_verilog.specs.declared.vectors.Vector.{Vector}
 use Rattle.ci_verilog.specs.declared.expressions.Simple.{Simple}
@@ -16,7 +16,7 @@ use Rattle.ci_verilog.specs.declared.expressions.Operator.TheVariants.{Left, Rig
 use Rattle.ci_verilog.specs.declared.expressions.Expr.{Expr}
 use Rattle.ci_verilog.specs.declared.expressions.Expr.TheVariants.{One, Two, Choose}
 use Rattle.ci_verilog.specs.declared.expressions.Wire.{Wire}
-use Rattle.ci_verilog.specs.Modules.{Module, inputs}
+use Rattle.ci_verilog.specs.Modules.{Module, IsInput}
 
 -- ---- vectors
 
@@ -72,17 +72,18 @@ expr_value names (Choose test first second) =
 
 -- the expressions of the results, in their order
 abbrev pub results_of : Module → List Expr
-results_of m = m.y ∷ m.z ∷ []
+results_of m = m.y ∷ m.z ∷ m.x ∷ []
 
 -- the names stand for these vectors in the module at these values of its inputs: each wire has the value of its
 -- expression
 pub record Settles (m : Module) (arguments : List ℕ) (names : List ℕ → Vector) : Type 0 where
-  pub inputs_are : map (λ input. names input.name) inputs ≡ map (of_width 32) arguments
-  pub wires_are : (wire : Wire) → Contains m.wires wire
+  pub inputs_are : (k : ℕ) (name : List ℕ) → IsInput m.wires.wide name k
+      → names name ≡ of_width 32 (slice_index arguments k)
+  pub wires_are : (wire : Wire) → Contains m.wires.list wire
       → names wire.name ≡ of_width wire.width (expr_value names wire.value)
 
--- The module has these results at these values of its inputs. A wire's expression names earlier wires
--- alone, so that each name that it has, directly or not, stands for one vector.
+-- The module has these results y, z and x at these values of a, b, c, d and e, of which a narrow one has no d and e. A
+-- wire's expression names earlier wires alone, so that each name that it has, directly or not, stands for one vector.
 pub record IsValueOf (m : Module) (arguments results : List ℕ) : Type 0 where
   pub names : List ℕ → Vector
   pub settled : Settles m arguments names

@@ -1,9 +1,9 @@
 -- For the impls of `PartialEq` and `Eq` alone: equal expressions and wires are one.
 use Rattle.std.proofs.Common.{◌≡◌, List, Bool, true, ap, sym, ◌∙◌, true≢false}
-use Rattle.std.specs.Bool.{Decides}
-use Rattle.std.specs.Cmp.{unsigned_Decides, IsEquivalence, decided}
+use Rattle.std.specs.Bool.{Decides, beq}
+use Rattle.std.specs.Cmp.{unsigned_Decides, booleans_Decides, IsEquivalence, decided}
 use Rattle.std.specs.Cmp.Lexicographic.{pointwise, pointwise_decides}
-use Rattle.std.proofs.lemmas.Bool.{and_parts}
+use Rattle.std.proofs.lemmas.Bool.{and_parts, and_from}
 use denote.Enum.Bare.{same_true}
 use Rattle.ci_verilog.specs.contracts.expressions.Operator as operators
 use Rattle.ci_verilog.specs.contracts.expressions.TermPartialEq.TheImpl as term
@@ -16,6 +16,8 @@ use Rattle.ci_verilog.specs.declared.expressions.Term.TheVariants as terms
 use Rattle.ci_verilog.specs.declared.expressions.Expr.{Expr}
 use Rattle.ci_verilog.specs.declared.expressions.Expr.TheVariants.{One, Two, Choose}
 use Rattle.ci_verilog.specs.declared.expressions.Wire.{Wire}
+use Rattle.ci_verilog.specs.Modules.{WireList}
+use Rattle.std.specs.Prelude.{◌&&◌}
 use Rattle.ci_verilog.specs.NameEquality.{same_name_decides}
 use Rattle.ci_verilog.specs.ItemEquality.{same_simple, same_items_decides}
 
@@ -78,5 +80,21 @@ wire_decides x y = (same_wire x y, λ same. ap (wire.ghosts.eq x) (sym same) ∙
 pub same_wires_decides : (x y : List Wire) → Decides (same_wires x y) (x ≡ y)
 same_wires_decides = pointwise_decides wire_decides
 
-pub wires_equivalent : IsEquivalence same_wires
-wires_equivalent = decided same_wires same_wires_decides
+-- wires of a wide module, or of a narrow one
+abbrev pub same_lists_of : WireList → WireList → Bool
+same_lists_of x y = beq x.wide y.wide && same_wires x.list y.list
+
+pub same_lists_decides : (x y : WireList) → Decides (same_lists_of x y) (x ≡ y)
+same_lists_decides x y = (
+  λ e.
+      let parts = and_parts _ _ e in
+      let wide = (booleans_Decides x.wide y.wide).0 parts.0 in
+      let list = (same_wires_decides x.list y.list).0 parts.1 in
+      λ k. record { wide = wide k; list = list k },
+  λ same.
+      and_from _ _ ((booleans_Decides x.wide y.wide).1 (ap (λ w. w.wide) same))
+      ((same_wires_decides x.list y.list).1 (ap (λ w. w.list) same)),
+)
+
+pub lists_equivalent : IsEquivalence same_lists_of
+lists_equivalent = decided same_lists_of same_lists_decides

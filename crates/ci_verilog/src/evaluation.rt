@@ -3,7 +3,7 @@ ghost use Rattle.std.specs.Prelude.{◌≡◌, ℕ, ◌-◌, ◌+◌, ◌<◌, �
 ghost use Rattle.std.specs.List.{Contains};
 ghost use Rattle.ci_verilog.specs.declared.vectors.Vector.{Vector};
 ghost use Rattle.ci_verilog.specs.declared.expressions.Wire.{Wire};
-ghost use Rattle.ci_verilog.specs.Modules.{Module, IsModule, known_by, vector, AreWires, inputs};
+ghost use Rattle.ci_verilog.specs.Modules.{Module, IsModule, known_by, vector, wires_of};
 ghost use Rattle.ci_verilog.specs.Values.{of_width, joined, simple_bits, item_bits, term_bits, expr_value};
 ghost use Rattle.ci_verilog.specs.Values.{IsValueOf, Settles};
 ghost use Rattle.ci_verilog.specs.Held.{InRange, Holds, IsHeld, SimpleFits, ItemFits, ItemsFit, TermFits, ExprFits};
@@ -16,7 +16,8 @@ use crate::vectors::{Vector, low_bits, operate};
 /// The values of the inputs, and of the wires so far.
 #[derive(Clone, Copy)]
 struct Scope<'a> {
-    arguments: [u32; 3],
+    arguments: [u32; 5],
+    wide: bool,
     wires: &'a [Wire],
     values: &'a [u64],
 }
@@ -25,11 +26,13 @@ impl Scope<'_> {
     /// What the name stands for.
     fn name(&self, name: &Name) -> Vector
         requires room { length self.now.wires.now ≤ length self.now.values.now }
-        requires known { (width : ℕ) × Contains (known_by self.now.wires.now) (vector name.now width) }
-        ensures { (names : List ℕ → Vector) → Holds names self.now.arguments self.now.wires.now self.now.values.now
+        requires known { (width : ℕ)
+            × Contains (known_by (wires_of self.now.wide self.now.wires.now)) (vector name.now width) }
+        ensures { (names : List ℕ → Vector)
+            → Holds names self.now.arguments (wires_of self.now.wide self.now.wires.now) self.now.values.now
             → result ≡ names name.now }
     {
-        match input_named(name.as_bytes()) {
+        match input_named(self.wide, name.as_bytes()) {
             Some(k) => Vector {
                 width: 32,
                 value: u64::from(self.arguments[k]),
@@ -47,9 +50,10 @@ impl Scope<'_> {
     /// The bits of a simple.
     fn simple(&self, simple: &Simple) -> Vector
         requires room { length self.now.wires.now ≤ length self.now.values.now }
-        requires held { IsHeld self.now.arguments self.now.wires.now self.now.values.now }
-        requires fits { SimpleFits self.now.wires.now simple.now }
-        ensures { (names : List ℕ → Vector) → Holds names self.now.arguments self.now.wires.now self.now.values.now
+        requires held { IsHeld self.now.arguments (wires_of self.now.wide self.now.wires.now) self.now.values.now }
+        requires fits { SimpleFits (wires_of self.now.wide self.now.wires.now) simple.now }
+        ensures { (names : List ℕ → Vector)
+            → Holds names self.now.arguments (wires_of self.now.wide self.now.wires.now) self.now.values.now
             → result ≡ simple_bits names simple.now }
     {
         match simple {
@@ -65,9 +69,10 @@ impl Scope<'_> {
     /// The bits of an item.
     fn item(&self, item: &Item) -> Vector
         requires room { length self.now.wires.now ≤ length self.now.values.now }
-        requires held { IsHeld self.now.arguments self.now.wires.now self.now.values.now }
-        requires fits { ItemFits self.now.wires.now item.now }
-        ensures { (names : List ℕ → Vector) → Holds names self.now.arguments self.now.wires.now self.now.values.now
+        requires held { IsHeld self.now.arguments (wires_of self.now.wide self.now.wires.now) self.now.values.now }
+        requires fits { ItemFits (wires_of self.now.wide self.now.wires.now) item.now }
+        ensures { (names : List ℕ → Vector)
+            → Holds names self.now.arguments (wires_of self.now.wide self.now.wires.now) self.now.values.now
             → result ≡ item_bits names item.now }
     {
         match item {
@@ -79,9 +84,10 @@ impl Scope<'_> {
     /// The bits of items, one behind the other.
     fn items(&self, items: &[Item]) -> Vector
         requires room { length self.now.wires.now ≤ length self.now.values.now }
-        requires held { IsHeld self.now.arguments self.now.wires.now self.now.values.now }
-        requires fits { ItemsFit self.now.wires.now items.now }
-        ensures { (names : List ℕ → Vector) → Holds names self.now.arguments self.now.wires.now self.now.values.now
+        requires held { IsHeld self.now.arguments (wires_of self.now.wide self.now.wires.now) self.now.values.now }
+        requires fits { ItemsFit (wires_of self.now.wide self.now.wires.now) items.now }
+        ensures { (names : List ℕ → Vector)
+            → Holds names self.now.arguments (wires_of self.now.wide self.now.wires.now) self.now.values.now
             → result ≡ joined (map (item_bits names) items.now) }
     {
         let mut bits = Vector::empty();
@@ -94,9 +100,10 @@ impl Scope<'_> {
     /// The bits of an operand.
     fn term(&self, term: &Term) -> Vector
         requires room { length self.now.wires.now ≤ length self.now.values.now }
-        requires held { IsHeld self.now.arguments self.now.wires.now self.now.values.now }
-        requires fits { TermFits self.now.wires.now term.now }
-        ensures { (names : List ℕ → Vector) → Holds names self.now.arguments self.now.wires.now self.now.values.now
+        requires held { IsHeld self.now.arguments (wires_of self.now.wide self.now.wires.now) self.now.values.now }
+        requires fits { TermFits (wires_of self.now.wide self.now.wires.now) term.now }
+        ensures { (names : List ℕ → Vector)
+            → Holds names self.now.arguments (wires_of self.now.wide self.now.wires.now) self.now.values.now
             → result ≡ term_bits names term.now }
     {
         match term {
@@ -109,9 +116,10 @@ impl Scope<'_> {
     /// The value of an expression.
     fn expr(&self, expr: &Expr) -> u64
         requires room { length self.now.wires.now ≤ length self.now.values.now }
-        requires held { IsHeld self.now.arguments self.now.wires.now self.now.values.now }
-        requires fits { ExprFits self.now.wires.now expr.now }
-        ensures { (names : List ℕ → Vector) → Holds names self.now.arguments self.now.wires.now self.now.values.now
+        requires held { IsHeld self.now.arguments (wires_of self.now.wide self.now.wires.now) self.now.values.now }
+        requires fits { ExprFits (wires_of self.now.wide self.now.wires.now) expr.now }
+        ensures { (names : List ℕ → Vector)
+            → Holds names self.now.arguments (wires_of self.now.wide self.now.wires.now) self.now.values.now
             → result ≡ expr_value names expr.now }
     {
         match expr {
@@ -131,16 +139,19 @@ impl Scope<'_> {
 }
 
 /// The values of the wires, in their order.
-fn evaluate(module: &Module, arguments: [u32; 3], values: &mut [u64])
+fn evaluate(module: &Module, arguments: [u32; 5], values: &mut [u64])
     requires words { All (λ n. n < 2 ^ 32) arguments }
     requires room { length values.old ≡ 2048 }
     ensures { (names : List ℕ → Vector) → Settles «module».now arguments names
         → Holds names arguments «module».now.wires values.new }
 {
-    let wires = module.wires().as_slice();
+    let all = module.wires();
+    let wide = all.is_wide();
+    let wires = all.as_slice();
     for k in 0..wires.len() {
         let scope = Scope {
             arguments,
+            wide,
             wires: &wires[..k],
             values,
         };
@@ -148,17 +159,23 @@ fn evaluate(module: &Module, arguments: [u32; 3], values: &mut [u64])
     }
 }
 
-/// The values of y and z where the inputs have the values a, b and c (IEEE 1364-2005, section 6.1). It takes no memory.
-pub fn eval(module: &Module, a: u32, b: u32, c: u32) -> (u32, u32)
-    ensures { IsValueOf «module».now (a ∷ b ∷ c ∷ []) (result.0 ∷ result.1 ∷ []) }
+/// The values of y, z and x where the inputs have the values a to e (IEEE 1364-2005, section 6.1). It takes no memory.
+pub fn eval(module: &Module, a: u32, b: u32, c: u32, d: u32, e: u32) -> (u32, u32, u32)
+    ensures { IsValueOf «module».now (a ∷ b ∷ c ∷ d ∷ e ∷ []) (result.0 ∷ result.1 ∷ result.2 ∷ []) }
 {
-    let arguments = [a, b, c];
+    let arguments = [a, b, c, d, e];
     let mut values = [0; 2048];
     evaluate(module, arguments, &mut values);
+    let all = module.wires();
     let scope = Scope {
         arguments,
-        wires: module.wires().as_slice(),
+        wide: all.is_wide(),
+        wires: all.as_slice(),
         values: &values,
     };
-    (scope.expr(module.y()) as u32, scope.expr(module.z()) as u32)
+    (
+        scope.expr(module.y()) as u32,
+        scope.expr(module.z()) as u32,
+        scope.expr(module.x()) as u32,
+    )
 }

@@ -2,20 +2,22 @@
 ghost use Rattle.std.specs.Prelude.{◌≡◌, ◌≢◌, ℕ, ◌<◌, ◌≤◌, length, codes, IfSome, IsNone, IfNone, IsTrue, ◌↔◌};
 ghost use Rattle.std.specs.List.{slice_index_or, Contains};
 ghost use Rattle.ci_verilog.specs.declared.expressions.Wire.{Wire};
-ghost use Rattle.ci_verilog.specs.Modules.{Known, vector, inputs};
-ghost use Rattle.ci_verilog.specs.Held.{IsInput};
+ghost use Rattle.ci_verilog.specs.Modules.{Known, IsInput, vector, inputs};
 
 use crate::expressions::{Name, Wire};
 
-/// The number of the input that has the name.
-pub(crate) fn input_named(name: &[u8]) -> Option<usize>
-    ensures some { IfSome result (λ k. IsInput name.now k) }
-    ensures none { IsNone result → (k : ℕ) → ¬ IsInput name.now k }
+/// The number of the input that has the name, in a wide module or in a narrow one.
+pub(crate) fn input_named(wide: bool, name: &[u8]) -> Option<usize>
+    ensures some { IfSome result (λ k. IsInput wide name.now k) }
+    ensures few { IfSome result (λ k. k < 5) }
+    ensures none { IsNone result → (k : ℕ) → ¬ IsInput wide name.now k }
 {
     match name {
         b"a" => Some(0),
         b"b" => Some(1),
         b"c" => Some(2),
+        b"d" => if wide { Some(3) } else { None },
+        b"e" => if wide { Some(4) } else { None },
         _ => None,
     }
 }

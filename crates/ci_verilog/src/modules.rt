@@ -1,14 +1,16 @@
 //! Whole modules (IEEE 1364-2005, section 12.1).
-ghost use Rattle.std.specs.Prelude.{◌≡◌};
+ghost use Rattle.std.specs.Prelude.{◌≡◌, false};
 
 use crate::expressions::Expr;
 use crate::wires::Wires;
 use std::marker::Model;
 
-/// A module with the inputs a, b and c, and the results y and z, all of 32 bits.
+/// A narrow module, with the inputs a, b and c and the results y and z, or a wide one, which has the inputs d and e and
+/// the result x too, all of 32 bits. The x of a narrow one is the constant 0.
 ///
-/// Each name in a term is a, b, c or an earlier wire, no two of these have one name, widths are from 1 to 64 and agree,
-/// constants, counts, indices and ranges are within their bounds, and there are at most 2,048 wires.
+/// Each name in a term is an input or an earlier wire, no two of these have one name, no wire of a wide one is named x,
+/// widths are from 1 to 64 and agree, constants, counts, indices and ranges are within their bounds, and there are at
+/// most 2,048 wires.
 #[derive(Debug, Drop)]
 pub struct Module {
     number: u8,
@@ -16,6 +18,7 @@ pub struct Module {
     wires: Wires,
     y: Expr,
     z: Expr,
+    x: Expr,
 }
 
 impl Model for Module {
@@ -23,10 +26,10 @@ impl Model for Module {
 
     ghost Value = { Module };
 
-    ghost view = { λ m. record { number = m.number; cycles = m.cycles; wires = m.wires; y = m.y; z = m.z } };
+    ghost view = { λ m. record { number = m.number; cycles = m.cycles; wires = m.wires; y = m.y; z = m.z; x = m.x } };
 
     ghost invariant = { λ m.
-        IsModule (record { number = m.number; cycles = m.cycles; wires = m.wires; y = m.y; z = m.z }) };
+        IsModule (record { number = m.number; cycles = m.cycles; wires = m.wires; y = m.y; z = m.z; x = m.x }) };
 }
 
 /// Modules are equal where their numbers, their cycles, their wires and the expressions of their results are.
@@ -44,6 +47,7 @@ impl PartialEq for Module {
             && self.wires == other.wires
             && self.y == other.y
             && self.z == other.z
+            && self.x == other.x
     }
 }
 
@@ -54,13 +58,15 @@ impl Eq for Module {
 }
 
 impl Module {
-    ghost use Rattle.ci_verilog.specs.Modules.{IsModule, IsExpr, known_by};
+    ghost use Rattle.ci_verilog.specs.Modules.{IsModule, IsExpr, known_by, nothing};
 
     /// The module of this number with these wires and results. `cycles` are those of one use.
-    pub fn new(number: u8, cycles: u32, wires: Wires, y: Expr, z: Expr) -> Module
+    pub fn new(number: u8, cycles: u32, wires: Wires, y: Expr, z: Expr, x: Expr) -> Module
         requires y_is_word { IsExpr (known_by wires) y 32 }
         requires z_is_word { IsExpr (known_by wires) z 32 }
-        ensures { result ≡ record { number = number; cycles = cycles; wires = wires; y = y; z = z } }
+        requires x_is_word { IsExpr (known_by wires) x 32 }
+        requires narrow { wires.wide ≡ false → x ≡ nothing }
+        ensures { result ≡ record { number = number; cycles = cycles; wires = wires; y = y; z = z; x = x } }
     {
         let _count = wires.len();
         Module {
@@ -69,6 +75,7 @@ impl Module {
             wires,
             y,
             z,
+            x,
         }
     }
 
@@ -94,6 +101,13 @@ impl Module {
         &self.wires
     }
 
+    /// Whether it is a wide one.
+    pub fn is_wide(&self) -> bool
+        ensures { result ≡ self.now.wires.wide }
+    {
+        self.wires.is_wide()
+    }
+
     /// The expression of y.
     pub fn y(&self) -> &Expr
         ensures { result.now ≡ self.now.y }
@@ -106,5 +120,12 @@ impl Module {
         ensures { result.now ≡ self.now.z }
     {
         &self.z
+    }
+
+    /// The expression of x.
+    pub fn x(&self) -> &Expr
+        ensures { result.now ≡ self.now.x }
+    {
+        &self.x
     }
 }

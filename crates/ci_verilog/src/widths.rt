@@ -2,7 +2,7 @@
 ghost use Rattle.std.specs.Prelude.{◌≡◌, ℕ, ◌*◌, ◌≤◌, ◌<◌, ◌^◌, ◌+◌, ◌-◌, ◌↔◌, Some, IsTrue};
 ghost use Rattle.std.specs.List.{Contains};
 ghost use Rattle.ci_verilog.specs.Modules.{known_by, vector, Makes};
-ghost use Rattle.ci_verilog.specs.Modules.{IsSimple, IsItem, AreItems, IsTerm, IsExpr, IsNew, IsWire};
+ghost use Rattle.ci_verilog.specs.Modules.{IsSimple, IsItem, AreItems, IsTerm, IsExpr, IsNew, IsWire, IsFree};
 
 use crate::expressions::{Expr, Item, Name, Operator, Simple, Term, Wire};
 use crate::lookup::{input_named, wire_named};
@@ -63,6 +63,16 @@ fn chosen(test: u8, first: u8, second: u8) -> Option<u8>
     }
 }
 
+/// Whether a wire may have this name, in a wide module or in a narrow one.
+fn is_free(wide: bool, name: &[u8]) -> bool
+    ensures { IsTrue result ↔ IsFree wide name.now }
+{
+    match name {
+        b"x" => !wide,
+        _ => true,
+    }
+}
+
 /// Whether a wire of the first width may have an expression of the second.
 fn is_declared(declared: u8, width: u8) -> bool
     ensures { IsTrue result ↔ ((1 ≤ declared) × (declared ≤ 64) × (declared ≡ width)) }
@@ -76,7 +86,7 @@ impl Wires {
         ensures { (w : ℕ) → (result ≡ Some w) ↔ Contains (known_by self.now) (vector name.now w) }
     {
         let wires = self.as_slice();
-        match input_named(name.as_bytes()) {
+        match input_named(self.is_wide(), name.as_bytes()) {
             Some(_) => Some(32),
             None => match wire_named(wires, name) {
                 Some(place) => Some(wires[place].width),
@@ -85,7 +95,7 @@ impl Wires {
         }
     }
 
-    /// Whether no input or wire has this name, so that the next wire may.
+    /// Whether no input or wire has this name.
     pub fn is_new(&self, name: &Name) -> bool
         ensures { IsTrue result ↔ IsNew (known_by self.now) name.now }
     {
@@ -169,11 +179,15 @@ impl Wires {
         }
     }
 
-    /// Whether the wire may be the next one: its name is new, and it has the width of its expression, from 1 to 64.
+    /// Whether the wire may be the next one: its name is new, and in a wide module it isn't x, and it has the width of
+    /// its expression, from 1 to 64.
     pub fn allows(&self, wire: &Wire) -> bool
-        ensures { IsTrue result ↔ IsWire (known_by self.now) wire.now }
+        ensures { IsTrue result ↔ (IsWire (known_by self.now) wire.now × IsFree self.now.wide wire.now.name) }
     {
         if !self.is_new(&wire.name) {
+            return false;
+        }
+        if !is_free(self.is_wide(), wire.name.as_bytes()) {
             return false;
         }
         match self.expr_width(&wire.value) {

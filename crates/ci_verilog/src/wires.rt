@@ -1,6 +1,6 @@
 //! The wires of a module, taken one after the other.
 ghost use Rattle.std.specs.Prelude.{◌≡◌, ◌<◌, ◌≤◌, ◌↔◌, [], ◌∷◌, ◌++◌, length, IsTrue, OnOk, OnErr};
-ghost use Rattle.ci_verilog.specs.Modules.{IsWire, AreWires, known_by, inputs};
+ghost use Rattle.ci_verilog.specs.Modules.{IsWire, IsFree, AreWires, AreFree, known_by, inputs};
 
 use crate::expressions::{Name, Wire};
 use crate::lookup::wire_named;
@@ -12,103 +12,117 @@ pub const WIRES: usize = 2048;
 
 /// The wires of a module in their order, at most 2,048.
 ///
-/// Each names only a, b, c and earlier wires, and has a name of its own and the width of its expression. Contracts see
-/// a list. A reader or an emitter takes the wires of a module one after the other; before each it may ask of what width
-/// a name, a term or an expression is, if any, and whether a wire may come next.
+/// Each names only inputs and earlier wires, and has a name of its own, which in a wide module isn't x, and the width
+/// of its expression. Contracts see a list, and whether the module is a wide one. A reader or an emitter takes the
+/// wires of a module one after the other; before each it may ask of what width a name, a term or an expression is, if
+/// any, and whether a wire may come next.
 #[derive(Debug, Drop)]
 pub struct Wires {
+    wide: bool,
     wires: Vec<Wire>,
 }
 
 impl Model for Wires {
     ghost use Rattle.std.specs.Prelude.{List, ◌≤◌, length};
     ghost use Rattle.ci_verilog.specs.declared.expressions.Wire.{Wire};
-    ghost use Rattle.ci_verilog.specs.Modules.{AreWires, inputs};
+    ghost use Rattle.ci_verilog.specs.Modules.{WireList, AreWires, AreFree, inputs};
 
-    ghost Value = { List Wire };
+    ghost Value = { WireList };
 
-    ghost view = { λ w. w.wires.items };
+    ghost view = { λ w. record { wide = w.wide; list = w.wires.items } };
 
-    ghost invariant = { λ w. AreWires inputs w.wires.items × (length w.wires.items ≤ 2048) };
+    ghost invariant = { λ w.
+        AreWires (inputs w.wide) w.wires.items × AreFree w.wide w.wires.items × (length w.wires.items ≤ 2048) };
 }
 
-/// Lists of wires are equal where their wires are.
+/// Lists of wires are equal where their wires are, and both are those of a wide module or of a narrow one.
 impl PartialEq for Wires {
     ghost use Rattle.std.specs.Cmp.{partial_equiv_from_equiv};
-    ghost use Rattle.ci_verilog.specs.WireEquality.{same_wires, wires_equivalent};
+    ghost use Rattle.ci_verilog.specs.WireEquality.{same_lists_of, lists_equivalent};
 
-    ghost eq = { same_wires };
+    ghost eq = { same_lists_of };
 
-    ghost laws = { partial_equiv_from_equiv wires_equivalent };
+    ghost laws = { partial_equiv_from_equiv lists_equivalent };
 
     fn eq(&self, other: &Wires) -> bool {
-        self.wires == other.wires
+        self.wide == other.wide && self.wires == other.wires
     }
 }
 
 impl Eq for Wires {
-    ghost use Rattle.ci_verilog.specs.WireEquality.{wires_equivalent};
+    ghost use Rattle.ci_verilog.specs.WireEquality.{lists_equivalent};
 
-    ghost laws = { wires_equivalent };
+    ghost laws = { lists_equivalent };
 }
 
 impl Wires {
-    /// No wires. It takes no memory.
-    pub fn new(alloc: Global) -> Wires
-        ensures { result ≡ [] }
+    /// No wires, of a wide module or of a narrow one. It takes no memory.
+    pub fn new(wide: bool, alloc: Global) -> Wires
+        ensures { result ≡ record { wide = wide; list = [] } }
     {
         Wires {
+            wide,
             wires: Vec::new(alloc),
         }
     }
 
     /// These wires, of which each one comes next behind those before it.
-    pub fn from_vec(wires: Vec<Wire>) -> Wires
-        requires are_wires { AreWires inputs wires.items }
+    pub fn from_vec(wide: bool, wires: Vec<Wire>) -> Wires
+        requires are_wires { AreWires (inputs wide) wires.items }
+        requires are_free { AreFree wide wires.items }
         requires few { length wires.items ≤ 2048 }
-        ensures { result ≡ wires.items }
+        ensures { result ≡ record { wide = wide; list = wires.items } }
     {
-        Wires { wires }
+        Wires { wide, wires }
+    }
+
+    /// Whether they are those of a wide module.
+    pub fn is_wide(&self) -> bool
+        ensures { result ≡ self.now.wide }
+    {
+        self.wide
     }
 
     /// The wires in their order.
     pub fn as_slice(&self) -> &[Wire]
-        ensures value { result.now ≡ self.now }
-        ensures kept { AreWires inputs self.now }
-        ensures few { length self.now ≤ 2048 }
+        ensures value { result.now ≡ self.now.list }
+        ensures kept { AreWires (inputs self.now.wide) self.now.list }
+        ensures few { length self.now.list ≤ 2048 }
     {
         &self.wires
     }
 
     /// How many there are.
     pub fn len(&self) -> usize
-        ensures value { result ≡ length self.now }
-        ensures kept { AreWires inputs self.now }
-        ensures few { length self.now ≤ 2048 }
+        ensures value { result ≡ length self.now.list }
+        ensures kept { AreWires (inputs self.now.wide) self.now.list }
+        ensures free { AreFree self.now.wide self.now.list }
+        ensures few { length self.now.list ≤ 2048 }
     {
         self.wires.len()
     }
 
     /// Whether there is none.
     pub fn is_empty(&self) -> bool
-        ensures { IsTrue result ↔ (self.now ≡ []) }
+        ensures { IsTrue result ↔ (self.now.list ≡ []) }
     {
         self.wires.is_empty()
     }
 
     /// Whether there are as many as a module may have.
     pub fn is_full(&self) -> bool
-        ensures value { IsTrue result ↔ (length self.now ≡ 2048) }
-        ensures few { length self.now ≤ 2048 }
+        ensures value { IsTrue result ↔ (length self.now.list ≡ 2048) }
+        ensures few { length self.now.list ≤ 2048 }
     {
         self.wires.len() == WIRES
     }
 
     /// Puts a wire at the end. An Err is out of memory, and nothing changes.
     pub fn push(&mut self, wire: Wire) -> Result<(), AllocError>
-        requires room { length self.old < 2048 }
+        requires room { length self.old.list < 2048 }
         requires is_wire { IsWire (known_by self.old) wire }
-        ensures ok { OnOk result (self.new ≡ self.old ++ wire ∷ []) }
+        requires is_free { IsFree self.old.wide wire.name }
+        ensures ok { OnOk result (self.new ≡ record { wide = self.old.wide; list = self.old.list ++ wire ∷ [] }) }
         ensures err { OnErr result (self.new ≡ self.old) }
     {
         self.wires.push(wire)?;

@@ -1,10 +1,10 @@
 -- Each list of symbols of a text goes on with the grammar in just one way.
-use Rattle.std.proofs.Common.{◌≡◌, ℕ, zero, suc, ◌≤◌, inl, inr, List, [], ◌∷◌, ◌++◌, length, map, refl, ap, arith}
+use Rattle.std.proofs.Common.{◌≡◌, ℕ, zero, suc, ◌≤◌, inl, inr, List, [], ◌∷◌, ◌++◌, length, map, refl, ap, arith, true, false}
 use Rattle.ci_reading.specs.Tokens.{token, stray_byte, text_end, at}
-use Rattle.ci_vread.specs.declared.tokens.Sign.TheVariants.{ModuleWord, WireWord, LeftBracket, LeftBrace, Comma, Colon, Question}
+use Rattle.ci_vread.specs.declared.tokens.Sign.TheVariants.{ModuleWord, InputWord, WireWord, LeftBracket, LeftBrace, Comma, Colon, Question}
 use Rattle.ci_vread.specs.Lexicon.{Token, sign, operator, number, constant}
-use Rattle.ci_vread.specs.Grammar.{Symbol, Placed, Role, is, its_cycles, its_module, Part, reads, ends, made, End, Phrase, parts_of, ports, repetition}
-use Rattle.ci_vread.specs.Grammar.{units, wires, side, others, term, inside, item, items, simple, bits, range, NeedsNext, of_bits, of_others}
+use Rattle.ci_vread.specs.Grammar.{Symbol, Placed, Role, is, its_cycles, its_module, Part, reads, ends, made, End, Phrase, parts_of, first_ports, other_ports, repetition}
+use Rattle.ci_vread.specs.Grammar.{units, body, wires, side, others, term, inside, item, items, simple, bits, range, NeedsNext, of_bits, of_others}
 use Rattle.ci_vread.specs.Grammar.{Event, read, ended, Finish, Goes, all_read, by_parts, by_end, by_token, bad_token, bad_byte, no_token, no_next}
 use Rattle.ci_vread.proofs.TokenDecisions.{Decided, fits_or_not}
 
@@ -176,6 +176,14 @@ tokens_run (t ∷ tokens) g = step (tokens_run tokens g)
 result_run : {n : ℕ} {due : List Part} {one two three four : Role} → Runs n due → Runs n (reads one ∷ reads two ∷ reads three ∷ made side ∷ reads four ∷ due)
 result_run g = step (step (step (side_run (step g))))
 
+body_run : (n : ℕ) {due : List Part} → Runs n due → Runs n (made body ∷ due)
+body_run n {due} g = phrase_run opens
+  where
+    opens : (x : Symbol) → Runs n (parts_of body x ++ due)
+    opens (token (sign InputWord)) =
+        ends_run (tokens_run (other_ports true) (wires_run n (ends_run (result_run (result_run (result_run (step g)))))))
+    opens x = tokens_run (other_ports false) (wires_run n (ends_run (result_run (result_run (step g)))))
+
 -- symbols of a text go on with the grammar in some way
 pub goes_somehow : (n : ℕ) → Runs n (made units ∷ [])
 goes_somehow zero = none_short
@@ -188,7 +196,7 @@ goes_somehow (suc n) = by (goes_somehow n)
     by again last _ by_text_end short = record { events = []; finish = _; goes = by_parts no_need all_read }
     by again last _ by_stray short = record { events = []; finish = _; goes = by_parts no_need bad_byte }
     by again last _ (behind {place = p} {t = t} e) short =
-        let body = tokens_run ports (wires_run n (ends_run (result_run (result_run (step again))))) in
-        let header = reads_run {role = its_cycles} (step {role = is (sign ModuleWord)} (step {role = its_module} body)) in
+        let inside = tokens_run first_ports (body_run n again) in
+        let header = reads_run {role = its_cycles} (step {role = is (sign ModuleWord)} (step {role = its_module} inside)) in
         let o = header last _ (behind {place = p} {t = t} e) short in
         record { events = o.events; finish = o.finish; goes = by_parts no_need o.goes }

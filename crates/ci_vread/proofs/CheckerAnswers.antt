@@ -30,7 +30,7 @@ all_from_less m n (r ∷ rules) le all = (omega (arith, le, all.0), all_from_les
 read_place : (s : Seen) (role : Role) (t : Token) (place : ℕ) → AllFrom place (rules_of s (read role t place))
 read_place s its_module (name bytes) place = (omega arith, tt)
 read_place s its_high (number n) place = (omega arith, tt)
-read_place s its_name (name bytes) place = (omega arith, (omega arith, tt))
+read_place s its_name (name bytes) place = (omega arith, (omega arith, (omega arith, tt)))
 read_place s its_target (name bytes) place = (omega arith, tt)
 read_place s its_use t place = (omega arith, tt)
 read_place s its_index (number n) place = (omega arith, tt)

@@ -1,6 +1,6 @@
 -- Where tokens spell something, just that is read off them, whatever follows.
 use Rattle.std.proofs.Common.{◌≡◌, ℕ, zero, suc, ◌+◌, ◌<◌, ◌≤◌, ◌%◌, true, false, List, [], ◌∷◌, ◌++◌, drop, length, refl, sym, ap, ◌∙◌, append_assoc, add-one}
-use Rattle.std.proofs.Common.{arith}
+use Rattle.std.proofs.Common.{arith, Bool}
 use Rattle.std.specs.List.{AllByRecursion}
 use Rattle.ci_verilog.specs.declared.expressions.Simple.{Simple}
 use Rattle.ci_verilog.specs.declared.expressions.Simple.TheVariants.{Bits, Number}
@@ -12,19 +12,19 @@ use Rattle.ci_verilog.specs.declared.expressions.Expr.{Expr}
 use Rattle.ci_verilog.specs.declared.expressions.Expr.TheVariants.{Two, Choose}
 use Rattle.ci_verilog.specs.declared.expressions.Wire.{Wire}
 use Rattle.ci_verilog.specs.Modules.{Module}
-use Rattle.ci_vread.specs.declared.tokens.Sign.{Sign}
 use Rattle.ci_vread.specs.declared.tokens.Sign.TheVariants.{NameY, NameZ, EndModuleWord, LeftBracket, RightBracket, LeftBrace, RightBrace, Comma, Semicolon}
 use Rattle.ci_vread.specs.declared.tokens.Sign.TheVariants.{Colon, Question}
 use Rattle.ci_vread.specs.Lexicon.{Token, sign, operator, number}
-use Rattle.ci_vread.specs.Grammar.{Fits, its_use, a_use, input_a, input_b, input_c}
+use Rattle.ci_vread.specs.Grammar.{Fits, its_use, a_use, input_a, input_b, input_c, name_x, other_ports}
 use Rattle.ci_vread.specs.Rules.{bytes_of}
 use Rattle.ci_vread.specs.Spelling as spelling
 use Rattle.ci_vread.specs.Spelling.{SpellsSimple, whole_name, one_bit, some_bits, some_constant, SpellsItem, SpellsItems, last, more, SpellsTerm}
 use Rattle.ci_vread.specs.Spelling.{SpellsExpr, SpellsWire, some_wire, SpellsWires, no_wires, more_wires, SpellsModule, some_module, SpellsModules, no_modules}
-use Rattle.ci_vread.specs.Spelling.{more_modules, result}
+use Rattle.ci_vread.specs.Spelling.{more_modules, result, SpellsThird, no_third, some_third}
 use Rattle.ci_vread.specs.Building.{front, is_sign, is_number, is_cycles, number_in, cycles_in, operator_in, constant_in, name_in, begins_item, begins_wire}
 use Rattle.ci_vread.specs.Building.{begins_module, low_of, bits_of, named_by, simple_of, repeated_of, item_by, item_of, many, items_of, inside_by, inside_of}
-use Rattle.ci_vread.specs.Building.{term_by, term_of, others_of, expr_of, wire_of, wires_of, result_of, module_of, modules_of}
+use Rattle.ci_vread.specs.Building.{term_by, term_of, others_of, expr_of, wire_of, wires_of, result_of, third_of, is_wide}
+use Rattle.ci_vread.specs.Building.{ports_behind, module_by, module_of, modules_of}
 use Rattle.ci_vread.proofs.ManyTokens.{one_more, no_more}
 use Rattle.ci_vread.proofs.SmallNumbers.{SmallSimple, SmallItem, SmallTerm, SmallExpr, SmallWire, SmallModule, small_module}
 
@@ -184,24 +184,24 @@ expr_exact rest (spelling.SpellsExpr.choose {test} {first} {second} {t} {f} {s} 
 
 -- ---- wires
 
-wire_exact : {tokens : List Token} {w : Wire} (rest : List Token) → SpellsWire tokens w → SmallWire w
+wire_exact : {wide : Bool} {tokens : List Token} {w : Wire} (rest : List Token) → SpellsWire wide tokens w → SmallWire w
     → wire_of (tokens ++ rest) ≡ (w, rest)
 unfolding wire_of name_in number_in
-wire_exact rest (some_wire {expr} high {w} width spells) small =
+wire_exact rest (some_wire {expr = expr} high {w = w} width free spells) small =
     let e = ap expr_of (append_assoc expr (sign Semicolon ∷ []) rest) ∙ expr_exact rest spells small.1 in
     let same : high % 128 + 1 ≡ w.width = omega (arith, width, small.0, small_number high (omega (arith, width, small.0))) in
     λ i. (record { name = w.name; width = same i; value = (e i).0 }, drop 1 (e i).1)
 
-wire_begins : {tokens : List Token} {w : Wire} (rest : List Token) → SpellsWire tokens w → begins_wire (tokens ++ rest) ≡ true
+wire_begins : {wide : Bool} {tokens : List Token} {w : Wire} (rest : List Token) → SpellsWire wide tokens w → begins_wire (tokens ++ rest) ≡ true
 unfolding is_sign
-wire_begins rest (some_wire high width spells) = refl
+wire_begins rest (some_wire high width free spells) = refl
 
-wires_exact : {tokens : List Token} {wires : List Wire} (most k : ℕ) (rest : List Token) → SpellsWires tokens wires
+wires_exact : {wide : Bool} {tokens : List Token} {wires : List Wire} (most k : ℕ) (rest : List Token) → SpellsWires wide tokens wires
     → AllByRecursion SmallWire wires → length wires ≤ most → begins_wire rest ≡ false
     → many begins_wire (λ k rest. wire_of rest) most k (tokens ++ rest) ≡ (wires, rest)
 wires_exact most k rest no_wires small few none = no_more begins_wire (λ k rest. wire_of rest) most k rest none
-wires_exact zero k rest (more_wires {tokens} {others} {w} {wires} spells later) small few none = absurd (omega arith)
-wires_exact (suc most) k rest (more_wires {tokens} {others} {w} {wires} spells later) small few none =
+wires_exact zero k rest (more_wires {tokens = tokens} {others = others} {w = w} {wires = wires} spells later) small few none = absurd (omega arith)
+wires_exact (suc most) k rest (more_wires {tokens = tokens} {others = others} {w = w} {wires = wires} spells later) small few none =
     let e = ap wire_of (append_assoc tokens others rest) ∙ wire_exact (others ++ rest) spells small.0 in
     one_more begins_wire (λ k rest. wire_of rest) most k ((tokens ++ others) ++ rest)
     (ap begins_wire (append_assoc tokens others rest) ∙ wire_begins (others ++ rest) spells)
@@ -211,47 +211,106 @@ wires_exact (suc most) k rest (more_wires {tokens} {others} {w} {wires} spells l
     ))
     ∙ ap (λ v. (w ∷ v.0, v.1)) (wires_exact most (k + 1) rest later small.1 (omega arith) none)
 
-all_wires : {tokens : List Token} {wires : List Wire} (rest : List Token) → SpellsWires tokens wires
+all_wires : {wide : Bool} {tokens : List Token} {wires : List Wire} (rest : List Token) → SpellsWires wide tokens wires
     → AllByRecursion SmallWire wires → length wires ≤ 2048 → begins_wire rest ≡ false → wires_of (tokens ++ rest) ≡ (wires, rest)
 unfolding wires_of
 all_wires rest spells small few none = wires_exact 2048 0 rest spells small few none
 
 -- ---- modules
 
-result_exact : {tokens : List Token} {e : Expr} (s : Sign) (rest : List Token) → SpellsExpr tokens e → SmallExpr e
+result_exact : {tokens : List Token} {e : Expr} (s : Token) (rest : List Token) → SpellsExpr tokens e → SmallExpr e
     → result_of (result s tokens ++ rest) ≡ (e, rest)
 unfolding result_of
 result_exact {tokens} s rest spells small =
     let e = ap expr_of (append_assoc tokens (sign Semicolon ∷ []) rest) ∙ expr_exact rest spells small in
     λ i. ((e i).0, drop 1 (e i).1)
 
+third_exact : {wide : Bool} {tokens : List Token} {e : Expr} (rest : List Token) → SpellsThird wide tokens e → SmallExpr e
+    → third_of wide (tokens ++ rest) ≡ (e, rest)
+unfolding third_of
+third_exact rest no_third small = refl
+third_exact rest (some_third spells) small = result_exact name_x rest spells small
+
+wide_exact : (wide : Bool) (rest : List Token) → is_wide (other_ports wide ++ rest) ≡ wide
+unfolding is_wide is_sign
+wide_exact true rest = refl
+wide_exact false rest = refl
+
+ports_exact : (wide : Bool) (rest : List Token) → drop (ports_behind wide) (other_ports wide ++ rest) ≡ rest
+unfolding ports_behind
+ports_exact true rest = refl
+ports_exact false rest = refl
+
+-- a module behind its ports
+body_exact : {wires first second third : List Token} (m : Module) (rest : List Token) → SpellsWires m.wires.wide wires m.wires.list
+    → SpellsExpr first m.y → SpellsExpr second m.z → SpellsThird m.wires.wide third m.x → SmallModule m
+    → module_by m.number m.cycles m.wires.wide ((wires ++ (result (sign NameY) first ++ (result (sign NameZ) second
+    ++ (third ++ (sign EndModuleWord ∷ []))))) ++ rest) ≡ (m, rest)
+unfolding is_sign
+body_exact {wires} {first} {second} {third} m rest spells_w spells_y spells_z spells_x small =
+    let end = sign EndModuleWord ∷ [] in
+    let behind_z = third ++ end in
+    let z_tokens = result (sign NameZ) second in
+    let behind_y = z_tokens ++ behind_z in
+    let y_tokens = result (sign NameY) first in
+    let behind_wires = y_tokens ++ behind_y in
+    let wide = m.wires.wide in
+    let w : wires_of ((wires ++ behind_wires) ++ rest) ≡ (m.wires.list, behind_wires ++ rest) =
+    ap wires_of (append_assoc wires behind_wires rest) ∙ all_wires (behind_wires ++ rest) spells_w small.wires small.few refl in
+    let y : result_of (behind_wires ++ rest) ≡ (m.y, behind_y ++ rest) =
+    ap result_of (append_assoc y_tokens behind_y rest) ∙ result_exact (sign NameY) (behind_y ++ rest) spells_y small.y in
+    let z : result_of (behind_y ++ rest) ≡ (m.z, behind_z ++ rest) =
+    ap result_of (append_assoc z_tokens behind_z rest) ∙ result_exact (sign NameZ) (behind_z ++ rest) spells_z small.z in
+    let x : third_of wide (behind_z ++ rest) ≡ (m.x, end ++ rest) =
+    ap (third_of wide) (append_assoc third end rest) ∙ third_exact (end ++ rest) spells_x small.x in
+    (λ i. results_by m (w i))
+    ∙ (λ i. z_by m (y i))
+    ∙ (λ i. x_by m (z i))
+    ∙ (λ i. (record { number = m.number; cycles = m.cycles; wires = m.wires; y = m.y; z = m.z; x = (x i).0 }, drop 1 (x i).1))
+  where
+    x_by : (m : Module) → Expr × List Token → Module × List Token
+    x_by m z =
+        let x = third_of m.wires.wide z.1 in
+        (record { number = m.number; cycles = m.cycles; wires = m.wires; y = m.y; z = z.0; x = x.0 }, drop 1 x.1)
+
+    z_by : (m : Module) → Expr × List Token → Module × List Token
+    z_by m y =
+        let z = result_of y.1 in
+        let x = third_of m.wires.wide z.1 in
+        (record { number = m.number; cycles = m.cycles; wires = m.wires; y = y.0; z = z.0; x = x.0 }, drop 1 x.1)
+
+    results_by : (m : Module) → List Wire × List Token → Module × List Token
+    results_by m w =
+        let y = result_of w.1 in
+        let z = result_of y.1 in
+        let x = third_of m.wires.wide z.1 in (
+          record {
+            number = m.number;
+            cycles = m.cycles;
+            wires = record { wide = m.wires.wide; list = w.0 };
+            y = y.0;
+            z = z.0;
+            x = x.0;
+          },
+          drop 1 x.1,
+        )
+
 module_exact : {tokens : List Token} {m : Module} (rest : List Token) → SpellsModule tokens m → SmallModule m
     → module_of m.number (tokens ++ rest) ≡ (m, rest)
-unfolding module_of cycles_in is_sign
-module_exact rest (some_module {wires} {first} {second} {m} spells_w spells_y spells_z) small =
-    let end = sign EndModuleWord ∷ [] in
-    let last_result = result NameZ second in
-    let results = result NameY first in
-    let w : wires_of ((wires ++ (results ++ (last_result ++ end))) ++ rest) ≡ (m.wires, (results ++ (last_result ++ end)) ++ rest) =
-    ap wires_of (append_assoc wires (results ++ (last_result ++ end)) rest)
-    ∙ all_wires ((results ++ (last_result ++ end)) ++ rest) spells_w small.wires small.few refl in
-    let y : result_of ((results ++ (last_result ++ end)) ++ rest) ≡ (m.y, (last_result ++ end) ++ rest) =
-    ap result_of (append_assoc results (last_result ++ end) rest) ∙ result_exact NameY ((last_result ++ end) ++ rest) spells_y small.y in
-    let z : result_of ((last_result ++ end) ++ rest) ≡ (m.z, end ++ rest) =
-    ap result_of (append_assoc last_result end rest) ∙ result_exact NameZ (end ++ rest) spells_z small.z in
-    (λ i. (
-      record { number = m.number; cycles = m.cycles; wires = (w i).0; y = (result_of (w i).1).0; z = (result_of (result_of (w i).1).1).0 },
-      drop 1 (result_of (result_of (w i).1).1).1,
-    ))
-    ∙ (λ i. (
-      record { number = m.number; cycles = m.cycles; wires = m.wires; y = (y i).0; z = (result_of (y i).1).0 },
-      drop 1 (result_of (y i).1).1,
-    ))
-    ∙ (λ i. (record { number = m.number; cycles = m.cycles; wires = m.wires; y = m.y; z = (z i).0 }, drop 1 (z i).1))
+unfolding module_of cycles_in
+module_exact rest (some_module {wires} {first} {second} {third} {m} spells_w spells_y spells_z spells_x) small =
+    let wide = m.wires.wide in
+    let inside = wires ++ (result (sign NameY) first ++ (result (sign NameZ) second ++ (third ++ (sign EndModuleWord ∷ [])))) in
+    let e : (other_ports wide ++ inside) ++ rest ≡ other_ports wide ++ (inside ++ rest) = append_assoc (other_ports wide) inside rest in
+    let f : is_wide (other_ports wide ++ (inside ++ rest)) ≡ wide = wide_exact wide (inside ++ rest) in
+    (λ i. module_by m.number m.cycles (is_wide (e i)) (drop (ports_behind (is_wide (e i))) (e i)))
+    ∙ (λ i. module_by m.number m.cycles (f i) (drop (ports_behind (f i)) (other_ports wide ++ (inside ++ rest))))
+    ∙ ap (module_by m.number m.cycles wide) (ports_exact wide (inside ++ rest))
+    ∙ body_exact m rest spells_w spells_y spells_z spells_x small
 
 module_begins : {tokens : List Token} {m : Module} (rest : List Token) → SpellsModule tokens m → begins_module (tokens ++ rest) ≡ true
 unfolding is_cycles
-module_begins rest (some_module spells_w spells_y spells_z) = refl
+module_begins rest (some_module spells_w spells_y spells_z spells_x) = refl
 
 modules_exact : {tokens : List Token} {modules : List Module} (most k : ℕ) (rest : List Token) → SpellsModules k tokens modules
     → k + most ≡ 32 → begins_module rest ≡ false → many begins_module module_of most k (tokens ++ rest) ≡ (modules, rest)

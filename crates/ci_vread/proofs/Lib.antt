@@ -21,6 +21,7 @@ pub mod Runs
 pub mod Numbers
 pub mod ComputedFaults
 mod Rows
+mod WideRows
 pub mod FoundTokens
 pub mod LongestTokens
 pub mod NameMaps

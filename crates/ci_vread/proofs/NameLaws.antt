@@ -20,6 +20,14 @@ same_is (x ∷ xs) (y ∷ ys) e =
     let others : xs ≡ ys = same_is xs ys h.1 in
     λ i. first i ∷ others i
 
+pub not_true : (b : Bool) → not b ≡ true → b ≡ false
+not_true true e = absurd (cc)
+not_true false e = refl
+
+pub not_false : (b : Bool) → b ≡ false → not b ≡ true
+not_false true e = absurd (cc)
+not_false false e = refl
+
 pub known_is : (known : List Known) (bytes : List ℕ) → is_known known bytes ≡ true → Contains known (vector bytes (width_of known bytes))
 known_is [] bytes e = absurd (cc)
 known_is (v ∷ known) bytes e = by (same v.name bytes) refl e (known_is known bytes)
@@ -77,8 +85,9 @@ pub record IsWidth (known : List Known) (bytes : List ℕ) (width : ℕ) : Type 
 abbrev pub IsTable : List Known → Type 0
 IsTable known = (bytes : List ℕ) (width : ℕ) → Contains known (vector bytes width) → IsWidth known bytes width
 
-input_is : (name bytes : List ℕ) (width : ℕ) → width_of inputs name ≡ 32 → vector name 32 ≡ vector bytes width → IsWidth inputs bytes width
-input_is name bytes width known e =
+input_is : (inputs : List Known) (name bytes : List ℕ) (width : ℕ) → width_of inputs name ≡ 32 → vector name 32 ≡ vector bytes width
+    → IsWidth inputs bytes width
+input_is inputs name bytes width known e =
     let named : name ≡ bytes = ap (λ v. v.name) e in
     let wide : 32 ≡ width = ap (λ v. v.width) e in
     record {
@@ -87,11 +96,17 @@ input_is name bytes width known e =
       most = omega (arith, wide);
     }
 
-pub inputs_are : IsTable inputs
-inputs_are bytes w (zero, h, e) = input_is (codes "a") bytes w refl e
-inputs_are bytes w (suc zero, h, e) = input_is (codes "b") bytes w refl e
-inputs_are bytes w (suc (suc zero), h, e) = input_is (codes "c") bytes w refl e
-inputs_are bytes w (suc (suc (suc k)), h, e) = absurd (omega (arith, h))
+pub inputs_are : (wide : Bool) → IsTable (inputs wide)
+inputs_are false bytes w (zero, h, e) = input_is (inputs false) (codes "a") bytes w refl e
+inputs_are false bytes w (suc zero, h, e) = input_is (inputs false) (codes "b") bytes w refl e
+inputs_are false bytes w (suc (suc zero), h, e) = input_is (inputs false) (codes "c") bytes w refl e
+inputs_are false bytes w (suc (suc (suc k)), h, e) = absurd (omega (arith, h))
+inputs_are true bytes w (zero, h, e) = input_is (inputs true) (codes "a") bytes w refl e
+inputs_are true bytes w (suc zero, h, e) = input_is (inputs true) (codes "b") bytes w refl e
+inputs_are true bytes w (suc (suc zero), h, e) = input_is (inputs true) (codes "c") bytes w refl e
+inputs_are true bytes w (suc (suc (suc zero)), h, e) = input_is (inputs true) (codes "d") bytes w refl e
+inputs_are true bytes w (suc (suc (suc (suc zero))), h, e) = input_is (inputs true) (codes "e") bytes w refl e
+inputs_are true bytes w (suc (suc (suc (suc (suc k)))), h, e) = absurd (omega (arith, h))
 
 pub one_more_name : (known : List Known) (w : Wire) → IsTable known → IsWire known w → IsTable (known ++ declared_by w ∷ [])
 one_more_name known w table is bytes v c = elim (Contains-push_cases known (declared_by w) (vector bytes v) c) [

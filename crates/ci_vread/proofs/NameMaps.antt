@@ -43,7 +43,7 @@ takes_more old new known v q e before =
     e ∙ (ap (λ o. earlier o (cond (bytes_eq v.name q) (Some v.width) None)) before
     ∙ (ap (λ b. earlier (lookup known q) (cond b (Some v.width) None)) (sym (same_is_eq v.name q)) ∙ sym (lookup_more known v q)))
 
-pub counts_more : (known : List Known) (v : Known) → min (min (length known) 2051) 2050 + 1 ≡ min (length (known ++ v ∷ [])) 2051
+pub counts_more : (known : List Known) (v : Known) → min (min (length known) 2053) 2052 + 1 ≡ min (length (known ++ v ∷ [])) 2053
 counts_more known v = omega (arith, length-append known (v ∷ []))
 
 pub is_some_copied : (o : Option (Bor ℕ)) → is_some o ≡ is_some (option_copied o)

@@ -1,5 +1,5 @@
 -- Which roles a token can have, by its kind.
-use Rattle.std.proofs.Common.{◌≡◌, ℕ, List, refl, ap, sym, ◌∙◌, subst}
+use Rattle.std.proofs.Common.{◌≡◌, ℕ, List, [], ◌∷◌, refl, ap, sym, ◌∙◌, subst}
 use Rattle.ci_reading.specs.Tokens.{token}
 use Rattle.ci_verilog.specs.declared.expressions.Operator.{Operator}
 use Rattle.ci_vread.specs.declared.grammar.Role.{Role as RoleValue}
@@ -50,6 +50,7 @@ use_name k bytes b e = subst IsUse (sym (is_name k bytes b e)) tt
 can_by : (r : RoleValue) (k : Kind) (bytes : List ℕ) → Suits r k bytes → (t : Token) × (symbol_by k bytes ≡ token t) × Fits (role_of r) t
 can_by (role.Sign s) k bytes e = (sign s, ap (λ (x : Kind). symbol_by x bytes) e, that_token (sign s))
 can_by (role.Number n) k bytes e = (number n, e, that_token (number n))
+can_by (role.Letter l) k bytes e = (name (l ∷ []), e, that_token (name (l ∷ [])))
 can_by role.Cycles k bytes e = (cycles (cycles_in bytes), ap (λ (x : Kind). symbol_by x bytes) e, some_cycles (cycles_in bytes))
 can_by role.Module k bytes e = (name bytes, ap (λ (x : Kind). symbol_by x bytes) e, a_module bytes)
 can_by role.Name k bytes e = (name bytes, ap (λ (x : Kind). symbol_by x bytes) e, a_name bytes)
@@ -71,6 +72,7 @@ can_by role.Use k bytes h = absurd h
 cannot_by : (r : RoleValue) (k : Kind) (bytes : List ℕ) → ¬ Suits r k bytes → (t : Token) → symbol_by k bytes ≡ token t → Fits (role_of r) t → ⊥
 cannot_by (role.Sign s) k bytes unfit _ e (that_token _) = unfit (is_sign k bytes s e)
 cannot_by (role.Number n) k bytes unfit _ e (that_token _) = unfit e
+cannot_by (role.Letter l) k bytes unfit _ e (that_token _) = unfit e
 cannot_by role.Cycles k bytes unfit _ e (some_cycles n) = unfit (is_cycles k bytes n e)
 cannot_by role.Module k bytes unfit _ e (a_module b) = unfit (is_name k bytes b e)
 cannot_by role.Name k bytes unfit _ e (a_name b) = unfit (is_name k bytes b e)

@@ -270,8 +270,8 @@ with_names count = record nothing { known = replicate count (vector (codes "w") 
 
 -- the 2,048th wire, and one more: three names are inputs
 most_wires :
-    rules_of (with_names 2050) (read its_name (name (codes "v")) 7) ≡ rule 4 7 true ∷ rule 8 7 true ∷ []
-    × rules_of (with_names 2051) (read its_name (name (codes "v")) 7) ≡ rule 4 7 true ∷ rule 8 7 false ∷ []
+    rules_of (with_names 2050) (read its_name (name (codes "v")) 7) ≡ rule 2 7 true ∷ rule 4 7 true ∷ rule 8 7 true ∷ []
+    × rules_of (with_names 2051) (read its_name (name (codes "v")) 7) ≡ rule 2 7 true ∷ rule 4 7 true ∷ rule 8 7 false ∷ []
 most_wires = (refl, refl)
 
 -- the 32nd module, and one more

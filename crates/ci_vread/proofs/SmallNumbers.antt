@@ -1,5 +1,5 @@
 -- The numbers of a module are small enough to be read: widths, indexes and counts are at most 64.
-use Rattle.std.proofs.Common.{ℕ, zero, suc, ◌*◌, ◌<◌, ◌≤◌, List, [], ◌∷◌, ◌++◌, length, map, sym, subst, append_assoc, append-nil, inl, inr, arith}
+use Rattle.std.proofs.Common.{ℕ, true, false, Bool, zero, suc, ◌*◌, ◌<◌, ◌≤◌, List, [], ◌∷◌, ◌++◌, length, map, sym, subst, append_assoc, append-nil, inl, inr, arith}
 use Rattle.std.proofs.Math.Nat.{le-mul_of_pos_right}
 use Rattle.std.specs.List.{AllByRecursion, Contains}
 use Rattle.std.proofs.lemmas.List.Elements.{Contains-push_cases}
@@ -38,10 +38,11 @@ abbrev pub SmallWire : Wire → Type 0
 SmallWire w = (w.width ≤ 64) × SmallExpr w.value
 
 pub record SmallModule (m : Module) : Type 0 where
-  pub wires : AllByRecursion SmallWire m.wires
-  pub few : length m.wires ≤ 2048
+  pub wires : AllByRecursion SmallWire m.wires.list
+  pub few : length m.wires.list ≤ 2048
   pub y : SmallExpr m.y
   pub z : SmallExpr m.z
+  pub x : SmallExpr m.x
 
 -- each width is from 1 to 64
 abbrev pub AllWithin : List Known → Type 0
@@ -110,18 +111,25 @@ small_wires known (wire ∷ wires) are within =
       subst (λ k. AllWithin k) (append_assoc known (declared_by wire ∷ []) (map declared_by wires)) rest.1,
     )
 
-within_inputs : AllWithin inputs
-within_inputs v (zero, below, is) = subst (λ k. (1 ≤ k.width) × (k.width ≤ 64)) is (omega arith, omega arith)
-within_inputs v (suc zero, below, is) = subst (λ k. (1 ≤ k.width) × (k.width ≤ 64)) is (omega arith, omega arith)
-within_inputs v (suc (suc zero), below, is) = subst (λ k. (1 ≤ k.width) × (k.width ≤ 64)) is (omega arith, omega arith)
-within_inputs v (suc (suc (suc k)), below, is) = absurd (omega arith)
+within_inputs : (wide : Bool) → AllWithin (inputs wide)
+within_inputs false v (zero, below, is) = subst (λ k. (1 ≤ k.width) × (k.width ≤ 64)) is (omega arith, omega arith)
+within_inputs false v (suc zero, below, is) = subst (λ k. (1 ≤ k.width) × (k.width ≤ 64)) is (omega arith, omega arith)
+within_inputs false v (suc (suc zero), below, is) = subst (λ k. (1 ≤ k.width) × (k.width ≤ 64)) is (omega arith, omega arith)
+within_inputs false v (suc (suc (suc k)), below, is) = absurd (omega arith)
+within_inputs true v (zero, below, is) = subst (λ k. (1 ≤ k.width) × (k.width ≤ 64)) is (omega arith, omega arith)
+within_inputs true v (suc zero, below, is) = subst (λ k. (1 ≤ k.width) × (k.width ≤ 64)) is (omega arith, omega arith)
+within_inputs true v (suc (suc zero), below, is) = subst (λ k. (1 ≤ k.width) × (k.width ≤ 64)) is (omega arith, omega arith)
+within_inputs true v (suc (suc (suc zero)), below, is) = subst (λ k. (1 ≤ k.width) × (k.width ≤ 64)) is (omega arith, omega arith)
+within_inputs true v (suc (suc (suc (suc zero))), below, is) = subst (λ k. (1 ≤ k.width) × (k.width ≤ 64)) is (omega arith, omega arith)
+within_inputs true v (suc (suc (suc (suc (suc k)))), below, is) = absurd (omega arith)
 
 pub small_module : (m : Module) → IsModule m → SmallModule m
 small_module m is =
-    let r = small_wires inputs m.wires is.are_wires within_inputs in
+    let r = small_wires (inputs m.wires.wide) m.wires.list is.are_wires (within_inputs m.wires.wide) in
     record {
       wires = r.0;
       few = is.few;
       y = small_expr (known_by m.wires) r.1 m.y 32 is.y;
       z = small_expr (known_by m.wires) r.1 m.z 32 is.z;
+      x = small_expr (known_by m.wires) r.1 m.x 32 is.x;
     }

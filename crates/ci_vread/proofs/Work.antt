@@ -1,9 +1,9 @@
 -- How many phrases and ends are left in front of the next token that is due, at most.
 use Rattle.std.proofs.Common.{ℕ, ◌+◌, ◌<◌, List, [], ◌∷◌, ◌++◌, arith}
 use Rattle.ci_reading.specs.Tokens.{token, text_end}
-use Rattle.ci_vread.specs.declared.tokens.Sign.TheVariants.{WireWord, LeftBracket, LeftBrace, Comma, Colon, Question}
+use Rattle.ci_vread.specs.declared.tokens.Sign.TheVariants.{InputWord, WireWord, LeftBracket, LeftBrace, Comma, Colon, Question}
 use Rattle.ci_vread.specs.Lexicon.{sign, operator, number, constant}
-use Rattle.ci_vread.specs.Grammar.{Symbol, Part, reads, ends, made, Phrase, parts_of, units, wires, side, others, term, inside, item, items, simple, bits}
+use Rattle.ci_vread.specs.Grammar.{Symbol, Part, reads, ends, made, Phrase, parts_of, units, body, wires, side, others, term, inside, item, items, simple, bits}
 use Rattle.ci_vread.specs.Grammar.{range}
 
 -- more than all that the phrase consists of up to its first token
@@ -13,6 +13,7 @@ weight inside = 4
 weight term = 3
 weight item = 2
 weight others = 2
+weight body = 2
 weight p = 1
 
 abbrev pub work : List Part → ℕ
@@ -24,6 +25,8 @@ work (made p ∷ parts) = weight p + work parts
 pub falls : (p : Phrase) (next : Symbol) (due : List Part) → work (parts_of p next ++ due) < weight p + work due
 falls units text_end due = omega arith
 falls units next due = omega arith
+falls body (token (sign InputWord)) due = omega arith
+falls body next due = omega arith
 falls wires (token (sign WireWord)) due = omega arith
 falls wires next due = omega arith
 falls side next due = omega arith

@@ -1,8 +1,8 @@
 -- For private contracts: the modules that tokens spell, read off them from front to back. Each function gives what it
 -- read and the tokens behind it; it looks at no more than what tells the ways to go on apart, and gives something for
 -- any tokens.
-use Rattle.std.specs.Prelude.{ℕ, suc, ◌+◌, ◌%◌, Bool, true, false, Option, Some, None, List, [], ◌∷◌, map}
-use Rattle.std.specs.Prelude.{drop, codes}
+use Rattle.std.specs.Prelude.{ℕ, suc, ◌+◌, ◌%◌, Bool, true, false, if◌then◌else◌, Option, Some, None, List, []}
+use Rattle.std.specs.Prelude.{◌∷◌, map, drop, codes}
 use denote.Enum.Bare.{sameb}
 use Rattle.ci_reading.specs.Tokens.{token}
 use Rattle.ci_verilog.specs.declared.expressions.Simple.{Simple}
@@ -15,10 +15,10 @@ use Rattle.ci_verilog.specs.declared.expressions.Operator.{Operator}
 use Rattle.ci_verilog.specs.declared.expressions.Expr.{Expr}
 use Rattle.ci_verilog.specs.declared.expressions.Expr.TheVariants.{One, Two, Choose}
 use Rattle.ci_verilog.specs.declared.expressions.Wire.{Wire}
-use Rattle.ci_verilog.specs.Modules.{Module}
+use Rattle.ci_verilog.specs.Modules.{Module, nothing}
 use Rattle.ci_vread.specs.declared.tokens.Sign.{Sign}
-use Rattle.ci_vread.specs.declared.tokens.Sign.TheVariants.{WireWord, NameA, NameB, NameC, LeftBracket, LeftBrace}
-use Rattle.ci_vread.specs.declared.tokens.Sign.TheVariants.{Comma, Colon, Question}
+use Rattle.ci_vread.specs.declared.tokens.Sign.TheVariants.{WireWord, InputWord, NameA, NameB, NameC, LeftBracket}
+use Rattle.ci_vread.specs.declared.tokens.Sign.TheVariants.{LeftBrace, Comma, Colon, Question}
 use Rattle.ci_vread.specs.declared.tokens.Token as of_code
 use Rattle.ci_vread.specs.contracts.tokens.Sign.{the_type}
 use Rattle.ci_vread.specs.declared.building.Builder.{Builder}
@@ -206,13 +206,44 @@ wires_of tokens = many begins_wire (λ k rest. wire_of rest) 2048 0 tokens
 unfoldable pub result_of : List Token → Expr × List Token
 result_of tokens = let value = expr_of (drop 3 tokens) in (value.0, drop 1 value.1)
 
--- its ports have 42 tokens
-unfoldable pub module_of : ℕ → List Token → Module × List Token
-module_of k tokens =
-    let wires = wires_of (drop 45 tokens) in
+-- the result x, where a module has it
+abbrev pub third_by : Bool → List Token → Expr × List Token
+third_by true tokens = result_of tokens
+third_by false tokens = (nothing, tokens)
+
+unfoldable pub third_of : Bool → List Token → Expr × List Token
+third_of wide tokens = third_by wide tokens
+
+-- Behind its first three inputs, a fourth or the results follow.
+unfoldable pub is_wide : List Token → Bool
+is_wide tokens = is_sign InputWord (front tokens)
+
+-- how many tokens the other ports have
+unfoldable pub ports_behind : Bool → ℕ
+ports_behind wide = if wide then 41 else 17
+
+-- behind all ports
+abbrev pub module_by : ℕ → ℕ → Bool → List Token → Module × List Token
+module_by k count wide tokens =
+    let wires = wires_of tokens in
     let y = result_of wires.1 in
     let z = result_of y.1 in
-    (record { number = k; cycles = cycles_in (front tokens); wires = wires.0; y = y.0; z = z.0 }, drop 1 z.1)
+    let x = third_of wide z.1 in (
+      record {
+        number = k;
+        cycles = count;
+        wires = record { wide = wide; list = wires.0 };
+        y = y.0;
+        z = z.0;
+        x = x.0;
+      },
+      drop 1 x.1,
+    )
+
+unfoldable pub module_of : ℕ → List Token → Module × List Token
+module_of k tokens =
+    let wide = is_wide (drop 28 tokens) in
+    module_by k (cycles_in (front tokens)) wide (drop (ports_behind wide) (drop 28 tokens))
 
 unfoldable pub modules_of : List Token → List Module
 modules_of tokens = (many begins_module module_of 32 0 tokens).0

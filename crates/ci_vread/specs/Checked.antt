@@ -1,5 +1,5 @@
 -- For private contracts: what the checker has seen of a text, and which rule is broken at a place.
-use Rattle.std.specs.Prelude.{◌≡◌, ℕ, ◌+◌, ◌*◌, ◌^◌, ◌<◌, ◌≤◌, Option, Some, None, min, List, reverse, true}
+use Rattle.std.specs.Prelude.{◌≡◌, ℕ, ◌+◌, ◌*◌, ◌^◌, ◌<◌, ◌≤◌, Option, Some, None, min, List, [], ◌∷◌, reverse, true}
 use Rattle.std.specs.List.{AllByRecursion}
 use Rattle.ci_verilog.specs.Modules.{Known}
 use Rattle.ci_vread.specs.declared.seen.Seen.{Seen as SeenValue}
@@ -11,7 +11,7 @@ use Rattle.ci_vread.specs.declared.tokens.Kind.{Kind}
 use Rattle.ci_vread.specs.declared.tokens.Kind.TheVariants as kind
 use Rattle.ci_vread.specs.Tables.{IsOperator, IsUse}
 use Rattle.ci_vread.specs.Scanned.{symbol_by, symbol_of}
-use Rattle.ci_vread.specs.Lexicon.{Token, number}
+use Rattle.ci_vread.specs.Lexicon.{Token, number, name}
 use Rattle.ci_vread.specs.Grammar.{Role, End, Fits, read, ended}
 use Rattle.ci_vread.specs.Rules.{Seen, Rule, behind, rules_of, IsFirst}
 use Rattle.ci_vread.specs.Names.{Knows}
@@ -20,6 +20,7 @@ use Rattle.ci_vread.specs.Names.{Knows}
 abbrev pub seen_of : SeenValue → List Known → Seen
 seen_of c known = record {
   modules = c.modules;
+  wide = c.wide;
   known = known;
   declared = c.declared.now;
   due = c.due;
@@ -56,6 +57,7 @@ ReadsOn old new broken role t = (known : List Known) (place : ℕ) → Knows old
 abbrev pub Suits : RoleValue → Kind → List ℕ → Type 0
 Suits (role.Sign s) k bytes = k ≡ kind.Sign s
 Suits (role.Number n) k bytes = symbol_by k bytes ≡ token (number n)
+Suits (role.Letter c) k bytes = symbol_by k bytes ≡ token (name (c ∷ []))
 Suits role.Cycles k bytes = k ≡ kind.Cycles
 Suits role.Use k bytes = IsUse k
 Suits role.Module k bytes = k ≡ kind.Name

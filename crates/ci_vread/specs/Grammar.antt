@@ -1,6 +1,6 @@
 -- The grammar of a text of modules, for everybody: which tokens stand where, and in what role. It knows no names,
 -- widths or bounds.
-use Rattle.std.specs.Prelude.{◌≡◌, ℕ, List, [], ◌∷◌, ◌++◌, map}
+use Rattle.std.specs.Prelude.{◌≡◌, ℕ, Bool, true, false, List, [], ◌∷◌, ◌++◌, map, codes}
 use Rattle.ci_verilog.specs.declared.expressions.Operator.{Operator}
 use Rattle.ci_reading.specs.Tokens as reading
 use Rattle.ci_reading.specs.Tokens.{token, stray_byte, text_end, at}
@@ -43,14 +43,16 @@ pub data Fits : Role → Token → Type 0 where
   an_operator : (o : Operator) → Fits its_operator (operator o)
 
 -- what ends behind a token: a simple or a term, a right side that is one term, the condition or the second branch of a
--- choice, an operator's second operand, a wire with its assign, all wires of a module
+-- choice, an operator's second operand, a wire with its assign, all wires of a module, the first three inputs of a wide
+-- module
 pub data End : Type 0 where
-  of_simple of_term of_side of_condition of_branch of_operand of_wire of_wires : End
+  of_simple of_term of_side of_condition of_branch of_operand of_wire of_wires of_three : End
 
--- phrases of the grammar: units, wires, a right side, what follows its first term, a term, what follows its `{`, an
--- item, what follows an item, a simple, what follows its name, what follows the index behind `[`
+-- phrases of the grammar: units, what follows the first three inputs of a module, wires, a right side, what follows its
+-- first term, a term, what follows its `{`, an item, what follows an item, a simple, what follows its name, what
+-- follows the index behind `[`
 pub data Phrase : Type 0 where
-  units wires side others term inside item items simple bits range : Phrase
+  units body wires side others term inside item items simple bits range : Phrase
 
 pub data Part : Type 0 where
   reads : Role → Part
@@ -60,20 +62,53 @@ pub data Part : Type 0 where
 abbrev pub the : Sign → Part
 the s = reads (is (sign s))
 
-abbrev pub port : Sign → Sign → List Token
-port kind s =
-    sign kind ∷ sign LeftBracket ∷ number 31 ∷ sign Colon ∷ number 0 ∷ sign RightBracket ∷ sign s ∷ []
+abbrev pub port : Sign → Token → List Token
+port kind t =
+    sign kind ∷ sign LeftBracket ∷ number 31 ∷ sign Colon ∷ number 0 ∷ sign RightBracket ∷ t ∷ []
 
-abbrev pub ports : List Token
-ports =
-    sign Opening ∷ port InputWord NameA ++ sign Comma ∷ port InputWord NameB ++ sign Comma ∷ port InputWord NameC
-    ++ sign Comma ∷ port OutputWord NameY ++ sign Comma ∷ port OutputWord NameZ ++ sign Closing ∷ sign Semicolon ∷ []
+-- the two further inputs and the further result of a wide module
+abbrev pub name_d : Token
+name_d = name (codes "d")
+
+abbrev pub name_e : Token
+name_e = name (codes "e")
+
+abbrev pub name_x : Token
+name_x = name (codes "x")
+
+-- the first three inputs
+abbrev pub first_ports : List Token
+first_ports =
+    sign Opening ∷ port InputWord (sign NameA) ++ sign Comma ∷ port InputWord (sign NameB) ++ sign Comma
+    ∷ port InputWord (sign NameC) ++ sign Comma ∷ []
+
+-- the ports behind them
+abbrev pub other_ports : Bool → List Token
+other_ports false =
+    port OutputWord (sign NameY) ++ sign Comma ∷ port OutputWord (sign NameZ) ++ sign Closing ∷ sign Semicolon ∷ []
+other_ports true =
+    port InputWord name_d ++ sign Comma ∷ port InputWord name_e ++ sign Comma ∷ port OutputWord (sign NameY)
+    ++ sign Comma ∷ port OutputWord (sign NameZ) ++ sign Comma ∷ port OutputWord name_x
+    ++ sign Closing ∷ sign Semicolon ∷ []
+
+-- `assign`, a result, `=`, its side and `;`
+abbrev pub assigned : Token → List Part
+assigned t = the AssignWord ∷ reads (is t) ∷ the Equals ∷ made side ∷ the Semicolon ∷ []
+
+-- the result x of a wide module
+abbrev pub third : Bool → List Part
+third false = []
+third true = assigned name_x
+
+-- a module behind its first three inputs
+abbrev pub body_of : Bool → List Part
+body_of wide =
+    map (λ t. reads (is t)) (other_ports wide) ++ made wires ∷ ends of_wires ∷ assigned (sign NameY)
+    ++ assigned (sign NameZ) ++ third wide ++ the EndModuleWord ∷ []
 
 abbrev pub unit : List Part
 unit =
-    reads its_cycles ∷ the ModuleWord ∷ reads its_module ∷ map (λ t. reads (is t)) ports
-    ++ made wires ∷ ends of_wires ∷ the AssignWord ∷ the NameY ∷ the Equals ∷ made side ∷ the Semicolon
-    ∷ the AssignWord ∷ the NameZ ∷ the Equals ∷ made side ∷ the Semicolon ∷ the EndModuleWord ∷ []
+    reads its_cycles ∷ the ModuleWord ∷ reads its_module ∷ map (λ t. reads (is t)) first_ports ++ made body ∷ []
 
 abbrev pub declaration : List Part
 declaration =
@@ -89,6 +124,8 @@ repetition = reads its_count ∷ the LeftBrace ∷ made simple ∷ the RightBrac
 abbrev pub parts_of : Phrase → Symbol → List Part
 parts_of units text_end = []
 parts_of units next = unit ++ made units ∷ []
+parts_of body (token (sign InputWord)) = ends of_three ∷ body_of true
+parts_of body next = body_of false
 parts_of wires (token (sign WireWord)) = declaration ++ made wires ∷ []
 parts_of wires next = []
 parts_of side next = made term ∷ made others ∷ []

@@ -24,4 +24,4 @@ lookup (v ∷ known) bytes = if same v.name bytes then Some v.width else lookup 
 -- The map has the widths of the names, and the count is theirs, as far as it counts.
 abbrev pub Knows : Names → List Known → Type 0
 Knows names known =
-    ((name : List ℕ) → width_at names.widths name ≡ lookup known name) × (names.count ≡ min (length known) 2051)
+    ((name : List ℕ) → width_at names.widths name ≡ lookup known name) × (names.count ≡ min (length known) 2053)

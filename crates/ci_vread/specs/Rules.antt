@@ -10,7 +10,7 @@ use Rattle.ci_reading.specs.Tokens.{AreSymbols}
 use Rattle.ci_vread.specs.Lexicon.{Token, sign, operator, name, number, constant, spelling, unit_format}
 use Rattle.ci_vread.specs.Grammar.{Placed, its_module, its_high, its_name, its_target, its_use, its_index}
 use Rattle.ci_vread.specs.Grammar.{its_low, its_count, its_constant, its_operator, of_simple, of_term, of_side}
-use Rattle.ci_vread.specs.Grammar.{of_condition, of_branch, of_operand, of_wire, of_wires, made, units, Event}
+use Rattle.ci_vread.specs.Grammar.{of_condition, of_branch, of_operand, of_wire, of_wires, of_three, made, units, Event}
 use Rattle.ci_vread.specs.Grammar.{read, ended, Finish, whole, stops, Goes}
 
 abbrev pub same : List ℕ → List ℕ → Bool
@@ -32,6 +32,8 @@ width_of (v ∷ known) bytes = if same v.name bytes then v.width else width_of k
 pub record Seen : Type 0 where
   -- how many module names were read
   pub modules : ℕ
+  -- the module is a wide one
+  pub wide : Bool
   -- names that a term may have, and the wire that is declared but has no value yet
   pub known : List Known
   pub declared : List ℕ
@@ -50,6 +52,7 @@ pub record Seen : Type 0 where
 abbrev pub nothing : Seen
 nothing = record {
   modules = 0;
+  wide = false;
   known = [];
   declared = [];
   due = 0;
@@ -67,11 +70,23 @@ bytes_of (name bytes) = bytes
 bytes_of (sign s) = spelling s
 bytes_of t = []
 
+-- the further inputs of a wide module
+abbrev pub further : List Known
+further = vector (codes "d") 32 ∷ vector (codes "e") 32 ∷ []
+
+-- In a wide module d, e and x are words of the grammar: no wire has such a name, though terms have d and e.
+abbrev pub is_word : Bool → List ℕ → Bool
+is_word wide bytes = wide && (same bytes (codes "d") || (same bytes (codes "e") || same bytes (codes "x")))
+
+-- the most names of a module: its inputs and 2,048 wires
+abbrev pub most_names : Bool → ℕ
+most_names wide = length (inputs wide) + 2048
+
 abbrev pub grown : Seen → ℕ
 grown s = s.sum + s.times * s.width
 
 abbrev pub behind : Seen → Event → Seen
-behind s (read its_module t place) = record s { modules = s.modules + 1; known = inputs }
+behind s (read its_module t place) = record s { modules = s.modules + 1; wide = false; known = inputs false }
 behind s (read its_high (number n) place) = record s { due = n + 1 }
 behind s (read its_name t place) = record s { declared = bytes_of t }
 behind s (read its_operator (operator o) place) = record s { its_op = o }
@@ -87,6 +102,7 @@ behind s (ended of_operand place) = record s { widths = []; its_op = Plus }
 behind s (ended of_branch place) = record s { widths = [] }
 behind s (ended of_wire place) = record s { known = s.known ++ vector s.declared s.due ∷ [] }
 behind s (ended of_wires place) = record s { due = 32 }
+behind s (ended of_three place) = record s { wide = true; known = s.known ++ further }
 behind s e = s
 
 -- ---- rules
@@ -108,14 +124,18 @@ makes Less (right ∷ left ∷ []) due = left == right && due == 1
 makes o (right ∷ left ∷ []) due = left == right && left == due
 makes o widths due = false
 
+-- A word of a wide module that is a target, or stands in a term and isn't an input, is no name there: its kind is 2.
 abbrev pub rules_of : Seen → Event → List Rule
 rules_of s (read its_module (name bytes) place) =
     rule 9 place (same bytes (codes "ci_" ++ decimal s.modules) && nat_lt s.modules 32) ∷ []
 rules_of s (read its_high (number n) place) = rule 6 place (nat_lt n 64) ∷ []
 rules_of s (read its_name (name bytes) place) =
-    rule 4 place (not (is_known s.known bytes)) ∷ rule 8 place (nat_lt (length s.known) (3 + 2048)) ∷ []
-rules_of s (read its_target (name bytes) place) = rule 7 place (same bytes s.declared) ∷ []
-rules_of s (read its_use t place) = rule 3 place (is_known s.known (bytes_of t)) ∷ []
+    rule 2 place (not (is_word s.wide bytes)) ∷ rule 4 place (not (is_known s.known bytes))
+    ∷ rule 8 place (nat_lt (length s.known) (most_names s.wide)) ∷ []
+rules_of s (read its_target (name bytes) place) =
+    rule (if is_word s.wide bytes then 2 else 7) place (same bytes s.declared) ∷ []
+rules_of s (read its_use t place) =
+    rule (if is_word s.wide (bytes_of t) then 2 else 3) place (is_known s.known (bytes_of t)) ∷ []
 rules_of s (read its_index (number n) place) = rule 6 place (nat_lt n s.width) ∷ []
 rules_of s (read its_low (number n) place) = rule 6 place (nat_le n s.index) ∷ []
 rules_of s (read its_count (number n) place) = rule 6 place (nat_le 1 n && nat_le n 64) ∷ []

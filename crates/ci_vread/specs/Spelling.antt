@@ -1,6 +1,6 @@
 -- Which tokens spell which modules, for everybody: the grammar as a relation. What the profile asks beside it, as
 -- widths that agree, is what every module keeps (`ci_verilog/specs/Modules.antt`).
-use Rattle.std.specs.Prelude.{◌≡◌, ℕ, suc, ◌+◌, ◌<◌, List, [], ◌∷◌, ◌++◌, codes}
+use Rattle.std.specs.Prelude.{◌≡◌, ℕ, Bool, true, false, suc, ◌+◌, ◌<◌, List, [], ◌∷◌, ◌++◌, codes}
 use Rattle.std.specs.Fmt.{decimal}
 use Rattle.ci_verilog.specs.declared.expressions.Simple.{Simple}
 use Rattle.ci_verilog.specs.declared.expressions.Simple.TheVariants.{Whole, Bits, Number}
@@ -12,16 +12,15 @@ use Rattle.ci_verilog.specs.declared.expressions.Operator.{Operator}
 use Rattle.ci_verilog.specs.declared.expressions.Expr.{Expr}
 use Rattle.ci_verilog.specs.declared.expressions.Expr.TheVariants.{One, Two, Choose}
 use Rattle.ci_verilog.specs.declared.expressions.Wire.{Wire}
-use Rattle.ci_vread.specs.declared.tokens.Sign.{Sign}
 use Rattle.ci_vread.specs.declared.tokens.Sign.TheVariants.{ModuleWord, WireWord, AssignWord}
 use Rattle.ci_vread.specs.declared.tokens.Sign.TheVariants.{EndModuleWord, NameY, NameZ}
 use Rattle.ci_vread.specs.declared.tokens.Sign.TheVariants.{LeftBracket, RightBracket, LeftBrace, RightBrace}
 use Rattle.ci_vread.specs.declared.tokens.Sign.TheVariants.{Comma, Semicolon, Colon, Equals, Question}
 use Rattle.ci_vread.specs.Lexicon.{Token, sign, operator, name, number, constant, cycles, unit_format}
 use Rattle.ci_reading.specs.Tokens.{token, text_end, at, AreSymbols}
-use Rattle.ci_verilog.specs.Modules.{Module, IsModule}
-use Rattle.ci_vread.specs.Grammar.{Placed, Fits, its_use, ports}
-use Rattle.ci_vread.specs.Rules.{bytes_of}
+use Rattle.ci_verilog.specs.Modules.{Module, IsModule, nothing}
+use Rattle.ci_vread.specs.Grammar.{Placed, Fits, its_use, name_x, first_ports, other_ports}
+use Rattle.ci_vread.specs.Rules.{bytes_of, is_word}
 
 pub data SpellsSimple : List Token → Simple → Type 0 where
   whole_name : {t : Token} → Fits its_use t → SpellsSimple (t ∷ []) (Whole (bytes_of t))
@@ -66,31 +65,40 @@ pub data SpellsExpr : List Token → Expr → Type 0 where
 
 -- ---- modules
 
-pub data SpellsWire : List Token → Wire → Type 0 where
-  some_wire : {expr : List Token} (high : ℕ) {w : Wire} → w.width ≡ high + 1 → SpellsExpr expr w.value
-      → SpellsWire
+-- a wire; in a wide module it isn't named d, e or x
+pub data SpellsWire : Bool → List Token → Wire → Type 0 where
+  some_wire : {wide : Bool} {expr : List Token} (high : ℕ) {w : Wire} → w.width ≡ high + 1
+      → is_word wide w.name ≡ false → SpellsExpr expr w.value
+      → SpellsWire wide
       (sign WireWord ∷ sign LeftBracket ∷ number high ∷ sign Colon ∷ number 0 ∷ sign RightBracket ∷ name w.name
       ∷ sign Semicolon ∷ sign AssignWord ∷ name w.name ∷ sign Equals ∷ expr ++ (sign Semicolon ∷ [])) w
 
-pub data SpellsWires : List Token → List Wire → Type 0 where
-  no_wires : SpellsWires [] []
-  more_wires : {tokens others : List Token} {w : Wire} {wires : List Wire}
-      → SpellsWire tokens w → SpellsWires others wires
-      → SpellsWires (tokens ++ others) (w ∷ wires)
+pub data SpellsWires : Bool → List Token → List Wire → Type 0 where
+  no_wires : {wide : Bool} → SpellsWires wide [] []
+  more_wires : {wide : Bool} {tokens others : List Token} {w : Wire} {wires : List Wire}
+      → SpellsWire wide tokens w → SpellsWires wide others wires
+      → SpellsWires wide (tokens ++ others) (w ∷ wires)
 
 -- module k is named so
 abbrev pub module_name : ℕ → List ℕ
 module_name k = codes "ci_" ++ decimal k
 
-abbrev pub result : Sign → List Token → List Token
-result s expr = sign AssignWord ∷ sign s ∷ sign Equals ∷ expr ++ (sign Semicolon ∷ [])
+abbrev pub result : Token → List Token → List Token
+result t expr = sign AssignWord ∷ t ∷ sign Equals ∷ expr ++ (sign Semicolon ∷ [])
+
+-- the result x, of which a narrow module says nothing
+pub data SpellsThird : Bool → List Token → Expr → Type 0 where
+  no_third : SpellsThird false [] nothing
+  some_third : {expr : List Token} {x : Expr} → SpellsExpr expr x → SpellsThird true (result name_x expr) x
 
 pub data SpellsModule : List Token → Module → Type 0 where
-  some_module : {wires first second : List Token} {m : Module}
-      → SpellsWires wires m.wires → SpellsExpr first m.y → SpellsExpr second m.z
+  some_module : {wires first second third : List Token} {m : Module}
+      → SpellsWires m.wires.wide wires m.wires.list → SpellsExpr first m.y → SpellsExpr second m.z
+      → SpellsThird m.wires.wide third m.x
       → SpellsModule
       (cycles m.cycles ∷ sign ModuleWord ∷ name (module_name m.number)
-      ∷ ports ++ (wires ++ (result NameY first ++ (result NameZ second ++ (sign EndModuleWord ∷ []))))) m
+      ∷ first_ports ++ (other_ports m.wires.wide ++ (wires ++ (result (sign NameY) first ++ (result (sign NameZ) second
+      ++ (third ++ (sign EndModuleWord ∷ []))))))) m
 
 -- the modules in their order, the first of which has this number
 pub data SpellsModules : ℕ → List Token → List Module → Type 0 where

@@ -1,5 +1,5 @@
 -- For private contracts: what the values in the tables of the grammar stand for.
-use Rattle.std.specs.Prelude.{⊤, Bool, true, false, List, map, reverse}
+use Rattle.std.specs.Prelude.{⊤, Bool, true, false, List, [], ◌∷◌, map, reverse}
 use Rattle.ci_vread.specs.declared.grammar.Role.{Role as RoleValue}
 use Rattle.ci_vread.specs.declared.grammar.Role.TheVariants as role
 use Rattle.ci_vread.specs.declared.grammar.End.{End as EndValue}
@@ -11,16 +11,17 @@ use Rattle.ci_vread.specs.declared.grammar.Part.TheVariants as part
 use Rattle.ci_vread.specs.declared.tokens.Kind.{Kind}
 use Rattle.ci_vread.specs.declared.tokens.Kind.TheVariants as kind
 use Rattle.ci_vread.specs.declared.tokens.Sign.TheVariants.{NameA, NameB, NameC}
-use Rattle.ci_vread.specs.Lexicon.{sign, number}
+use Rattle.ci_vread.specs.Lexicon.{sign, number, name}
 use Rattle.ci_vread.specs.Grammar.{Role, is, its_cycles, its_module, its_high, its_name, its_target, its_use, its_index}
 use Rattle.ci_vread.specs.Grammar.{its_low, its_count, its_constant, its_operator, End, of_simple, of_term, of_side}
-use Rattle.ci_vread.specs.Grammar.{of_condition, of_branch, of_operand, of_wire, of_wires}
-use Rattle.ci_vread.specs.Grammar.{Phrase, units, wires, side, others, term, inside, item, items, simple, bits, range}
-use Rattle.ci_vread.specs.Grammar.{Part, reads, ends, made}
+use Rattle.ci_vread.specs.Grammar.{of_condition, of_branch, of_operand, of_wire, of_wires, of_three}
+use Rattle.ci_vread.specs.Grammar.{Phrase, units, body, wires, side, others, term, inside, item, items, simple, bits}
+use Rattle.ci_vread.specs.Grammar.{range, Part, reads, ends, made}
 
 abbrev pub role_of : RoleValue → Role
 role_of (role.Sign s) = is (sign s)
 role_of (role.Number n) = is (number n)
+role_of (role.Letter c) = is (name (c ∷ []))
 role_of role.Cycles = its_cycles
 role_of role.Module = its_module
 role_of role.High = its_high
@@ -42,9 +43,11 @@ end_of end.Branch = of_branch
 end_of end.Operand = of_operand
 end_of end.Wire = of_wire
 end_of end.Wires = of_wires
+end_of end.Three = of_three
 
 abbrev pub phrase_of : PhraseValue → Phrase
 phrase_of phrase.Units = units
+phrase_of phrase.Body = body
 phrase_of phrase.Wires = wires
 phrase_of phrase.Side = side
 phrase_of phrase.Others = others

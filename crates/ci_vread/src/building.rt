@@ -6,7 +6,7 @@ ghost use Rattle.ci_vread.specs.Building.{token_of, left, front, is_sign, is_num
 ghost use Rattle.ci_vread.specs.Building.{operator_in, constant_in, name_in, input_in, low_of, bits_of, simple_of};
 ghost use Rattle.ci_vread.specs.Building.{repeated_of};
 ghost use Rattle.ci_vread.specs.Building.{item_of, items_of, inside_of, term_of, others_of, expr_of, wire_of, wires_of};
-ghost use Rattle.ci_vread.specs.Building.{result_of, module_of, modules_of, AreBuilt};
+ghost use Rattle.ci_vread.specs.Building.{result_of, third_of, is_wide, ports_behind, module_of, modules_of, AreBuilt};
 
 use crate::tokens::{Kind, Sign, Token};
 use crate::values::{constant_of, cycles_of, name_of, number_of};
@@ -23,8 +23,15 @@ const WIRES: u16 = 2048;
 /// The most modules of a text.
 const MODULES: u8 = 32;
 
-/// How many tokens stand before a module's wires: its cycles, `module`, its name, and the 42 of its ports.
-const HEAD: usize = 45;
+/// How many tokens stand before the ports that tell a wide module from a narrow one: its cycles, `module`, its name,
+/// `(` and the 24 of its first three inputs.
+const HEAD: usize = 28;
+
+/// How many tokens the other ports of a narrow module have.
+const NARROW: usize = 17;
+
+/// How many tokens the other ports of a wide module have.
+const WIDE: usize = 41;
 
 /// What is left of a text, and the numbers of the wires of the present module, by their names.
 #[derive(Drop)]
@@ -390,6 +397,54 @@ impl<'a> Builder<'a> {
         Ok(value)
     }
 
+    /// The expression of x, which is 0 in a narrow module.
+    #[tactic(auto, unfolding(crate::specs::Building::third_of))]
+    fn third(&mut self, wide: bool) -> Result<Expr, AllocError>
+        ensures value { IfOk result (λ expr. expr ≡ (third_of wide (left self.old)).0) }
+        ensures rest { OnOk result (left self.new ≡ (third_of wide (left self.old)).1) }
+    {
+        if wide {
+            self.assigned()
+        } else {
+            Ok(Expr::One(Term::Plain(Simple::Number {
+                width: 32,
+                value: 0,
+            })))
+        }
+    }
+
+    /// The expressions of z and x.
+    fn other_results(&mut self, wide: bool) -> Result<(Expr, Expr), AllocError>
+        ensures z { IfOk result (λ both. both.0 ≡ (result_of (left self.old)).0) }
+        ensures x { IfOk result (λ both. both.1 ≡ (third_of wide (result_of (left self.old)).1).0) }
+        ensures rest { OnOk result (left self.new ≡ (third_of wide (result_of (left self.old)).1).1) }
+    {
+        let z = self.assigned()?;
+        match self.third(wide) {
+            Ok(x) => Ok((z, x)),
+            Err(error) => {
+                drop(z);
+                Err(error)
+            }
+        }
+    }
+
+    /// Whether a fourth input comes next.
+    #[tactic(auto, unfolding(crate::specs::Building::is_wide))]
+    fn begins_wide(&self) -> bool
+        ensures { result ≡ is_wide (left self.now) }
+    {
+        self.begins(Sign::InputWord)
+    }
+
+    /// Passes over the ports behind the first three inputs.
+    #[tactic(auto, unfolding(crate::specs::Building::ports_behind))]
+    fn pass_ports(&mut self, wide: bool)
+        ensures { left self.new ≡ drop (ports_behind wide) (left self.old) }
+    {
+        self.pass(if wide { WIDE } else { NARROW });
+    }
+
     /// The module of this number.
     #[tactic(auto, unfolding(crate::specs::Building::module_of))]
     fn unit(&mut self, number: u8) -> Result<Module, AllocError>
@@ -399,18 +454,20 @@ impl<'a> Builder<'a> {
     {
         let cycles = self.cycles();
         self.pass(HEAD);
+        let wide = self.begins_wide();
+        self.pass_ports(wide);
         self.places.clear();
-        let wires = Wires::from_vec(self.wires()?);
+        let wires = Wires::from_vec(wide, self.wires()?);
         let y = self.assigned()?;
-        let z = match self.assigned() {
-            Ok(z) => z,
+        let (z, x) = match self.other_results(wide) {
+            Ok(both) => both,
             Err(error) => {
                 drop(y);
                 return Err(error);
             }
         };
         self.pass(1);
-        Ok(Module::new(number, cycles, wires, y, z))
+        Ok(Module::new(number, cycles, wires, y, z, x))
     }
 
     /// The modules of the text.

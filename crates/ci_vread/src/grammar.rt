@@ -1,7 +1,7 @@
 //! The grammar of a text of modules, as tables.
 ghost use Rattle.std.specs.Prelude.{◌≡◌, ◌↔◌, ℕ, true, false, IsTrue, List, [], ◌∷◌, ◌++◌, map};
-ghost use Rattle.ci_vread.specs.Grammar.{unit, made, units, declaration, wires, others, term, inside, item, items};
-ghost use Rattle.ci_vread.specs.Grammar.{simple, bits, range, repetition, parts_of};
+ghost use Rattle.ci_vread.specs.Grammar.{unit, made, ends, of_three, units, body, body_of, declaration, wires, others};
+ghost use Rattle.ci_vread.specs.Grammar.{term, inside, item, items, simple, bits, range, repetition, parts_of};
 ghost use Rattle.ci_vread.specs.Scanned.{symbol_by};
 ghost use Rattle.ci_vread.specs.Tables.{IsOperator, part_of, phrase_of, needs_next};
 
@@ -14,6 +14,8 @@ pub(crate) enum Role {
     Sign(Sign),
     /// This number.
     Number(u8),
+    /// This letter, which is a name.
+    Letter(u8),
     Cycles,
     Module,
     High,
@@ -43,12 +45,16 @@ pub(crate) enum End {
     Wire,
     /// All wires of a module.
     Wires,
+    /// The first three inputs of a wide module.
+    Three,
 }
 
 /// A phrase of the grammar.
 #[derive(Clone, Copy)]
 pub(crate) enum Phrase {
     Units,
+    /// What follows the first three inputs of a module.
+    Body,
     Wires,
     /// A right side.
     Side,
@@ -108,6 +114,16 @@ fn unit() -> &'static [Part]
         Part::Reads(Role::Sign(Sign::RightBracket)),
         Part::Reads(Role::Sign(Sign::NameC)),
         Part::Reads(Role::Sign(Sign::Comma)),
+        Part::Made(Phrase::Body),
+        Part::Made(Phrase::Units),
+    ]
+}
+
+/// What follows the first three inputs of a narrow module.
+fn narrow_body() -> &'static [Part]
+    ensures { map part_of result.now ≡ body_of false }
+{
+    &[
         Part::Reads(Role::Sign(Sign::OutputWord)),
         Part::Reads(Role::Sign(Sign::LeftBracket)),
         Part::Reads(Role::Number(31)),
@@ -138,7 +154,74 @@ fn unit() -> &'static [Part]
         Part::Made(Phrase::Side),
         Part::Reads(Role::Sign(Sign::Semicolon)),
         Part::Reads(Role::Sign(Sign::EndModuleWord)),
-        Part::Made(Phrase::Units),
+    ]
+}
+
+/// What follows the first three inputs of a wide module.
+fn wide_body() -> &'static [Part]
+    ensures { map part_of result.now ≡ ends of_three ∷ body_of true }
+{
+    &[
+        Part::Ends(End::Three),
+        Part::Reads(Role::Sign(Sign::InputWord)),
+        Part::Reads(Role::Sign(Sign::LeftBracket)),
+        Part::Reads(Role::Number(31)),
+        Part::Reads(Role::Sign(Sign::Colon)),
+        Part::Reads(Role::Number(0)),
+        Part::Reads(Role::Sign(Sign::RightBracket)),
+        Part::Reads(Role::Letter(b'd')),
+        Part::Reads(Role::Sign(Sign::Comma)),
+        Part::Reads(Role::Sign(Sign::InputWord)),
+        Part::Reads(Role::Sign(Sign::LeftBracket)),
+        Part::Reads(Role::Number(31)),
+        Part::Reads(Role::Sign(Sign::Colon)),
+        Part::Reads(Role::Number(0)),
+        Part::Reads(Role::Sign(Sign::RightBracket)),
+        Part::Reads(Role::Letter(b'e')),
+        Part::Reads(Role::Sign(Sign::Comma)),
+        Part::Reads(Role::Sign(Sign::OutputWord)),
+        Part::Reads(Role::Sign(Sign::LeftBracket)),
+        Part::Reads(Role::Number(31)),
+        Part::Reads(Role::Sign(Sign::Colon)),
+        Part::Reads(Role::Number(0)),
+        Part::Reads(Role::Sign(Sign::RightBracket)),
+        Part::Reads(Role::Sign(Sign::NameY)),
+        Part::Reads(Role::Sign(Sign::Comma)),
+        Part::Reads(Role::Sign(Sign::OutputWord)),
+        Part::Reads(Role::Sign(Sign::LeftBracket)),
+        Part::Reads(Role::Number(31)),
+        Part::Reads(Role::Sign(Sign::Colon)),
+        Part::Reads(Role::Number(0)),
+        Part::Reads(Role::Sign(Sign::RightBracket)),
+        Part::Reads(Role::Sign(Sign::NameZ)),
+        Part::Reads(Role::Sign(Sign::Comma)),
+        Part::Reads(Role::Sign(Sign::OutputWord)),
+        Part::Reads(Role::Sign(Sign::LeftBracket)),
+        Part::Reads(Role::Number(31)),
+        Part::Reads(Role::Sign(Sign::Colon)),
+        Part::Reads(Role::Number(0)),
+        Part::Reads(Role::Sign(Sign::RightBracket)),
+        Part::Reads(Role::Letter(b'x')),
+        Part::Reads(Role::Sign(Sign::Closing)),
+        Part::Reads(Role::Sign(Sign::Semicolon)),
+        Part::Made(Phrase::Wires),
+        Part::Ends(End::Wires),
+        Part::Reads(Role::Sign(Sign::AssignWord)),
+        Part::Reads(Role::Sign(Sign::NameY)),
+        Part::Reads(Role::Sign(Sign::Equals)),
+        Part::Made(Phrase::Side),
+        Part::Reads(Role::Sign(Sign::Semicolon)),
+        Part::Reads(Role::Sign(Sign::AssignWord)),
+        Part::Reads(Role::Sign(Sign::NameZ)),
+        Part::Reads(Role::Sign(Sign::Equals)),
+        Part::Made(Phrase::Side),
+        Part::Reads(Role::Sign(Sign::Semicolon)),
+        Part::Reads(Role::Sign(Sign::AssignWord)),
+        Part::Reads(Role::Letter(b'x')),
+        Part::Reads(Role::Sign(Sign::Equals)),
+        Part::Made(Phrase::Side),
+        Part::Reads(Role::Sign(Sign::Semicolon)),
+        Part::Reads(Role::Sign(Sign::EndModuleWord)),
     ]
 }
 
@@ -324,6 +407,17 @@ fn units(next: Kind) -> &'static [Part]
     if next == Kind::End { &[] } else { unit() }
 }
 
+/// What follows the first three inputs, where a symbol of this kind comes next.
+fn body(next: Kind) -> &'static [Part]
+    ensures { (bytes : List ℕ) → map part_of result.now ≡ parts_of body (symbol_by next bytes) }
+{
+    if is_sign(next, Sign::InputWord) {
+        wide_body()
+    } else {
+        narrow_body()
+    }
+}
+
 /// Wires, where a symbol of this kind comes next.
 fn wires(next: Kind) -> &'static [Part]
     ensures { (bytes : List ℕ) → map part_of result.now ≡ parts_of wires (symbol_by next bytes) }
@@ -342,6 +436,7 @@ impl Phrase {
     {
         match self {
             Phrase::Units => units(next),
+            Phrase::Body => body(next),
             Phrase::Wires => wires(next),
             Phrase::Side => &[Part::Made(Phrase::Term), Part::Made(Phrase::Others)],
             Phrase::Others => others(next),
@@ -362,6 +457,7 @@ impl Phrase {
         match self {
             Phrase::Bits | Phrase::Others => true,
             Phrase::Units
+            | Phrase::Body
             | Phrase::Wires
             | Phrase::Side
             | Phrase::Term

@@ -1,15 +1,19 @@
 //! The names of a module that a term may have.
-ghost use Rattle.std.specs.Prelude.{◌≡◌, ℕ, List, [], ◌∷◌, ◌++◌, length, nat_lt, OnOk, IfOk, Some, None, if◌then◌else◌};
+ghost use Rattle.std.specs.Prelude.{◌≡◌, ℕ, false, List, [], ◌∷◌, ◌++◌, length, nat_lt, OnOk, IfOk, Some, None};
+ghost use Rattle.std.specs.Prelude.{if◌then◌else◌};
 ghost use Rattle.std.specs.Str.{bytes_eq};
 ghost use Rattle.ci_verilog.specs.Modules.{Known, inputs, vector};
-ghost use Rattle.ci_vread.specs.Rules.{is_known, width_of};
+ghost use Rattle.ci_vread.specs.Rules.{is_known, width_of, most_names};
 ghost use Rattle.ci_vread.specs.Names.{Knows, width_at, earlier};
 
 use std::alloc::{AllocError, Global};
 use std::collections::BTreeMap;
 
-/// A module has at most this many names: three inputs and its wires.
-const MOST_NAMES: usize = 2051;
+/// A narrow module has at most this many names: three inputs and its wires.
+const MOST_NARROW: usize = 2051;
+
+/// A wide module has at most this many names: five inputs and its wires.
+const MOST_NAMES: usize = 2053;
 
 /// The names that a term may have, with their widths in bits.
 #[derive(Drop)]
@@ -45,9 +49,9 @@ impl<'a> Names<'a> {
         }
     }
 
-    /// The names of the inputs.
+    /// The names of the inputs of a narrow module.
     pub(crate) fn of_inputs(alloc: Global) -> Result<Names<'a>, AllocError>
-        ensures { IfOk result (λ names. Knows names inputs) }
+        ensures { IfOk result (λ names. Knows names (inputs false)) }
     {
         let mut names = Names::new(alloc);
         names.define(b"a", 32)?;
@@ -71,10 +75,14 @@ impl<'a> Names<'a> {
     }
 
     /// There is room for one wire more.
-    pub(crate) fn has_room(&self) -> bool
-        ensures { (known : List Known) → Knows self.now known → result ≡ nat_lt (length known) 2051 }
+    pub(crate) fn has_room(&self, wide: bool) -> bool
+        ensures { (known : List Known) → Knows self.now known → result ≡ nat_lt (length known) (most_names wide) }
     {
-        self.count < MOST_NAMES
+        if wide {
+            self.count < MOST_NAMES
+        } else {
+            self.count < MOST_NARROW
+        }
     }
 
     /// One name more, behind those that are there.

@@ -1,5 +1,5 @@
 //! Tokens in their roles.
-ghost use Rattle.std.specs.Prelude.{◌≡◌, ◌↔◌, ◌≤◌, IsTrue, IfOk, None};
+ghost use Rattle.std.specs.Prelude.{◌≡◌, ◌↔◌, ◌≤◌, [], ◌∷◌, IsTrue, IfOk, None};
 ghost use Rattle.ci_reading.specs.Tokens as reading;
 ghost use Rattle.ci_vread.specs.Lexicon as lexicon;
 ghost use Rattle.ci_vread.specs.Grammar.{Fits, its_use};
@@ -27,6 +27,18 @@ fn is_number(text: &[u8], token: Token, number: u32) -> bool
 {
     if is_kind(token, Kind::Number) {
         number_of(text, token) == number
+    } else {
+        false
+    }
+}
+
+/// The token is the name that is this letter alone.
+fn is_letter(text: &[u8], token: Token, letter: u8) -> bool
+    ensures { IsTrue result ↔ (symbol_of text.now token ≡ reading.token (lexicon.name (letter ∷ []))) }
+{
+    if is_kind(token, Kind::Name) {
+        let bytes = name_of(text, token);
+        bytes.len() == 1 && bytes[0] == letter
     } else {
         false
     }
@@ -69,6 +81,7 @@ pub(crate) fn fits(role: Role, text: &[u8], token: Token) -> bool
     match role {
         Role::Sign(sign) => is_sign(token.kind, sign),
         Role::Number(number) => is_number(text, token, u32::from(number)),
+        Role::Letter(letter) => is_letter(text, token, letter),
         Role::Cycles => is_kind(token, Kind::Cycles),
         Role::Module | Role::Name | Role::Target => is_kind(token, Kind::Name),
         Role::Use => is_use(token),
@@ -94,7 +107,7 @@ impl<'a> Seen<'a> {
             × (broken ≡ None → self.new.modules ≤ 32)) }
     {
         match role {
-            Role::Sign(_) | Role::Number(_) | Role::Cycles => Ok(None),
+            Role::Sign(_) | Role::Number(_) | Role::Letter(_) | Role::Cycles => Ok(None),
             Role::Module => Ok(self.read_module(alloc, name_of(text, token))?),
             Role::High => Ok(self.read_high(number_of(text, token))),
             Role::Name => Ok(self.read_name(name_of(text, token))),

@@ -5,8 +5,8 @@ ghost use Rattle.std.specs.Fmt.{decimal};
 ghost use Rattle.ci_vread.specs.Lexicon as lexicon;
 ghost use Rattle.ci_vread.specs.Grammar.{its_module, its_high, its_name, its_target, its_use, its_index, its_low};
 ghost use Rattle.ci_vread.specs.Grammar.{its_count, its_constant, its_operator, of_simple, of_term, of_side};
-ghost use Rattle.ci_vread.specs.Grammar.{of_condition, of_branch, of_operand, of_wire, of_wires};
-ghost use Rattle.ci_vread.specs.Rules.{same, makes, nothing, bytes_of};
+ghost use Rattle.ci_vread.specs.Grammar.{of_condition, of_branch, of_operand, of_wire, of_wires, of_three};
+ghost use Rattle.ci_vread.specs.Rules.{same, makes, nothing, bytes_of, is_word};
 ghost use Rattle.ci_vread.specs.Tables.{end_of};
 ghost use Rattle.ci_vread.specs.Checked.{least, Shows, ReadsOn, EndsOn, IsCalm, IsStill, IsBounded};
 
@@ -20,6 +20,8 @@ use std::alloc::{AllocError, Global};
 pub(crate) struct Seen<'a> {
     /// Module names.
     modules: u32,
+    /// The module is a wide one.
+    wide: bool,
     /// The names that a term may have.
     names: Names<'a>,
     /// The wire that is declared but has no value yet.
@@ -64,6 +66,20 @@ fn is_name_of(alloc: Global, number: u32, name: &[u8]) -> Result<bool, AllocErro
 {
     let due = format!(in alloc; "ci_{number}")?;
     Ok(name == due.as_bytes())
+}
+
+/// The bytes are the same.
+fn is_same(bytes: &[u8], others: &[u8]) -> bool
+    ensures { result ≡ same bytes.now others.now }
+{
+    bytes == others
+}
+
+/// The name is a word of a wide module.
+fn is_word(wide: bool, name: &[u8]) -> bool
+    ensures { result ≡ is_word wide name.now }
+{
+    wide && (is_same(name, b"d") || is_same(name, b"e") || is_same(name, b"x"))
 }
 
 /// A constant of this width can have the value.
@@ -128,6 +144,7 @@ impl<'a> Seen<'a> {
     {
         Seen {
             modules: 0,
+            wide: false,
             names: Names::new(alloc),
             declared: &text[..0],
             due: 0,
@@ -155,6 +172,7 @@ impl<'a> Seen<'a> {
         let broken = unless(is_due && self.modules < 32, 9);
         self.names = Names::of_inputs(alloc)?;
         self.modules += 1;
+        self.wide = false;
         Ok(broken)
     }
 
@@ -173,9 +191,13 @@ impl<'a> Seen<'a> {
         ensures calm { IsCalm self.old self.new }
     {
         let is_new = !self.names.contains(name);
-        let has_room = self.names.has_room();
+        let has_room = self.names.has_room(self.wide);
+        let is_word = is_word(self.wide, name);
         self.declared = name;
-        least(unless(is_new, 4), unless(has_room, 8))
+        least(
+            unless(!is_word, 2),
+            least(unless(is_new, 4), unless(has_room, 8)),
+        )
     }
 
     /// The name of a wire that is assigned.
@@ -183,7 +205,8 @@ impl<'a> Seen<'a> {
         ensures on { ReadsOn self.old self.new result its_target (lexicon.name name.now) }
         ensures calm { IsCalm self.old self.new }
     {
-        unless(name == self.declared, 7)
+        let kind = if is_word(self.wide, name) { 2 } else { 7 };
+        unless(name == self.declared, kind)
     }
 
     /// A name in a term.
@@ -192,7 +215,8 @@ impl<'a> Seen<'a> {
         ensures calm { IsCalm self.old self.new }
     {
         self.width = self.names.width(name);
-        unless(self.names.contains(name), 3)
+        let kind = if is_word(self.wide, name) { 2 } else { 3 };
+        unless(self.names.contains(name), kind)
     }
 
     /// An index of a name.
@@ -325,6 +349,16 @@ impl<'a> Seen<'a> {
         self.due = 32;
     }
 
+    /// The end of the first three inputs of a wide module.
+    fn end_three(&mut self) -> Result<(), AllocError>
+        ensures on { OnOk result (EndsOn self.old self.new None of_three) }
+        ensures calm { OnOk result (IsStill self.old self.new) }
+    {
+        self.wide = true;
+        self.names.define(b"d", 32)?;
+        self.names.define(b"e", 32)
+    }
+
     /// What ended behind a token.
     #[tactic(auto, using(crate::proofs::SeenLaws::still))]
     pub(crate) fn end(&mut self, what: End) -> Result<Option<u8>, AllocError>
@@ -345,6 +379,10 @@ impl<'a> Seen<'a> {
             End::Operand => Ok(self.end_operand()),
             End::Wire => {
                 self.end_wire()?;
+                Ok(None)
+            }
+            End::Three => {
+                self.end_three()?;
                 Ok(None)
             }
             End::Wires => {

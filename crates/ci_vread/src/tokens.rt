@@ -5,6 +5,7 @@ use ci_verilog::Operator;
 use std::mem::size_of;
 
 /// The words of the grammar, which are no names, and its marks, but operators (IEEE 1364-2005, sections 3.7.1 and A.1).
+/// d, e and x are names: they are words of wide modules alone.
 #[derive(Clone, Copy, Debug, PartialEq, Eq)]
 pub enum Sign {
     ModuleWord,

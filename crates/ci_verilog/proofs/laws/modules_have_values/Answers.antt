@@ -1,4 +1,4 @@
-use Rattle.ci_verilog.proofs.ValueLaws.{value_exists, value_is_one, values_are_words}
+use Rattle.ci_verilog.proofs.ValueLaws.{value_exists, value_is_one, values_are_words, narrow_ignores}
 use Rattle.ci_verilog.proofs.laws.modules_have_values.Goals as goal
 
 pub returns-clause-some : goal.returns-clause-some
@@ -9,3 +9,6 @@ returns-clause-one c = value_is_one
 
 pub returns-clause-words : goal.returns-clause-words
 returns-clause-words c = values_are_words
+
+pub returns-clause-narrow : goal.returns-clause-narrow
+returns-clause-narrow c = narrow_ignores

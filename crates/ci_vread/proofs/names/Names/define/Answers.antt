@@ -9,5 +9,5 @@ pub returns : goal.returns
 returns c = λ known knows.
     let v : Known = vector c.args.name.now c.args.width in (
       λ q. takes_more (width_at c.args.self.now.widths) (width_at c.define_width.new.widths) known v q (c.in_ok-define_width.ensures q) (knows.0 q),
-      ap (λ n. n + 1) (c.min.ensures ∙ ap (λ n. min n 2050) knows.1) ∙ counts_more known v,
+      ap (λ n. n + 1) (c.min.ensures ∙ ap (λ n. min n 2052) knows.1) ∙ counts_more known v,
     )

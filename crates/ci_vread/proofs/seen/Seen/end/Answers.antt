@@ -34,3 +34,7 @@ returns-in_ok-end_wire-in-Wire-clause-on c =
 pub returns-in-Wires-clause-on : goal.returns-in-Wires-clause-on
 returns-in-Wires-clause-on c =
     subst (λ w. EndsOn c.args.self.now c.end_wires.new.self None (end_of w)) (sym c.in-Wires.is) c.end_wires.ensures.on
+
+pub returns-in_ok-end_three-in-Three-clause-on : goal.returns-in_ok-end_three-in-Three-clause-on
+returns-in_ok-end_three-in-Three-clause-on c =
+    subst (λ w. EndsOn c.args.self.now c.end_three.new.self None (end_of w)) (sym c.in-Three.is) c.in_ok-end_three-in-Three.ensures.on
