@@ -3,7 +3,7 @@ use Rattle.std.proofs.Common.{◌≡◌, ℕ, ◌%◌, ap, sym, subst, refl, ◌
 use Rattle.std.specs.Prelude.{Bool, true, false, ◌==◌, if◌then◌else◌, IfOk, IfSome, IfNone, OnErr, unwrap_or}
 use Rattle.std.specs.declared.result.Result.{Result}
 use Rattle.ci_isa.specs.declared.instruction.Insn.{Insn}
-use Rattle.ci_isa.specs.declared.instruction.Insn.TheVariants.{Unit, Cread, Illegal}
+use Rattle.ci_isa.specs.declared.instruction.Insn.TheVariants.{Unit, Cread, Cput, Illegal}
 use Rattle.ci_isa.specs.Laws.{IsInsnAtX}
 use Rattle.ci_isa.specs.Table.{ReadsX}
 use Rattle.ci_isa.proofs.TableLaws.{one_insn_at_each_word}
@@ -14,7 +14,7 @@ use Rattle.ci_machine.specs.Programs.{Program, State, in_text}
 use Rattle.ci_machine.specs.Steps.{Meaning, word_at, execute, fetched}
 use Rattle.ci_machine.specs.Touches.{moved}
 use Rattle.ci_emu.specs.declared.steps.Outcome.{Outcome}
-use Rattle.ci_emu.specs.Fetched.{IsOnlyAt, may_change}
+use Rattle.ci_emu.specs.Fetched.{HasHiddenIndex, IsOnlyAt, may_change}
 use Rattle.ci_emu.specs.Machines.{standing, StandAs}
 use Rattle.ci_emu.specs.Counting.{target_of}
 use Rattle.ci_emu.specs.Steps.{LeadsTo, IsStep, IsReached}
@@ -38,6 +38,10 @@ only_at word insn stands other there = let one = (one_insn_at_each_word word).1 
 pub stands_at : (word : ℕ) (insn : Insn) → IsOnlyAt word insn → IsInsnAtX word insn
 stands_at word insn only = let one = (one_insn_at_each_word word).1 in subst (IsInsnAtX word) (only one.insn one.stands) one.stands
 
+pub index_fits : (word : ℕ) (insn : Insn) → IsInsnAtX word insn → HasHiddenIndex insn
+index_fits word (Cread rd index) reads = reads.1.6
+index_fits word insn stands = tt
+
 -- ---- what a machine makes of them
 
 chosen : {X : Type 0} (f : Insn → X) (x : X) (b : Bool) (kept bare : Insn) → f kept ≡ x → f bare ≡ x → f (if b then kept else bare) ≡ x
@@ -45,35 +49,42 @@ chosen f x true kept bare same none = same
 chosen f x false kept bare same none = none
 
 -- what a machine may not have moves no memory, and leads nowhere
-module _ (has_unit : ℕ → Bool) (has_cread : Bool) (word : ℕ) where
-  pub same_moved : (core : Core) (reading : Insn) → moved (standing has_unit has_cread word reading) core ≡ moved reading core
+module _ (has_unit : ℕ → Bool) (has_hidden : Bool) (word : ℕ) where
+  pub same_moved : (core : Core) (reading : Insn) → moved (standing has_unit has_hidden word reading) core ≡ moved reading core
   same_moved core (Unit number rd rs1 rs2 rs3) =
       chosen (λ insn. moved insn core) [] (has_unit number) (Unit number rd rs1 rs2 rs3) (Illegal word) refl refl
-  same_moved core (Cread rd) = chosen (λ insn. moved insn core) [] has_cread (Cread rd) (Illegal word) refl refl
+  same_moved core (Cread rd index) = chosen (λ insn. moved insn core) [] has_hidden (Cread rd index) (Illegal word) refl refl
+  same_moved core (Cput rs1 rs2) = chosen (λ insn. moved insn core) [] has_hidden (Cput rs1 rs2) (Illegal word) refl refl
   same_moved core insn = refl
 
   pub same_change : (text : ℕ → Bool) (core : Core) (reading : Insn)
-      → may_change text (standing has_unit has_cread word reading) core ≡ may_change text reading core
+      → may_change text (standing has_unit has_hidden word reading) core ≡ may_change text reading core
   same_change text core (Unit number rd rs1 rs2 rs3) =
       chosen (λ insn. may_change text insn core) false (has_unit number) (Unit number rd rs1 rs2 rs3) (Illegal word) refl refl
-  same_change text core (Cread rd) = chosen (λ insn. may_change text insn core) false has_cread (Cread rd) (Illegal word) refl refl
+  same_change text core (Cread rd index) =
+      chosen (λ insn. may_change text insn core) false has_hidden (Cread rd index) (Illegal word) refl refl
+  same_change text core (Cput rs1 rs2) =
+      chosen (λ insn. may_change text insn core) false has_hidden (Cput rs1 rs2) (Illegal word) refl refl
   same_change text core insn = refl
 
   pub same_target : (outcome : Outcome) (pc : ℕ) (reading : Insn)
-      → target_of (standing has_unit has_cread word reading) outcome pc ≡ target_of reading outcome pc
+      → target_of (standing has_unit has_hidden word reading) outcome pc ≡ target_of reading outcome pc
   same_target outcome pc (Unit number rd rs1 rs2 rs3) =
       chosen (λ insn. target_of insn outcome pc) None (has_unit number) (Unit number rd rs1 rs2 rs3) (Illegal word) refl refl
-  same_target outcome pc (Cread rd) = chosen (λ insn. target_of insn outcome pc) None has_cread (Cread rd) (Illegal word) refl refl
+  same_target outcome pc (Cread rd index) =
+      chosen (λ insn. target_of insn outcome pc) None has_hidden (Cread rd index) (Illegal word) refl refl
+  same_target outcome pc (Cput rs1 rs2) =
+      chosen (λ insn. target_of insn outcome pc) None has_hidden (Cput rs1 rs2) (Illegal word) refl refl
   same_target outcome pc insn = refl
 
 -- ---- steps
 
 -- what a machine fetches of a word, by what the extended table has for it
-pub fetched_as : (Means : Meaning → Type 0) (has_unit : ℕ → Bool) (has_cread : Bool) → StandAs Means has_unit has_cread
+pub fetched_as : (Means : Meaning → Type 0) (has_unit : ℕ → Bool) (has_hidden : Bool) → StandAs Means has_unit has_hidden
     → (program : Program) (state : State) (word : ℕ) (reading : Insn) → IsInsnAtX word reading
     → ((meaning : Meaning) → Means meaning → fetched meaning program state ≡ Some (meaning.insn word))
-    → (meaning : Meaning) → Means meaning → fetched meaning program state ≡ Some (standing has_unit has_cread word reading)
-fetched_as Means has_unit has_cread stand program state word reading stands is meaning means =
+    → (meaning : Meaning) → Means meaning → fetched meaning program state ≡ Some (standing has_unit has_hidden word reading)
+fetched_as Means has_unit has_hidden stand program state word reading stands is meaning means =
     is meaning means ∙ ap Some (stand meaning means word reading stands)
 
 module _ (program : Program) (state : State) where

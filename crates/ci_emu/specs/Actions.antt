@@ -11,7 +11,7 @@ use Rattle.ci_emu.specs.declared.actions.Action.TheVariants.{Addi, Slli, Slti, S
 use Rattle.ci_emu.specs.declared.actions.Action.TheVariants.{Beq, Bne, Blt, Bge, Bltu, Bgeu, Lui, Jal}
 use Rattle.ci_emu.specs.declared.actions.Action.TheVariants.{Lb, Lh, Lw, Lbu, Lhu, Sb, Sh, Sw}
 use Rattle.ci_emu.specs.declared.actions.Action.TheVariants.{Jalr, Auipc, Registers, Constant, Fence, Ecall, Ebreak}
-use Rattle.ci_emu.specs.declared.actions.Action.TheVariants.{Unit, Cread, Illegal}
+use Rattle.ci_emu.specs.declared.actions.Action.TheVariants.{Unit, Cread, Cput, Illegal}
 
 -- the instruction that the action stands for
 abbrev pub insn_of : Action → Insn
@@ -59,5 +59,6 @@ insn_of (Fence bits rs1 rd) = insn.Fence bits rs1 rd
 insn_of Ecall = insn.Ecall
 insn_of Ebreak = insn.Ebreak
 insn_of (Unit number rd rs1 rs2 rs3) = insn.Unit number rd rs1 rs2 rs3
-insn_of (Cread rd) = insn.Cread rd
+insn_of (Cread rd index) = insn.Cread rd index
+insn_of (Cput rs1 rs2) = insn.Cput rs1 rs2
 insn_of (Illegal word) = insn.Illegal word

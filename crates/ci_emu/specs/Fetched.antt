@@ -1,7 +1,7 @@
 -- What a decoded word keeps, and what may change the word that stands in memory. For private contracts.
-use Rattle.std.specs.Prelude.{◌≡◌, ℕ, ◌≤◌, Bool, true, false, None, is_some, find}
+use Rattle.std.specs.Prelude.{◌≡◌, ℕ, ◌<◌, ◌≤◌, ⊤, Bool, true, false, None, is_some, find}
 use Rattle.ci_isa.specs.declared.instruction.Insn.{Insn}
-use Rattle.ci_isa.specs.declared.instruction.Insn.TheVariants.{Store, Ecall}
+use Rattle.ci_isa.specs.declared.instruction.Insn.TheVariants.{Store, Ecall, Cread}
 use Rattle.ci_isa.specs.Laws.{IsInsnAtX}
 use Rattle.ci_isa.specs.declared.instruction.Width.{Width}
 use Rattle.ci_isa.specs.Effects.{width_bytes}
@@ -17,11 +17,16 @@ use Rattle.ci_emu.specs.TableLatencies.{latencies_on}
 abbrev pub IsOnlyAt : ℕ → Insn → Type 0
 IsOnlyAt word insn = (other : Insn) → IsInsnAtX word other → other ≡ insn
 
+-- a `cread` has the index of a hidden result, as each has for which there is a word
+abbrev pub HasHiddenIndex : Insn → Type 0
+HasHiddenIndex (Cread rd index) = index < 2
+HasHiddenIndex insn = ⊤
+
 -- how long a word takes, for which the extended table has this reading, on a machine that has these units, of these
--- cycles, and maybe `cread`
+-- cycles, and maybe `cread` and `cput`
 abbrev pub cycles_on : (ℕ → Bool) → Bool → (ℕ → ℕ) → Table → ℕ → Insn → ℕ
-cycles_on has_unit has_cread unit_cycles table word reading =
-    latency (latencies_on table unit_cycles) (standing has_unit has_cread word reading)
+cycles_on has_unit has_hidden unit_cycles table word reading =
+    latency (latencies_on table unit_cycles) (standing has_unit has_hidden word reading)
 
 -- Bytes of the text may be others behind the instruction: a store moves some, or it is a call.
 abbrev pub may_change : (ℕ → Bool) → Insn → Core → Bool

@@ -2,7 +2,7 @@
 use Rattle.std.proofs.Common.{◌≡◌, ℕ, Some, refl, sym, subst, ◌∙◌}
 use Rattle.std.specs.Prelude.{false}
 use Rattle.ci_isa.specs.declared.instruction.Insn.{Insn}
-use Rattle.ci_isa.specs.declared.instruction.Insn.TheVariants.{Unit, Cread, Illegal}
+use Rattle.ci_isa.specs.declared.instruction.Insn.TheVariants.{Unit, Cread, Cput, Illegal}
 use Rattle.ci_isa.specs.Laws.{IsInsnAtX}
 use Rattle.ci_isa.specs.Table.{Reads, ReadsX, IsInsnAt}
 use Rattle.ci_isa.proofs.RowSoundness.{in_extended}
@@ -23,7 +23,8 @@ module _ (word : ℕ) where
   by_plain_table : (reading : Insn) → IsInsnAtX word reading
       → IsInsnAt word (standing (λ number. false) false word reading)
   by_plain_table (Unit number rd rs1 rs2 rs3) reads = (refl, no_row (Unit number rd rs1 rs2 rs3) reads (λ row. row.1))
-  by_plain_table (Cread rd) reads = (refl, no_row (Cread rd) reads (λ row. row.1))
+  by_plain_table (Cread rd index) reads = (refl, no_row (Cread rd index) reads (λ row. row.1))
+  by_plain_table (Cput rs1 rs2) reads = (refl, no_row (Cput rs1 rs2) reads (λ row. row.1))
   by_plain_table (Illegal bare) stands = (stands.0, λ insn row. stands.1 insn (row.0, in_extended word insn row.1))
   by_plain_table insn reads = reads
 

@@ -225,6 +225,11 @@ pub(crate) enum Action {
     },
     Cread {
         rd: Reg,
+        index: u8,
+    },
+    Cput {
+        rs1: Reg,
+        rs2: Reg,
     },
     Illegal {
         word: u32,
@@ -277,7 +282,8 @@ impl Action {
                 rs2,
                 rs3,
             },
-            Insn::Cread { rd } => Action::Cread { rd },
+            Insn::Cread { rd, index } => Action::Cread { rd, index },
+            Insn::Cput { rs1, rs2 } => Action::Cput { rs1, rs2 },
             Insn::Illegal { word } => Action::Illegal { word },
         }
     }

@@ -33,7 +33,8 @@ impl Nearby {
         }
     }
 
-    /// Where the hint for the address stands, by a hash: addresses of near ranges have slots that lie far apart.
+    /// Where the hint for the address stands, by a hash: addresses of ranges that lie close together have slots that lie
+    /// far apart.
     fn slot(&self, address: u32) -> usize {
         let hash = (address / 4).wrapping_mul(0x9E37_79B1);
         (u64::from(hash).wrapping_mul(self.hints.len() as u64) >> 32) as usize

@@ -43,7 +43,7 @@ pub(crate) struct Decoded {
 
 /// How long the instruction takes on the machine, in cycles. A word that is none takes no time.
 fn latency<M: Machine>(machine: &M, table: &Table, insn: &Insn) -> u32
-    ensures { (word : ℕ) → result ≡ cycles_on (M.has_unit machine.now) (M.has_cread machine.now)
+    ensures { (word : ℕ) → result ≡ cycles_on (M.has_unit machine.now) (M.has_hidden machine.now)
         (M.unit_cycles machine.now) table.now word insn.now }
 {
     match class(insn) {
@@ -55,23 +55,27 @@ fn latency<M: Machine>(machine: &M, table: &Table, insn: &Insn) -> u32
 /// The same of an instruction whose class has no latency in the table.
 fn free_latency<M: Machine>(machine: &M, table: &Table, insn: &Insn) -> u32
     requires { Free ≡ class_of insn.now }
-    ensures { (word : ℕ) → result ≡ cycles_on (M.has_unit machine.now) (M.has_cread machine.now)
+    ensures { (word : ℕ) → result ≡ cycles_on (M.has_unit machine.now) (M.has_hidden machine.now)
         (M.unit_cycles machine.now) table.now word insn.now }
 {
     match *insn {
         Insn::Illegal { .. } => 0,
         Insn::AluImm { .. } => table.pad(),
         Insn::Unit { number, .. } => machine.cycles(number),
-        Insn::Cread { .. } => read_latency(machine, table),
+        Insn::Cread { .. } | Insn::Cput { .. } => read_latency(machine, table),
         _ => table.latency(Class::Free),
     }
 }
 
-/// How long `cread` takes on the machine, in cycles: no time where it is not there.
+/// How long `cread` and `cput` take on the machine, in cycles: no time where they are not there.
 fn read_latency<M: Machine>(machine: &M, table: &Table) -> u32
-    ensures { result ≡ (if M.has_cread machine.now then table.now.read else 0) }
+    ensures { result ≡ (if M.has_hidden machine.now then table.now.read else 0) }
 {
-    if machine.has_cread() { table.read() } else { 0 }
+    if machine.has_hidden() {
+        table.read()
+    } else {
+        0
+    }
 }
 
 impl Decoded {
@@ -80,7 +84,7 @@ impl Decoded {
     /// What the table has for a word, and how long the machine takes for it.
     fn of<M: Machine>(machine: &M, table: &Table, word: u32) -> Decoded
         ensures word { result.word ≡ word }
-        ensures timed { IsTimed (cycles_on (M.has_unit machine.now) (M.has_cread machine.now)
+        ensures timed { IsTimed (cycles_on (M.has_unit machine.now) (M.has_hidden machine.now)
             (M.unit_cycles machine.now) table.now) result }
         ensures seen { result.seen ≡ 0 }
     {
@@ -102,10 +106,10 @@ impl Decoded {
 
     /// What was decoded of the word, anew where it was of another word, and seen now.
     fn refreshed<M: Machine>(&mut self, machine: &M, table: &Table, word: u32, seen: u64) -> Decoded
-        requires { IsTimed (cycles_on (M.has_unit machine.now) (M.has_cread machine.now)
+        requires { IsTimed (cycles_on (M.has_unit machine.now) (M.has_hidden machine.now)
             (M.unit_cycles machine.now) table.now) self.old }
         ensures word { result.word ≡ word }
-        ensures timed { IsTimed (cycles_on (M.has_unit machine.now) (M.has_cread machine.now)
+        ensures timed { IsTimed (cycles_on (M.has_unit machine.now) (M.has_hidden machine.now)
             (M.unit_cycles machine.now) table.now) result }
         ensures seen { result.seen ≡ seen }
         ensures kept { self.new ≡ result }
@@ -142,7 +146,7 @@ impl DecodeCache {
         table: &Table,
         count: usize,
     ) -> Result<DecodeCache, AllocError>
-        ensures kept { IfOk result (λ cache. AreKept (cycles_on (M.has_unit machine.now) (M.has_cread machine.now)
+        ensures kept { IfOk result (λ cache. AreKept (cycles_on (M.has_unit machine.now) (M.has_hidden machine.now)
             (M.unit_cycles machine.now) table.now) 0 cache.words.items) }
         ensures many { IfOk result (λ cache. length cache.words.items ≡ count) }
     {
@@ -170,11 +174,11 @@ impl DecodeCache {
         seen: u64,
     ) -> Decoded
         requires { (d : Decoded) → place < length self.old.words.items
-            → IsTimed (cycles_on (M.has_unit machine.now) (M.has_cread machine.now)
+            → IsTimed (cycles_on (M.has_unit machine.now) (M.has_hidden machine.now)
             (M.unit_cycles machine.now) table.now) (slice_index_or self.old.words.items place d) }
         ensures word { result.word ≡ word }
         ensures seen { place < length self.old.words.items → result.seen ≡ seen }
-        ensures timed { IsTimed (cycles_on (M.has_unit machine.now) (M.has_cread machine.now)
+        ensures timed { IsTimed (cycles_on (M.has_unit machine.now) (M.has_hidden machine.now)
             (M.unit_cycles machine.now) table.now) result }
         ensures words { self.new.words.items ≡ slice_set self.old.words.items place result }
     {
@@ -201,12 +205,12 @@ impl DecodeCache {
         requires small { (state_of state.now).pc < 2 ^ 32 }
         requires aligned { aligned ≡ are_aligned (program_of state.now).text }
         requires begun { 0 < changes }
-        requires kept { AreKept (cycles_on (M.has_unit machine.now) (M.has_cread machine.now)
+        requires kept { AreKept (cycles_on (M.has_unit machine.now) (M.has_hidden machine.now)
             (M.unit_cycles machine.now) table.now) changes self.old.words.items }
         ensures fetched { (meaning : Meaning) → fetched meaning (program_of state.now) (state_of state.now)
             ≡ option_map (λ decoded. meaning.insn decoded.word) result }
         ensures there { IfSome result (λ line. (d : Decoded) → slice_index_or self.new.words.items place d ≡ line) }
-        ensures kept { AreKept (cycles_on (M.has_unit machine.now) (M.has_cread machine.now)
+        ensures kept { AreKept (cycles_on (M.has_unit machine.now) (M.has_hidden machine.now)
             (M.unit_cycles machine.now) table.now) changes self.new.words.items }
         ensures known { (meaning : Meaning)
             → AreKnown meaning (program_of state.now) (state_of state.now).core.memory changes self.old.words.items
@@ -234,7 +238,7 @@ impl DecodeCache {
         requires small { (state_of state.now).pc < 2 ^ 32 }
         requires aligned { aligned ≡ are_aligned (program_of state.now).text }
         requires begun { 0 < changes }
-        requires kept { AreKept (cycles_on (M.has_unit machine.now) (M.has_cread machine.now)
+        requires kept { AreKept (cycles_on (M.has_unit machine.now) (M.has_hidden machine.now)
             (M.unit_cycles machine.now) table.now) changes self.old.words.items }
         ensures fetched { MatchOption result
             ((meaning : Meaning) → fetched meaning (program_of state.now) (state_of state.now) ≡ None)
@@ -243,7 +247,7 @@ impl DecodeCache {
             → fetched meaning (program_of state.now) (state_of state.now)
             ≡ Some (meaning.insn (slice_index_or self.new.words.items line d).word)) }
         ensures within { IfSome result (λ line. line < length self.new.words.items) }
-        ensures kept { AreKept (cycles_on (M.has_unit machine.now) (M.has_cread machine.now)
+        ensures kept { AreKept (cycles_on (M.has_unit machine.now) (M.has_hidden machine.now)
             (M.unit_cycles machine.now) table.now) changes self.new.words.items }
         ensures known { (meaning : Meaning)
             → AreKnown meaning (program_of state.now) (state_of state.now).core.memory changes self.old.words.items

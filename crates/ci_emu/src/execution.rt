@@ -1,15 +1,15 @@
 //! What each instruction does.
 ghost use Rattle.std.specs.Prelude.{◌≡◌, ℕ, ◌+◌, ◌*◌, ◌<◌, ◌≤◌, ◌^◌, ◌-ℤ◌, pos, nat_lt, if◌then◌else◌, IfOk, OnErr};
 ghost use Rattle.std.specs.Prelude.{find};
-ghost use Rattle.std.specs.Prelude.{true, false};
+ghost use Rattle.std.specs.Prelude.{true, false, [], ◌∷◌};
 ghost use Rattle.ci_word.specs.Arithmetic.{operation, word_of};
 ghost use Rattle.ci_word.specs.declared.arithmetic.Op.TheVariants.{Add};
-ghost use Rattle.ci_isa.specs.declared.instruction.Insn.TheVariants.{Branch, Cread, Unit};
+ghost use Rattle.ci_isa.specs.declared.instruction.Insn.TheVariants.{Branch, Cput, Cread, Unit};
 ghost use Rattle.ci_machine.specs.declared.ends.End.TheVariants.{Access, Illegal, Misaligned};
 ghost use Rattle.ci_machine.specs.Accesses.{extended, load_width};
 ghost use Rattle.ci_machine.specs.Actions.{address_from, loaded, stored};
 ghost use Rattle.ci_machine.specs.Calls.{call};
-ghost use Rattle.ci_machine.specs.Cores.{first_hidden, register, with_register};
+ghost use Rattle.ci_machine.specs.Cores.{hidden, register, with_register, with_registers};
 ghost use Rattle.ci_machine.specs.States.{bytes_of, program_of, state_of};
 ghost use Rattle.ci_machine.specs.Steps.{control, directed, even, execute, following, is_taken, onward, then_onward};
 ghost use Rattle.ci_machine.specs.Steps.{Meaning};
@@ -19,7 +19,7 @@ ghost use Rattle.ci_emu.specs.declared.steps.Outcome.TheVariants.{Next};
 ghost use Rattle.ci_emu.specs.Machines.{standing};
 ghost use Rattle.ci_emu.specs.Steps.{next_or, LeadsTo};
 ghost use Rattle.ci_emu.specs.Counting.{first_touch};
-ghost use Rattle.ci_emu.specs.Fetched.{may_change, IsTextBelow};
+ghost use Rattle.ci_emu.specs.Fetched.{may_change, HasHiddenIndex, IsTextBelow};
 
 use crate::machine::Machine;
 use crate::steps::Outcome;
@@ -43,9 +43,10 @@ pub(crate) fn execute<M: Machine>(
 ) -> Result<Outcome, AllocError>
     requires few { touches.old.changes ≤ 2 ^ 33 }
     requires behind { IsTextBelow (in_text (program_of state.old)) touches.old.end }
+    requires index { HasHiddenIndex insn }
     ensures executed { IfOk result (λ outcome. (meaning : Meaning) → M.meanings machine.now meaning
         → LeadsTo (state_of state.old) (execute meaning.units (program_of state.old)
-        (standing (M.has_unit machine.now) (M.has_cread machine.now) word insn) (state_of state.old))
+        (standing (M.has_unit machine.now) (M.has_hidden machine.now) word insn) (state_of state.old))
         (state_of state.new) outcome) }
     ensures refused { OnErr result (state_of state.new ≡ state_of state.old) }
     ensures program { program_of state.new ≡ program_of state.old }
@@ -132,8 +133,12 @@ pub(crate) fn execute<M: Machine>(
             let goes = unit(machine, state, number, rd, rs1, rs2, rs3);
             Ok(next_or(goes, End::Illegal(word)))
         }
-        Insn::Cread { rd } => {
-            let goes = read_hidden(machine, state, rd);
+        Insn::Cread { rd, index } => {
+            let goes = read_hidden(machine, state, rd, index);
+            Ok(next_or(goes, End::Illegal(word)))
+        }
+        Insn::Cput { rs1, rs2 } => {
+            let goes = pass_operands(machine, state, rs1, rs2);
             Ok(next_or(goes, End::Illegal(word)))
         }
     }
@@ -222,14 +227,15 @@ pub(crate) fn by_constant(state: &mut State, op: Op, rd: Reg, rs1: Reg, imm: i32
     true
 }
 
-/// The register and the hidden one take the results of a unit, and on at the next instruction.
-fn write_both(state: &mut State, rd: Reg, first: u32, second: u32)
+/// The register and the hidden ones take the results of a unit, and on at the next instruction.
+fn write_results(state: &mut State, rd: Reg, first: u32, second: u32, third: u32)
     ensures outcome { LeadsTo (state_of state.old) (onward (state_of state.old).pc
-        (with_register (with_register (state_of state.old).core first_hidden second) rd first))
+        (with_registers (state_of state.old).core (rd ∷ hidden) (first ∷ second ∷ third ∷ [])))
         (state_of state.new) Next }
     ensures program { program_of state.new ≡ program_of state.old }
 {
-    state.set_hidden(second);
+    state.set_hidden(1, third);
+    state.set_hidden(0, second);
     write_back(state, rd, first);
 }
 
@@ -245,7 +251,7 @@ pub(crate) fn unit<M: Machine>(
 ) -> bool
     ensures outcome { (word : ℕ) (meaning : Meaning) → M.meanings machine.now meaning
         → LeadsTo (state_of state.old) (execute meaning.units (program_of state.old)
-        (standing (M.has_unit machine.now) (M.has_cread machine.now) word (Unit number rd rs1 rs2 rs3))
+        (standing (M.has_unit machine.now) (M.has_hidden machine.now) word (Unit number rd rs1 rs2 rs3))
         (state_of state.old)) (state_of state.new) (next_or result (Illegal word)) }
     ensures stayed { result ≡ false → state_of state.new ≡ state_of state.old }
     ensures program { program_of state.new ≡ program_of state.old }
@@ -255,29 +261,50 @@ pub(crate) fn unit<M: Machine>(
         state.register(rs2),
         state.register(rs3),
     );
-    match machine.unit(number, a, b, c) {
-        Some((first, second)) => {
-            write_both(state, rd, first, second);
+    let (d, e) = (state.operand(0), state.operand(1));
+    match machine.unit(number, a, b, c, d, e) {
+        Some((first, second, third)) => {
+            write_results(state, rd, first, second, third);
             true
         }
         None => false,
     }
 }
 
-/// The register takes the hidden one's value, where the machine has `cread`. Says whether it has.
-pub(crate) fn read_hidden<M: Machine>(machine: &M, state: &mut State, rd: Reg) -> bool
+/// The register takes the hidden result of this index, where the machine has `cread`. Says whether it has.
+pub(crate) fn read_hidden<M: Machine>(machine: &M, state: &mut State, rd: Reg, index: u8) -> bool
+    requires { index < 2 }
     ensures outcome { (word : ℕ) (meaning : Meaning) → M.meanings machine.now meaning
         → LeadsTo (state_of state.old) (execute meaning.units (program_of state.old)
-        (standing (M.has_unit machine.now) (M.has_cread machine.now) word (Cread rd))
+        (standing (M.has_unit machine.now) (M.has_hidden machine.now) word (Cread rd index))
         (state_of state.old)) (state_of state.new) (next_or result (Illegal word)) }
     ensures stayed { result ≡ false → state_of state.new ≡ state_of state.old }
     ensures program { program_of state.new ≡ program_of state.old }
 {
-    if !machine.has_cread() {
+    if !machine.has_hidden() {
         return false;
     }
-    let value = state.hidden();
+    let value = state.hidden(index);
     write_back(state, rd, value);
+    true
+}
+
+/// The hidden operands take the registers' values, where the machine has `cput`. Says whether it has.
+pub(crate) fn pass_operands<M: Machine>(machine: &M, state: &mut State, rs1: Reg, rs2: Reg) -> bool
+    ensures outcome { (word : ℕ) (meaning : Meaning) → M.meanings machine.now meaning
+        → LeadsTo (state_of state.old) (execute meaning.units (program_of state.old)
+        (standing (M.has_unit machine.now) (M.has_hidden machine.now) word (Cput rs1 rs2))
+        (state_of state.old)) (state_of state.new) (next_or result (Illegal word)) }
+    ensures stayed { result ≡ false → state_of state.new ≡ state_of state.old }
+    ensures program { program_of state.new ≡ program_of state.old }
+{
+    if !machine.has_hidden() {
+        return false;
+    }
+    let (first, second) = (state.register(rs1), state.register(rs2));
+    state.set_operand(1, second);
+    state.set_operand(0, first);
+    advance(state);
     true
 }
 

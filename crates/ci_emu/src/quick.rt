@@ -13,12 +13,12 @@ ghost use Rattle.ci_emu.specs.Machines.{standing};
 ghost use Rattle.ci_emu.specs.Actions.{insn_of};
 ghost use Rattle.ci_emu.specs.Steps.{LeadsTo};
 ghost use Rattle.ci_emu.specs.Counting.{first_touch, target_of, Led};
-ghost use Rattle.ci_emu.specs.Fetched.{may_change, IsTextBelow};
+ghost use Rattle.ci_emu.specs.Fetched.{may_change, HasHiddenIndex, IsTextBelow};
 
 use crate::actions::Action;
 use crate::execution::{
-    address, branch, by_constant, by_registers, even, jump, load, read_hidden, store, unit,
-    width_of, word_of, write_back,
+    address, branch, by_constant, by_registers, even, jump, load, pass_operands, read_hidden,
+    store, unit, width_of, word_of, write_back,
 };
 use crate::machine::Machine;
 use crate::touches::Touches;
@@ -41,9 +41,10 @@ pub(crate) fn perform<M: Machine>(
     targets: &BTreeSet<u32>,
 ) -> bool
     requires behind { IsTextBelow (in_text (program_of state.old)) touches.now.end }
+    requires index { HasHiddenIndex (insn_of action.now) }
     ensures performed { result ≡ true → (word : ℕ) (meaning : Meaning) → M.meanings machine.now meaning
         → LeadsTo (state_of state.old) (execute meaning.units (program_of state.old)
-        (standing (M.has_unit machine.now) (M.has_cread machine.now) word (insn_of action.now)) (state_of state.old))
+        (standing (M.has_unit machine.now) (M.has_hidden machine.now) word (insn_of action.now)) (state_of state.old))
         (state_of state.new) Next }
     ensures stayed { result ≡ false → state_of state.new ≡ state_of state.old }
     ensures program { program_of state.new ≡ program_of state.old }
@@ -116,7 +117,8 @@ pub(crate) fn perform<M: Machine>(
             rs2,
             rs3,
         } => unit(machine, state, number, rd, rs1, rs2, rs3),
-        Action::Cread { rd } => read_hidden(machine, state, rd),
+        Action::Cread { rd, index } => read_hidden(machine, state, rd, index),
+        Action::Cput { rs1, rs2 } => pass_operands(machine, state, rs1, rs2),
         Action::Fence { .. } | Action::Ecall | Action::Ebreak | Action::Illegal { .. } => false,
     }
 }

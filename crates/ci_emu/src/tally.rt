@@ -50,7 +50,7 @@ impl Tally {
     ghost use Rattle.ci_emu.specs.Lines.{AreKept};
 
     /// Nothing yet. Out of line: behind its tests the compiler would take the loop of the steps for seldom reached, and
-    /// leave loads and stores out of it.
+    /// not inline loads and stores into it.
     #[inline(never)]
     pub(crate) fn new<M: Machine>(
         alloc: Global,
@@ -61,7 +61,7 @@ impl Tally {
         requires { IsAscending text.now }
         ensures text { IfOk result (λ tally. tally.counts.places ≡ text.now) }
         ensures fresh { IfOk result IsFresh }
-        ensures kept { IfOk result (λ tally. AreKept (cycles_on (M.has_unit machine.now) (M.has_cread machine.now)
+        ensures kept { IfOk result (λ tally. AreKept (cycles_on (M.has_unit machine.now) (M.has_hidden machine.now)
             (M.unit_cycles machine.now) table.now) 0 tally.cache.words.items) }
         ensures changes { IfOk result (λ tally. tally.touches.changes ≡ 1) }
         ensures behind { IfOk result (λ tally. IsTextBelow (has_text text.now) tally.touches.end) }
@@ -139,7 +139,7 @@ fn enter<M: Machine>(
     requires nearby { ArePlaced counts.old.places nearby.old }
     requires many { length cache.old.words.items ≡ length counts.old.by_place.items }
     requires begun { 0 < changes }
-    requires kept { AreKept (cycles_on (M.has_unit machine.now) (M.has_cread machine.now)
+    requires kept { AreKept (cycles_on (M.has_unit machine.now) (M.has_hidden machine.now)
         (M.unit_cycles machine.now) table.now) changes cache.old.words.items }
     ensures fetched { MatchOption result
         ((meaning : Meaning) → fetched meaning (program_of state.now) (state_of state.now) ≡ None)
@@ -148,7 +148,7 @@ fn enter<M: Machine>(
         → fetched meaning (program_of state.now) (state_of state.now)
         ≡ Some (meaning.insn (slice_index_or cache.new.words.items line d).word)) }
     ensures within { IfSome result (λ line. line < length cache.new.words.items) }
-    ensures kept { AreKept (cycles_on (M.has_unit machine.now) (M.has_cread machine.now)
+    ensures kept { AreKept (cycles_on (M.has_unit machine.now) (M.has_hidden machine.now)
         (M.unit_cycles machine.now) table.now) changes cache.new.words.items }
     ensures known { (meaning : Meaning)
         → AreKnown meaning (program_of state.now) (state_of state.now).core.memory changes cache.old.words.items
@@ -178,13 +178,13 @@ pub(crate) fn quick_step<M: Machine>(
     tally: &mut Tally,
     nearby: &Nearby,
 ) -> bool
-    requires room { HasRoom (M.meanings machine.now) (cycles_on (M.has_unit machine.now) (M.has_cread machine.now)
+    requires room { HasRoom (M.meanings machine.now) (cycles_on (M.has_unit machine.now) (M.has_hidden machine.now)
         (M.unit_cycles machine.now) table.now) (program_of state.old) (state_of state.old) tally.old }
     requires nearby { ArePlaced tally.old.counts.places nearby.now }
     ensures made { result ≡ true → IsCountedStep (M.meanings machine.now)
         (latencies_on table.now (M.unit_cycles machine.now)) (program_of state.old)
         (state_of state.old) tally.old (state_of state.new) tally.new Next }
-    ensures entered { result ≡ true → HasEntered (cycles_on (M.has_unit machine.now) (M.has_cread machine.now)
+    ensures entered { result ≡ true → HasEntered (cycles_on (M.has_unit machine.now) (M.has_hidden machine.now)
         (M.unit_cycles machine.now) table.now) (program_of state.old) (state_of state.old) tally.old tally.new }
     ensures stayed { result ≡ false → state_of state.new ≡ state_of state.old }
     ensures uncounted { result ≡ false → tally.new ≡ tally.old }
@@ -216,13 +216,13 @@ pub(crate) fn far_step<M: Machine>(
     tally: &mut Tally,
     nearby: &mut Nearby,
 ) -> bool
-    requires room { HasRoom (M.meanings machine.now) (cycles_on (M.has_unit machine.now) (M.has_cread machine.now)
+    requires room { HasRoom (M.meanings machine.now) (cycles_on (M.has_unit machine.now) (M.has_hidden machine.now)
         (M.unit_cycles machine.now) table.now) (program_of state.old) (state_of state.old) tally.old }
     requires nearby { ArePlaced tally.old.counts.places nearby.old }
     ensures made { result ≡ true → IsCountedStep (M.meanings machine.now)
         (latencies_on table.now (M.unit_cycles machine.now)) (program_of state.old)
         (state_of state.old) tally.old (state_of state.new) tally.new Next }
-    ensures entered { result ≡ true → HasEntered (cycles_on (M.has_unit machine.now) (M.has_cread machine.now)
+    ensures entered { result ≡ true → HasEntered (cycles_on (M.has_unit machine.now) (M.has_hidden machine.now)
         (M.unit_cycles machine.now) table.now) (program_of state.old) (state_of state.old) tally.old tally.new }
     ensures stayed { result ≡ false → state_of state.new ≡ state_of state.old }
     ensures uncounted { result ≡ false → tally.new ≡ tally.old }
@@ -247,13 +247,13 @@ pub(crate) fn noted_step<M: Machine>(
     tally: &mut Tally,
     nearby: &mut Nearby,
 ) -> Result<Outcome, AllocError>
-    requires room { HasRoom (M.meanings machine.now) (cycles_on (M.has_unit machine.now) (M.has_cread machine.now)
+    requires room { HasRoom (M.meanings machine.now) (cycles_on (M.has_unit machine.now) (M.has_hidden machine.now)
         (M.unit_cycles machine.now) table.now) (program_of state.old) (state_of state.old) tally.old }
     requires nearby { ArePlaced tally.old.counts.places nearby.old }
     ensures made { IfOk result (IsCountedStep (M.meanings machine.now)
         (latencies_on table.now (M.unit_cycles machine.now)) (program_of state.old)
         (state_of state.old) tally.old (state_of state.new) tally.new) }
-    ensures entered { HasEntered (cycles_on (M.has_unit machine.now) (M.has_cread machine.now)
+    ensures entered { HasEntered (cycles_on (M.has_unit machine.now) (M.has_hidden machine.now)
         (M.unit_cycles machine.now) table.now) (program_of state.old) (state_of state.old) tally.old tally.new }
     ensures refused { OnErr result
         (IsReached (M.meanings machine.now) (program_of state.old) (state_of state.old) 1 (state_of state.new)) }

@@ -1,25 +1,27 @@
 -- There is an extended machine for all modules, and it is one; it makes words of words, and runs files of the plain
 -- machine as that does.
-use Rattle.std.proofs.Common.{◌≡◌, ℕ, zero, suc, ◌<◌, refl, ap, sym, subst, ◌∙◌, arith, lit<, List, [], ◌∷◌, Option, Some, None, inl, inr}
+use Rattle.std.proofs.Common.{◌≡◌, ℕ, zero, suc, ◌<◌, ◌≤◌, refl, ap, sym, subst, ◌∙◌, arith, lit<, List, [], ◌∷◌, Option, Some, None, inl, inr}
 use Rattle.std.specs.Prelude.{◌^◌, ◌%◌, ◌==◌, ◌&&◌, Bool, true, false, length, slice_get, All, if◌then◌else◌}
 use Rattle.std.specs.Option.{option_map}
 use Rattle.std.proofs.lemmas.Bool.{cases_lt}
+use Rattle.std.proofs.lemmas.Bool.Decides.{nat_tests}
 use Rattle.std.proofs.lemmas.Option.{slice_get_cases, get_or_from_slice_get}
 use Rattle.std.proofs.lemmas.List.Elements.{All-tail}
 use Rattle.std.proofs.lemmas.Grind.{get_or_default_zero}
 use Rattle.ci_word.proofs.NumberLaws.{sum_below-same}
 use Rattle.ci_isa.specs.declared.instruction.Insn.{Insn}
 use Rattle.ci_isa.specs.declared.instruction.Insn.TheVariants.{Lui, Unit, Illegal}
-use Rattle.ci_isa.specs.Effects.{is_unit, is_among, is_kept}
+use Rattle.ci_isa.specs.Effects.{is_unit, is_among}
 use Rattle.ci_isa.specs.Fields.{HasCustomOpcode}
 use Rattle.ci_isa.specs.Laws.{IsInsnAtX}
 use Rattle.ci_isa.specs.Table.{ReadsX, IsInsnAt}
 use Rattle.ci_isa.proofs.RowCompleteness.{only_extended}
 use Rattle.ci_isa.proofs.TableLaws.{one_insn_at_each_word}
 use Rattle.ci_elf.specs.WordLists.{AreWords}
-use Rattle.ci_verilog.specs.Modules.{Module, IsModule, inputs}
+use Rattle.ci_verilog.specs.Modules.{Module, IsModule}
 use Rattle.ci_verilog.specs.Values.{IsValueOf}
 use Rattle.ci_verilog.proofs.ValueLaws.{value_exists, value_is_one, values_are_words}
+use Rattle.ci_machine.specs.Cores.{first_hidden, hidden_operands}
 use Rattle.ci_machine.specs.Extended.{HasModule, ReadsWith, IsInsnWith, IsExtended, latencies_with}
 use Rattle.ci_machine.specs.ExtendedLaws.{ExtendedExists, ExtendedIsOne, ExtendedTakesHidden}
 use Rattle.ci_machine.specs.ExtendedLaws.{ExtendedRunsPlainFiles}
@@ -30,7 +32,18 @@ use Rattle.ci_machine.specs.Steps.{Meaning, IsPlain, word_at}
 use Rattle.ci_machine.specs.Words.{AreTaken, MakesWords, GivesWords}
 use Rattle.ci_machine.proofs.PlainMeaning.{plain_and_extended_agree}
 use Rattle.ci_machine.proofs.SameRuns.{runs_of_words, file_runs_alike}
-use Rattle.ci_machine.proofs.TestLaws.{some_is, both_second}
+use Rattle.ci_machine.proofs.TestLaws.{some_is}
+
+-- ---- the values of a unit
+
+pub five_words : (a b c d e : ℕ) → a < 2 ^ 32 → b < 2 ^ 32 → c < 2 ^ 32 → d < 2 ^ 32 → e < 2 ^ 32
+    → AreWords (a ∷ b ∷ c ∷ d ∷ e ∷ [])
+five_words a b c d e first second third fourth fifth zero = first
+five_words a b c d e first second third fourth fifth (suc zero) = second
+five_words a b c d e first second third fourth fifth (suc (suc zero)) = third
+five_words a b c d e first second third fourth fifth (suc (suc (suc zero))) = fourth
+five_words a b c d e first second third fourth fifth (suc (suc (suc (suc zero)))) = fifth
+five_words a b c d e first second third fourth fifth (suc (suc (suc (suc (suc k))))) = lit< tt
 
 -- ---- one instruction stands at a word
 
@@ -80,35 +93,31 @@ module_kept modules all number m there =
     ]
 
 results_of : (found : Option Module) → ((m : Module) → found ≡ Some m → IsModule m) → List ℕ → List ℕ
-results_of (Some m) kept (a ∷ b ∷ c ∷ []) = (value_exists m (kept m refl) (a ∷ b ∷ c ∷ []) refl).0
+results_of (Some m) kept values = (value_exists m (kept m refl) values).0
 results_of found kept values = []
 
 results_computed : (found : Option Module) (kept : (m : Module) → found ≡ Some m → IsModule m) (m : Module) → found ≡ Some m → (values : List ℕ)
-    → length values ≡ length inputs → IsValueOf m values (results_of found kept values)
+    → IsValueOf m values (results_of found kept values)
 unfolding results_of
-results_computed None kept m there values three = cc
-results_computed (Some other) kept m there [] three = absurd (omega arith)
-results_computed (Some other) kept m there (a ∷ []) three = absurd (omega arith)
-results_computed (Some other) kept m there (a ∷ b ∷ []) three = absurd (omega arith)
-results_computed (Some other) kept m there (a ∷ b ∷ c ∷ []) three =
-    let found = value_exists other (kept other refl) (a ∷ b ∷ c ∷ []) refl in
-    subst (λ m. IsValueOf m (a ∷ b ∷ c ∷ []) found.0) (some_is there) found.1
-results_computed (Some other) kept m there (a ∷ b ∷ c ∷ d ∷ more) three = absurd (omega arith)
+results_computed None kept m there values = cc
+results_computed (Some other) kept m there values =
+    let found = value_exists other (kept other refl) values in
+    subst (λ m. IsValueOf m values found.0) (some_is there) found.1
 
 pub extended_exists : ExtendedExists
 extended_exists modules all = (
   record {
     insn = λ word. (what_stands modules word).0;
     units = record {
-      further = λ number. [];
+      further = λ number. hidden_operands;
       results = λ number values. results_of (slice_get modules number) (module_kept modules all number) values;
     };
   },
   record {
     reads = λ word. (what_stands modules word).1;
     further = λ number. refl;
-    computes = λ number m there values three words.
-        results_computed (slice_get modules number) (module_kept modules all number) m there values three;
+    computes = λ number m there values five words.
+        results_computed (slice_get modules number) (module_kept modules all number) m there values;
   },
 )
 
@@ -133,9 +142,9 @@ module _ (modules : List Module) (all : All IsModule modules) where
 
   module _ (meaning : Meaning) (is : IsExtended modules meaning) where
     -- a unit may be given as many words as a module has inputs
-    pub three_taken : (number : ℕ) (values : List ℕ) → AreTaken meaning.units number values → length values ≡ length inputs
-    three_taken number values taken =
-        let e : length (meaning.units.further number) ≡ 0 = ap length (is.further number) in omega (arith, taken.count)
+    pub five_taken : (number : ℕ) (values : List ℕ) → AreTaken meaning.units number values → length values ≡ 5
+    five_taken number values taken =
+        let e : length (meaning.units.further number) ≡ 2 = ap length (is.further number) in omega (arith, taken.count)
 
     -- a unit that has a module gives words
     pub units_give_words : (number : ℕ) → number < length modules → (values : List ℕ) → AreTaken meaning.units number values
@@ -144,7 +153,7 @@ module _ (modules : List Module) (all : All IsModule modules) where
         let m = module_there number has in
         are_words (meaning.units.results number values)
         (values_are_words m.0 m.2 values (meaning.units.results number values) (all_words values taken.words)
-        (is.computes number m.0 m.1 values (three_taken number values taken) taken.words))
+        (is.computes number m.0 m.1 values (five_taken number values taken) taken.words))
 
     makes_words : (word : ℕ) (insn : Insn) → IsInsnWith modules word insn → MakesWords meaning.units insn
     makes_words word (Lui rd upper) stands = omega (arith, stands.0.0, stands.0.1.2)
@@ -161,7 +170,7 @@ module _ (modules : List Module) (all : All IsModule modules) where
       one.further number ∙ sym (other.further number),
       λ values taken.
           let m = module_there number stands.1 in
-          let three = three_taken left one number values taken in
+          let three = five_taken left one number values taken in
           value_is_one m.0 m.2 values (left.units.results number values) (right.units.results number values)
           (one.computes number m.0 m.1 values three taken.words) (other.computes number m.0 m.1 values three taken.words),
     )
@@ -180,10 +189,10 @@ extended_is_one modules all left right one other program n state of_words =
     program (extended_gives_words modules all left one) n state of_words
 
 pub extended_takes_hidden : ExtendedTakesHidden
-extended_takes_hidden modules meaning is number r among =
-    let none : is_among [] r ≡ true = subst (λ further. is_among further r ≡ true) (is.further number) among in
-    let never : false ≡ true = both_second (is_kept r) false none in
-    cc
+extended_takes_hidden modules meaning is number r among = low r (subst (λ further. is_among further r ≡ true) (is.further number) among)
+  where
+    low : (r : ℕ) → is_among hidden_operands r ≡ true → first_hidden ≤ r
+    low r is = grind (arith, nat_tests)
 
 -- ---- files of the plain machine
 

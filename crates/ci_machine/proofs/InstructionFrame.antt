@@ -8,10 +8,10 @@ use Rattle.ci_word.specs.Arithmetic.{operation, word_of}
 use Rattle.ci_isa.specs.declared.instruction.LoadKind.{LoadKind}
 use Rattle.ci_isa.specs.declared.instruction.Width.{Width}
 use Rattle.ci_isa.specs.declared.instruction.Insn.{Insn}
-use Rattle.ci_isa.specs.declared.instruction.Insn.TheVariants.{Alu, AluImm, Lui, Load, Store, Unit, Cread}
+use Rattle.ci_isa.specs.declared.instruction.Insn.TheVariants.{Alu, AluImm, Lui, Load, Store, Unit, Cread, Cput}
 use Rattle.ci_isa.specs.Effects.{ends_block, width_bytes, is_among, is_access}
 use Rattle.ci_machine.specs.declared.ends.End.{End}
-use Rattle.ci_machine.specs.Cores.{Core, first_hidden, hidden, register, with_register, values_in, with_registers}
+use Rattle.ci_machine.specs.Cores.{Core, hidden, hidden_operands, hidden_result, register, with_register, values_in, with_registers}
 use Rattle.ci_machine.specs.Accesses.{addresses, joined, bytes_at, with_bytes, bytes_of_number, load_width}
 use Rattle.ci_machine.specs.Outcomes.{Next, Reached, reached}
 use Rattle.ci_machine.specs.Actions.{Units, accessed, address_from, loaded, stored}
@@ -122,7 +122,16 @@ keeps units (Unit number rd rs1 rs2 rs3) core = record {
   ended = λ end same. cc;
   goes_on = λ _. refl;
 }
-keeps units (Cread rd) core = keeps_result _ core rd _ (λ r. refl)
+keeps units (Cread rd index) core = keeps_result _ core rd _ (λ r. refl)
+keeps units (Cput rs1 rs2) core = record {
+  registers = registers_kept hidden_operands (values_in core (rs1 ∷ rs2 ∷ [])) core;
+  memory = λ _. refl;
+  heap_end = refl;
+  input = refl;
+  output = refl;
+  ended = λ end same. cc;
+  goes_on = λ _. refl;
+}
 keeps units insn core = nothing_done insn core
 
 -- ---- one instruction from two cores
@@ -216,9 +225,18 @@ module _ (units : Units) (left right : Core) where
             ∙ ap (λ vs. register (with_registers right (rd ∷ hidden) (units.results number vs)) r) values;
         memory = λ _ same. same;
       }
-  alike (Cread rd) acts read moved =
-      let a = operands_agree (first_hidden ∷ []) left right first_hidden read (first_there first_hidden []) in
-      alike_result (Cread rd) left right rd _ _ a (λ r. refl)
+  alike (Cread rd index) acts read moved =
+      let a = operands_agree (hidden_result index ∷ []) left right (hidden_result index) read (first_there (hidden_result index) []) in
+      alike_result (Cread rd index) left right rd _ _ a (λ r. refl)
+  alike (Cput rs1 rs2) acts read moved =
+      let values = values_agree (rs1 ∷ rs2 ∷ []) left right read in
+      record {
+        end = refl;
+        written = λ _ r is.
+            registers_written hidden_operands (values_in left (rs1 ∷ rs2 ∷ [])) left right r is
+            ∙ ap (λ vs. register (with_registers right hidden_operands vs) r) values;
+        memory = λ _ same. same;
+      }
   alike insn acts read moved = cc
 
 -- ---- cores that agree

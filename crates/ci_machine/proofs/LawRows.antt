@@ -1,6 +1,6 @@
 -- What the laws say, computed on the programs of the other rows.
 use Rattle.std.proofs.Common.{◌≡◌, ◌<◌, ℕ, refl, sym, ap, ◌∙◌, arith, List, [], ◌∷◌, Option, Some, None, pos, is_some}
-use Rattle.std.specs.Prelude.{Bool, true, false, not, ◌&&◌, ◌||◌, ◌==◌, if◌then◌else◌}
+use Rattle.std.specs.Prelude.{◌+◌, Bool, true, false, not, ◌&&◌, ◌||◌, ◌==◌, if◌then◌else◌}
 use Rattle.std.specs.List.{list_any, sum_by}
 use Rattle.ci_word.specs.declared.arithmetic.Op.TheVariants.{Add}
 use Rattle.ci_word.specs.Numbers.{count_below, sum_below, some_below}
@@ -85,12 +85,14 @@ needs : (needed units first_five (λ _. false) 8 ≡ false) × (needed units fir
 unfolding first_five units
 needs = (refl, refl, refl)
 
--- the hidden register is needed by a `cread`, and else where the set has it
+-- a hidden register is needed by the `cread` of its index, and else where the set has it
 plain_needs : (list_any is_unit first_five ≡ false) × (list_any is_cread first_five ≡ false)
     × (needed units first_five (λ _. false) first_hidden ≡ false) × (needed units first_five (λ _. true) first_hidden ≡ true)
-    × (needed units (Cread 6 ∷ first_five) (λ _. false) first_hidden ≡ true)
+    × (needed units (Cread 6 0 ∷ first_five) (λ _. false) first_hidden ≡ true)
+    × (needed units (Cread 6 1 ∷ first_five) (λ _. false) first_hidden ≡ false)
+    × (needed units (Cread 6 1 ∷ first_five) (λ _. false) (first_hidden + 1) ≡ true)
 unfolding first_five units
-plain_needs = (refl, refl, refl, refl, refl)
+plain_needs = (refl, refl, refl, refl, refl, refl, refl)
 
 five_leave_text : AllLeaveText units (in_text sample) first_five (at_start (opening sample_file []).core)
 unfolding first_five sample sample_file units

@@ -1,20 +1,17 @@
--- What instructions read and write, and what lists of them need, where units take no registers but those that their words
--- name: of each register but the hidden one, what their operands and results say.
-use Rattle.std.proofs.Common.{◌≡◌, ◌≢◌, ◌⊎◌, ℕ, ◌<◌, refl, ap, arith, inl, inr, List, [], ◌∷◌, ◌++◌, drop}
-use Rattle.std.specs.Prelude.{Bool, true, false, not, ◌&&◌, ◌||◌}
+-- What lists of instructions need of x0 to x31: it is the same for all units that take hidden registers alone.
+use Rattle.std.proofs.Common.{◌≡◌, ℕ, ◌<◌, refl, ap, sym, ◌∙◌, arith, List, [], ◌∷◌, ◌++◌, drop}
+use Rattle.std.specs.Prelude.{Bool, true, not, ◌&&◌, ◌||◌}
 use Rattle.std.specs.FinSet as finite
 use Rattle.std.specs.Ordering.{nat_cmp}
-use Rattle.std.proofs.lemmas.Bool.{false_from_ne_true}
 use Rattle.std.proofs.lemmas.Bool.Decides.{nat_tests}
 use Rattle.ci_isa.specs.declared.instruction.Insn.{Insn}
-use Rattle.ci_isa.specs.declared.instruction.Insn.TheVariants.{Unit, Cread}
-use Rattle.ci_isa.specs.FieldBounds.{FieldsFit}
-use Rattle.ci_isa.specs.Effects.{ends_block, is_among, is_unit, is_cread, reads_register, writes_register}
-use Rattle.ci_isa.proofs.OperandLaws.{read_below}
-use Rattle.ci_machine.specs.Cores.{first_hidden}
+use Rattle.ci_isa.specs.declared.instruction.Insn.TheVariants.{Unit, Cread, Cput}
+use Rattle.ci_isa.specs.Effects.{ends_block, is_among, reads_register, writes_register}
 use Rattle.ci_machine.specs.Actions.{Units}
 use Rattle.ci_machine.specs.Agreement as machine
 use Rattle.ci_machine.specs.Agreement.{writes, TakeHidden}
+use Rattle.ci_isa.proofs.Registers.{reads_register_is, writes_register_is}
+use Rattle.ci_machine.proofs.PlainMeaning.{registers_read_are, registers_written_are}
 
 -- units that take no further registers; what they give doesn't matter
 abbrev pub no_further : Units
@@ -36,55 +33,30 @@ none_further number r is = absurd (nothing r is)
     nothing : (r : ℕ) → is_among [] r ≡ true → ⊥
     nothing r is = grind (arith, nat_tests)
 
--- all such units read the same
-module _ (units : Units) (named : (number : ℕ) → units.further number ≡ []) where
-  pub reads_same : (insn : Insn) → machine.reads units insn ≡ reads insn
-  reads_same (Unit number rd rs1 rs2 rs3) = λ i. is_among (rs1 ∷ rs2 ∷ rs3 ∷ named number i)
-  reads_same insn = refl
+pub reads_is : (insn : Insn) (r : ℕ) → r < 32 → reads insn r ≡ reads_register insn r
+reads_is insn r below = registers_read_are no_further none_further insn r below ∙ sym (reads_register_is insn r)
 
-  pub needed_same : (insns : List Insn) (set : ℕ → Bool) (r : ℕ) → machine.needed units insns set r ≡ needed insns set r
-  needed_same [] set r = refl
-  needed_same (insn ∷ insns) set r = λ i. reads_same insn i r || (needed_same insns set r i && not (machine.writes insn r))
+pub writes_is : (insn : Insn) (r : ℕ) → r < 32 → writes insn r ≡ writes_register insn r
+writes_is insn r below = registers_written_are insn r below ∙ sym (writes_register_is insn r)
+
+-- all such units need the same
+module _ (units : Units) (hidden_ones : TakeHidden units) where
+  pub needed_same : (insns : List Insn) (set : ℕ → Bool) (r : ℕ) → r < 32 → machine.needed units insns set r ≡ needed insns set r
+  needed_same [] set r below = refl
+  needed_same (insn ∷ insns) set r below =
+      λ i. (registers_read_are units hidden_ones insn r below ∙ sym (reads_register_is insn r) ∙ sym (reads_is insn r below)) i || (needed_same insns set r below i && not (writes insn r))
 
 pub needed-append : (before behind : List Insn) (set : ℕ → Bool) (r : ℕ) → needed (before ++ behind) set r ≡ needed before (needed behind set) r
 needed-append [] behind set r = refl
 needed-append (insn ∷ before) behind set r = ap (λ b. reads insn r || (b && not (writes insn r))) (needed-append before behind set r)
 
--- ---- registers but the hidden one
-
-pub reads_is : (insn : Insn) (r : ℕ) → r ≢ first_hidden → reads insn r ≡ reads_register insn r
-reads_is (Cread rd) r other = grind (arith, nat_tests, other)
-reads_is insn r other = refl
-
-pub writes_is : (insn : Insn) (r : ℕ) → r ≢ first_hidden → writes insn r ≡ writes_register insn r
-writes_is (Unit number rd rs1 rs2 rs3) r other = grind (arith, nat_tests, other)
-writes_is insn r other = refl
-
--- what ends a block reads and writes no other
+-- what ends a block reads and writes no hidden register
 pub end_reads : (units : Units) (insn : Insn) → ends_block insn ≡ true → (r : ℕ) → machine.reads units insn r ≡ reads_register insn r
 end_reads units (Unit number rd rs1 rs2 rs3) ends r = cc
-end_reads units (Cread rd) ends r = cc
+end_reads units (Cread rd index) ends r = cc
 end_reads units insn ends r = refl
 
 pub end_writes : (insn : Insn) → ends_block insn ≡ true → (r : ℕ) → writes insn r ≡ writes_register insn r
 end_writes (Unit number rd rs1 rs2 rs3) ends r = cc
+end_writes (Cput rs1 rs2) ends r = cc
 end_writes insn ends r = refl
-
--- ---- the hidden register
-
-pub unit_writes : (insn : Insn) → is_unit insn ≡ true → writes insn first_hidden ≡ true
-unit_writes (Unit number rd rs1 rs2 rs3) is = grind (arith, nat_tests)
-unit_writes insn is = cc
-
--- only a `cread` reads it
-pub reads_no_hidden : (insn : Insn) → FieldsFit insn → is_cread insn ≡ false → reads insn first_hidden ≡ false
-reads_no_hidden (Cread rd) fit other = cc
-reads_no_hidden insn fit other =
-    false_from_ne_true (reads insn first_hidden) (λ is. let below = read_below insn first_hidden fit is in absurd (omega arith))
-
-pub reads_named : (insn : Insn) (r : ℕ) → FieldsFit insn → reads insn r ≡ true → (r < 32) ⊎ (r ≡ first_hidden)
-reads_named (Cread rd) r fit is = inr (only r is)
-  where
-    only : (r : ℕ) → is_among (first_hidden ∷ []) r ≡ true → r ≡ first_hidden
-    only r is = grind (arith, nat_tests)
-reads_named insn r fit is = inl (read_below insn r fit is)

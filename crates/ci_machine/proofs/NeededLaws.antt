@@ -3,8 +3,8 @@ use Rattle.std.proofs.Common.{◌≡◌, ◌⊎◌, ◌↔◌, inl, inr, ℕ, sy
 use Rattle.std.specs.Prelude.{⊤, Bool, true, false, not, ◌&&◌, ◌||◌}
 use Rattle.std.specs.List.{list_any}
 use Rattle.ci_isa.specs.declared.instruction.Insn.{Insn}
-use Rattle.ci_isa.specs.declared.instruction.Insn.TheVariants.{Unit, Cread}
-use Rattle.ci_isa.specs.Effects.{is_unit, is_cread, reads_register, writes_register}
+use Rattle.ci_isa.specs.declared.instruction.Insn.TheVariants.{Unit, Cread, Cput}
+use Rattle.ci_isa.specs.Effects.{is_unit, is_cread, is_cput, reads_register, writes_register}
 use Rattle.ci_isa.specs.Sequences.{ReadFirst, Write}
 use Rattle.ci_isa.proofs.SequenceLaws.{read_first_cons, write_cons, nothing_read, nothing_written}
 use Rattle.ci_isa.proofs.Registers.{reads_register_is, writes_register_is}
@@ -90,17 +90,18 @@ needed_is units hidden_ones insns set r below = by_tests units insns set r (all 
     all (insn ∷ insns) = (follows insn, all insns)
 
 -- an instruction that is no unit word and no `cread` reads and writes by its tests alone
-plain_follows : (units : Units) (r : ℕ) (insn : Insn) → is_unit insn ≡ false → is_cread insn ≡ false → FollowsTests units r insn
-plain_follows units r (Unit number rd rs1 rs2 rs3) no_unit no_cread = cc
-plain_follows units r (Cread rd) no_unit no_cread = cc
-plain_follows units r insn no_unit no_cread = (refl, refl)
+plain_follows : (units : Units) (r : ℕ) (insn : Insn) → is_unit insn ≡ false → is_cread insn ≡ false → is_cput insn ≡ false → FollowsTests units r insn
+plain_follows units r (Unit number rd rs1 rs2 rs3) no_unit no_cread no_cput = cc
+plain_follows units r (Cread rd index) no_unit no_cread no_cput = cc
+plain_follows units r (Cput rs1 rs2) no_unit no_cread no_cput = cc
+plain_follows units r insn no_unit no_cread no_cput = (refl, refl)
 
 pub needed_by_plain : NeededIsReadFirstByPlain
-needed_by_plain units insns no_unit no_cread set r = by_tests units insns set r (all insns no_unit no_cread)
+needed_by_plain units insns no_unit no_cread no_cput set r = by_tests units insns set r (all insns no_unit no_cread no_cput)
   where
-    all : (insns : List Insn) → list_any is_unit insns ≡ false → list_any is_cread insns ≡ false → AllFollowTests units r insns
-    all [] no_unit no_cread = tt
-    all (insn ∷ insns) no_unit no_cread = (
-      plain_follows units r insn (neither_first (is_unit insn) _ no_unit) (neither_first (is_cread insn) _ no_cread),
-      all insns (neither_second (is_unit insn) _ no_unit) (neither_second (is_cread insn) _ no_cread),
+    all : (insns : List Insn) → list_any is_unit insns ≡ false → list_any is_cread insns ≡ false → list_any is_cput insns ≡ false → AllFollowTests units r insns
+    all [] no_unit no_cread no_cput = tt
+    all (insn ∷ insns) no_unit no_cread no_cput = (
+      plain_follows units r insn (neither_first (is_unit insn) _ no_unit) (neither_first (is_cread insn) _ no_cread) (neither_first (is_cput insn) _ no_cput),
+      all insns (neither_second (is_unit insn) _ no_unit) (neither_second (is_cread insn) _ no_cread) (neither_second (is_cput insn) _ no_cput),
     )

@@ -1,11 +1,11 @@
 -- There is a plain meaning, it reads as the extended table does what has no custom opcode; and which registers an
 -- instruction reads and writes as sets.
-use Rattle.std.proofs.Common.{◌≡◌, ◌<◌, refl, ◌∙◌, arith, List, [], ◌∷◌}
+use Rattle.std.proofs.Common.{◌≡◌, ◌+◌, ◌<◌, refl, ◌∙◌, arith, List, [], ◌∷◌}
 use Rattle.std.specs.Prelude.{ℕ, false}
 use Rattle.std.specs.FinSet as set
 use Rattle.std.proofs.lemmas.Bool.Decides.{nat_tests}
 use Rattle.ci_isa.specs.declared.instruction.Insn.{Insn}
-use Rattle.ci_isa.specs.declared.instruction.Insn.TheVariants.{Unit, Cread}
+use Rattle.ci_isa.specs.declared.instruction.Insn.TheVariants.{Unit, Cread, Cput}
 use Rattle.ci_isa.specs.Table.{IsInsnAt}
 use Rattle.ci_isa.specs.Effects.{is_among, is_unit}
 use Rattle.ci_isa.specs.RegisterSets.{registers_read, registers_written}
@@ -13,7 +13,7 @@ use Rattle.ci_isa.proofs.RowCompleteness.{one_insn}
 use Rattle.ci_isa.proofs.Registers.{reads_register_is, writes_register_is}
 use Rattle.ci_isa.proofs.TableLaws.{one_insn_at_each_word, tables_agree}
 use Rattle.ci_machine.specs.Steps.{Meaning, IsPlain}
-use Rattle.ci_machine.specs.Cores.{first_hidden, hidden}
+use Rattle.ci_machine.specs.Cores.{hidden, hidden_operands}
 use Rattle.ci_machine.specs.Actions.{Units}
 use Rattle.ci_machine.specs.Agreement.{TakeHidden}
 use Rattle.ci_machine.specs.Agreement.{reads, writes}
@@ -57,9 +57,9 @@ registers_read_are units hidden_ones (Unit number rd rs1 rs2 rs3) r below =
     none_further rs1 rs2 rs3 (units.further number) r
     (by_test (is_among (units.further number) r) (λ is. absurd (omega (arith, hidden_ones number r is))) (λ none. none))
     ∙ reads_register_is (Unit number rd rs1 rs2 rs3) r
-registers_read_are units hidden_ones (Cread rd) r below = not_hidden ∙ reads_register_is (Cread rd) r
+registers_read_are units hidden_ones (Cread rd index) r below = not_hidden ∙ reads_register_is (Cread rd index) r
   where
-    not_hidden : is_among (first_hidden ∷ []) r ≡ is_among [] r
+    not_hidden : is_among ((32 + index) ∷ []) r ≡ is_among [] r
     not_hidden = grind (arith, nat_tests)
 registers_read_are units hidden_ones insn r below = reads_register_is insn r
 
@@ -68,4 +68,8 @@ registers_written_are (Unit number rd rs1 rs2 rs3) r below = rd_alone ∙ writes
   where
     rd_alone : is_among (rd ∷ hidden) r ≡ is_among (rd ∷ []) r
     rd_alone = grind (arith, nat_tests)
+registers_written_are (Cput rs1 rs2) r below = none ∙ writes_register_is (Cput rs1 rs2) r
+  where
+    none : is_among hidden_operands r ≡ is_among [] r
+    none = grind (arith, nat_tests)
 registers_written_are insn r below = writes_register_is insn r

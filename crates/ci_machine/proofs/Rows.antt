@@ -11,7 +11,7 @@ use Rattle.ci_machine.specs.Accesses.{bytes_of_number}
 use Rattle.ci_isa.specs.declared.instruction.LoadKind.TheVariants as kinds
 use Rattle.ci_isa.specs.declared.instruction.Width.TheVariants as widths
 use Rattle.ci_isa.specs.declared.instruction.Insn.{Insn}
-use Rattle.ci_isa.specs.declared.instruction.Insn.TheVariants.{Alu, AluImm, Load, Store, Jalr, Unit, Illegal}
+use Rattle.ci_isa.specs.declared.instruction.Insn.TheVariants.{Alu, AluImm, Load, Store, Jalr, Unit, Cread, Cput, Illegal}
 use Rattle.ci_isa.specs.Decoding.{jump_row, branch_row, load_row, store_row, immediate_row, shift_row, constant_row}
 use Rattle.ci_isa.specs.Decoding.{operation_row, fence_row, environment_row, plain_row}
 use Rattle.ci_machine.specs.declared.ends.End.{End}
@@ -28,7 +28,7 @@ use Rattle.ci_machine.specs.Touches.{touched}
 use Rattle.ci_machine.specs.Runs.{Latencies, after, cost, steps_made}
 use Rattle.ci_machine.specs.RunEvents.{jalr_target, entries}
 
--- x5 has 100, x6 has 80000010, x7 has 4, the hidden register has 9, and the two bytes at 100 are mapped
+-- x5 has 100, x6 has 80000010, x7 has 4, the first hidden register has 9, and the two bytes at 100 are mapped
 unfoldable pub core : Core
 core = record {
   registers = λ r. if r == 5 then 0x100 else if r == 6 then 0x80000010 else if r == 7 then 4 else if r == first_hidden then 9 else 0;
@@ -103,7 +103,12 @@ unit_results : (left_in 8 (Unit 3 8 5 6 7) ≡ 0x80000110) × (left_in first_hid
 unfolding left_in core units
 unit_results = (refl, refl)
 
--- a unit that takes a fourth operand, and gives one result: the hidden register takes 0
+-- the operands stand in 34 and 35, and `cread` reads 32 and 33
+hidden_places : (left_in 34 (Cput 5 7) ≡ 0x100) × (left_in 35 (Cput 5 7) ≡ 4) × (left_in 8 (Cread 8 0) ≡ 9) × (left_in 8 (Cread 8 1) ≡ 0)
+unfolding left_in core
+hidden_places = (refl, refl, refl, refl)
+
+-- a unit that takes a fourth operand, and gives one result: the first hidden register takes 0
 further_operand : (left_in 8 (Unit 4 8 5 6 0) ≡ 4) × (left_in first_hidden (Unit 4 8 5 6 0) ≡ 0)
 unfolding left_in core units
 further_operand = (refl, refl)

@@ -16,9 +16,9 @@ use Rattle.ci_isa.specs.declared.instruction.LoadKind.{LoadKind}
 use Rattle.ci_isa.specs.declared.instruction.LoadKind.TheVariants.{B, H, W, Bu, Hu}
 use Rattle.ci_isa.specs.declared.instruction.Width.{Width}
 use Rattle.ci_isa.specs.declared.instruction.Insn.{Insn}
-use Rattle.ci_isa.specs.declared.instruction.Insn.TheVariants.{Alu, AluImm, Lui, Auipc, Jal, Jalr, Branch, Load, Store, Ecall, Ebreak, Unit, Cread, Illegal}
+use Rattle.ci_isa.specs.declared.instruction.Insn.TheVariants.{Alu, AluImm, Lui, Auipc, Jal, Jalr, Branch, Load, Store, Ecall, Ebreak, Unit, Cread, Cput, Illegal}
 use Rattle.ci_isa.specs.Effects.{ends_block, width_bytes, is_among}
-use Rattle.ci_machine.specs.Cores.{Core, first_hidden, hidden, register, with_register, values_in, with_registers}
+use Rattle.ci_machine.specs.Cores.{Core, hidden, hidden_operands, hidden_result, register, with_register, values_in, with_registers}
 use Rattle.ci_machine.specs.Accesses.{addresses, joined, bytes_at, with_bytes, number_of_bytes, bytes_of_number, load_width, extended}
 use Rattle.ci_machine.specs.Outcomes.{Outcome, Next, Ended, Reached, reached, continued, from_end}
 use Rattle.ci_machine.specs.Agreement.{act_all}
@@ -201,7 +201,8 @@ acted_words units (Unit number rd rs1 rs2 rs3) core makes holds =
       count = omega (arith, length-map (units.further number) (register core));
       words = values_words core holds (rs1 ∷ rs2 ∷ rs3 ∷ units.further number);
     }))
-acted_words units (Cread rd) core makes holds = register_words core holds rd _ (holds.registers first_hidden)
+acted_words units (Cread rd index) core makes holds = register_words core holds rd _ (holds.registers (hidden_result index))
+acted_words units (Cput rs1 rs2) core makes holds = registers_words core holds hidden_operands (values_in core (rs1 ∷ rs2 ∷ [])) (values_words core holds (rs1 ∷ rs2 ∷ []))
 acted_words units insn core makes holds = holds
 
 pub lists_words : (units : Units) (insns : List Insn) (run : Reached Core)

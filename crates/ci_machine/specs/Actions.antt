@@ -5,9 +5,10 @@ use Rattle.ci_word.specs.Arithmetic.{operation, word_of}
 use Rattle.ci_isa.specs.declared.instruction.LoadKind.{LoadKind}
 use Rattle.ci_isa.specs.declared.instruction.Width.{Width}
 use Rattle.ci_isa.specs.declared.instruction.Insn.{Insn}
-use Rattle.ci_isa.specs.declared.instruction.Insn.TheVariants.{Alu, AluImm, Lui, Load, Store, Unit, Cread}
+use Rattle.ci_isa.specs.declared.instruction.Insn.TheVariants.{Alu, AluImm, Lui, Load, Store, Unit, Cread, Cput}
 use Rattle.ci_machine.specs.declared.ends.End.TheVariants.{Access}
-use Rattle.ci_machine.specs.Cores.{Core, first_hidden, hidden, register, with_register, values_in, with_registers}
+use Rattle.ci_machine.specs.Cores.{Core, hidden, hidden_operands, hidden_result}
+use Rattle.ci_machine.specs.Cores.{register, with_register, values_in, with_registers}
 use Rattle.ci_machine.specs.Outcomes.{Outcome, Next, Ended}
 use Rattle.ci_isa.specs.Effects.{width_bytes}
 use Rattle.ci_machine.specs.Accesses.{addresses, number_of_bytes, bytes_of_number, bytes_at, with_bytes, load_width}
@@ -54,5 +55,6 @@ act units (Store width rs1 rs2 offset) core =
 act units (Unit number rd rs1 rs2 rs3) core =
     let values = values_in core (rs1 ∷ rs2 ∷ rs3 ∷ units.further number) in
     Next (with_registers core (rd ∷ hidden) (units.results number values))
-act units (Cread rd) core = Next (with_register core rd (register core first_hidden))
+act units (Cread rd index) core = Next (with_register core rd (register core (hidden_result index)))
+act units (Cput rs1 rs2) core = Next (with_registers core hidden_operands (values_in core (rs1 ∷ rs2 ∷ [])))
 act units insn core = Next core

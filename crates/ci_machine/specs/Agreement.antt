@@ -2,9 +2,9 @@
 use Rattle.std.specs.Prelude.{◌≡◌, ℕ, ◌≤◌, Bool, true, false, ◌&&◌, ◌||◌, not, ⊤, List, [], ◌∷◌, None}
 use Rattle.std.specs.List.{list_any}
 use Rattle.ci_isa.specs.declared.instruction.Insn.{Insn}
-use Rattle.ci_isa.specs.declared.instruction.Insn.TheVariants.{Unit, Cread}
+use Rattle.ci_isa.specs.declared.instruction.Insn.TheVariants.{Unit, Cread, Cput}
 use Rattle.ci_isa.specs.Effects.{operands, results, is_among, ends_block}
-use Rattle.ci_machine.specs.Cores.{Core, first_hidden, hidden, register}
+use Rattle.ci_machine.specs.Cores.{Core, first_hidden, hidden, hidden_operands, hidden_result, register}
 use Rattle.ci_machine.specs.Outcomes.{Reached, continued, reached}
 use Rattle.ci_machine.specs.Actions.{Units, act, accessed}
 
@@ -22,11 +22,12 @@ TakeHidden units = (number r : ℕ) → is_among (units.further number) r ≡ tr
 -- word reads depends on its unit, and what it writes on the word alone.
 abbrev pub all_operands : Units → Insn → List ℕ
 all_operands units (Unit number rd rs1 rs2 rs3) = rs1 ∷ rs2 ∷ rs3 ∷ units.further number
-all_operands units (Cread rd) = first_hidden ∷ []
+all_operands units (Cread rd index) = hidden_result index ∷ []
 all_operands units insn = operands insn
 
 abbrev pub all_results : Insn → List ℕ
 all_results (Unit number rd rs1 rs2 rs3) = rd ∷ hidden
+all_results (Cput rs1 rs2) = hidden_operands
 all_results insn = results insn
 
 abbrev pub reads : Units → Insn → ℕ → Bool

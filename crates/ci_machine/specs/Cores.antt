@@ -1,6 +1,6 @@
 -- What instructions act on: registers, memory, the heap's end, input and output
 -- (RISC-V Unprivileged ISA 20191213, sections 1.4 and 2.1).
-use Rattle.std.specs.Prelude.{ℕ, ◌==◌, ◌&&◌, not, if◌then◌else◌, List, [], ◌∷◌, map, drop, slice_index_or, Option}
+use Rattle.std.specs.Prelude.{ℕ, ◌+◌, ◌==◌, ◌&&◌, not, if◌then◌else◌, List, [], ◌∷◌, map, drop, slice_index_or, Option}
 
 -- Everything of a state but the pc. Memory gives the byte at each mapped address, and nothing elsewhere.
 pub record Core : Type 0 where
@@ -12,13 +12,26 @@ pub record Core : Type 0 where
 
 -- ---- registers
 
--- x0 to x31 go by their numbers. Behind them stand the hidden registers, of which this one is what `cread` reads.
+-- x0 to x31 go by their numbers. Behind them stand the hidden registers: the results that `cread` reads, by their
+-- indices, and behind these the operands that `cput` writes.
 abbrev pub first_hidden : ℕ
 first_hidden = 32
 
--- those that a unit word writes beside its rd, in the order of its results
+-- the results that a unit word writes beside its rd, in their order
 abbrev pub hidden : List ℕ
-hidden = first_hidden ∷ []
+hidden = 32 ∷ 33 ∷ []
+
+-- the operands that a unit takes behind the sources of its word, in their order
+abbrev pub hidden_operands : List ℕ
+hidden_operands = 34 ∷ 35 ∷ []
+
+-- the operand of this index
+abbrev pub hidden_operand : ℕ → ℕ
+hidden_operand index = 34 + index
+
+-- the result of this index
+abbrev pub hidden_result : ℕ → ℕ
+hidden_result index = first_hidden + index
 
 -- x0 is always 0
 abbrev pub register : Core → ℕ → ℕ

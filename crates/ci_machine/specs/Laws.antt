@@ -2,7 +2,7 @@
 use Rattle.std.specs.Prelude.{◌≡◌, ℕ, ◌<◌, Bool, true, false, ◌||◌, ◌⊎◌, ◌↔◌, List}
 use Rattle.std.specs.FinSet as set
 use Rattle.ci_isa.specs.declared.instruction.Insn.{Insn}
-use Rattle.ci_isa.specs.Effects.{ends_block, is_unit, is_cread}
+use Rattle.ci_isa.specs.Effects.{ends_block, is_unit, is_cread, is_cput}
 use Rattle.ci_isa.specs.RegisterSets.{registers_read, registers_written}
 use Rattle.ci_isa.specs.Sequences.{ReadFirst, Write}
 use Rattle.ci_machine.specs.Cores.{Core}
@@ -85,8 +85,9 @@ NeededIsReadFirst =
     (units : Units) → TakeHidden units
     → (insns : List Insn) (set : ℕ → Bool) (r : ℕ) → r < 32 → NeedsReadFirst units insns set r
 
--- and for these too where no instruction is a unit word or a `cread`, whatever registers units take.
+-- and for these too where no instruction is a unit word, a `cread` or a `cput`, whatever registers units take.
 abbrev pub NeededIsReadFirstByPlain : Type 0
 NeededIsReadFirstByPlain =
     (units : Units) (insns : List Insn) → list_any is_unit insns ≡ false → list_any is_cread insns ≡ false
+    → list_any is_cput insns ≡ false
     → (set : ℕ → Bool) (r : ℕ) → NeedsReadFirst units insns set r

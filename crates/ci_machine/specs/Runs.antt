@@ -3,13 +3,13 @@ use Rattle.std.specs.Prelude.{ℕ, zero, suc, Bool, is_none, if◌then◌else◌
 use Rattle.ci_word.specs.declared.arithmetic.Class.{Class}
 use Rattle.ci_word.specs.Numbers.{count_below, sum_below}
 use Rattle.ci_isa.specs.declared.instruction.Insn.{Insn}
-use Rattle.ci_isa.specs.declared.instruction.Insn.TheVariants.{AluImm, Unit, Cread, Illegal}
+use Rattle.ci_isa.specs.declared.instruction.Insn.TheVariants.{AluImm, Unit, Cread, Cput, Illegal}
 use Rattle.ci_isa.specs.Effects.{class_of, is_no_op}
 use Rattle.ci_machine.specs.Outcomes.{Reached, continued, at_start}
 use Rattle.ci_machine.specs.Programs.{Program, State}
 use Rattle.ci_machine.specs.Steps.{Meaning, fetched, step}
 
--- how long each instruction takes: by its class, the no-op 00000013, `cread`, and the unit of each number
+-- how long each instruction takes: by its class, the no-op 00000013, `cread` and `cput`, and the unit of each number
 pub record Latencies : Type 0 where
   pub of_class : Class → ℕ
   pub pad : ℕ
@@ -20,7 +20,8 @@ abbrev pub latency : Latencies → Insn → ℕ
 latency latencies (AluImm op rd rs1 imm) =
     if is_no_op op rd rs1 imm then latencies.pad else latencies.of_class (class_of (AluImm op rd rs1 imm))
 latency latencies (Unit number rd rs1 rs2 rs3) = latencies.of_unit number
-latency latencies (Cread rd) = latencies.read
+latency latencies (Cread rd index) = latencies.read
+latency latencies (Cput rs1 rs2) = latencies.read
 latency latencies (Illegal word) = 0
 latency latencies insn = latencies.of_class (class_of insn)
 

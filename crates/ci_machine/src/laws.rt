@@ -30,7 +30,8 @@ pub fn list_frame()
 {}
 
 /// The registers that instructions read and write are those of their sets, and what a list needs is what it reads
-/// first: of all registers where no instruction is a unit word or a `cread`, and else of all but the hidden ones.
+/// first: of all registers where no instruction is a unit word, a `cread` or a `cput`, and else of all but the hidden
+/// ones.
 pub fn register_sets()
     ensures read { RegistersRead }
     ensures written { RegistersWritten }

@@ -181,7 +181,8 @@ impl Memory {
         }
     }
 
-    /// Makes the mapped addresses on the page of an address a window.
+    /// Makes the mapped addresses on the page of an address a window. A page of the heap that isn't there yet is made;
+    /// where nothing is mapped, nothing changes.
     fn look_at(&mut self, address: u32)
         ensures memory { memory_of self.new ≡ memory_of self.old }
         ensures end { self.new.heap_end ≡ self.old.heap_end }
@@ -457,7 +458,8 @@ impl Memory {
         is_room(self.heap_start, self.loaded, end)
     }
 
-    /// Moves the heap's end, to where it may end. Pages come and go, and no memory is taken.
+    /// Moves the heap's end, to where it may end. Pages behind it go; those before it are made when they are first used.
+    /// No memory is taken.
     pub(crate) fn set_heap_end(&mut self, end: u32)
         requires { may_end_at (program_in self.old []) end ≡ true }
         ensures moved { memory_of self.new ≡ with_heap_moved self.old.heap_end end (memory_of self.old) }

@@ -1,7 +1,7 @@
 //! The state of a machine.
 #![tactic(auto, unfolding(crate::proofs::StateViews::views))]
 
-ghost use Rattle.std.specs.Prelude.{◌≡◌, ℕ, ◌≤◌, length, slice_index};
+ghost use Rattle.std.specs.Prelude.{◌≡◌, ℕ, ◌<◌, ◌≤◌, length, slice_index};
 
 use crate::memory::Memory;
 use ci_elf::{Places, Range};
@@ -18,17 +18,20 @@ pub enum Call {
     Exit(u32),
 }
 
-/// The place of the hidden register among the registers.
-const HIDDEN: usize = 32;
+/// The place of the first hidden result among the registers.
+const RESULTS: usize = 32;
 
-/// How many registers a state has: x0 to x31, and the hidden one.
-pub(crate) const REGISTERS: usize = 33;
+/// The place of the first hidden operand.
+const OPERANDS: usize = 34;
+
+/// How many registers a state has: x0 to x31, the hidden results and the hidden operands.
+pub(crate) const REGISTERS: usize = 36;
 
 /// The state of a machine: pc, registers, memory, what is left of the input, and the output.
 #[derive(Drop)]
 pub struct State {
     pub(crate) pc: u32,
-    /// x0 to x31, and the hidden register. x0 stays 0.
+    /// x0 to x31, two hidden results and two hidden operands. x0 stays 0.
     pub(crate) registers: [u32; REGISTERS],
     pub(crate) memory: Memory,
     pub(crate) text: Places,
@@ -46,7 +49,7 @@ impl State {
     ghost use Rattle.std.specs.Result.{result_ok};
     ghost use Rattle.ci_elf.specs.Executables.{IsAscending};
     ghost use Rattle.ci_machine.specs.Accesses.{number_of_bytes};
-    ghost use Rattle.ci_machine.specs.Cores.{register, with_register, first_hidden};
+    ghost use Rattle.ci_machine.specs.Cores.{register, with_register, hidden_result, hidden_operand};
     ghost use Rattle.ci_machine.specs.Programs.{in_text};
     ghost use Rattle.ci_machine.specs.States.{after_store, bytes_of, state_of, program_of};
 
@@ -84,20 +87,42 @@ impl State {
         }
     }
 
-    /// The hidden register's value.
-    pub fn hidden(&self) -> u32
-        ensures { result ≡ register (state_of self.now).core first_hidden }
+    /// The hidden result of this number: 0 for a unit's second result, 1 for its third.
+    pub fn hidden(&self, n: u8) -> u32
+        requires { n < 2 }
+        ensures { result ≡ register (state_of self.now).core (hidden_result n) }
     {
-        self.registers[HIDDEN]
+        self.registers[RESULTS + usize::from(n)]
     }
 
-    /// Sets the hidden register.
-    pub fn set_hidden(&mut self, value: u32)
+    /// Sets the hidden result of this number.
+    pub fn set_hidden(&mut self, n: u8, value: u32)
+        requires { n < 2 }
         ensures state { state_of self.new
-            ≡ record (state_of self.old) { core = with_register (state_of self.old).core first_hidden value } }
+            ≡ record (state_of self.old) { core = with_register (state_of self.old).core (hidden_result n) value } }
         ensures program { program_of self.new ≡ program_of self.old }
     {
-        self.registers[HIDDEN] = value;
+        let place = RESULTS + usize::from(n);
+        self.registers[place] = value;
+    }
+
+    /// The hidden operand of this number, which a unit takes behind the three of its word.
+    pub fn operand(&self, n: u8) -> u32
+        requires { n < 2 }
+        ensures { result ≡ register (state_of self.now).core (hidden_operand n) }
+    {
+        self.registers[OPERANDS + usize::from(n)]
+    }
+
+    /// Sets the hidden operand of this number.
+    pub fn set_operand(&mut self, n: u8, value: u32)
+        requires { n < 2 }
+        ensures state { state_of self.new
+            ≡ record (state_of self.old) { core = with_register (state_of self.old).core (hidden_operand n) value } }
+        ensures program { program_of self.new ≡ program_of self.old }
+    {
+        let place = OPERANDS + usize::from(n);
+        self.registers[place] = value;
     }
 
     /// The bytes that were written to the output.

@@ -1,4 +1,5 @@
-//! The extended machine: steps and runs of programs whose words may run units and read the hidden register.
+//! The extended machine: steps and runs of programs whose words may run units, pass them operands and read their
+//! further results.
 #![tactic(auto)]
 
 pub use ci_emu::{End, Outcome, Profile};

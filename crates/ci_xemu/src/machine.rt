@@ -17,16 +17,16 @@ impl Machine for ExtendedMachine<'_> {
 
     ghost has_unit = { λ machine number. nat_lt number (length machine.modules.now) };
 
-    ghost has_cread = { λ machine. true };
+    ghost has_hidden = { λ machine. true };
 
     ghost unit_cycles = { λ machine number. slice_index (map (λ m. m.cycles) machine.modules.now) number };
 
     ghost stands = { λ machine. extended_stands machine.modules.now };
 
-    fn unit(&self, number: u8, a: u32, b: u32, c: u32) -> Option<(u32, u32)> {
+    fn unit(&self, number: u8, a: u32, b: u32, c: u32, d: u32, e: u32) -> Option<(u32, u32, u32)> {
         let module = self.modules.get(number as usize)?;
         prove!(module.wires().len() <= 2048);
-        Some(eval(module, a, b, c))
+        Some(eval(module, a, b, c, d, e))
     }
 
     fn cycles(&self, number: u8) -> u32 {
@@ -36,7 +36,7 @@ impl Machine for ExtendedMachine<'_> {
         }
     }
 
-    fn has_cread(&self) -> bool {
+    fn has_hidden(&self) -> bool {
         true
     }
 }

@@ -26,12 +26,12 @@ loop-i-init g c = let fresh = c.in_ok-tally.ensures.fresh in (
     begun = omega (arith, c.in_ok-tally.ensures.changes);
     changes = omega (arith, c.in_ok-tally.ensures.changes);
     kept = later_kept
-        (cycles_on (g.M.Machine.has_unit c.args.machine.now) (g.M.Machine.has_cread c.args.machine.now)
+        (cycles_on (g.M.Machine.has_unit c.args.machine.now) (g.M.Machine.has_hidden c.args.machine.now)
         (g.M.Machine.unit_cycles c.args.machine.now) c.args.table.now)
         c.in_ok-tally.tally.cache.words.items 0 c.in_ok-tally.tally.touches.changes (omega (arith, c.in_ok-tally.ensures.changes)) c.in_ok-tally.ensures.kept;
     known = λ meaning means.
         none_known meaning (program_of c.args.state.now) (state_of c.args.state.now).core.memory
-        (cycles_on (g.M.Machine.has_unit c.args.machine.now) (g.M.Machine.has_cread c.args.machine.now)
+        (cycles_on (g.M.Machine.has_unit c.args.machine.now) (g.M.Machine.has_hidden c.args.machine.now)
         (g.M.Machine.unit_cycles c.args.machine.now) c.args.table.now)
         c.in_ok-tally.tally.cache.words.items 0 c.in_ok-tally.tally.touches.changes (omega (arith, c.in_ok-tally.ensures.changes)) c.in_ok-tally.ensures.kept;
     few = λ address word. subst (λ (n : ℕ). n ≤ 0) (sym (fresh.entries address)) (omega arith);
@@ -74,7 +74,7 @@ far_step-requires-clause-nearby g c =
 abbrev Here : (g : Over) (c : After-far_step g) → Program → State → Tally → Type 0
 Here g c program state tally =
     IsRunTo (g.M.Machine.meanings c.args.machine.now)
-    (cycles_on (g.M.Machine.has_unit c.args.machine.now) (g.M.Machine.has_cread c.args.machine.now)
+    (cycles_on (g.M.Machine.has_unit c.args.machine.now) (g.M.Machine.has_hidden c.args.machine.now)
     (g.M.Machine.unit_cycles c.args.machine.now) c.args.table.now)
     (latencies_on c.args.table.now (g.M.Machine.unit_cycles c.args.machine.now)) (program_of c.args.state.now) (state_of c.args.state.now) c.loop-i.i
     program state tally

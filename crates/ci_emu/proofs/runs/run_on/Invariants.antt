@@ -9,6 +9,6 @@ use Rattle.ci_emu.proofs.runs.run_on.Given as goal
 abbrev pub invariant-loop-i : goal.invariant-loop-i
 invariant-loop-i g l =
     IsRunTo (g.M.Machine.meanings l.machine)
-    (cycles_on (g.M.Machine.has_unit l.machine) (g.M.Machine.has_cread l.machine) (g.M.Machine.unit_cycles l.machine) l.table)
+    (cycles_on (g.M.Machine.has_unit l.machine) (g.M.Machine.has_hidden l.machine) (g.M.Machine.unit_cycles l.machine) l.table)
     (latencies_on l.table (g.M.Machine.unit_cycles l.machine)) (program_of l.fn.state) (state_of l.fn.state) l.i
     (program_of l.state) (state_of l.state) l.tally × ArePlaced (program_of l.fn.state).text l.nearby

@@ -15,7 +15,7 @@ use Rattle.std.specs.Prelude.{false}
 use Rattle.ci_emu.specs.Fetched.{cycles_on}
 use Rattle.ci_emu.specs.Lines.{AreKnown, IsTimed}
 use Rattle.ci_emu.proofs.CountLaws.{place_at, entered, count_here}
-use Rattle.ci_emu.proofs.Fetching.{fetched_as, made, stands_at, same_change, same_moved, same_target}
+use Rattle.ci_emu.proofs.Fetching.{fetched_as, index_fits, made, stands_at, same_change, same_moved, same_target}
 use Rattle.ci_emu.proofs.KnownLines.{behind_step}
 use Rattle.ci_emu.proofs.Touched.{told_before}
 use Rattle.ci_emu.proofs.tally.quick_step.Given.{Over}
@@ -33,9 +33,9 @@ line g c = c.index-line.result.now
 
 fetches : (g : Over) (c : After-index-line g) (meaning : Meaning) → g.M.Machine.meanings c.args.machine.now meaning
     → fetched meaning (program_of c.args.state.now) (state_of c.args.state.now)
-    ≡ Some (standing (g.M.Machine.has_unit c.args.machine.now) (g.M.Machine.has_cread c.args.machine.now) (line g c).word (insn_of (line g c).action))
+    ≡ Some (standing (g.M.Machine.has_unit c.args.machine.now) (g.M.Machine.has_hidden c.args.machine.now) (line g c).word (insn_of (line g c).action))
 fetches g c =
-    fetched_as (g.M.Machine.meanings c.args.machine.now) (g.M.Machine.has_unit c.args.machine.now) (g.M.Machine.has_cread c.args.machine.now)
+    fetched_as (g.M.Machine.meanings c.args.machine.now) (g.M.Machine.has_unit c.args.machine.now) (g.M.Machine.has_hidden c.args.machine.now)
     (g.met.M.Machine.stands c.args.machine.now) (program_of c.args.state.now) (state_of c.args.state.now)
     (line g c).word (insn_of (line g c).action) (stands_at _ _ (line g c).decoded)
     (λ meaning means.
@@ -45,13 +45,17 @@ fetches g c =
 
 abbrev cycles : (g : Over) (c : After-index-line g) → ℕ → Insn → ℕ
 cycles g c =
-    cycles_on (g.M.Machine.has_unit c.args.machine.now) (g.M.Machine.has_cread c.args.machine.now) (g.M.Machine.unit_cycles c.args.machine.now) c.args.table.now
+    cycles_on (g.M.Machine.has_unit c.args.machine.now) (g.M.Machine.has_hidden c.args.machine.now) (g.M.Machine.unit_cycles c.args.machine.now) c.args.table.now
 
 takes : (g : Over) (c : After-index-line g) → IsTimed (cycles g c) (line g c)
 takes g c = subst (IsTimed (cycles g c)) (sym c.index-line.ensures) (c.requires.room.kept c.in-Some.place (line g c) (within g c)).0
 
 pub is_known-requires : goal.is_known-requires
 is_known-requires g c = subst (λ (n : ℕ). c.in-Some.place < n) (sym c.requires.room.many) c.in-Some.ensures.within
+
+pub perform-requires-clause-index : goal.perform-requires-clause-index
+perform-requires-clause-index g c =
+    let s = (goal.at.perform-requires-clause-index g c).After-index-line in index_fits _ _ (stands_at _ _ (line g s).decoded)
 
 pub add-requires-clause-room : goal.add-requires-clause-room
 add-requires-clause-room g c =
@@ -68,9 +72,9 @@ returns-clause-made g c = λ e.
           let is = fetches g s meaning means in
           let cost = takes g s in
           let insn = insn_of c.index-line.result.now.action in
-          let moves = same_moved (g.M.Machine.has_unit c.args.machine.now) (g.M.Machine.has_cread c.args.machine.now)
+          let moves = same_moved (g.M.Machine.has_unit c.args.machine.now) (g.M.Machine.has_hidden c.args.machine.now)
           c.index-line.result.now.word (state_of c.args.state.now).core insn in
-          let leads = same_target (g.M.Machine.has_unit c.args.machine.now) (g.M.Machine.has_cread c.args.machine.now)
+          let leads = same_target (g.M.Machine.has_unit c.args.machine.now) (g.M.Machine.has_hidden c.args.machine.now)
           c.index-line.result.now.word Next (state_of c.perform.new.state).pc insn in
           let performed = c.perform.ensures.performed c.if-not-perform.false c.index-line.result.now.word meaning means in
           let touched = c.perform.ensures.touched c.if-not-perform.false in
@@ -87,8 +91,8 @@ returns-clause-made g c = λ e.
           let lines = c.args.tally.now.cache.words.items in
           subst (λ (n : ℕ). AreKnown meaning program (state_of c.perform.new.state).core.memory n lines) (add-zero c.args.tally.now.touches.changes)
           (behind_step meaning program (cycles g s) lines c.args.tally.now.touches.changes state (state_of c.perform.new.state)
-          (standing (g.M.Machine.has_unit c.args.machine.now) (g.M.Machine.has_cread c.args.machine.now) word insn) Next false
-          (same_change (g.M.Machine.has_unit c.args.machine.now) (g.M.Machine.has_cread c.args.machine.now) word (in_text program) state.core insn
+          (standing (g.M.Machine.has_unit c.args.machine.now) (g.M.Machine.has_hidden c.args.machine.now) word insn) Next false
+          (same_change (g.M.Machine.has_unit c.args.machine.now) (g.M.Machine.has_hidden c.args.machine.now) word (in_text program) state.core insn
           ∙ c.perform.ensures.changes c.if-not-perform.false)
           c.requires.room.kept (c.perform.ensures.performed c.if-not-perform.false word meaning means) (c.requires.room.known meaning means));
     }

@@ -26,7 +26,7 @@ returns-clause-fetched g c meaning =
 
 pub returns-clause-kept : goal.returns-clause-kept
 returns-clause-kept g c =
-    let cycles : ℕ → Insn → ℕ = cycles_on (g.M.Machine.has_unit c.args.machine.now) (g.M.Machine.has_cread c.args.machine.now)
+    let cycles : ℕ → Insn → ℕ = cycles_on (g.M.Machine.has_unit c.args.machine.now) (g.M.Machine.has_hidden c.args.machine.now)
     (g.M.Machine.unit_cycles c.args.machine.now) c.args.table.now in
     subst (AreKept cycles c.args.changes) (sym c.get.ensures.words)
     (set_kept cycles c.args.self.now.words.items c.args.changes c.args.place c.get.result c.args.aligned c.get.ensures.timed

@@ -14,12 +14,12 @@ other : (r : ℕ) → nat_eq (suc (suc (suc r))) 2 ≡ false
 other r = grind (arith, nat_tests)
 
 -- x2 alone has a value
-registers_at : (value r : ℕ) → ◌≡◌ {A = ℕ} (get_or (0 ∷ 0 ∷ value ∷ replicate 30 0) r 0) (cond (nat_eq r 2) value 0)
+registers_at : (value r : ℕ) → ◌≡◌ {A = ℕ} (get_or (0 ∷ 0 ∷ value ∷ replicate 33 0) r 0) (cond (nat_eq r 2) value 0)
 registers_at value zero = refl
 registers_at value (suc zero) = refl
 registers_at value (suc (suc zero)) = refl
 registers_at value (suc (suc (suc r))) =
-    zeros_at 30 r ∙ sym (passed {A = ℕ} (nat_eq (suc (suc (suc r))) 2) value 0 (other r))
+    zeros_at 33 r ∙ sym (passed {A = ℕ} (nat_eq (suc (suc (suc r))) 2) value 0 (other r))
 
 pub returns-clause-state : goal.returns-clause-state
 unfolding state_of core_of
