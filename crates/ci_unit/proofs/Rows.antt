@@ -136,10 +136,11 @@ mixed_graph =
     ∷ node (Made 2 ∷ Entry 11 ∷ []) true ∷ [])
 
 two_words :
-    (use_of (mixed 5 6) mixed_graph (λ k. nat_lt k 4) 0 ≡ Unit 0 5 10 11 12 ∷ Cread 6 ∷ []) × ReadsX 0x0000032b (Cread 6)
-    × (use_of (mixed 6 5) mixed_graph (λ k. nat_lt k 4) 0 ≡ Unit 0 6 10 11 12 ∷ Cread 5 ∷ []) × ReadsX 0x000002ab (Cread 5)
+    (use_of (mixed 5 6) mixed_graph (λ k. nat_lt k 4) 0 ≡ Unit 0 5 10 11 12 ∷ Cread 6 0 ∷ []) × ReadsX 0x0000032b (Cread 6 0)
+    × (use_of (mixed 6 5) mixed_graph (λ k. nat_lt k 4) 0 ≡ Unit 0 6 10 11 12 ∷ Cread 5 0 ∷ []) × ReadsX 0x000002ab (Cread 5 0)
 unfolding numbers_below some_below
-two_words = (refl, (lit< tt, (refl, refl, refl)), refl, (lit< tt, (refl, refl, refl)))
+two_words =
+    (refl, (lit< tt, (refl, refl, refl, refl, refl, refl, lit< tt)), refl, (lit< tt, (refl, refl, refl, refl, refl, refl, lit< tt)))
 
 -- lw x6, 0(x5); add x7, x6, x12; add x7, x7, x7, of which the sums are members: the load's result is in its register
 made_input :

@@ -155,16 +155,16 @@ module _ (insns : List Insn) (graph : FlowGraph) (cut : ℕ → Bool) (are : Are
       )
 
   second_read : (numbers : List ℕ) → length numbers ≤ 2
-      → option_to_list (option_map (λ s. Cread (register_of insns s)) (slice_get (map (λ k. Made k) numbers) 1))
-      ≡ map (λ r. Cread r) (drop 1 (map (result_register insns) numbers))
+      → option_to_list (option_map (λ s. Cread (register_of insns s) 0) (slice_get (map (λ k. Made k) numbers) 1))
+      ≡ map (λ r. Cread r 0) (drop 1 (map (result_register insns) numbers))
   second_read [] few = refl
   second_read (j ∷ []) few = refl
   second_read (j ∷ k ∷ []) few = refl
   second_read (j ∷ k ∷ l ∷ numbers) few = absurd (omega arith)
 
   pub read_is : FitsSomeLimits graph cut
-      → option_to_list (option_map (λ s. Cread (register_of insns s)) (slice_get (outputs_below graph cut (length graph.nodes)) 1))
+      → option_to_list (option_map (λ s. Cread (register_of insns s) 0) (slice_get (outputs_below graph cut (length graph.nodes)) 1))
       ≡ output_reads insns graph cut
   read_is fits =
-      ap (λ l. option_to_list (option_map (λ s. Cread (register_of insns s)) (slice_get l 1))) outputs_are
+      ap (λ l. option_to_list (option_map (λ s. Cread (register_of insns s) 0) (slice_get l 1))) outputs_are
       ∙ second_read (outputs_of insns graph cut) (few_outputs fits)

@@ -41,7 +41,7 @@ module _ (insns : List Insn) where
 
     -- a `cread` of each output behind the first
     abbrev pub output_reads : List Insn
-    output_reads = map (λ r. Cread r) (drop 1 output_registers)
+    output_reads = map (λ r. Cread r 0) (drop 1 output_registers)
 
     -- the words of a use, in their order
     abbrev pub use_of : ℕ → List Insn

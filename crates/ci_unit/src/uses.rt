@@ -19,7 +19,7 @@ use ci_word::Row;
 /// there is a second output. It takes no memory.
 ///
 /// The unit word takes the registers of the inputs in their order, x0 where there is none, and gives the first output
-/// to its register. The `cread` gives the second output to its own, from the hidden register.
+/// to its register. The `cread` gives the second output to its own, from the first hidden result.
 ///
 /// As for `unit_of`, the graph has to be that of the instructions and the cut has to fit under some limits. The number
 /// is below 32.
@@ -73,16 +73,16 @@ fn register_or_zero(insns: &[Insn], source: Option<Source>) -> Reg
     register
 }
 
-/// The `cread` into the register of this output, if there is one.
+/// The `cread` of the first hidden result into the register of this output, if there is one.
 fn output_read(insns: &[Insn], output: Option<Source>) -> Option<Insn>
     requires { IfSome output IsRegister }
-    ensures value { result ≡ option_map (λ source. Cread (terms.register_of insns.now source)) output }
+    ensures value { result ≡ option_map (λ source. Cread (terms.register_of insns.now source) 0) output }
     ensures well_formed { IfSome result IsWellFormed }
 {
     let rd = register_of(insns, output?);
     // The bound of a register's number is known where it is read.
     prove!(rd.number() < 32);
-    Some(Insn::Cread { rd })
+    Some(Insn::Cread { rd, index: 0 })
 }
 
 /// The first three inputs of the cut, as far as there are any.

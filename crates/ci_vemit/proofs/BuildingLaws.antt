@@ -1,10 +1,10 @@
 -- What building the module of a unit needs: one operation more, one unit more, and that the module may be made.
-use Rattle.std.proofs.Common.{◌≡◌, ℕ, zero, suc, ◌+◌, ◌<◌, ◌≤◌, List, [], ◌∷◌, ◌++◌, take, length, slice_index_or, Some}
+use Rattle.std.proofs.Common.{◌≡◌, ℕ, false, zero, suc, ◌+◌, ◌<◌, ◌≤◌, List, [], ◌∷◌, ◌++◌, take, length, slice_index_or, Some}
 use Rattle.std.proofs.Common.{slice_get, refl, sym, ap, ◌∙◌, subst, arith, append_assoc, append-nil}
 use Rattle.std.specs.Prelude.{option_map}
 use Rattle.ci_verilog.specs.declared.expressions.Expr.{Expr}
 use Rattle.ci_verilog.specs.declared.expressions.Wire.{Wire}
-use Rattle.ci_verilog.specs.Modules.{inputs, known_by, IsExpr, AreWires}
+use Rattle.ci_verilog.specs.Modules.{WireList, wires_of, inputs, known_by, IsExpr, AreWires, AreFree}
 use Rattle.ci_unit.specs.declared.operations.UnitOp.{UnitOp}
 use Rattle.ci_unit.specs.Units.{Unit, IsUnit}
 use Rattle.ci_vemit.specs.Laws.{ModulesAreInOrder}
@@ -46,17 +46,22 @@ modules_more k units unit below is =
 
 -- ---- the module may be made
 
-module _ (unit : Unit) (is : IsUnit unit) (wires : List Wire) (made : wires ≡ wires_from 0 unit.ops) where
-  pub wires_allowed : AreWires inputs wires
-  wires_allowed = subst (λ ws. AreWires inputs ws) (sym made) (module_is 0 unit is).are_wires
+module _ (unit : Unit) (is : IsUnit unit) where
+  module _ (wires : List Wire) (made : wires ≡ wires_from 0 unit.ops) where
+    pub wires_allowed : AreWires (inputs false) wires
+    wires_allowed = subst (λ ws. AreWires (inputs false) ws) (sym made) (module_is 0 unit is).are_wires
 
-  pub wires_few : length wires ≤ 2048
-  wires_few = subst (λ ws. length ws ≤ 2048) (sym made) (module_is 0 unit is).few
+    pub wires_free : AreFree false wires
+    wires_free = subst (λ ws. AreFree false ws) (sym made) (module_is 0 unit is).are_free
 
-  pub output_allowed : (place : ℕ) (expr : Expr) → expr ≡ output_at unit.outputs place → IsExpr (known_by wires) expr 32
-  output_allowed place expr same =
+    pub wires_few : length wires ≤ 2048
+    wires_few = subst (λ ws. length ws ≤ 2048) (sym made) (module_is 0 unit is).few
+
+  pub output_allowed : (wires : WireList) → wires ≡ wires_of false (wires_from 0 unit.ops) → (place : ℕ) (expr : Expr)
+      → expr ≡ output_at unit.outputs place → IsExpr (known_by wires) expr 32
+  output_allowed wires made place expr same =
       subst (λ ws. IsExpr (known_by ws) expr 32) (sym made)
-      (subst (λ e. IsExpr (known_by (wires_from 0 unit.ops)) e 32) (sym same) (output_is_allowed unit is place))
+      (subst (λ e. IsExpr (known_by (wires_of false (wires_from 0 unit.ops))) e 32) (sym same) (output_is_allowed unit is place))
 
 -- ---- the order of modules
 

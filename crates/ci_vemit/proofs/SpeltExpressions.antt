@@ -1,5 +1,5 @@
 -- The text of an expression is written by tokens that spell it, and so are its parts.
-use Rattle.std.proofs.Common.{◌≡◌, ℕ, zero, suc, ◌*◌, ◌<◌, ◌≤◌, Bool, true, false, cond, ◌==◌, List, [], ◌∷◌, ◌++◌, length, refl, sym, subst}
+use Rattle.std.proofs.Common.{false, ◌≡◌, ℕ, zero, suc, ◌*◌, ◌<◌, ◌≤◌, Bool, true, false, cond, ◌==◌, List, [], ◌∷◌, ◌++◌, length, refl, sym, subst}
 use Rattle.std.proofs.Common.{arith, append-nil, lit≤}
 use Rattle.std.specs.Prelude.{codes}
 use Rattle.std.specs.List.{AllByRecursion, Contains, join_by, slice_index_or}
@@ -55,7 +55,7 @@ use_of : (bytes : List ℕ) → IsName bytes → IsUse bytes
 use_of bytes is =
     record { its = name bytes; fits = a_use bytes; bytes_are = refl; spelt = name_spelt bytes is; is_word = name_word bytes is }
 
-pub inputs_usable : AllByRecursion IsUsable inputs
+pub inputs_usable : AllByRecursion IsUsable (inputs false)
 inputs_usable = (
   input NameA (record { its = sign NameA; fits = input_a; bytes_are = refl; spelt = of_sign NameA; is_word = refl }),
   (

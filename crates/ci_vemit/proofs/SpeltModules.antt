@@ -1,5 +1,5 @@
 -- The text of modules spells them.
-use Rattle.std.proofs.Common.{◌≡◌, ℕ, suc, ◌-◌, ◌<◌, ◌≤◌, true, List, [], ◌∷◌, ◌++◌, map, refl, subst}
+use Rattle.std.proofs.Common.{◌≡◌, ℕ, suc, ◌-◌, ◌<◌, ◌≤◌, true, false, sym, List, [], ◌∷◌, ◌++◌, map, refl, subst}
 use Rattle.std.proofs.Common.{arith, append-nil, lit≤}
 use Rattle.std.specs.Prelude.{codes}
 use Rattle.std.specs.List.{AllByRecursion, flat_map}
@@ -10,14 +10,14 @@ use Rattle.ci_reading.proofs.BrokenLaws.{kept_append}
 use Rattle.ci_reading.proofs.TokenLaws.{written_tokens}
 use Rattle.ci_verilog.specs.declared.expressions.Expr.{Expr}
 use Rattle.ci_verilog.specs.declared.expressions.Wire.{Wire}
-use Rattle.ci_verilog.specs.Modules.{Known, inputs, declared_by, known_by, IsWire, AreWires, Module}
+use Rattle.ci_verilog.specs.Modules.{Known, inputs, declared_by, IsExpr, IsWire, AreWires, Module}
 use Rattle.ci_vread.specs.declared.tokens.Sign.{Sign}
 use Rattle.ci_vread.specs.declared.tokens.Sign.TheVariants.{ModuleWord, InputWord, OutputWord, WireWord, AssignWord, EndModuleWord, NameA, NameB, NameC, NameY}
 use Rattle.ci_vread.specs.declared.tokens.Sign.TheVariants.{NameZ, Opening, Closing, LeftBracket, RightBracket, Comma, Semicolon, Colon, Equals}
-use Rattle.ci_vread.specs.Lexicon.{Token, sign, name, number, spelling, Spells, of_sign, unit_format}
-use Rattle.ci_vread.specs.Grammar.{Placed, ports}
+use Rattle.ci_vread.specs.Lexicon.{Token, sign, name, number, cycles, spelling, Spells, of_sign, unit_format}
+use Rattle.ci_vread.specs.Grammar.{Placed, first_ports, other_ports}
 use Rattle.ci_vread.specs.Spelling.{SpellsWire, some_wire, SpellsWires, no_wires, more_wires, module_name, SpellsModule, some_module, SpellsModules, no_modules}
-use Rattle.ci_vread.specs.Spelling.{more_modules, AreTokens, more_tokens, Spell}
+use Rattle.ci_vread.specs.Spelling.{SpellsThird, no_third, result, more_modules, AreTokens, more_tokens, Spell}
 use Rattle.ci_vemit.specs.Texts.{expr_text, assign_text, wire_text, header_text, ports_text, cycles_text, module_text, text_of, IsName, IsSpellable}
 use Rattle.ci_vemit.specs.Texts.{AreSpellable}
 use Rattle.ci_vemit.proofs.TokenBytes.{is_word}
@@ -50,7 +50,7 @@ assigned value spelt is written =
     (blank (phrase written refl (mark Semicolon 59 refl refl none))))))))
 
 wire_spelt : (known : List Known) → AllByRecursion IsUsable known → (w : Wire) → IsName w.name → IsWire known w
-    → AreSpelt (wire_text w) (λ k. SpellsWire k w)
+    → AreSpelt (wire_text w) (λ k. SpellsWire false k w)
 unfolding wire_text assign_text
 wire_spelt known usable w is kept =
     let high = w.width - 1 in
@@ -63,11 +63,11 @@ wire_spelt known usable w is kept =
     record {
       tokens = _;
       lines = then declared (assigned w.value (name_spelt w.name is) (name_word w.name is) value.written);
-      spells = some_wire high (omega (arith, kept.least)) value.spells;
+      spells = some_wire high (omega (arith, kept.least)) refl value.spells;
     }
 
 wires_spelt : (known : List Known) → AllByRecursion IsUsable known → (wires : List Wire) → AllByRecursion (λ w. IsName w.name) wires
-    → AreWires known wires → AreSpelt (flat_map wire_text wires) (λ k. SpellsWires k wires)
+    → AreWires known wires → AreSpelt (flat_map wire_text wires) (λ k. SpellsWires false k wires)
 wires_spelt known usable [] names are = record { tokens = []; lines = no_lines; spells = no_wires }
 wires_spelt known usable (w ∷ wires) names are =
     let first = wire_spelt known usable w names.0 are.0 in
@@ -95,7 +95,7 @@ port kind s is also apart written =
     word (of_sign kind) is refl (blank (mark LeftBracket 91 refl refl (word highest_spelt refl refl (mark Colon 58 refl refl
     (word zero_spelt refl refl (mark RightBracket 93 refl refl (blank (word (of_sign s) also apart written))))))))
 
-header : (k : ℕ) → k < 32 → Lines (header_text k) (sign ModuleWord ∷ name (module_name k) ∷ ports)
+header : (k : ℕ) → k < 32 → Lines (header_text k) (sign ModuleWord ∷ name (module_name k) ∷ first_ports ++ other_ports false)
 unfolding header_text ports_text
 header k below =
     let is = module_name_is k below in
@@ -109,16 +109,25 @@ unfolding module_text cycles_text header_text
 module_spelt k m is =
     let kept = is.is_module in
     let below : m.number < 32 = omega (arith, is.number_is, is.below) in
-    let wires = wires_spelt inputs inputs_usable m.wires is.names kept.are_wires in
-    let usable = kept_append IsUsable inputs (map declared_by m.wires) inputs_usable (declared_usable inputs m.wires is.names kept.are_wires) in
-    let y = expr_spelt (known_by m.wires) usable m.y 32 kept.y in
-    let z = expr_spelt (known_by m.wires) usable m.z 32 kept.z in
+    let names = map declared_by m.wires.list in
+    let are = subst (λ wide. AreWires (inputs wide) m.wires.list) is.narrow kept.are_wires in
+    let wires = wires_spelt (inputs false) inputs_usable m.wires.list is.names are in
+    let usable = kept_append IsUsable (inputs false) names inputs_usable (declared_usable (inputs false) m.wires.list is.names are) in
+    let y = expr_spelt (inputs false ++ names) usable m.y 32 (subst (λ wide. IsExpr (inputs wide ++ names) m.y 32) is.narrow kept.y) in
+    let z = expr_spelt (inputs false ++ names) usable m.z 32 (subst (λ wide. IsExpr (inputs wide ++ names) m.z 32) is.narrow kept.z) in
+    let wires_are : SpellsWires m.wires.wide wires.tokens m.wires.list =
+    subst (λ wide. SpellsWires wide wires.tokens m.wires.list) (sym is.narrow) wires.spells in
+    let x_is : SpellsThird m.wires.wide [] m.x =
+    subst (λ wide. SpellsThird wide [] m.x) (sym is.narrow)
+    (subst (λ x. SpellsThird false [] x) (sym (kept.narrow is.narrow)) no_third) in
     record {
       tokens = _;
       lines = then (cycles_line m.cycles is.few_cycles) (then (header m.number below) (then wires.lines
           (then (assigned m.y (of_sign NameY) refl y.written) (then (assigned m.z (of_sign NameZ) refl z.written)
           (one_line (lone (of_sign EndModuleWord) refl))))));
-      spells = some_module wires.spells y.spells z.spells;
+      spells = subst (λ wide. SpellsModule (cycles m.cycles ∷ sign ModuleWord ∷ name (module_name m.number) ∷ first_ports
+          ++ (other_ports wide ++ (wires.tokens ++ (result (sign NameY) y.tokens ++ (result (sign NameZ) z.tokens
+          ++ (sign EndModuleWord ∷ [])))))) m) is.narrow (some_module wires_are y.spells z.spells x_is);
     }
 
 modules_spelt : (k : ℕ) (modules : List Module) → AreSpellable k modules

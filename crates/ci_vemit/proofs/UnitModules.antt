@@ -4,13 +4,13 @@ use Rattle.std.proofs.Common.{slice_index_or, decimal, refl, sym, ap, ◌∙◌,
 use Rattle.std.proofs.Common.{append-nil, length-append, lit<}
 use Rattle.std.proofs.lemmas.List.{map-append, length-map}
 use Rattle.std.proofs.lemmas.Bool.{cases_lt}
-use Rattle.std.proofs.Common.{add-zero}
+use Rattle.std.proofs.Common.{add-zero, false, true≢false}
 use Rattle.std.specs.Prelude.{⊤}
 use Rattle.std.proofs.lemmas.List.Elements.{Contains-append_left, Contains-append_right, Contains-append_cases}
 use Rattle.std.proofs.lemmas.Fmt.{decimal_nonempty, decimal_injective}
 use Rattle.ci_word.specs.declared.arithmetic.Op.{Op}
 use Rattle.ci_verilog.specs.declared.expressions.Wire.{Wire}
-use Rattle.ci_verilog.specs.Modules.{Known, vector, inputs, declared_by, known_by, IsTerm, IsExpr, IsNew, AreWires, IsModule}
+use Rattle.ci_verilog.specs.Modules.{Known, vector, inputs, wires_of, declared_by, known_by, IsTerm, IsExpr, IsNew, AreWires, AreFree, IsModule, nothing}
 use Rattle.ci_unit.specs.declared.operations.Arg.{Arg}
 use Rattle.ci_unit.specs.declared.operations.Arg.TheVariants.{Input, Earlier, Constant}
 use Rattle.ci_unit.specs.declared.operations.UnitOp.{UnitOp}
@@ -263,19 +263,19 @@ few_wires n (op ∷ ops) are =
 
 -- ---- modules
 
-ready_first : Ready 0 inputs
+ready_first : Ready 0 (inputs false)
 ready_first = record {
   before = λ k is. inl (short k is);
   operands_are = record { inputs_are = input; results_are = λ m below. absurd (omega arith) };
 }
   where
-    short : (k : Known) → Contains inputs k → length k.name ≡ 1
+    short : (k : Known) → Contains (inputs false) k → length k.name ≡ 1
     short k (zero, below, is) = sym (ap (λ k. length k.name) is)
     short k (suc zero, below, is) = sym (ap (λ k. length k.name) is)
     short k (suc (suc zero), below, is) = sym (ap (λ k. length k.name) is)
     short k (suc (suc (suc j)), below, is) = absurd (omega arith)
 
-    input : (i : ℕ) → i < 3 → Contains inputs (vector (input_name i) 32)
+    input : (i : ℕ) → i < 3 → Contains (inputs false) (vector (input_name i) 32)
     input zero below = (0, omega arith, refl)
     input (suc zero) below = (1, omega arith, refl)
     input (suc (suc zero)) below = (2, omega arith, refl)
@@ -292,25 +292,35 @@ output_is n known (m ∷ outputs) (suc k) has are =
 pub ops_of_unit : (unit : Unit) → IsUnit unit → AreOps 0 unit.ops
 ops_of_unit unit is = are_ops 0 unit.ops (λ k below. subst (λ m. IsOp m (op_at unit k)) (let e : k ≡ 0 + k = omega arith in e) (is.ops k below))
 
-wires_of_unit : (unit : Unit) → IsUnit unit → AreWiresOf 0 unit.ops inputs
-wires_of_unit unit is = wires_are 0 unit.ops inputs (omega (arith, is.few)) (ops_of_unit unit is) ready_first
+wires_of_unit : (unit : Unit) → IsUnit unit → AreWiresOf 0 unit.ops (inputs false)
+wires_of_unit unit is = wires_are 0 unit.ops (inputs false) (omega (arith, is.few)) (ops_of_unit unit is) ready_first
 
 pub result_is_known : (unit : Unit) → IsUnit unit → (m : ℕ) → m < length unit.ops
-    → Contains (known_by (wires_from 0 unit.ops)) (vector (numbered m t) 32)
+    → Contains (known_by (wires_of false (wires_from 0 unit.ops))) (vector (numbered m t) 32)
 result_is_known unit is m below = (wires_of_unit unit is).ready.operands_are.results_are m (omega arith)
 
 -- the results may stand behind the wires
-pub output_is_allowed : (unit : Unit) → IsUnit unit → (k : ℕ) → IsExpr (known_by (wires_from 0 unit.ops)) (output_at unit.outputs k) 32
+pub output_is_allowed : (unit : Unit) → IsUnit unit → (k : ℕ) → IsExpr (known_by (wires_of false (wires_from 0 unit.ops))) (output_at unit.outputs k) 32
 output_is_allowed unit is k =
-    output_is (0 + length unit.ops) (known_by (wires_from 0 unit.ops)) unit.outputs k (wires_of_unit unit is).ready.operands_are
+    output_is (0 + length unit.ops) (known_by (wires_of false (wires_from 0 unit.ops))) unit.outputs k (wires_of_unit unit is).ready.operands_are
     (λ m has. let e = is.outputs m has in omega (arith, e))
+
+pub nothing_is_allowed : (known : List Known) → IsExpr known nothing 32
+nothing_is_allowed known = IsExpr.one (is_constant known 0 (lit< tt))
+
+narrow_free : (list : List Wire) → AreFree false list
+narrow_free [] = tt
+narrow_free (first ∷ rest) = ((λ wide is_x. true≢false (sym wide)), narrow_free rest)
 
 pub module_is : (k : ℕ) (unit : Unit) → IsUnit unit → IsModule (module_of k unit)
 module_is k unit is =
     let few : length (wires_from 0 unit.ops) ≤ 2048 = omega (arith, few_wires 0 unit.ops (ops_of_unit unit is), is.few) in
     record {
       are_wires = (wires_of_unit unit is).are_wires;
+      are_free = narrow_free (wires_from 0 unit.ops);
       few = few;
       y = output_is_allowed unit is 0;
       z = output_is_allowed unit is 1;
+      x = nothing_is_allowed (known_by (wires_of false (wires_from 0 unit.ops)));
+      narrow = λ e. refl;
     }

@@ -1,17 +1,16 @@
 -- The module of a unit has the unit's values.
 use Rattle.std.proofs.Common.{◌≡◌, ℕ, zero, suc, ◌+◌, ◌^◌, ◌<◌, ◌≤◌, List, [], ◌∷◌, ◌++◌, map, length, All, Contains}
-use Rattle.std.proofs.Common.{slice_index, refl, sym, ap, ◌∙◌, subst, arith, add-zero}
-use Rattle.std.proofs.lemmas.List.{length-map}
+use Rattle.std.proofs.Common.{slice_index, take, false, refl, sym, ap, ◌∙◌, subst, arith, add-zero}
 use Rattle.std.proofs.lemmas.List.Elements.{Contains-append_left, Contains-append_right}
 use Rattle.ci_isa.specs.Effects.{padded}
 use Rattle.ci_verilog.specs.declared.vectors.Vector.{Vector}
 use Rattle.ci_verilog.specs.declared.expressions.Wire.{Wire}
 use Rattle.ci_verilog.specs.declared.expressions.Expr.TheVariants.{One}
-use Rattle.ci_verilog.specs.Modules.{vector, inputs}
+use Rattle.ci_verilog.specs.Modules.{vector, IsInput}
 use Rattle.ci_verilog.specs.Held.{Fits}
 use Rattle.ci_verilog.specs.Values as module_
 use Rattle.ci_verilog.specs.Values.{of_width, term_bits, expr_value, Settles}
-use Rattle.ci_verilog.proofs.ValueLaws.{AreSettled, settled_fit, value_exists}
+use Rattle.ci_verilog.proofs.ValueLaws.{AreSettled, settled_fit, value_exists, narrow_ignores, word_at}
 use Rattle.ci_unit.specs.declared.operations.Arg.{Arg}
 use Rattle.ci_unit.specs.declared.operations.Arg.TheVariants.{Input, Earlier, Constant}
 use Rattle.ci_unit.specs.declared.operations.UnitOp.{UnitOp}
@@ -30,20 +29,13 @@ settled_rest : (xs ys : List Wire) (names : List ℕ → Vector) → AreSettled 
 settled_rest xs ys names settled x is = settled x (Contains-append_right xs ys x is)
 
 -- each input stands for its value
-inputs_at : (names : List ℕ → Vector) (arguments : List ℕ) → map (λ input. names input.name) inputs ≡ map (of_width 32) arguments
+inputs_at : (names : List ℕ → Vector) (arguments : List ℕ)
+    → ((k : ℕ) (name : List ℕ) → IsInput false name k → names name ≡ of_width 32 (slice_index arguments k))
     → (i : ℕ) → i < 3 → names (input_name i) ≡ of_width 32 (slice_index arguments i)
-inputs_at names [] are i below = absurd cc
-inputs_at names (a ∷ []) are i below = absurd cc
-inputs_at names (a ∷ b ∷ []) are i below = absurd cc
-inputs_at names (a ∷ b ∷ c ∷ []) are zero below = let e : names (input_name 0) ≡ of_width 32 a = cc in e
-inputs_at names (a ∷ b ∷ c ∷ []) are (suc zero) below = let e : names (input_name 1) ≡ of_width 32 b = cc in e
-inputs_at names (a ∷ b ∷ c ∷ []) are (suc (suc zero)) below = let e : names (input_name 2) ≡ of_width 32 c = cc in e
-inputs_at names (a ∷ b ∷ c ∷ []) are (suc (suc (suc i))) below = absurd (omega arith)
-inputs_at names (a ∷ b ∷ c ∷ d ∷ more) are i below = absurd cc
-
-three_inputs : (names : List ℕ → Vector) (arguments : List ℕ) → map (λ input. names input.name) inputs ≡ map (of_width 32) arguments
-    → length arguments ≡ 3
-three_inputs names arguments are = sym (length-map arguments (of_width 32)) ∙ sym (ap length are)
+inputs_at names arguments are zero below = are 0 (input_name 0) refl
+inputs_at names arguments are (suc zero) below = are 1 (input_name 1) refl
+inputs_at names arguments are (suc (suc zero)) below = are 2 (input_name 2) refl
+inputs_at names arguments are (suc (suc (suc i))) below = absurd (omega arith)
 
 module _ (names : List ℕ → Vector) (arguments : List ℕ) where
   -- what the results of the operations stand for, from operation n on
@@ -119,7 +111,7 @@ stand_for : (k : ℕ) (unit : Unit) → IsUnit unit → (names : List ℕ → Ve
     → StandFor names arguments (length unit.ops) (results_from names arguments 0 unit.ops)
 stand_for k unit is names arguments words settled = record {
   inputs_are = inputs_at names arguments settled.inputs_are;
-  inputs_fit = λ i below. words i 0 (omega (arith, three_inputs names arguments settled.inputs_are));
+  inputs_fit = λ i below. word_at arguments words i;
   results_are = λ m below.
       let f = fits m below in
       (λ i. of_width (f.width_is i) (names (numbered m t)).value) ∙ ap (of_width 32) (sym (result m below));
@@ -137,8 +129,8 @@ stand_for k unit is names arguments words settled = record {
         (result_is_known unit is m below)
 
 pub module_computes_unit : (k : ℕ) (unit : Unit) → IsUnit unit → (arguments : List ℕ) → All (λ n. n < 2 ^ 32) arguments
-    → (y z : ℕ) → module_.IsValueOf (module_of k unit) arguments (y ∷ z ∷ []) → IsPairOf unit arguments y z
-module_computes_unit k unit is arguments words y z value =
+    → (y z x : ℕ) → module_.IsValueOf (module_of k unit) arguments (y ∷ z ∷ x ∷ []) → IsPairOf unit arguments y z
+module_computes_unit k unit is arguments words y z x value =
     let names = value.names in
     let results = results_from names arguments 0 unit.ops in
     let stand = stand_for k unit is names arguments words value.settled in
@@ -152,7 +144,7 @@ module_computes_unit k unit is arguments words y z value =
         outputs_are = refl;
       };
       pair =
-          value.results_are
+          ap (take 2) value.results_are
           ∙ outputs_are names arguments (length unit.ops) results stand unit.outputs is.outputs is.few_outputs;
     }
 
@@ -167,8 +159,15 @@ one_pair unit arguments y z v w is left right =
     ∙ sym right.value.outputs_are)
     ∙ sym right.pair
 
+-- the first three values are the same
+same_three : (a b c d e k : ℕ) → k < 3 → slice_index (a ∷ b ∷ c ∷ d ∷ e ∷ []) k ≡ slice_index (a ∷ b ∷ c ∷ []) k
+same_three a b c d e zero below = refl
+same_three a b c d e (suc zero) below = refl
+same_three a b c d e (suc (suc zero)) below = refl
+same_three a b c d e (suc (suc (suc k))) below = absurd (omega arith)
+
 pub modules_compute : ModulesComputeUnits
-modules_compute k unit is a b c y z word_a word_b word_c = (to y z, back)
+modules_compute k unit is a b c d e y z word_a word_b word_c = (λ value. to y z (narrow value), λ pair. wide (back pair))
   where
     words : All (λ n. n < 2 ^ 32) (a ∷ b ∷ c ∷ [])
     words zero d below = word_a
@@ -176,15 +175,26 @@ modules_compute k unit is a b c y z word_a word_b word_c = (to y z, back)
     words (suc (suc zero)) d below = word_c
     words (suc (suc (suc n))) d below = absurd (omega arith)
 
-    to : (y z : ℕ) → module_.IsValueOf (module_of k unit) (a ∷ b ∷ c ∷ []) (y ∷ z ∷ []) → IsPairOf unit (a ∷ b ∷ c ∷ []) y z
-    to = module_computes_unit k unit is (a ∷ b ∷ c ∷ []) words
+    narrow : {results : List ℕ} → module_.IsValueOf (module_of k unit) (a ∷ b ∷ c ∷ d ∷ e ∷ []) results
+        → module_.IsValueOf (module_of k unit) (a ∷ b ∷ c ∷ []) results
+    narrow {results} value =
+        narrow_ignores (module_of k unit) refl (a ∷ b ∷ c ∷ d ∷ e ∷ []) (a ∷ b ∷ c ∷ []) results (same_three a b c d e) value
 
-    back : IsPairOf unit (a ∷ b ∷ c ∷ []) y z → module_.IsValueOf (module_of k unit) (a ∷ b ∷ c ∷ []) (y ∷ z ∷ [])
+    wide : {results : List ℕ} → module_.IsValueOf (module_of k unit) (a ∷ b ∷ c ∷ []) results
+        → module_.IsValueOf (module_of k unit) (a ∷ b ∷ c ∷ d ∷ e ∷ []) results
+    wide {results} value =
+        narrow_ignores (module_of k unit) refl (a ∷ b ∷ c ∷ []) (a ∷ b ∷ c ∷ d ∷ e ∷ []) results
+        (λ i below. sym (same_three a b c d e i below)) value
+
+    to : (y z : ℕ) → module_.IsValueOf (module_of k unit) (a ∷ b ∷ c ∷ []) (y ∷ z ∷ 0 ∷ []) → IsPairOf unit (a ∷ b ∷ c ∷ []) y z
+    to y z value = module_computes_unit k unit is (a ∷ b ∷ c ∷ []) words y z 0 value
+
+    back : IsPairOf unit (a ∷ b ∷ c ∷ []) y z → module_.IsValueOf (module_of k unit) (a ∷ b ∷ c ∷ []) (y ∷ z ∷ 0 ∷ [])
     back pair =
-        let some = value_exists (module_of k unit) (module_is k unit is) (a ∷ b ∷ c ∷ []) refl in
+        let some = value_exists (module_of k unit) (module_is k unit is) (a ∷ b ∷ c ∷ []) in
         let v = expr_value some.1.names (module_of k unit).y in
         let w = expr_value some.1.names (module_of k unit).z in
-        let value : module_.IsValueOf (module_of k unit) (a ∷ b ∷ c ∷ []) (v ∷ w ∷ []) =
+        let value : module_.IsValueOf (module_of k unit) (a ∷ b ∷ c ∷ []) (v ∷ w ∷ 0 ∷ []) =
         subst (module_.IsValueOf (module_of k unit) (a ∷ b ∷ c ∷ [])) some.1.results_are some.1 in
-        subst (module_.IsValueOf (module_of k unit) (a ∷ b ∷ c ∷ []))
+        subst (λ pair. module_.IsValueOf (module_of k unit) (a ∷ b ∷ c ∷ []) (pair ++ (0 ∷ [])))
         (one_pair unit (a ∷ b ∷ c ∷ []) v w y z is (to v w value) pair) value

@@ -9,11 +9,11 @@ use Rattle.ci_vemit.specs.Templates.{module_of, modules_of}
 abbrev pub ModulesAreModules : Type 0
 ModulesAreModules = (k : ℕ) (unit : Unit) → IsUnit unit → IsModule (module_of k unit)
 
--- at words it has the values of the unit
+-- at words it has the values of the unit, and 0, whatever stands for d and e
 abbrev pub ModulesComputeUnits : Type 0
 ModulesComputeUnits =
-    (k : ℕ) (unit : Unit) → IsUnit unit → (a b c y z : ℕ) → a < 2 ^ 32 → b < 2 ^ 32 → c < 2 ^ 32
-    → IsValueOf (module_of k unit) (a ∷ b ∷ c ∷ []) (y ∷ z ∷ []) ↔ IsPairOf unit (a ∷ b ∷ c ∷ []) y z
+    (k : ℕ) (unit : Unit) → IsUnit unit → (a b c d e y z : ℕ) → a < 2 ^ 32 → b < 2 ^ 32 → c < 2 ^ 32
+    → IsValueOf (module_of k unit) (a ∷ b ∷ c ∷ d ∷ e ∷ []) (y ∷ z ∷ 0 ∷ []) ↔ IsPairOf unit (a ∷ b ∷ c ∷ []) y z
 
 -- it has its number, and the unit's cycles
 abbrev pub ModulesKeepCycles : Type 0

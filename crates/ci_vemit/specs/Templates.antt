@@ -1,7 +1,7 @@
 -- The modules of units, for everybody: the wires that compute each operation, and the module of a unit (RISC-V
 -- Unprivileged ISA 20191213, sections 2.4 and 7.1, operations; IEEE 1364-2005, sections 5.1 and 5.2.1, operators and
 -- parts of vectors).
-use Rattle.std.specs.Prelude.{ℕ, zero, suc, List, [], ◌∷◌, ◌++◌, map, codes, Option, Some, None, slice_get}
+use Rattle.std.specs.Prelude.{ℕ, false, zero, suc, List, [], ◌∷◌, ◌++◌, map, codes, Option, Some, None, slice_get}
 use Rattle.std.specs.Fmt.{decimal}
 use Rattle.ci_word.specs.declared.arithmetic.Op.{Op}
 use Rattle.ci_word.specs.declared.arithmetic.Op.TheVariants.{Add, Sub, Sll, Slt, Sltu, Xor, Srl, Sra, Or, And}
@@ -17,7 +17,7 @@ use Rattle.ci_verilog.specs.declared.expressions.Operator.TheVariants as operato
 use Rattle.ci_verilog.specs.declared.expressions.Expr.{Expr}
 use Rattle.ci_verilog.specs.declared.expressions.Expr.TheVariants.{One, Two, Choose}
 use Rattle.ci_verilog.specs.declared.expressions.Wire.{Wire}
-use Rattle.ci_verilog.specs.Modules.{Module}
+use Rattle.ci_verilog.specs.Modules.{Module, nothing}
 use Rattle.ci_unit.specs.declared.operations.Arg.{Arg}
 use Rattle.ci_unit.specs.declared.operations.Arg.TheVariants.{Input, Earlier, Constant}
 use Rattle.ci_unit.specs.declared.operations.UnitOp.{UnitOp}
@@ -180,14 +180,15 @@ result_of (Some n) = One (whole (numbered n t))
 abbrev pub output_at : List ℕ → ℕ → Expr
 output_at outputs k = result_of (slice_get outputs k)
 
--- the module of this number that computes the unit
+-- the module of this number that computes the unit, a narrow one
 abbrev pub module_of : ℕ → Unit → Module
 module_of k unit = record {
   number = k;
   cycles = unit.cycles;
-  wires = wires_from 0 unit.ops;
+  wires = record { wide = false; list = wires_from 0 unit.ops };
   y = output_at unit.outputs 0;
   z = output_at unit.outputs 1;
+  x = nothing;
 }
 
 -- the modules of these units, of which the first has number k

@@ -1,8 +1,8 @@
 -- The text of modules, for everybody: one statement a line, with no space at its front. A space stands between words,
 -- on both sides of the bounds of a vector that is declared, of `=`, of operators, of `?` and of the `:` of a choice,
 -- and behind commas, and nowhere else. Digits of constants are in lower case.
-use Rattle.std.specs.Prelude.{◌≡◌, ℕ, suc, ◌-◌, ◌/◌, ◌%◌, ◌^◌, ◌<◌, ◌≤◌, ◌==◌, nat_le, if◌then◌else◌, List, [], ◌∷◌}
-use Rattle.std.specs.Prelude.{◌++◌, length, codes, ⊤}
+use Rattle.std.specs.Prelude.{◌≡◌, ℕ, false, suc, ◌-◌, ◌/◌, ◌%◌, ◌^◌, ◌<◌, ◌≤◌, ◌==◌, nat_le, if◌then◌else◌, List, []}
+use Rattle.std.specs.Prelude.{◌∷◌, ◌++◌, length, codes, ⊤}
 use Rattle.std.specs.List.{AllByRecursion, flat_map, join_by}
 use Rattle.std.specs.Fmt.{decimal}
 use Rattle.ci_reading.specs.Hex.{eight_hex_digits}
@@ -80,7 +80,7 @@ unfoldable pub module_text : Module → List ℕ
 module_text m =
     cycles_text m.cycles
     ++ (header_text m.number
-    ++ (flat_map wire_text m.wires
+    ++ (flat_map wire_text m.wires.list
     ++ (assign_text (codes "y") m.y ++ (assign_text (codes "z") m.z ++ line (codes "endmodule")))))
 
 -- the modules in their order, with nothing between them
@@ -94,13 +94,14 @@ pub record IsName (bytes : List ℕ) : Type 0 where
   pub no_word : (s : Sign) → ¬ (bytes ≡ spelling s)
   pub short : length bytes ≤ 32
 
--- its number is this one, and its names and cycles are those of the grammar
+-- it is a narrow one, its number is this one, and its names and cycles are those of the grammar
 pub record IsSpellable (number : ℕ) (m : Module) : Type 0 where
   pub is_module : IsModule m
+  pub narrow : m.wires.wide ≡ false
   pub number_is : m.number ≡ number
   pub below : number < 32
   pub few_cycles : m.cycles ≤ 9999999
-  pub names : AllByRecursion (λ wire. IsName wire.name) m.wires
+  pub names : AllByRecursion (λ wire. IsName wire.name) m.wires.list
 
 -- the modules are so, with numbers from this one on
 abbrev pub AreSpellable : ℕ → List Module → Type 0

@@ -32,7 +32,9 @@ fn module(alloc: Global, number: u8, unit: &Unit) -> Result<Module, AllocError>
     let wires = wires_of(alloc, unit)?;
     let outputs = unit.outputs();
     let (y, z) = results(alloc, &wires, outputs)?;
-    Ok(Module::new(number, unit.cycles(), Wires::from_vec(wires), y, z))
+    let cycles = unit.cycles();
+    let wires = Wires::from_vec(false, wires);
+    Ok(Module::new(number, cycles, wires, y, z, Expr::One(constant(0))))
 }
 
 /// The results of the first two outputs.

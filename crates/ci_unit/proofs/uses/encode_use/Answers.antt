@@ -26,7 +26,7 @@ returns-clause-unit c =
 pub returns-clause-read : goal.returns-clause-read
 returns-clause-read c =
     let insns = c.args.insns.now in
-    ap option_to_list (c.output_read.ensures.value ∙ ap (option_map (λ source. Cread (register_of insns source))) c.two_outputs-first.ensures.outputs.1)
+    ap option_to_list (c.output_read.ensures.value ∙ ap (option_map (λ source. Cread (register_of insns source) 0)) c.two_outputs-first.ensures.outputs.1)
     ∙ read_is insns c.args.graph.now (set.contains c.args.cut.now) c.requires.operands c.requires.fits
 
 pub returns-clause-well_formed : goal.returns-clause-well_formed
