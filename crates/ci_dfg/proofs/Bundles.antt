@@ -10,7 +10,7 @@ use Rattle.ci_dfg.specs.BlockGraph.{has_own_arc, ends_bundle, has_arc_from_bundl
 use Rattle.ci_dfg.specs.Arcs.{IsBundle, BundlesMoveTogether}
 
 cread_is_no_unit : (insn : Insn) → is_cread insn ≡ true → is_unit insn ≡ true → ⊥
-cread_is_no_unit (Cread rd) is unit = true≢false (sym unit)
+cread_is_no_unit (Cread rd index) is unit = true≢false (sym unit)
 cread_is_no_unit insn is unit = true≢false (sym is)
 
 module _ (insns : List Insn) where

@@ -5,5 +5,6 @@ pub mod InstructionLaws
 pub mod KindLaws
 pub mod Rows
 pub mod FilledSets
+pub mod NarrowLaws
 pub mod SourceLaws
 pub mod WritersByPlace

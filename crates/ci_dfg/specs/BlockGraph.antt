@@ -1,11 +1,12 @@
 -- The data-flow graph of a basic block: its nodes are the instructions in order, numbered from 0.
-use Rattle.std.specs.Prelude.{ℕ, ◌+◌, ◌-◌, Bool, true, not, ◌&&◌, ◌||◌, ◌==◌, nat_lt, List, map, length, Option, Some}
-use Rattle.std.specs.Prelude.{None}
+use Rattle.std.specs.Prelude.{◌≡◌, ℕ, ◌+◌, ◌-◌, ◌<◌, Bool, true, false, not, ◌&&◌, ◌||◌, ◌==◌, nat_lt}
+use Rattle.std.specs.Prelude.{List, map, length, Option, Some, None}
 use Rattle.std.specs.Ordering.{nat_cmp}
 use Rattle.std.specs.List.{list_any}
 use Rattle.std.specs.FinSet as set
 use Rattle.ci_word.specs.Numbers.{numbers_below, set_below, some_below}
 use Rattle.ci_isa.specs.declared.instruction.Insn.{Insn}
+use Rattle.ci_isa.specs.declared.instruction.Insn.TheVariants.{Cread, Cput}
 use Rattle.ci_isa.specs.Effects.{operands, results, without_x0, reads_register, writes_register, is_access, ends_block}
 use Rattle.ci_isa.specs.Effects.{is_unit, is_cread, class_of, may_join}
 use Rattle.ci_isa.specs.Sequences.{nth_insn, latest_writer}
@@ -14,6 +15,18 @@ use Rattle.ci_cut.specs.declared.graph.Source.{Source}
 use Rattle.ci_cut.specs.declared.graph.Source.TheVariants.{Entry, Made}
 use Rattle.ci_cut.specs.declared.graph.Node.{Node}
 use Rattle.ci_cut.specs.FlowGraph.{FlowGraph, is_source}
+
+-- ---- words of blocks
+
+-- a word of the use of a wide unit: it passes operands to the unit, or reads its third result
+abbrev pub is_wide : Insn → Bool
+is_wide (Cput rs1 rs2) = true
+is_wide (Cread rd index) = not (index == 0)
+is_wide insn = false
+
+-- the list has no such word
+abbrev pub AreNarrow : List Insn → Type 0
+AreNarrow insns = (k : ℕ) → k < length insns → is_wide (nth_insn insns k) ≡ false
 
 -- ---- sources
 

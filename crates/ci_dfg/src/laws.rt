@@ -18,7 +18,7 @@ pub fn bundles_move_together()
 {}
 
 /// An arc, or a node between them that writes the register too, joins two nodes with a data hazard in one of x1 to x31,
-/// and an arc two that go to memory. Of the hidden register nothing is said: between a `cread` and the unit word behind
+/// and an arc two that go to memory. Of the hidden registers nothing is said: between a `cread` and the unit word behind
 /// it there may be no arc, though their order matters.
 pub fn hazards_are_joined()
     ensures registers { HazardsAreJoined }

@@ -10,10 +10,12 @@
 #![tactic(auto)]
 
 pub use laws::{arcs_are_these, bundles_move_together, graph_has_these_arcs, hazards_are_joined};
+pub use narrow::are_narrow;
 pub use nodes::graph;
 pub use operand_sources::sources;
 
 mod arcs;
 mod laws;
+mod narrow;
 mod nodes;
 mod operand_sources;

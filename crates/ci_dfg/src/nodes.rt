@@ -1,7 +1,7 @@
 //! The nodes of a block's graph.
 ghost use Rattle.std.specs.Prelude.{◌≡◌, ◌≤◌, ◌<◌, length, IfOk};
 ghost use Rattle.ci_dfg.specs.BlockGraph as terms;
-ghost use Rattle.ci_dfg.specs.BlockGraph.{graph_of};
+ghost use Rattle.ci_dfg.specs.BlockGraph.{AreNarrow, graph_of};
 
 use crate::arcs::nodes_before;
 use crate::operand_sources::sources;
@@ -13,7 +13,8 @@ use std::alloc::{AllocError, Global};
 
 /// The graph of a block of these instructions, at most 256, after which the registers `live_out` are live. Latencies
 /// and delays are those of the table. A `cread` that doesn't stand directly behind a unit word is in no bundle, and
-/// each instruction that ends a block has arcs from all earlier ones.
+/// each instruction that ends a block has arcs from all earlier ones. None of them may be a `cput`, or a `cread` of the
+/// second hidden result (`are_narrow`).
 ///
 /// An Err is out of memory.
 #[tactic(auto, using(crate::proofs::BlockIsGraph::so_far))]
@@ -24,6 +25,7 @@ pub fn graph(
     table: &Table,
 ) -> Result<Graph, AllocError>
     requires few { length insns.now ≤ 256 }
+    requires narrow { AreNarrow insns.now }
     ensures { IfOk result (λ graph. graph ≡ graph_of insns.now live_out table.now) }
 {
     let mut nodes = Vec::new(alloc);

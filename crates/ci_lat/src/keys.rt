@@ -11,7 +11,7 @@ use toml::Value;
 /// table, a dot and the word for the class, as in `software.add`.
 #[derive(Clone, Copy, Debug, PartialEq, Eq)]
 pub enum Key {
-    /// The latency of a read of the hidden register, in cycles.
+    /// The latency of `cread`, which reads a hidden result, and of `cput`, which sets the hidden operands, in cycles.
     Read,
     /// The latency of a no-op that fills a place, in cycles.
     Pad,

@@ -72,7 +72,7 @@ impl Table {
         }
     }
 
-    /// The latency of a read of the hidden register, in cycles.
+    /// The latency of `cread`, which reads a hidden result, and of `cput`, which sets the hidden operands, in cycles.
     pub fn read(&self) -> u32
         ensures value { result ≡ self.now.read }
         ensures minimum { 1 ≤ result }

@@ -6,7 +6,7 @@ use Rattle.std.proofs.lemmas.Bool.{and_parts, eqb-true, or_cases}
 use Rattle.std.proofs.lemmas.List.Elements.{Contains-append_right}
 use Rattle.ci_isa.specs.declared.instruction.Insn.{Insn}
 use Rattle.ci_isa.specs.declared.instruction.Insn.TheVariants.{Alu, AluImm, Lui, Auipc, Jal, Jalr, Branch, Load, Store}
-use Rattle.ci_isa.specs.declared.instruction.Insn.TheVariants.{Fence, Ecall, Ebreak, Unit, Cread, Illegal}
+use Rattle.ci_isa.specs.declared.instruction.Insn.TheVariants.{Fence, Ecall, Ebreak, Unit, Cread, Cput, Illegal}
 use Rattle.ci_isa.specs.Effects.{is_kept, operands}
 use Rattle.ci_isa.specs.FieldBounds.{FieldsFit}
 use Rattle.ci_isa.specs.Sequences.{IsReadBy}
@@ -38,7 +38,8 @@ operands_fit (Fence bits rs1 rd) fit = tt
 operands_fit Ecall fit = (omega arith, (omega arith, (omega arith, (omega arith, tt))))
 operands_fit Ebreak fit = tt
 operands_fit (Unit number rd rs1 rs2 rs3) fit = (fit.2, (fit.3, (fit.4, tt)))
-operands_fit (Cread rd) fit = tt
+operands_fit (Cread rd index) fit = tt
+operands_fit (Cput rs1 rs2) fit = (fit.0, (fit.1, tt))
 operands_fit (Illegal word) fit = tt
 
 operands_of_word : (word : ℕ) (insn : Insn) → IsInsnAt word insn → AreRegisters (operands insn)

@@ -1,5 +1,5 @@
 -- What is needed behind the actions of a block is no dead member's result.
-use Rattle.std.specs.Prelude.{◌≡◌, ◌≢◌, ℕ, ◌<◌, Bool, true, false, not, ◌&&◌, ◌||◌, ◌==◌, List, length}
+use Rattle.std.specs.Prelude.{◌≡◌, ℕ, ◌<◌, Bool, true, false, not, ◌&&◌, ◌||◌, ◌==◌, List, length}
 use Rattle.std.specs.FinSet as finite
 use Rattle.std.specs.List.{list_any}
 use Rattle.std.specs.Ordering.{nat_cmp}
@@ -43,7 +43,7 @@ module _ {insns : List Insn} {live_out : finite.FinSet nat_cmp} {table : Latenci
       parts : (is_kept r ≡ true) × (list_any (λ q. q == r) (results (nth_insn insns w)) ≡ true)
       parts = and_parts (is_kept r) (list_any (λ q. q == r) (results (nth_insn insns w))) last.passes
 
-  pub living : r ≢ first_hidden → needed_behind insns n live_out r ≡ true → is_dead known w ≡ false
+  pub living : r < first_hidden → needed_behind insns n live_out r ≡ true → is_dead known w ≡ false
   living other is = elim (behind_first insns n known.actions.most) [
     | inl (short, same) ↦
         live_there (sym (ap (λ l. needed l (finite.contains live_out) r) same) ∙ is) (λ j behind below. last.none_behind j behind (omega arith))

@@ -1,5 +1,5 @@
 -- Runs that have made no node, all nodes in the order of the block, and all nodes in any order.
-use Rattle.std.specs.Prelude.{◌≡◌, ◌≢◌, ℕ, zero, suc, ◌<◌, Bool, true, false, ◌&&◌, nat_lt, List, [], ◌∷◌, None}
+use Rattle.std.specs.Prelude.{◌≡◌, ℕ, zero, suc, ◌<◌, Bool, true, false, ◌&&◌, nat_lt, List, [], ◌∷◌, None}
 use Rattle.std.proofs.Common.{refl, sym, ap, ◌∙◌, subst, arith, inl, inr, true≢false}
 use Rattle.std.proofs.lemmas.Bool.{cases_eq, cases_lt, lt-ltb, false_from_ne_true}
 use Rattle.ci_isa.specs.declared.instruction.Insn.{Insn}
@@ -21,7 +21,7 @@ use Rattle.ci_rewrite.proofs.Tracking.{Follows, HasStopped, core_at, end_at, goe
 
 module _ {units : Units} {insns : List Insn} {start : Core} {n : ℕ} {placed first_dead second_dead : ℕ → Bool} {left right : Reached Core}
     (first : Follows units insns start n placed first_dead left) (second : Follows units insns start n placed second_dead right)
-    (all : (j : ℕ) → j < n → placed j ≡ true) (alive : ℕ → Bool) (no_hidden : alive first_hidden ≡ false)
+    (all : (j : ℕ) → j < n → placed j ≡ true) (alive : ℕ → Bool) (named : (r : ℕ) → alive r ≡ true → r < first_hidden)
     (living : (r w : ℕ) → alive r ≡ true → IsLast (written insns r) n w → (first_dead w ≡ false) × (second_dead w ≡ false)) where
   agree : left.end ≡ None → right.end ≡ None → (r : ℕ) → alive r ≡ true → register left.state r ≡ register right.state r
   agree on also r is = elim (last_or_none (written insns r) n) [
@@ -32,8 +32,8 @@ module _ {units : Units} {insns : List Insn} {start : Core} {n : ℕ} {placed fi
         (first.going on).untouched r visible (untouched none) ∙ sym ((second.going also).untouched r visible (untouched none))
   ]
     where
-      visible : r ≢ first_hidden
-      visible same = true≢false (sym is ∙ ap alive same ∙ no_hidden)
+      visible : r < first_hidden
+      visible = named r is
 
       both : (j : ℕ) → j < n → (placed j && written insns r j) ≡ written insns r j
       both j below = ap (λ p. p && written insns r j) (all j below)

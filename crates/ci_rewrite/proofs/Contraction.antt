@@ -97,8 +97,8 @@ module _ {insns : List Insn} {live_out : finite.FinSet nat_cmp} {table : Latenci
     there : k < length insns
     there = member_within known k member
 
-    other : r ≢ first_hidden
-    other same = let below = operand_below (nth_insn insns k) r (known.fit k there) among in absurd (omega arith)
+    other : r < first_hidden
+    other = operand_below (nth_insn insns k) r (known.fit k there) among
 
     read : reads_at insns k r ≡ true
     read = and_from (is_kept r) (list_any (λ q. q == r) (operands (nth_insn insns k))) kept among
@@ -253,7 +253,7 @@ module _ {insns : List Insn} {live_out : finite.FinSet nat_cmp} {table : Latenci
 
   -- what a core has to be behind the unit: the outputs are in their registers, and all else is as before
   pub record HasOutputs (core : Core) : Type 0 where
-    pub others : (q : ℕ) → q ≢ first_hidden → ((o : ℕ) → is_output graph cut o ≡ true → result o ≢ q) → register core q ≡ register now q
+    pub others : (q : ℕ) → q < first_hidden → ((o : ℕ) → is_output graph cut o ≡ true → result o ≢ q) → register core q ≡ register now q
     pub outputs :
         (w : ℕ) → is_output graph cut w ≡ true → ((o : ℕ) → w < o → is_output graph cut o ≡ true → result o ≢ result w)
         → register core (result w) ≡ register (before_node (suc w)) (result w)
@@ -289,7 +289,7 @@ module _ {insns : List Insn} {live_out : finite.FinSet nat_cmp} {table : Latenci
         first_of : (p q w : Bool) → ((p || q) && w) ≡ false → (p && w) ≡ false
         first_of p q w is = grind arith
 
-    outside_last : (r w : ℕ) → r ≢ first_hidden → IsLast (λ j. gathered j && written insns r j) n w → is_dead known w ≡ false → cut w ≡ false
+    outside_last : (r w : ℕ) → r < first_hidden → IsLast (λ j. gathered j && written insns r j) n w → is_dead known w ≡ false → cut w ≡ false
         → register core r ≡ register (before_node (suc w)) r
     outside_last r w other last alive out =
         let (acts, writes) = and_parts (gathered w) (written insns r w) last.passes in

@@ -16,7 +16,7 @@ use Rattle.ci_isa.proofs.LastWriter.{written, last_writer, latest_writer_is_last
 use Rattle.ci_isa.proofs.OperandLaws.{single_result}
 use Rattle.ci_lat.specs.Latencies.{Latencies}
 use Rattle.ci_machine.specs.Agreement.{writes}
-use Rattle.ci_machine.specs.Cores.{first_hidden}
+use Rattle.ci_machine.specs.Cores.{first_hidden, hidden, hidden_result}
 use Rattle.ci_machine.proofs.NamedReads.{reads, needed, needed-append}
 use Rattle.ci_machine.proofs.TestLaws.{either_first}
 use Rattle.ci_cut.specs.declared.graph.Source.{Source}
@@ -39,7 +39,7 @@ use Rattle.ci_rewrite.proofs.Tracking.{reads_at}
 use Rattle.ci_rewrite.proofs.UnitPorts.{IsInput, input_is, unit_word, used_one, used_two, is_sole, is_either}
 
 module _ {insns : List Insn} {live_out : finite.FinSet nat_cmp} {table : Latencies} {cut early : ℕ → Bool} {n : ℕ}
-    (known : IsFolding insns live_out table cut early n) (number r : ℕ) (other : r ≢ first_hidden) where
+    (known : IsFolding insns live_out table cut early n) (number r : ℕ) (other : r < first_hidden) where
   abbrev graph : FlowGraph
   graph = graph_of insns live_out table
 
@@ -176,21 +176,21 @@ module _ {insns : List Insn} {live_out : finite.FinSet nat_cmp} {table : Latenci
       apart (result m) (single_result (nth_insn insns m) r is) (and_parts (is_kept r) _ is).0 none)
 
   unit_quiet : (m : ℕ) → not (writes (word m) r) ≡ true → written insns r m ≡ false
-  unit_quiet m = unwritten_by m (first_hidden ∷ []) apart
+  unit_quiet m = unwritten_by m hidden apart
     where
-      apart : (q : ℕ) → q ≡ r → is_kept r ≡ true → not (is_among (q ∷ first_hidden ∷ []) r) ≡ true → ⊥
+      apart : (q : ℕ) → q ≡ r → is_kept r ≡ true → not (is_among (q ∷ hidden) r) ≡ true → ⊥
       apart q same kept none = grind (arith, nat_tests)
 
-  cread_quiet : (o : ℕ) → not (writes (Cread (result o)) r) ≡ true → written insns r o ≡ false
+  cread_quiet : (o : ℕ) → not (writes (Cread (result o) 0) r) ≡ true → written insns r o ≡ false
   cread_quiet o = unwritten_by o [] apart
     where
       apart : (q : ℕ) → q ≡ r → is_kept r ≡ true → not (is_among (q ∷ []) r) ≡ true → ⊥
       apart q same kept none = grind (arith, nat_tests)
 
-  hidden_only : reads (Cread 0) r ≡ true → ⊥
-  hidden_only among = other (alone among)
+  hidden_only : reads (Cread 0 0) r ≡ true → ⊥
+  hidden_only among = absurd (omega (arith, alone among))
     where
-      alone : is_among (first_hidden ∷ []) r ≡ true → r ≡ first_hidden
+      alone : is_among (hidden_result 0 ∷ []) r ≡ true → r ≡ first_hidden
       alone among = grind (arith, nat_tests)
 
   by_used : NoneOf early → (set : ℕ → Bool) → needed words set r ≡ true → IsNeeded ⊎ ((set r ≡ true) × NoneOf is_out)
@@ -203,7 +203,7 @@ module _ {insns : List Insn} {live_out : finite.FinSet nat_cmp} {table : Latenci
               inr (is_set, λ o there o_is. ap (written insns r) (is_sole known m same o o_is) ∙ unit_quiet m unwritten)
         ]
     | inr (m, o, same) ↦
-        let cread : Insn = Cread (result o) in
+        let cread : Insn = Cread (result o) 0 in
         elim (or_cases (reads (word m) r) (needed (cread ∷ []) set r && not (writes (word m) r))
         (sym (ap (λ l. needed l set r) (used_two known number m o same)) ∙ is)) [
           | inl read ↦ inl (by_unit no_early m read)

@@ -23,7 +23,7 @@ use Rattle.ci_cut.specs.Ports.{size, is_output, is_read_by, outputs}
 use Rattle.ci_cut.specs.Walks.{Walk, arc, IsConvex}
 use Rattle.ci_cut.proofs.WalkLaws.{walk_on, first_arc}
 use Rattle.ci_dfg.specs.Arcs.{IsArc, IsBundle, bundle_arc, out_of_bundle}
-use Rattle.ci_dfg.specs.BlockGraph.{graph_of}
+use Rattle.ci_dfg.specs.BlockGraph.{AreNarrow, graph_of}
 use Rattle.ci_dfg.proofs.ArcLaws.{graph_has_these_arcs, source_there}
 use Rattle.ci_dfg.proofs.BlockIsGraph.{arcs_rise, length-nodes, node_at_within}
 use Rattle.ci_unit.specs.Units.{inputs_of, outputs_of}
@@ -42,6 +42,7 @@ pub record IsFolding (insns : List Insn) (live_out : finite.FinSet nat_cmp) (tab
   pub actions : AreActionsOf insns n
   pub bundled : AreBundled insns
   pub fit : (k : ℕ) → k < length insns → FieldsFit (nth_insn insns k)
+  pub narrow : AreNarrow insns
   pub members : (k : ℕ) → cut k ≡ true → (k < n) × (may_join (nth_insn insns k) ≡ true)
   pub few_inputs : length (inputs_of insns (graph_of insns live_out table) cut) ≤ 3
   pub outs : HasOutputNodes (outputs_of insns (graph_of insns live_out table) cut)

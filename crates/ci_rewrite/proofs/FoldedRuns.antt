@@ -17,11 +17,12 @@ use Rattle.ci_unit.specs.Units.{Unit, unit_of}
 use Rattle.ci_rewrite.specs.Blocks.{IsBlock, AreNamed, Covers, live_behind}
 use Rattle.ci_rewrite.specs.FoldedBlock.{IsFolded}
 use Rattle.ci_rewrite.specs.SameSteps.{StandAlike, PassAlike, FoldedHasSameEffect}
-use Rattle.ci_rewrite.specs.UnitModules.{HasUnits}
+use Rattle.ci_rewrite.specs.UnitModules.{IgnoreOperands, HasUnits}
 use Rattle.ci_rewrite.proofs.EndSteps.{passed_blocks_end_alike}
-use Rattle.ci_rewrite.proofs.Keeping.{shape, have_modules, covers, folding_keeps}
-use Rattle.ci_rewrite.proofs.ModuleUnits.{modules_serve, modules_compute}
+use Rattle.ci_rewrite.proofs.Keeping.{shape, have_modules, covers}
+use Rattle.ci_rewrite.proofs.ModuleUnits.{computing_ignores, modules_serve, modules_compute}
 use Rattle.ci_rewrite.proofs.Steps.{folding_keeps_steps}
+use Rattle.ci_rewrite.proofs.WithOperands.{stay_bare, folding_keeps}
 
 module _ (insns : List Insn) (n : ℕ) (live_out : finite.FinSet nat_cmp) (table : Latencies) (limits : Limits)
     (cut : ℕ → Bool) (number : ℕ) (folded : List Insn) (block : IsBlock insns n) (named : AreNamed live_out)
@@ -35,7 +36,7 @@ module _ (insns : List Insn) (n : ℕ) (live_out : finite.FinSet nat_cmp) (table
       → StandAlike meaning program set insns folded left right → LeavesTextFor meaning program n left
       → PassAlike meaning program (live_behind insns n live_out) (behind (take n insns) left.pc) n left right
   passes modules meaning units program set left right covered start leaves =
-      let serve = modules_serve modules meaning units.are_modules units.is_extended insns block.fit units.have in
+      let serve = modules_serve modules meaning units.are_modules units.is_extended insns block.fit units.have units.bare in
       let computes = modules_compute modules meaning units.are_modules units.is_extended number unit units.compute in
       folding_keeps_steps meaning program set insns folded n live_out left right block named serve
       (folding_keeps (in_text program) meaning.units insns n live_out table limits cut number folded block named fits small is serve computes)
@@ -45,6 +46,9 @@ pub folded_has_same_effect : FoldedHasSameEffect
 folded_has_same_effect insns n live_out table limits cut number folded block named fits small is = record {
   covers = covers insns n live_out table limits cut number folded block fits small is named;
   have_modules = have_modules insns n live_out table limits cut number folded block fits small is;
+  stay_bare = λ modules bare compute.
+      stay_bare insns n live_out table limits cut number folded block fits is (IgnoreOperands modules)
+      (computing_ignores modules number (unit_of insns (graph_of insns live_out table) cut) compute) bare;
   passes = passes insns n live_out table limits cut number folded block named fits small is;
   ends = λ modules meaning units program set left right covered start left_mapped right_mapped leaves.
       passed_blocks_end_alike meaning program insns folded n live_out (behind (take n insns) left.pc) left right

@@ -1,21 +1,19 @@
 -- Folding keeps the shape and the effect of a block.
-use Rattle.std.specs.Prelude.{◌≡◌, ◌≢◌, ℕ, ◌<◌, Bool, true, false, List, length, take, drop}
+use Rattle.std.specs.Prelude.{◌≡◌, ℕ, ◌<◌, Bool, true, false, not, ◌&&◌, ◌||◌, List, length, take}
 use Rattle.std.specs.FinSet as finite
 use Rattle.std.specs.Ordering.{nat_cmp}
 use Rattle.std.proofs.Common.{refl, sym, ap, ◌∙◌, subst, arith, inl, inr, true≢false}
-use Rattle.std.proofs.lemmas.Bool.{cases_lt, false_from_ne_true}
+use Rattle.std.proofs.lemmas.Bool.{cases_lt, or_cases, and_parts}
 use Rattle.ci_isa.specs.declared.instruction.Insn.{Insn}
 use Rattle.ci_isa.specs.declared.instruction.Insn.TheVariants.{Ebreak}
-use Rattle.ci_isa.specs.FieldBounds.{FieldsFit}
-use Rattle.ci_isa.specs.Effects.{may_join}
+use Rattle.ci_isa.specs.Effects.{may_join, reads_register, writes_register}
 use Rattle.ci_isa.specs.Sequences.{nth_insn}
-use Rattle.ci_isa.proofs.OperandLaws.{joins}
+use Rattle.ci_isa.proofs.OperandLaws.{joins, read_below}
 use Rattle.ci_lat.specs.Latencies.{Latencies}
 use Rattle.ci_verilog.specs.Modules.{Module}
 use Rattle.ci_machine.specs.Actions.{Units, accessed}
 use Rattle.ci_machine.specs.Cores.{first_hidden}
 use Rattle.ci_machine.specs.Extended.{HasModule}
-use Rattle.ci_machine.specs.Words.{MakesWords}
 use Rattle.ci_machine.proofs.NamedReads.{needed, needed_behind}
 use Rattle.ci_machine.proofs.RelatedLists.{no_text}
 use Rattle.ci_cut.specs.declared.graph.Limits.{Limits}
@@ -23,9 +21,9 @@ use Rattle.ci_cut.specs.Gain.{Fits}
 use Rattle.ci_dfg.specs.BlockGraph.{graph_of}
 use Rattle.ci_dfg.proofs.BlockIsGraph.{node_at_within, node_at_past}
 use Rattle.ci_unit.specs.Units.{unit_of}
-use Rattle.ci_rewrite.specs.Blocks.{IsBlock, AreNamed, Covers, live_behind}
+use Rattle.ci_rewrite.specs.Blocks.{IsBlock, AreNamed, Covers, live_before, live_behind}
 use Rattle.ci_rewrite.specs.FoldedBlock.{AreEarly, IsFolded}
-use Rattle.ci_rewrite.specs.SameEffect.{Serve, ComputesUnit, HasSameEffect, KeepsShape, KeepsBlock, FoldingKeepsShape, FoldingKeeps}
+use Rattle.ci_rewrite.specs.SameEffect.{HasSameEffect, KeepsShape, FoldingKeepsShape}
 use Rattle.ci_rewrite.specs.UnitModules.{HaveModules}
 use Rattle.ci_rewrite.proofs.Alive.{living}
 use Rattle.ci_rewrite.proofs.AllNodes.{block_clear}
@@ -34,10 +32,10 @@ use Rattle.ci_rewrite.proofs.Coverage.{needed_before}
 use Rattle.ci_rewrite.proofs.CoverLaws.{live_behind_is, covered, covers_needed}
 use Rattle.ci_rewrite.proofs.CutNodes.{IsFolding}
 use Rattle.ci_rewrite.proofs.FurtherWords.{places_fill}
-use Rattle.ci_rewrite.proofs.Lists.{take_those}
-use Rattle.ci_rewrite.proofs.ReadFirst.{no_hidden}
+use Rattle.ci_rewrite.proofs.Lists.{behind_first, take_those}
+use Rattle.ci_rewrite.proofs.NamedUnits.{ServeNamed, ComputesNamed, KeepsNamed, FoldingKeepsNamed}
 use Rattle.ci_rewrite.proofs.SameRuns.{same_runs, folded_leaves_text}
-use Rattle.ci_rewrite.proofs.Shapes.{folded_length, folded_drop, folded_take, folded_fits, all_folded, all_behind, bundled_end, is_block}
+use Rattle.ci_rewrite.proofs.Shapes.{folded_length, folded_drop, folded_take, folded_fits, all_folded, is_block}
 use Rattle.ci_rewrite.proofs.Stages.{those_below}
 use Rattle.ci_rewrite.proofs.Tracking.{core_at}
 use Rattle.ci_rewrite.proofs.UnitPorts.{few_inputs, output_nodes}
@@ -64,6 +62,7 @@ module _ (insns : List Insn) (n : ℕ) (live_out : finite.FinSet nat_cmp) (table
     actions = block.actions;
     bundled = block.bundled;
     fit = block.fit;
+    narrow = block.narrow;
     members = members_act;
     few_inputs = omega (arith, few_inputs insns live_out table cut block.fit, fits.inputs_within, limits.inputs_in_range.1);
     outs = output_nodes insns live_out table cut fits.has_output (omega (arith, fits.outputs_within, limits.outputs_in_range.1));
@@ -93,27 +92,36 @@ module _ (insns : List Insn) (n : ℕ) (live_out : finite.FinSet nat_cmp) (table
   -- ---- registers
 
   module _ (named : AreNamed live_out) where
-    hidden_behind : needed_behind insns n live_out first_hidden ≡ false
-    hidden_behind =
-        no_hidden false (drop n insns) (finite.contains live_out) refl (bundled_end known number folded is refl)
-        (all_behind known number folded is refl FieldsFit (block.fit n))
-        (false_from_ne_true (finite.contains live_out first_hidden) (λ live. let below = named first_hidden live in absurd (omega arith)))
-
     live_is : (r : ℕ) → needed_behind insns n live_out r ≡ live_behind insns n live_out r
     live_is = live_behind_is insns n live_out block.actions
 
-    visible : (r : ℕ) → live_behind insns n live_out r ≡ true → r ≢ first_hidden
-    visible r live same = true≢false (sym live ∙ sym (live_is r) ∙ ap (needed_behind insns n live_out) same ∙ hidden_behind)
+    -- what is live behind the actions are registers that programs can name
+    visible : (r : ℕ) → live_behind insns n live_out r ≡ true → r < first_hidden
+    visible r live = elim (behind_first insns n block.actions.most) [
+      | inl (short, none) ↦ named r (unended (finite.contains live_out r) (sym (ap (λ l. live_before l live_out r) none) ∙ live))
+      | inr (there, one) ↦
+          elim (or_cases (reads_register (nth_insn insns n) r || false) (finite.contains live_out r && not (writes_register (nth_insn insns n) r || false))
+          (sym (ap (λ l. live_before l live_out r) one) ∙ live)) [
+            | inl read ↦ read_below (nth_insn insns n) r (block.fit n there) (only (reads_register (nth_insn insns n) r) read)
+            | inr kept ↦ named r (and_parts (finite.contains live_out r) (not (writes_register (nth_insn insns n) r || false)) kept).0
+          ]
+    ]
+      where
+        unended : (b : Bool) → (false || (b && not false)) ≡ true → b ≡ true
+        unended b is = grind arith
+
+        only : (b : Bool) → (b || false) ≡ true → b ≡ true
+        only b is = grind arith
 
     pub covers : (set : ℕ → Bool) → Covers set insns live_out → Covers set folded live_out
     covers set has = covers_needed set folded live_out (folded_fits known number folded is refl small) named (λ r below needs.
         covered set insns live_out has r below
-        (needed_before known number r (λ same. absurd (omega arith)) (sym (ap (λ l. needed l (finite.contains live_out) r) is.is_list) ∙ needs)))
+        (needed_before known number r below (sym (ap (λ l. needed l (finite.contains live_out) r) is.is_list) ∙ needs)))
 
     -- ---- the actions
 
-    module _ (text : ℕ → Bool) (units : Units) (serve : Serve units insns)
-        (computes : ComputesUnit units number (unit_of insns (graph_of insns live_out table) cut)) where
+    module _ (text : ℕ → Bool) (units : Units) (serve : ServeNamed units insns)
+        (computes : ComputesNamed units number (unit_of insns (graph_of insns live_out table) cut)) where
       actions : List Insn
       actions = those_below insns (λ _. true) n
 
@@ -124,27 +132,19 @@ module _ (insns : List Insn) (n : ℕ) (live_out : finite.FinSet nat_cmp) (table
             runs = λ core holds.
                 same_runs known number serve computes core holds (λ _. false)
                 (λ k below access none. no_text (accessed (nth_insn insns k) (core_at units insns core k)))
-                (live_behind insns n live_out) (sym (live_is first_hidden) ∙ hidden_behind)
+                (live_behind insns n live_out) visible
                 (λ r w live last. living known r w last (visible r live) (live_is r ∙ live));
             leaves_text = λ core holds leaves.
                 folded_leaves_text known number serve computes core holds text (λ k below access. block_clear units insns core text n leaves k below);
           })
 
-      keeps_block : KeepsBlock text units insns n live_out folded
-      keeps_block = record {
-        shape = shape;
-        effect = effect;
-        covers = covers;
-        serve = record {
-          named = serve.named;
-          words = λ k. all_folded known number folded is refl (MakesWords units) serve.words (λ m member. computes.words) (λ r member. tt) tt k Ebreak;
-        };
-      }
+      keeps_named : KeepsNamed text units insns n live_out folded
+      keeps_named = record { shape = shape; effect = effect; covers = covers }
 
 pub folding_keeps_shape : FoldingKeepsShape
 folding_keeps_shape insns n live_out table limits cut number folded block fits small is =
     shape insns n live_out table limits cut number folded block fits small is
 
-pub folding_keeps : FoldingKeeps
-folding_keeps text units insns n live_out table limits cut number folded block named fits small is serve computes =
-    keeps_block insns n live_out table limits cut number folded block fits small is named text units serve computes
+pub folding_keeps_named : FoldingKeepsNamed
+folding_keeps_named text units insns n live_out table limits cut number folded block named fits small is serve computes =
+    keeps_named insns n live_out table limits cut number folded block fits small is named text units serve computes

@@ -1,3 +1,9 @@
+pub mod NamedUnits
+pub mod Rows
+pub mod PlainBlocks
+pub mod BareWordLaws
+pub mod BareUnits
+pub mod NarrowReads
 pub mod CutNodes
 pub mod Tracking
 pub mod Stages
@@ -17,6 +23,7 @@ pub mod Coverage
 pub mod CoverLaws
 pub mod Keeping
 pub mod TwoCores
+pub mod WithOperands
 pub mod ModuleUnits
 pub mod Steps
 pub mod EndSteps

@@ -1,57 +1,128 @@
 -- The units of a machine with modules: they serve a block, and give what a cut's unit gives.
-use Rattle.std.proofs.Common.{◌≡◌, ℕ, ◌<◌, sym, ◌∙◌, subst, arith, List, [], ◌∷◌, length, Some, None, inl, inr}
-use Rattle.std.specs.Prelude.{slice_get}
-use Rattle.std.proofs.lemmas.Option.{slice_get_cases}
+use Rattle.std.proofs.Common.{◌≡◌, ℕ, ◌<◌, refl, arith, sym, ◌∙◌, subst, lit<, List, [], ◌∷◌, length, Some, None, inl, inr}
+use Rattle.std.specs.Prelude.{All, slice_get}
+use Rattle.std.proofs.lemmas.Option.{slice_get_cases, get_or_from_slice_get}
 use Rattle.ci_isa.specs.declared.instruction.Insn.{Insn}
 use Rattle.ci_isa.specs.declared.instruction.Insn.TheVariants.{Lui, Unit}
 use Rattle.ci_isa.specs.FieldBounds.{FieldsFit}
 use Rattle.ci_isa.specs.Sequences.{nth_insn}
 use Rattle.ci_elf.specs.WordLists.{AreWords}
-use Rattle.ci_verilog.specs.Modules.{Module, inputs}
+use Rattle.ci_verilog.specs.Modules.{Module, IsModule}
 use Rattle.ci_verilog.specs.Values.{IsValueOf, expr_value}
-use Rattle.ci_machine.specs.Extended.{HasModule}
-use Rattle.ci_machine.specs.Words.{MakesWords}
-use Rattle.ci_machine.proofs.ExtendedMeaning.{three_taken, units_give_words}
+use Rattle.ci_verilog.proofs.ValueLaws.{value_is_one}
+use Rattle.ci_machine.specs.Extended.{HasModule, IsExtended}
+use Rattle.ci_machine.specs.Steps.{Meaning}
+use Rattle.ci_machine.specs.Words.{IsWord, MakesWords}
+use Rattle.ci_machine.proofs.ExtendedMeaning.{five_words, units_give_words}
+use Rattle.ci_machine.proofs.TestLaws.{some_is}
 use Rattle.ci_unit.specs.Units as terms
-use Rattle.ci_rewrite.specs.UnitModules.{ModulesServe, ModulesCompute}
+use Rattle.ci_rewrite.specs.BareWords.{OfUnit}
+use Rattle.ci_rewrite.specs.ComputedUnits.{ComputeUnit}
+use Rattle.ci_rewrite.specs.SameEffect as machine
+use Rattle.ci_rewrite.specs.UnitModules.{IgnoresOperands, IgnoreOperands, ModulesServe, ModulesCompute}
+
+-- ---- the module of a number
+
+module _ (modules : List Module) (number : ℕ) where
+  -- there is a module at the number of one that is found
+  found_below : (m : Module) → slice_get modules number ≡ Some m → number < length modules
+  found_below m there = elim (slice_get_cases modules number).1 [
+    | inl found ↦ found.1
+    | inr past ↦ let never : None ≡ Some m = sym past.1 ∙ there in cc
+  ]
+
+  -- and one is found below their number
+  module_at : number < length modules → (m : Module) × (slice_get modules number ≡ Some m)
+  module_at below = elim (slice_get_cases modules number).1 [
+    | inl found ↦ (found.0, found.2)
+    | inr past ↦ absurd (omega (arith, past.0))
+  ]
+
+-- a value of a module is three results
+three_results : (m : Module) (arguments results : List ℕ) → IsValueOf m arguments results
+    → (y z x : ℕ) × (results ≡ y ∷ z ∷ x ∷ []) × IsValueOf m arguments (y ∷ z ∷ x ∷ [])
+three_results m arguments results value = (
+  expr_value value.names m.y,
+  expr_value value.names m.z,
+  expr_value value.names m.x,
+  value.results_are,
+  subst (IsValueOf m arguments) value.results_are value,
+)
+
+-- the module of a unit ignores the hidden operands
+pub computing_ignores : (modules : List Module) (number : ℕ) (unit : terms.Unit) → ComputeUnit modules number unit → IgnoreOperands modules number
+computing_ignores modules number unit compute m there = subst IgnoresOperands (some_is (sym compute.there ∙ there)) same
+  where
+    same : IgnoresOperands compute.computing
+    same a b c d e p q results words p_word q_word value =
+        let (y, z, x, are, given) = three_results compute.computing (a ∷ b ∷ c ∷ d ∷ e ∷ []) results value in
+        subst (IsValueOf compute.computing (a ∷ b ∷ c ∷ p ∷ q ∷ [])) (sym are)
+        ((compute.value a b c p q y z x (words 0) (words 1) (words 2) p_word q_word).1
+        ((compute.value a b c d e y z x (words 0) (words 1) (words 2) (words 3) (words 4)).0 given))
+
+-- ---- what the unit of a machine gives
+
+module _ (modules : List Module) (meaning : Meaning) (all : All IsModule modules) (is : IsExtended modules meaning)
+    (number : ℕ) (m : Module) (there : slice_get modules number ≡ Some m) where
+  is_module : IsModule m
+  is_module = subst IsModule (get_or_from_slice_get modules number m m there) (all number m (found_below modules number m there))
+
+  module _ (a b c d e : ℕ) (words : AreWords (a ∷ b ∷ c ∷ d ∷ e ∷ [])) where
+    abbrev given : List ℕ
+    given = meaning.units.results number (a ∷ b ∷ c ∷ d ∷ e ∷ [])
+
+    computed : IsValueOf m (a ∷ b ∷ c ∷ d ∷ e ∷ []) given
+    computed = is.computes number m there (a ∷ b ∷ c ∷ d ∷ e ∷ []) refl words
+
+    -- the unit gives any value of the module
+    gives : (results : List ℕ) → IsValueOf m (a ∷ b ∷ c ∷ d ∷ e ∷ []) results → given ≡ results
+    gives results value = value_is_one m is_module (a ∷ b ∷ c ∷ d ∷ e ∷ []) given results computed value
+
+  ignores : IgnoresOperands m → machine.IgnoresOperands meaning.units number
+  ignores same a b c d e words =
+      sym (gives a b c 0 0 (five_words a b c 0 0 (words 0) (words 1) (words 2) (lit< tt) (lit< tt)) (given a b c d e words)
+      (same a b c d e 0 0 (given a b c d e words) words (lit< tt) (lit< tt) (computed a b c d e words)))
 
 pub modules_serve : ModulesServe
-modules_serve modules meaning all is insns fit have = record {
-  named = is.further;
+modules_serve modules meaning all is insns fit have bare = record {
+  operands = is.further;
+  bare = λ k below none. ignore (nth_insn insns k) (have k below) (bare k below none);
   words = λ k below. makes_words (nth_insn insns k) (fit k below) (have k below);
 }
   where
+    ignore : (insn : Insn) → HasModule modules insn → OfUnit (IgnoreOperands modules) insn → OfUnit (machine.IgnoresOperands meaning.units) insn
+    ignore (Unit number rd rs1 rs2 rs3) has same =
+        let (m, there) = module_at modules number has in ignores modules meaning all is number m there (same m there)
+    ignore insn has same = tt
+
     makes_words : (insn : Insn) → FieldsFit insn → HasModule modules insn → MakesWords meaning.units insn
     makes_words (Lui rd upper) fits has = fits.1
     makes_words (Unit number rd rs1 rs2 rs3) fits has = units_give_words modules all meaning is number has
     makes_words insn fits has = tt
 
--- there is a module at the number of one that is found
-number_there : (modules : List Module) (number : ℕ) (m : Module) → slice_get modules number ≡ Some m → number < length modules
-number_there modules number m there = elim (slice_get_cases modules number).1 [
-  | inl found ↦ found.1
-  | inr past ↦ let never : None ≡ Some m = sym past.1 ∙ there in cc
-]
-
 pub modules_compute : ModulesCompute
 modules_compute modules meaning all is number unit compute = record {
-  words = units_give_words modules all meaning is number (number_there modules number compute.computing compute.there);
-  value = λ values taken. of_three values (three_taken modules all meaning is number values taken) taken.words;
+  words = units_give_words modules all meaning is number (found_below modules number compute.computing compute.there);
+  value = value;
 }
   where
-    of_three : (values : List ℕ) → length values ≡ length inputs → AreWords values
-        → (first second : ℕ) × (meaning.units.results number values ≡ first ∷ second ∷ []) × terms.IsPairOf unit values first second
-    of_three [] three words = absurd (omega arith)
-    of_three (a ∷ []) three words = absurd (omega arith)
-    of_three (a ∷ b ∷ []) three words = absurd (omega arith)
-    of_three (a ∷ b ∷ c ∷ []) three words =
-        let m = compute.computing in
-        let value = is.computes number m compute.there (a ∷ b ∷ c ∷ []) three words in
-        let y = expr_value value.names m.y in
-        let z = expr_value value.names m.z in (
+    m : Module
+    m = compute.computing
+
+    value : (a b c : ℕ) → AreWords (a ∷ b ∷ c ∷ []) → (first second : ℕ)
+        × ((d e : ℕ) → IsWord d → IsWord e → meaning.units.results number (a ∷ b ∷ c ∷ d ∷ e ∷ []) ≡ first ∷ second ∷ 0 ∷ [])
+        × terms.IsPairOf unit (a ∷ b ∷ c ∷ []) first second
+    value a b c words =
+        let five : (d e : ℕ) → IsWord d → IsWord e → AreWords (a ∷ b ∷ c ∷ d ∷ e ∷ []) =
+        λ d e d_word e_word. five_words a b c d e (words 0) (words 1) (words 2) d_word e_word in
+        let zeros = five 0 0 (lit< tt) (lit< tt) in
+        let (y, z, x, are, at_zeros) =
+        three_results m (a ∷ b ∷ c ∷ 0 ∷ 0 ∷ []) _ (computed modules meaning all is number m compute.there a b c 0 0 zeros) in
+        let pair = ((compute.value a b c 0 0 y z x (words 0) (words 1) (words 2) (lit< tt) (lit< tt)).0 at_zeros).0 in (
           y,
           z,
-          value.results_are,
-          (compute.value a b c y z (words 0) (words 1) (words 2)).0 (subst (IsValueOf m (a ∷ b ∷ c ∷ [])) value.results_are value),
+          λ d e d_word e_word.
+              gives modules meaning all is number m compute.there a b c d e (five d e d_word e_word) (y ∷ z ∷ 0 ∷ [])
+              ((compute.value a b c d e y z 0 (words 0) (words 1) (words 2) d_word e_word).1 (pair, refl)),
+          pair,
         )
-    of_three (a ∷ b ∷ c ∷ d ∷ more) three words = absurd (omega arith)

@@ -27,7 +27,6 @@ use Rattle.ci_machine.proofs.TestLaws.{by_end, no_end}
 use Rattle.ci_machine.proofs.BlockSteps.{over_stays}
 use Rattle.ci_machine.proofs.InstructionFrame.{keeps}
 use Rattle.ci_machine.proofs.LeavingLists.{leaves-append, quiet_list}
-use Rattle.ci_machine.proofs.NamedReads.{reads_no_hidden}
 use Rattle.ci_machine.proofs.RegisterLaws.{x0_stays}
 use Rattle.ci_machine.proofs.RelatedLists.{act_all-append, goes_on, idle_stays}
 use Rattle.ci_machine.proofs.WordLaws.{values_words, lists_words}
@@ -36,11 +35,12 @@ use Rattle.ci_dfg.specs.BlockGraph.{graph_of}
 use Rattle.ci_unit.specs.Units as terms
 use Rattle.ci_unit.specs.Uses as uses
 use Rattle.ci_rewrite.specs.FoldedBlock.{no_op, places_left}
-use Rattle.ci_rewrite.specs.SameEffect.{Serve, ComputesUnit}
 use Rattle.ci_rewrite.proofs.AllNodes.{all_related, start_follows}
 use Rattle.ci_rewrite.proofs.Contraction.{HasOutputs, tracks_gathered}
 use Rattle.ci_rewrite.proofs.CutNodes.{IsFolding, late, is_dead, within}
 use Rattle.ci_rewrite.proofs.Lists.{all_those}
+use Rattle.ci_rewrite.proofs.NamedUnits.{ServeNamed, ComputesNamed}
+use Rattle.ci_rewrite.proofs.NarrowReads.{reads_named}
 use Rattle.ci_rewrite.proofs.Orders.{early_order, late_order, block_order}
 use Rattle.ci_rewrite.proofs.Stages.{IsStage, those_below, up_to, stage}
 use Rattle.ci_rewrite.proofs.Tracking.{Tracks, Follows, IsBody, core_at, end_at, goes_to_memory, follows_same}
@@ -57,7 +57,7 @@ quiet_no_ops (suc count) = quiet_no_ops count
 
 module _ {insns : List Insn} {live_out : finite.FinSet nat_cmp} {table : Latencies} {cut early : ℕ → Bool} {n : ℕ}
     (known : IsFolding insns live_out table cut early n) {units : Units} (number : ℕ)
-    (serve : Serve units insns) (gives : ComputesUnit units number (terms.unit_of insns (graph_of insns live_out table) cut)) where
+    (serve : ServeNamed units insns) (gives : ComputesNamed units number (terms.unit_of insns (graph_of insns live_out table) cut)) where
   abbrev graph : FlowGraph
   graph = graph_of insns live_out table
 
@@ -94,8 +94,8 @@ module _ {insns : List Insn} {live_out : finite.FinSet nat_cmp} {table : Latenci
   gives_at core holds =
       let made = gives.value (values_of core)
       (record { count = omega (arith, length-map (units.further number) (register core)); words = values_words core holds sources }) in
-      gives_same (values_of core) _ (made.0 ∷ made.1 ∷ []) _
-      (λ i. input_of core 0 ∷ input_of core 1 ∷ input_of core 2 ∷ values_in core (serve.named number i)) (sym made.2) made.3
+      gives_same (values_of core) _ (made.0 ∷ made.1 ∷ made.2 ∷ []) _
+      (λ i. input_of core 0 ∷ input_of core 1 ∷ input_of core 2 ∷ values_in core (serve.named number i)) (sym made.3) made.4
 
   -- the use of the unit goes to no memory
   quiet_use : list_any is_access used ≡ false
@@ -111,7 +111,11 @@ module _ {insns : List Insn} {live_out : finite.FinSet nat_cmp} {table : Latenci
     body = record {
       named = serve.named;
       acts = known.actions.act;
-      visible = λ k below. reads_no_hidden (nth_insn insns k) (known.fit k (within known k below));
+      hidden_read = λ k r below past is.
+          elim (reads_named (nth_insn insns k) r (known.fit k (within known k below)) (known.narrow k (within known k below)) is) [
+            | inl named ↦ absurd (omega arith)
+            | inr reads ↦ reads
+          ];
       clear = clear;
     }
 
@@ -165,7 +169,7 @@ module _ {insns : List Insn} {live_out : finite.FinSet nat_cmp} {table : Latenci
           | inr (m, o, same) ↦
               made (behind_cread known tracks number m o)
               (no_ops _ (used_two known number m o same)
-              ∙ ap (continued (act units (Cread (uses.result_register insns o)))) (goes_on units (unit_word known number m) before_unit on))
+              ∙ ap (continued (act units (Cread (uses.result_register insns o) 0))) (goes_on units (unit_word known number m) before_unit on))
               (two_outputs known tracks number (gives_at before_unit.state words_before) m o same)
         ]
           where
@@ -211,7 +215,7 @@ module _ {insns : List Insn} {live_out : finite.FinSet nat_cmp} {table : Latenci
         act_all-append units (those_below insns early n ++ in_its_place) (those_below insns (late known) n) (at_start start)
         ∙ ap (act_all units (those_below insns (late known) n)) (act_all-append units (those_below insns early n) in_its_place (at_start start))
 
-    module _ (alive : ℕ → Bool) (no_hidden : alive first_hidden ≡ false)
+    module _ (alive : ℕ → Bool) (named : (r : ℕ) → alive r ≡ true → r < first_hidden)
         (living : (r w : ℕ) → alive r ≡ true → IsLast (written insns r) n w → dead w ≡ false) where
       pub same_runs : AreRelated (λ _. false) alive
           (act_all units (those_below insns (λ _. true) n) (at_start start)) (act_all units (folded_actions known number) (at_start start))
@@ -221,7 +225,7 @@ module _ {insns : List Insn} {live_out : finite.FinSet nat_cmp} {table : Latenci
           (subst (Follows units insns start n (λ j. nat_lt j n) dead) (sym folded_run)
           (follows_same units insns start n (up_to gathered (late known) n) (λ j. nat_lt j n) dead _
           (λ j below. whole (early j) (cut j) j below) late_stage.follows))
-          (λ j below. lt-ltb j n below) alive no_hidden (λ r w is last. (refl, living r w is last))
+          (λ j below. lt-ltb j n below) alive named (λ r w is last. (refl, living r w is last))
         where
           all_there : (t : Bool) → (false || (true && t)) ≡ t
           all_there t = grind arith

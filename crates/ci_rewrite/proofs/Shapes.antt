@@ -20,7 +20,7 @@ use Rattle.ci_lat.specs.Latencies.{Latencies}
 use Rattle.ci_cut.specs.FlowGraph.{FlowGraph}
 use Rattle.ci_cut.specs.Ports.{outputs}
 use Rattle.ci_cut.proofs.Extensions.{walk_rises}
-use Rattle.ci_dfg.specs.BlockGraph.{graph_of}
+use Rattle.ci_dfg.specs.BlockGraph.{graph_of, is_wide}
 use Rattle.ci_dfg.proofs.BlockIsGraph.{arcs_rise, length-nodes}
 use Rattle.ci_unit.specs.Uses as uses
 use Rattle.ci_rewrite.specs.Blocks.{AreBundled, IsBlock}
@@ -82,7 +82,7 @@ module _ {insns : List Insn} {live_out : finite.FinSet nat_cmp} {table : Latenci
     abbrev actions : List Insn
     actions = folded_actions known number
 
-    all_used : (P : Insn → Type 0) → ((m : ℕ) → cut m ≡ true → P (unit_word known number m)) → ((o : ℕ) → cut o ≡ true → P (Cread (result o)))
+    all_used : (P : Insn → Type 0) → ((m : ℕ) → cut m ≡ true → P (unit_word known number m)) → ((o : ℕ) → cut o ≡ true → P (Cread (result o) 0))
         → All P used
     all_used P unit_is cread_is = elim known.outs [
       | inl (m, same) ↦
@@ -90,12 +90,12 @@ module _ {insns : List Insn} {live_out : finite.FinSet nat_cmp} {table : Latenci
           (All-cons P _ [] (unit_is m (output_member known m (output_at known (m ∷ []) same 0 (omega arith)))) (All-nil P))
       | inr (m, o, same) ↦
           subst (All P) (sym (used_two known number m o same))
-          (All-cons P _ (Cread (result o) ∷ []) (unit_is m (output_member known m (output_at known (m ∷ o ∷ []) same 0 (omega arith))))
+          (All-cons P _ (Cread (result o) 0 ∷ []) (unit_is m (output_member known m (output_at known (m ∷ o ∷ []) same 0 (omega arith))))
           (All-cons P _ [] (cread_is o (output_member known o (output_at known (m ∷ o ∷ []) same 1 (omega arith)))) (All-nil P)))
     ]
 
     all_actions : (P : Insn → Type 0) → ((k : ℕ) → k < n → P (nth_insn insns k)) → ((m : ℕ) → cut m ≡ true → P (unit_word known number m))
-        → ((o : ℕ) → cut o ≡ true → P (Cread (result o))) → P no_op → All P actions
+        → ((o : ℕ) → cut o ≡ true → P (Cread (result o) 0)) → P no_op → All P actions
     all_actions P node_is unit_is cread_is no_op_is =
         All-append P (those_below insns early n ++ in_place known number) (those_below insns (late known) n)
         (All-append P (those_below insns early n) (in_place known number) (all_those P insns early n (λ k below is. node_is k below))
@@ -184,7 +184,7 @@ module _ {insns : List Insn} {live_out : finite.FinSet nat_cmp} {table : Latenci
       ]
 
       pub all_folded : (P : Insn → Type 0) → ((k : ℕ) → k < length insns → P (nth_insn insns k)) → ((m : ℕ) → cut m ≡ true → P (unit_word known number m))
-          → ((o : ℕ) → cut o ≡ true → P (Cread (result o))) → P no_op → All P folded
+          → ((o : ℕ) → cut o ≡ true → P (Cread (result o) 0)) → P no_op → All P folded
       all_folded P node_is unit_is cread_is no_op_is =
           subst (All P) (sym folded_is)
           (All-append P actions (drop n insns)
@@ -211,7 +211,7 @@ module _ {insns : List Insn} {live_out : finite.FinSet nat_cmp} {table : Latenci
       ]
         where
           cread_acts : (insn : Insn) → is_cread insn ≡ true → ends_block insn ≡ false
-          cread_acts (Cread rd) is = refl
+          cread_acts (Cread rd index) is = refl
           cread_acts insn is = cc
 
       bundled : AreBundled folded
@@ -238,7 +238,8 @@ module _ {insns : List Insn} {live_out : finite.FinSet nat_cmp} {table : Latenci
 
       pub folded_fits : number < 32 → All FieldsFit folded
       folded_fits small = all_folded FieldsFit known.fit
-          (λ m member. (small, below m member, input_small 0, input_small 1, input_small 2)) below (omega arith, omega arith, (omega arith, omega arith))
+          (λ m member. (small, below m member, input_small 0, input_small 1, input_small 2)) (λ o member. (below o member, omega arith))
+          (omega arith, omega arith, (omega arith, omega arith))
         where
           below : (m : ℕ) → cut m ≡ true → result m < 32
           below m member = result_below (nth_insn insns m) (known.fit m (member_within known m member))
@@ -262,4 +263,5 @@ module _ {insns : List Insn} {live_out : finite.FinSet nat_cmp} {table : Latenci
         few = omega (arith, folded_length, few);
         fit = λ k below. folded_fits small k Ebreak below;
         bundled = bundled;
+        narrow = λ k. all_folded (λ insn. is_wide insn ≡ false) known.narrow (λ m member. refl) (λ o member. refl) refl k Ebreak;
       }

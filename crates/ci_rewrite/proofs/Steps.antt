@@ -22,7 +22,8 @@ use Rattle.ci_machine.proofs.StepLists.{leaving_alike}
 use Rattle.ci_rewrite.specs.Blocks.{IsBlock, live_behind}
 use Rattle.ci_rewrite.specs.SameSteps.{FoldingKeepsSteps, LastIsFetched}
 use Rattle.ci_machine.specs.Outcomes.{is_access_fault}
-use Rattle.ci_rewrite.proofs.TwoCores.{actions_of, folding_keeps_agreement}
+use Rattle.ci_rewrite.proofs.TwoCores.{actions_of}
+use Rattle.ci_rewrite.proofs.WithOperands.{folding_keeps_agreement}
 
 -- ---- steps through the actions of one block
 
@@ -111,4 +112,4 @@ folding_keeps_steps meaning program set insns folded n live_out left right block
         (act_all meaning.units (take n insns) (at_start left.core)) (act_all meaning.units (take n folded) (at_start right.core))
     pair =
         folding_keeps_agreement (in_text program) set meaning.units insns folded n live_out left.core right.core
-        block named serve keeps covers start.words start.outside start.registers clear
+        block named serve keeps covers start.words start.folded_words start.outside start.registers clear

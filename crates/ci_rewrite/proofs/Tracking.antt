@@ -19,11 +19,12 @@ use Rattle.ci_machine.specs.Agreement.{acted, AgreeOn, LeavesText}
 use Rattle.ci_machine.specs.Blocks.{HaveSameStreams}
 use Rattle.ci_machine.proofs.EndLaws.{acted_keeps_streams}
 use Rattle.ci_machine.proofs.TestLaws.{by_test, by_end, no_end}
-use Rattle.ci_machine.proofs.NamedReads.{no_further, reads, reads_same, reads_is, writes_is, unit_writes}
+use Rattle.ci_machine.proofs.NamedReads.{no_further, reads, reads_is, writes_is}
 use Rattle.ci_machine.proofs.InstructionFrame.{keeps, AgreeAt, AreAlike, alike, store_accesses, outside_text}
 use Rattle.ci_machine.proofs.LeavingLists.{same_accessed, nothing_moved}
 use Rattle.ci_machine.proofs.RelatedLists.{no_text, goes_on, has_ended}
-use Rattle.ci_rewrite.specs.SameEffect.{TakeNamed}
+use Rattle.ci_rewrite.proofs.NamedUnits.{TakeNamed}
+use Rattle.ci_rewrite.proofs.NarrowReads.{reads_same, unit_writes}
 
 none_moved : (insn : Insn) (core : Core) (left right : ℕ → Option ℕ) → is_access insn ≡ false → AgreeAt (accessed insn core) left right
 none_moved (Load kind rd rs1 offset) core left right none = cc
@@ -49,11 +50,11 @@ module _ (units : Units) (insns : List Insn) (start : Core) where
   end_at k = (acted units (nth_insn insns k) (core_at k)).end
 
   -- node k leaves a register that it doesn't write
-  kept_by : (k r : ℕ) (core : Core) → r ≢ first_hidden → written insns r k ≡ false → register (acted units (nth_insn insns k) core).state r ≡ register core r
+  kept_by : (k r : ℕ) (core : Core) → r < first_hidden → written insns r k ≡ false → register (acted units (nth_insn insns k) core).state r ≡ register core r
   kept_by k r core other none = (keeps units (nth_insn insns k) core).registers r (writes_is (nth_insn insns k) r other ∙ none)
 
   -- a register that no node from one on writes
-  pub register_stays : (r low k : ℕ) → r ≢ first_hidden → low ≤ k → ((j : ℕ) → low ≤ j → j < k → written insns r j ≡ false)
+  pub register_stays : (r low k : ℕ) → r < first_hidden → low ≤ k → ((j : ℕ) → low ≤ j → j < k → written insns r j ≡ false)
       → register (core_at k) r ≡ register (core_at low) r
   register_stays r low zero other le none = ap (λ i. register (core_at i) r) (let same : zero ≡ low = omega arith in same)
   register_stays r low (suc k) other le none = elim (cases_eq low (suc k)) [
@@ -80,10 +81,10 @@ module _ (units : Units) (insns : List Insn) (start : Core) where
     -- the last of them made of it, if that is not dead, and memory is that before the first access that has not acted.
     pub record Tracks (placed dead : ℕ → Bool) (core : Core) : Type 0 where
       pub registers :
-          (r w : ℕ) → r ≢ first_hidden → IsLast (λ j. placed j && written insns r j) n w → dead w ≡ false
+          (r w : ℕ) → r < first_hidden → IsLast (λ j. placed j && written insns r j) n w → dead w ≡ false
           → register core r ≡ register (core_at (suc w)) r
       pub untouched :
-          (r : ℕ) → r ≢ first_hidden → ((j : ℕ) → j < n → (placed j && written insns r j) ≡ false)
+          (r : ℕ) → r < first_hidden → ((j : ℕ) → j < n → (placed j && written insns r j) ≡ false)
           → register core r ≡ register start r
       pub memory :
           (a : ℕ) → a ≤ n → ((j : ℕ) → j < n → goes_to_memory insns j ≡ true → placed j ≡ nat_lt j a)
@@ -117,7 +118,7 @@ module _ (units : Units) (insns : List Insn) (start : Core) where
       ]
 
       -- what it reads stands as before it in the block
-      pub operand_there : (r : ℕ) → r ≢ first_hidden → reads_at insns k r ≡ true → register (core_at k) r ≡ register core r
+      pub operand_there : (r : ℕ) → r < first_hidden → reads_at insns k r ≡ true → register (core_at k) r ≡ register core r
       operand_there r other is = elim (last_or_none (written insns r) k) [
         | inl (w, last) ↦
             let (w_placed, alive) = ready.sources r w is last in
@@ -165,7 +166,7 @@ module _ (units : Units) (insns : List Insn) (start : Core) where
           abbrev pub after_it : Core
           after_it = (acted units (nth_insn insns k) core).state
 
-          written_here : (r : ℕ) → r ≢ first_hidden → written insns r k ≡ true → register after_it r ≡ register (core_at (suc k)) r
+          written_here : (r : ℕ) → r < first_hidden → written insns r k ≡ true → register after_it r ≡ register (core_at (suc k)) r
           written_here r other is = sym (same.written goes_on r (writes_is (nth_insn insns k) r other ∙ is))
 
           -- the last writer is the node, where it writes the register
@@ -243,12 +244,14 @@ module _ (units : Units) (insns : List Insn) (start : Core) where
       pub unended : run.end ≡ None → (j : ℕ) → j < n → placed j ≡ true → end_at j ≡ None
       pub stopped : (e : End) → run.end ≡ Some e → HasStopped e run.state
 
-    -- What is known of the block: its nodes act, none but a `cread` reads the hidden register, and where no node before
-    -- it ends, each access leaves the text alone.
+    -- What is known of the block: its nodes act, of the hidden registers they read the first one alone, by a `cread`, and
+    -- where no node before it ends, each access leaves the text alone.
     pub record IsBody (text : ℕ → Bool) : Type 0 where
       pub named : TakeNamed units
       pub acts : (k : ℕ) → k < n → ends_block (nth_insn insns k) ≡ false
-      pub visible : (k : ℕ) → k < n → is_cread (nth_insn insns k) ≡ false → reads (nth_insn insns k) first_hidden ≡ false
+      pub hidden_read :
+          (k r : ℕ) → k < n → first_hidden ≤ r → reads (nth_insn insns k) r ≡ true
+          → (r ≡ first_hidden) × (is_cread (nth_insn insns k) ≡ true)
       pub clear :
           (k : ℕ) → k < n → goes_to_memory insns k ≡ true → ((j : ℕ) → j < k → end_at j ≡ None)
           → LeavesText text (nth_insn insns k) (core_at k)
@@ -269,11 +272,11 @@ module _ (units : Units) (insns : List Insn) (start : Core) where
         tracks_now = follows.going on
 
         read_now : AgreeOn (reads (nth_insn insns k)) (core_at k) run.state
-        read_now r is = elim (cases_eq r first_hidden) [
-          | inl same ↦ by_test (is_cread (nth_insn insns k))
-              (λ it_is. ap (register (core_at k)) same ∙ cread on it_is ∙ ap (register run.state) (sym same))
-              (λ none. absurd (true≢false (sym is ∙ ap (reads (nth_insn insns k)) same ∙ body.visible k ready.within none)))
-          | inr other ↦ operand_there placed dead run.state tracks_now k ready r other (sym (reads_is (nth_insn insns k) r other) ∙ is)
+        read_now r is = elim (cases_lt r first_hidden) [
+          | inl below ↦ operand_there placed dead run.state tracks_now k ready r below (sym (reads_is (nth_insn insns k) r below) ∙ is)
+          | inr past ↦
+              let (same, it_is) = body.hidden_read k r ready.within past is in
+              ap (register (core_at k)) same ∙ cread on it_is ∙ ap (register run.state) (sym same)
         ]
 
         same_now : AreAlike (nth_insn insns k) (core_at k) run.state (acted units (nth_insn insns k) (core_at k)) (acted units (nth_insn insns k) run.state)

@@ -159,7 +159,7 @@ module _ {insns : List Insn} {live_out : finite.FinSet nat_cmp} {table : Latenci
 abbrev pub use_with : List Insn → FlowGraph → (ℕ → Bool) → ℕ → List ℕ → List Insn
 use_with insns graph cut number registers =
     let input : ℕ → ℕ = slice_index (uses.input_registers insns graph cut) in
-    Unit number (slice_index registers 0) (input 0) (input 1) (input 2) ∷ map (λ r. Cread r) (drop 1 registers)
+    Unit number (slice_index registers 0) (input 0) (input 1) (input 2) ∷ map (λ r. Cread r 0) (drop 1 registers)
 
 module _ {insns : List Insn} {live_out : finite.FinSet nat_cmp} {table : Latencies} {cut early : ℕ → Bool} {n : ℕ}
     (known : IsFolding insns live_out table cut early n) (number : ℕ) where
@@ -176,7 +176,7 @@ module _ {insns : List Insn} {live_out : finite.FinSet nat_cmp} {table : Latenci
   used_one m same = ap (λ l. use_with insns (graph_of insns live_out table) cut number (map result l)) same
 
   pub used_two : (m o : ℕ) → outputs_of insns (graph_of insns live_out table) cut ≡ m ∷ o ∷ []
-      → uses.use_of insns (graph_of insns live_out table) cut number ≡ unit_word m ∷ Cread (result o) ∷ []
+      → uses.use_of insns (graph_of insns live_out table) cut number ≡ unit_word m ∷ Cread (result o) 0 ∷ []
   used_two m o same = ap (λ l. use_with insns (graph_of insns live_out table) cut number (map result l)) same
 
   -- the unit word and its `cread`, and the no-ops

@@ -1,5 +1,5 @@
 -- What a unit word and its `cread` leave: the outputs in their registers, and all else as before.
-use Rattle.std.specs.Prelude.{◌≡◌, ◌≢◌, ℕ, suc, ◌<◌, Bool, true, false, List, [], ◌∷◌, map, length, slice_index, slice_index_or, drop}
+use Rattle.std.specs.Prelude.{◌≡◌, ◌≢◌, ℕ, suc, ◌+◌, ◌<◌, Bool, true, false, List, [], ◌∷◌, map, length, slice_index, slice_index_or, drop}
 use Rattle.std.specs.FinSet as finite
 use Rattle.std.specs.Ordering.{nat_cmp}
 use Rattle.std.proofs.Common.{refl, sym, ap, ◌∙◌, subst, arith, inl, inr}
@@ -41,18 +41,20 @@ module _ {insns : List Insn} {live_out : finite.FinSet nat_cmp} {table : Latenci
   abbrev result : ℕ → ℕ
   result = uses.result_register insns
 
-  -- what the unit word's unit gives: two values, 0 where it gives no second
-  abbrev pub given : ℕ × ℕ
-  given =
+  -- what the unit word's unit gives, 0 where it gives no more
+  abbrev results : List ℕ
+  results =
       let input : ℕ → ℕ = slice_index (uses.input_registers insns graph cut) in
-      let results : List ℕ = units.results number (values_in now (input 0 ∷ input 1 ∷ input 2 ∷ units.further number)) in
-      (slice_index_or results 0 0, slice_index_or (drop 1 results) 0 0)
+      units.results number (values_in now (input 0 ∷ input 1 ∷ input 2 ∷ units.further number))
+
+  abbrev pub given : ℕ × ℕ
+  given = (slice_index_or results 0 0, slice_index_or (drop 1 results) 0 0)
 
   abbrev pub behind_unit : ℕ → Core
   behind_unit m = (acted units (unit_word known number m) now).state
 
   abbrev pub behind_cread : ℕ → ℕ → Core
-  behind_cread m o = (acted units (Cread (result o)) (behind_unit m)).state
+  behind_cread m o = (acted units (Cread (result o) 0) (behind_unit m)).state
 
   -- ---- registers
 
@@ -65,19 +67,27 @@ module _ {insns : List Insn} {live_out : finite.FinSet nat_cmp} {table : Latenci
   apart : (r q : ℕ) → r ≢ q → is_among (r ∷ []) q ≡ false
   apart r q other = grind (arith, nat_tests, other)
 
+  -- the third goes to the second hidden register
+  abbrev with_third : Core
+  with_third = with_register now (first_hidden + 1) (slice_index_or (drop 1 (drop 1 results)) 0 0)
+
+  abbrev with_hidden : Core
+  with_hidden = with_register with_third first_hidden given.1
+
   unit_result : (m : ℕ) → cut m ≡ true → register (behind_unit m) (result m) ≡ given.0
-  unit_result m member = register_written (with_register now first_hidden given.1) (result m) given.0 (result m) (kept m member)
+  unit_result m member = register_written with_hidden (result m) given.0 (result m) (kept m member)
 
   unit_hidden : (m : ℕ) → cut m ≡ true → register (behind_unit m) first_hidden ≡ given.1
   unit_hidden m member =
-      register_kept (with_register now first_hidden given.1) (result m) given.0 first_hidden (apart (result m) first_hidden (λ same.
+      register_kept with_hidden (result m) given.0 first_hidden (apart (result m) first_hidden (λ same.
       let below = result_below (nth_insn insns m) (known.fit m (member_within known m member)) in absurd (omega arith)))
-      ∙ register_written now first_hidden given.1 first_hidden refl
+      ∙ register_written with_third first_hidden given.1 first_hidden refl
 
-  unit_other : (m q : ℕ) → q ≢ first_hidden → result m ≢ q → register (behind_unit m) q ≡ register now q
-  unit_other m q other differs =
-      register_kept (with_register now first_hidden given.1) (result m) given.0 q (apart (result m) q differs)
-      ∙ register_kept now first_hidden given.1 q (apart first_hidden q (λ same. other (sym same)))
+  unit_other : (m q : ℕ) → q < first_hidden → result m ≢ q → register (behind_unit m) q ≡ register now q
+  unit_other m q named differs =
+      register_kept with_hidden (result m) given.0 q (apart (result m) q differs)
+      ∙ register_kept with_third first_hidden given.1 q (apart first_hidden q (λ same. absurd (omega arith)))
+      ∙ register_kept now (first_hidden + 1) _ q (apart (first_hidden + 1) q (λ same. absurd (omega arith)))
 
   -- ---- the outputs
 
@@ -132,6 +142,6 @@ module _ {insns : List Insn} {live_out : finite.FinSet nat_cmp} {table : Latenci
                 ∙ ap (λ l. slice_index l 1) (pair_is (m ∷ o ∷ []) same) ∙ value_of o o_in)
           ];
           memory = refl;
-          rest = acted_keeps_streams units (Cread (result o)) (behind_unit m) start
+          rest = acted_keeps_streams units (Cread (result o) 0) (behind_unit m) start
               (acted_keeps_streams units (unit_word known number m) now start tracks.rest);
         }

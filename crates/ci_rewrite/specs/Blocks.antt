@@ -7,6 +7,7 @@ use Rattle.ci_isa.specs.declared.instruction.Insn.{Insn}
 use Rattle.ci_isa.specs.FieldBounds.{FieldsFit}
 use Rattle.ci_isa.specs.Effects.{ends_block, is_unit, is_cread, reads_register, writes_register}
 use Rattle.ci_isa.specs.Sequences.{nth_insn, ReadFirst, Write}
+use Rattle.ci_dfg.specs.BlockGraph.{AreNarrow}
 
 -- the fields of each instruction are within their places in a word
 abbrev pub AllFieldsFit : List Insn → Type 0
@@ -31,6 +32,7 @@ pub record IsBlock (insns : List Insn) (n : ℕ) : Type 0 where
   pub few : length insns ≤ 256
   pub fit : AllFieldsFit insns
   pub bundled : AreBundled insns
+  pub narrow : AreNarrow insns
 
 -- a set of registers that programs can name
 abbrev pub AreNamed : finite.FinSet nat_cmp → Type 0

@@ -1,5 +1,6 @@
 pub mod FoldedBlock
 pub mod Blocks
+pub mod BareWords
 pub mod SameEffect
 pub mod ComputedUnits
 pub mod UnitModules

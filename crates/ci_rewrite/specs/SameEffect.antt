@@ -5,39 +5,46 @@ use Rattle.std.specs.Ordering.{nat_cmp}
 use Rattle.ci_isa.specs.declared.instruction.Insn.{Insn}
 use Rattle.ci_isa.specs.Sequences.{nth_insn}
 use Rattle.ci_lat.specs.Latencies.{Latencies}
-use Rattle.ci_machine.specs.Cores.{Core}
+use Rattle.ci_machine.specs.Cores.{Core, hidden_operands}
 use Rattle.ci_machine.specs.Outcomes.{at_start}
 use Rattle.ci_machine.specs.Actions.{Units}
 use Rattle.ci_machine.specs.Agreement.{act_all, AgreeOutside, AgreeOn, AreRelated, AllLeaveText}
 use Rattle.ci_elf.specs.WordLists.{AreWords}
-use Rattle.ci_machine.specs.Words.{AreTaken, HoldsWords, MakesWords}
+use Rattle.ci_machine.specs.Words.{AreTaken, HoldsWords, IsWord, MakesWords}
 use Rattle.ci_cut.specs.declared.graph.Limits.{Limits}
 use Rattle.ci_cut.specs.Gain.{Fits}
 use Rattle.ci_dfg.specs.Arcs.{IsBundle}
 use Rattle.ci_dfg.specs.BlockGraph.{graph_of}
 use Rattle.ci_unit.specs.Units as terms
 use Rattle.ci_rewrite.specs.Blocks.{IsBlock, AreNamed, Covers, live_behind}
+use Rattle.ci_rewrite.specs.BareWords.{OfBareWords}
 use Rattle.ci_rewrite.specs.FoldedBlock.{IsFolded}
 
 -- ---- units
 
--- Units take no registers but those that their words name,
-abbrev pub TakeNamed : Units → Type 0
-TakeNamed units = (number : ℕ) → units.further number ≡ []
+-- The unit of this number gives the same, whatever words it takes from the hidden operands.
+abbrev pub IgnoresOperands : Units → ℕ → Type 0
+IgnoresOperands units number =
+    (a b c d e : ℕ) → AreWords (a ∷ b ∷ c ∷ d ∷ e ∷ [])
+    → units.results number (a ∷ b ∷ c ∷ d ∷ e ∷ []) ≡ units.results number (a ∷ b ∷ c ∷ 0 ∷ 0 ∷ [])
 
--- and those of the unit words in a list make words of words.
+-- Units take the hidden operands behind what their words name. Those of the unit words in a list make words of words,
+-- and the unit of a word that no `cput` stands directly before gives the same whatever the hidden operands are.
 pub record Serve (units : Units) (insns : List Insn) : Type 0 where
-  pub named : TakeNamed units
+  pub operands : (number : ℕ) → units.further number ≡ hidden_operands
+  pub bare : OfBareWords (IgnoresOperands units) insns
   pub words : (k : ℕ) → k < length insns → MakesWords units (nth_insn insns k)
 
--- The unit of this number makes words of words, and gives of them what the cut's unit gives: the second result is 0
--- where that has one output.
+-- The unit of this number makes words of words. Whatever the hidden operands are, it gives of the first three what the
+-- cut's unit gives, of which the second is 0 where that has one output, and 0 for the third.
 pub record ComputesUnit (units : Units) (number : ℕ) (unit : terms.Unit) : Type 0 where
   pub words : (values : List ℕ) → AreTaken units number values → AreWords (units.results number values)
   pub value :
-      (values : List ℕ) → AreTaken units number values
-      → (first second : ℕ) × (units.results number values ≡ first ∷ second ∷ [])
-      × terms.IsPairOf unit values first second
+      (a b c : ℕ) → AreWords (a ∷ b ∷ c ∷ [])
+      → (first second : ℕ)
+      × ((d e : ℕ) → IsWord d → IsWord e
+      → units.results number (a ∷ b ∷ c ∷ d ∷ e ∷ []) ≡ first ∷ second ∷ 0 ∷ [])
+      × terms.IsPairOf unit (a ∷ b ∷ c ∷ []) first second
 
 -- ---- from one core
 
@@ -120,7 +127,7 @@ FoldingKeepsAgreement =
     (left right : Core)
     → IsBlock insns n → AreNamed live_out → Serve units insns
     → KeepsBlock text units insns n live_out folded → Covers set insns live_out
-    → HoldsWords right → AgreeOutside text left right → AgreeOn set left right
+    → HoldsWords left → HoldsWords right → AgreeOutside text left right → AgreeOn set left right
     → AllLeaveText units text (take n insns) (at_start left)
     → AllLeaveText units text (take n folded) (at_start right)
     × AreRelated text (live_behind insns n live_out)

@@ -22,7 +22,9 @@ use Rattle.ci_unit.specs.Units.{Unit, unit_of}
 use Rattle.ci_rewrite.specs.Blocks.{IsBlock, AreNamed, Covers, live_behind}
 use Rattle.ci_rewrite.specs.FoldedBlock.{IsFolded}
 use Rattle.ci_rewrite.specs.SameEffect.{Serve, KeepsShape, KeepsBlock}
-use Rattle.ci_rewrite.specs.UnitModules.{HaveModules, HasUnits}
+use Rattle.ci_rewrite.specs.BareWords.{OfBareWords}
+use Rattle.ci_rewrite.specs.ComputedUnits.{ComputeUnit}
+use Rattle.ci_rewrite.specs.UnitModules.{HaveModules, IgnoreOperands, HasUnits}
 
 -- ---- where two runs begin, and how far they come
 
@@ -35,7 +37,8 @@ pub record StandAlike
   pub pc : left.pc ≡ right.pc
   pub block : StandAt meaning program left.core.memory left.pc insns
   pub folded_block : StandAt meaning program right.core.memory right.pc folded
-  pub words : HoldsWords right.core
+  pub words : HoldsWords left.core
+  pub folded_words : HoldsWords right.core
   pub outside : AgreeOutside (in_text program) left.core right.core
   pub registers : AgreeOn set left.core right.core
 
@@ -68,6 +71,11 @@ pub record KeepsRuns
   -- Modules for the unit words of the block, and one of the number, are modules for those of the folded block.
   pub have_modules :
       (modules : List Module) → HaveModules modules insns → number < length modules → HaveModules modules folded
+  -- Where for each bare unit word of the block the value of its module doesn't depend on d and e, and the module of the
+  -- number has the unit's value, so it is for each bare unit word of the folded block.
+  pub stay_bare :
+      (modules : List Module) → OfBareWords (IgnoreOperands modules) insns → ComputeUnit modules number unit
+      → OfBareWords (IgnoreOperands modules) folded
   -- From states that agree on such a set, where the run of the block leaves the text alone, both pass alike, up to
   -- their last instruction, if that ends them, or to their length. They agree there on what that instruction reads, and
   -- on what is live behind the block and not written by it.

@@ -3,12 +3,12 @@ use Rattle.std.specs.Prelude.{◌≡◌, ℕ, ◌+◌, ◌-◌, ◌*◌, ◌^◌
 use Rattle.std.specs.List.{Contains}
 use Rattle.std.specs.FinSet as finite
 use Rattle.std.specs.Ordering.{nat_cmp}
-use Rattle.std.proofs.Common.{refl, sym, ap, ◌∙◌, subst, arith, inl, inr, true≢false}
+use Rattle.std.proofs.Common.{refl, sym, ap, ◌∙◌, subst, arith, inl, inr}
 use Rattle.std.proofs.lemmas.Bool.{and_from, cases_Bool, cases_lt, eq-eqb}
 use Rattle.std.proofs.lemmas.List.{get_or_default}
 use Rattle.ci_isa.specs.declared.instruction.Insn.{Insn}
-use Rattle.ci_isa.specs.declared.instruction.Insn.TheVariants.{Cread, Ebreak, Illegal}
-use Rattle.ci_isa.specs.Effects.{ends_block, is_cread}
+use Rattle.ci_isa.specs.declared.instruction.Insn.TheVariants.{Ebreak, Illegal}
+use Rattle.ci_isa.specs.Effects.{ends_block}
 use Rattle.ci_isa.specs.FieldBounds.{FieldsFit}
 use Rattle.ci_isa.specs.Sequences.{nth_insn, ReadFirst, Write}
 use Rattle.ci_isa.specs.Table.{IsInsnAt, IsWordOf}
@@ -36,11 +36,14 @@ use Rattle.ci_machine.specs.Texts.{AreFileInsns}
 use Rattle.ci_machine.proofs.ExtendedMeaning.{one_stands}
 use Rattle.ci_machine.proofs.OpeningLaws.{insns_stand}
 use Rattle.ci_machine.proofs.TextChanges.{opens_alike}
-use Rattle.ci_rewrite.specs.Blocks.{AllFieldsFit, AreActionsOf, AreBundled, AreNamed, Covers, IsBlock}
+use Rattle.ci_rewrite.specs.Blocks.{AllFieldsFit, AreActionsOf, AreNamed, Covers, IsBlock}
 use Rattle.ci_rewrite.specs.Costs.{cost_of}
 use Rattle.ci_rewrite.specs.RunLatencies.{AreOfTable}
 use Rattle.ci_rewrite.specs.SameEffect.{Serve}
+use Rattle.ci_rewrite.specs.UnitModules.{IgnoreOperands}
+use Rattle.ci_rewrite.proofs.BareWordLaws.{of_bare}
 use Rattle.ci_rewrite.proofs.ModuleUnits.{modules_serve}
+use Rattle.ci_rewrite.proofs.PlainBlocks.{plain_bundled, plain_narrow, plain_numbers}
 use Rattle.ci_runs.specs.WholeRuns.{Rewriting, Saving, is_among, text}
 use Rattle.ci_runs.specs.FoldedFiles.{IsFoldedBlock, IsFoldedFile, saved_at}
 use Rattle.ci_runs.specs.Crossings.{is_word}
@@ -60,11 +63,6 @@ word_tested file address (aligned, held) = and_from (address % 4 == 0) (in_text 
 fields_at : (word : ℕ) (insn : Insn) → IsInsnAt word insn → ((bare : ℕ) → insn ≡ Illegal bare → bare < 2 ^ 32) → FieldsFit insn
 fields_at word (Illegal bare) is small = small bare refl
 fields_at word insn is small = fields_fit insn (plain_well_formed word insn is)
-
--- and is no `cread`
-plain_reads_none : (word : ℕ) (insn : Insn) → IsInsnAt word insn → is_cread insn ≡ true → ⊥
-plain_reads_none word (Cread rd) is reads = is.1
-plain_reads_none word insn is reads = true≢false (sym reads)
 
 module _ (rewriting : Rewriting) (table : Table) (savings : List Saving) (is : IsFoldedFile rewriting table savings) where
   -- ---- the files
@@ -156,10 +154,6 @@ module _ (rewriting : Rewriting) (table : Table) (savings : List Saving) (is : I
     fit : AllFieldsFit insns
     fit k below = fields_at (word k) (nth_insn insns k) (reads k below) (bare_small k below)
 
-    -- a plain block has no `cread`
-    bundled : AreBundled insns
-    bundled k below it_reads = absurd (plain_reads_none (word k) (nth_insn insns k) (reads k below) it_reads)
-
     -- its actions are all of its instructions but a terminator
     pub actions_of : (n : ℕ) × AreActionsOf insns n
     actions_of = elim (cases_Bool (ends_block (nth_insn insns (size_of block - 1)))) [
@@ -195,7 +189,13 @@ module _ (rewriting : Rewriting) (table : Table) (savings : List Saving) (is : I
 
     -- So it can be folded.
     pub is_block : IsBlock insns n
-    is_block = record { actions = actions_of.1; few = at_leader_of.at_most; fit = fit; bundled = bundled }
+    is_block = record {
+      actions = actions_of.1;
+      few = at_leader_of.at_most;
+      fit = fit;
+      bundled = plain_bundled insns word reads;
+      narrow = plain_narrow insns word reads;
+    }
 
     -- programs can name what is live behind it,
     pub named : AreNamed live_out
@@ -233,6 +233,7 @@ module _ (rewriting : Rewriting) (table : Table) (savings : List Saving) (is : I
       pub serve : Serve meaning.units insns
       serve = modules_serve rewriting.modules meaning is.modules_are extended insns fit
           (λ k below. has_module rewriting.modules (nth_insn insns k) (stand k below))
+          (of_bare (IgnoreOperands rewriting.modules) insns (plain_numbers insns word reads (IgnoreOperands rewriting.modules)))
 
       -- the folds keep the block,
       pub kept : AreKept rewriting.modules (in_text program) meaning.units insns n live_out fold.insns

@@ -61,7 +61,8 @@ module _ (rewriting : Rewriting) (table : Table) (savings : List Saving) (is : I
     same_program = blocks.same_program rewriting table savings is;
     same_entry = sym (ap (λ file. file.entry) is.new_is);
     outside = blocks.outside rewriting table savings is input;
-    new_bytes = is.new_bytes;
+    old_of_bytes = is.old_of_bytes;
+    new_of_bytes = is.new_of_bytes;
     entry = at_leader (is_listed rewriting.live.leaders rewriting.old.entry entry_listed);
     crossing = crossing;
   }

@@ -34,10 +34,11 @@ use Rattle.ci_rewrite.specs.RunLatencies.{AreOfTable}
 use Rattle.ci_rewrite.specs.FoldedBlock.{IsFolded, no_op, places_left, those}
 use Rattle.ci_rewrite.specs.SameEffect.{Serve, KeepsBlock}
 use Rattle.ci_rewrite.proofs.Chains.{block_keeps_itself, keeping_joins}
-use Rattle.ci_rewrite.proofs.Keeping.{folding_of, folding_keeps}
+use Rattle.ci_rewrite.proofs.Keeping.{folding_of}
 use Rattle.ci_rewrite.proofs.ModuleUnits.{modules_compute}
 use Rattle.ci_rewrite.proofs.Savings.{folding_saves}
 use Rattle.ci_rewrite.proofs.Shapes.{all_folded}
+use Rattle.ci_rewrite.proofs.WithOperands.{folding_keeps}
 use Rattle.ci_runs.specs.FoldedFiles.{AreFolds, none, more, total}
 use Rattle.ci_runs.proofs.StandingWords.{CanStand}
 

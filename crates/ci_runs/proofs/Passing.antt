@@ -45,7 +45,7 @@ ends_there meaning program state none =
 -- ---- from a front
 
 module _ (runs : TwoRuns) (old_text : HasText runs.program runs.old_opens.core) (new_text : HasText runs.program runs.new_opens.core)
-    (of_words : IsOfWords runs.new_opens) (gives : GivesWords runs.meaning)
+    (old_words : IsOfWords runs.old_opens) (new_words : IsOfWords runs.new_opens) (gives : GivesWords runs.meaning)
     (crossing : (leader : ℕ) → runs.is_listed leader ≡ true → Crossing runs leader)
     (k : ℕ) (meet : Meet runs k) (tame : IsTame runs.meaning runs.program runs.is_listed (k + 256) runs.old_opens) where
   abbrev meaning : Meaning
@@ -164,7 +164,8 @@ module _ (runs : TwoRuns) (old_text : HasText runs.program runs.old_opens.core) 
           pc = meet.pc;
           block = old_stands;
           folded_block = new_stands;
-          words = (words_stay meaning program gives k runs.new_opens of_words).core;
+          words = (words_stay meaning program gives k runs.old_opens old_words).core;
+          folded_words = (words_stay meaning program gives k runs.new_opens new_words).core;
           outside = meet.outside;
           registers = meet.agree;
         })

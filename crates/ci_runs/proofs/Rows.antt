@@ -1,5 +1,5 @@
 -- What the definitions of whole runs say of each end, of the number of steps, and of a program of thirty words.
-use Rattle.std.proofs.Common.{◌≡◌, ℕ, ◌+◌, refl, ◌∙◌, List, [], ◌∷◌, Option, Some, None, pos}
+use Rattle.std.proofs.Common.{◌≡◌, ℕ, ◌+◌, refl, List, [], ◌∷◌, Some, None}
 use Rattle.std.specs.Prelude.{Bool, true, false, ◌==◌, ◌/◌, ◌*◌, ◌%◌, ◌^◌, bit_xor, slice_index, if◌then◌else◌}
 use Rattle.std.specs.List.{flat_map}
 use Rattle.std.specs.Option.{unwrap_or}
@@ -15,7 +15,7 @@ use Rattle.ci_machine.specs.Accesses.{bytes_of_number}
 use Rattle.ci_machine.specs.Actions.{Units}
 use Rattle.ci_machine.specs.Outcomes.{Reached, is_access_fault}
 use Rattle.ci_machine.specs.Programs.{Program, State, loaded_program, opening}
-use Rattle.ci_machine.specs.Runs.{Latencies, after, cost}
+use Rattle.ci_machine.specs.Runs.{after, cost}
 use Rattle.ci_machine.specs.Steps.{Meaning}
 use Rattle.ci_machine.proofs.Rows.{plain, sample, sample_file, default_latencies, units}
 use Rattle.ci_runs.specs.WholeRuns.{Rewriting, AreAlikeAt, AreMachines, IsTameFor, RunAlike, MeetAtLeaders, AreAtFront, old_run, new_run, text, is_among}

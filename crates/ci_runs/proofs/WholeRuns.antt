@@ -98,7 +98,8 @@ module _ (rewriting : Rewriting) (plain extended : Meaning) (input : List ℕ)
   pass =
       passes runs (opening_text rewriting.old crossed.old_formed input)
       (subst (λ p. HasText p (opening rewriting.new input).core) crossed.same_program (opening_text rewriting.new crossed.new_formed input))
-      (opening_words rewriting.new crossed.new_formed input crossed.new_bytes machines.bytes)
+      (opening_words rewriting.old crossed.old_formed input crossed.old_of_bytes machines.bytes)
+      (opening_words rewriting.new crossed.new_formed input crossed.new_of_bytes machines.bytes)
       (extended_gives_words rewriting.modules crossed.modules_are extended machines.is_extended)
       crossed.crossing
 

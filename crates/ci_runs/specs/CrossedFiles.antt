@@ -40,7 +40,8 @@ module _ (rewriting : Rewriting) (extended : Meaning) (input : List ℕ) where
     pub same_entry : rewriting.old.entry ≡ rewriting.new.entry
     pub outside :
         AgreeOutside (text rewriting) (opening rewriting.old input).core (opening rewriting.new input).core
-    pub new_bytes : AreBytes rewriting.new.bytes
+    pub old_of_bytes : AreBytes rewriting.old.bytes
+    pub new_of_bytes : AreBytes rewriting.new.bytes
     pub entry : IsPlace (two_runs rewriting extended input) rewriting.old.entry
     pub crossing :
         (leader : ℕ) → is_among rewriting.live.leaders leader ≡ true

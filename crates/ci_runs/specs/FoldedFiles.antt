@@ -66,7 +66,7 @@ module _ (rewriting : Rewriting) (table : Table) (savings : List Saving) where
     pub gains_are : saved_at savings block.leader ≡ total gains
 
   -- The new file is the old one, which has no custom word, with such blocks in place: no byte outside the text differs.
-  -- Of text words in no block nothing is said: no tame run comes to them.
+  -- Both are of bytes. Of text words in no block nothing is said: no tame run comes to them.
   pub record IsFoldedFile : Type 0 where
     pub limits : Limits
     pub targets : List ℕ
@@ -74,10 +74,11 @@ module _ (rewriting : Rewriting) (table : Table) (savings : List Saving) where
     pub blocks : List Block
     pub old_bytes : List ℕ
     pub old_is : IsReadAs old_bytes (Ok rewriting.old)
+    pub old_of_bytes : AreBytes rewriting.old.bytes
     pub plain : HasNoCustomWord rewriting.old
     pub analysis : IsAnalysis rewriting.old targets named blocks rewriting.live
     pub new_is : rewriting.new ≡ record rewriting.old { bytes = rewriting.new.bytes }
-    pub new_bytes : AreBytes rewriting.new.bytes
+    pub new_of_bytes : AreBytes rewriting.new.bytes
     pub text_alone : ChangeText rewriting.old rewriting.new.bytes
     pub modules_are : All IsModule rewriting.modules
     pub each : (block : Block) → Contains blocks block → IsFoldedBlock limits block

@@ -2,6 +2,7 @@
 ghost use Rattle.std.specs.Prelude.{◌≤◌, IfOk, IfSome, length};
 ghost use Rattle.std.specs.FinSet as set;
 ghost use Rattle.ci_cut.specs.GraphRules.{AreNodes};
+ghost use Rattle.ci_dfg.specs.BlockGraph.{AreNarrow};
 ghost use Rattle.ci_rewrite.specs.Blocks.{AllFieldsFit};
 ghost use Rattle.ci_unit.specs.Operands.{FitsSomeLimits};
 
@@ -12,7 +13,7 @@ use crate::made;
 use crate::random::Random;
 use crate::runs::{Tally, compare_runs};
 use ci_cut::Graph;
-use ci_dfg::graph;
+use ci_dfg::{are_narrow, graph};
 use ci_isa::Insn;
 use ci_lat::Table;
 use ci_rewrite::fold;
@@ -97,7 +98,7 @@ fn compare_fold(
     requires { AllFieldsFit insns.now }
     ensures { IfOk result (λ found. IfSome found (λ folded. AllFieldsFit folded.items)) }
 {
-    if insns.len() > MOST_WORDS {
+    if insns.len() > MOST_WORDS || !are_narrow(insns) {
         return Ok(None);
     }
     let Some(folded) = folded_by_some_cut(alloc, random, insns, live, units)? else {
@@ -126,6 +127,7 @@ fn folded_by_some_cut(
 ) -> Result<Option<Vec<Insn>>, AllocError>
     requires few { length insns.now ≤ 256 }
     requires fit { AllFieldsFit insns.now }
+    requires narrow { AreNarrow insns.now }
     ensures { IfOk result (λ found. IfSome found (λ folded. AllFieldsFit folded.items)) }
 {
     let graph = graph(alloc, insns, live, &Table::usual())?;

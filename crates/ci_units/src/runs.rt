@@ -251,14 +251,17 @@ fn image_of(alloc: Global, block: &[Insn], values: &[u32]) -> Result<Option<Imag
     Ok(read_vec(alloc, file).ok())
 }
 
-/// Gives the registers these values, and the hidden register that of x0.
+/// Gives the registers these values, and the hidden results and operands those of x0 to x3, which no law speaks of.
 fn set_registers(state: &mut State, values: &[u32; 32]) {
     for k in 0..values.len() {
         if let Some(register) = Reg::new(k as u8) {
             state.set_register(register, values[k]);
         }
     }
-    state.set_hidden(values[0]);
+    for k in 0..2 {
+        state.set_hidden(k, values[usize::from(k)]);
+        state.set_operand(k, values[2 + usize::from(k)]);
+    }
 }
 
 /// Whether pc and the registers of the set are the same.
