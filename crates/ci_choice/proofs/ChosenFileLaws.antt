@@ -23,14 +23,12 @@ use Rattle.ci_choice.proofs.UnitModules.{table_of_modules}
 module _
     (instance : Instance) (file : Executable) (book : Book) (units : List Unit) (new : List ℕ)
     (chosen : IsChosenFile instance file book units new) where
-  -- its blocks are those of a file of bytes that keeps all rules,
+  -- the file is of bytes, and its blocks are those of a file that keeps all rules,
+  of_bytes : AreBytes file.bytes
+  of_bytes = subst AreBytes (sym chosen.old_is.1.same_bytes) chosen.old_bytes
+
   of_file : AreOfSomeFile instance.blocks instance.live
-  of_file = (
-    file,
-    chosen.blocks,
-    formed chosen.old chosen.old_is.0 file chosen.old_is.1,
-    subst AreBytes (sym chosen.old_is.1.same_bytes) chosen.old_bytes,
-  )
+  of_file = (file, chosen.blocks, formed chosen.old chosen.old_is.0 file chosen.old_is.1, of_bytes)
 
   -- in the new file each of them has cuts folded,
   folded_block :
@@ -63,10 +61,11 @@ module _
     blocks = instance.blocks;
     old_bytes = chosen.old;
     old_is = chosen.old_is;
+    old_of_bytes = of_bytes;
     plain = chosen.no_custom;
     analysis = chosen.blocks.2;
     new_is = refl;
-    new_bytes = chosen.new_bytes;
+    new_of_bytes = chosen.new_bytes;
     text_alone = chosen.new_is.text_alone;
     modules_are = table_of_modules chosen.units_keep;
     each = folded_block savings are;

@@ -1,13 +1,16 @@
 -- The blocks of an executable, by their leaders.
-use Rattle.std.proofs.Common.{◌≡◌, ◌≢◌, ℕ, zero, suc, ◌≤◌, List, [], ◌∷◌, length, map, refl, sym, ap, subst, ◌∙◌, arith}
+use Rattle.std.proofs.Common.{◌≡◌, ◌≢◌, ℕ, zero, suc, ◌+◌, ◌*◌, ◌≤◌, List, [], ◌∷◌, length, map, refl, sym, ap, subst, ◌∙◌, arith}
 use Rattle.std.specs.FinSet as set
 use Rattle.std.specs.List.{Contains}
 use Rattle.std.specs.Ordering.{nat_cmp}
 use Rattle.std.proofs.lemmas.List.{get_or-map, length-map}
 use Rattle.ci_isa.specs.declared.instruction.Insn.{Insn}
-use Rattle.ci_elf.specs.Executables.{Executable}
+use Rattle.ci_isa.specs.declared.instruction.Insn.TheVariants.{Ebreak}
+use Rattle.ci_elf.specs.Executables.{Executable, text_word}
 use Rattle.ci_block.specs.declared.blocks.Block.{Block}
 use Rattle.ci_block.specs.CustomWords.{HasNoCustomWord}
+use Rattle.ci_dfg.specs.BlockGraph.{AreNarrow}
+use Rattle.ci_dfg.proofs.NarrowLaws.{plain_are_narrow}
 use Rattle.ci_live.specs.Sets.{Sets, after_block}
 use Rattle.ci_live.specs.Analyses.{IsAnalysis}
 use Rattle.ci_commands.specs.ListedBlocks.{IsListedBlock, IsNoListedBlock, no_leader}
@@ -50,6 +53,12 @@ module _ (file : Executable) (named : List ℕ) (address : ℕ) (blocks : List B
     -- it has few instructions
     pub short : length block.insns.items ≤ 256
     short = (analysis.blocks_are.each block there).at_most
+
+    -- all of the plain table
+    pub narrow : AreNarrow block.insns.items
+    narrow =
+        plain_are_narrow (λ k. text_word file (block.leader + 4 * k)) block.insns.items
+        (λ k below. ((analysis.blocks_are.each block there).insns k Ebreak below).reads)
 
     -- the live sets know it
     pub known : Contains sets.leaders address

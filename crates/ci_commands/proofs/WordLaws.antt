@@ -8,7 +8,10 @@ use Rattle.std.proofs.Math.Seq.{get_or-append_seam}
 use Rattle.ci_reading.specs.Bytes.{words_of_bytes}
 use Rattle.ci_reading.proofs.ByteLaws.{length-words_of_bytes}
 use Rattle.ci_isa.specs.declared.instruction.Insn.{Insn}
+use Rattle.ci_isa.specs.declared.instruction.Insn.TheVariants.{Ebreak}
 use Rattle.ci_isa.specs.Table.{IsInsnAt}
+use Rattle.ci_dfg.specs.BlockGraph.{AreNarrow}
+use Rattle.ci_dfg.proofs.NarrowLaws.{plain_are_narrow}
 use Rattle.ci_commands.specs.WordBlocks.{IsMisplaced, IsWordBlock, IsNoWordBlock}
 
 module _ (bytes : List ℕ) where
@@ -67,3 +70,7 @@ module _ (bytes : List ℕ) where
     each = λ k d below. read.each k d (omega (arith, read.count));
     placed = λ k below. read.placed k (omega (arith, read.count));
   }
+
+  -- a block of words is of the plain table
+  pub words_are_narrow : (insns : List Insn) → IsWordBlock bytes insns → AreNarrow insns
+  words_are_narrow insns is = plain_are_narrow (λ k. get_or (words_of_bytes bytes) k 0) insns (λ k below. is.each k Ebreak below)

@@ -19,7 +19,8 @@ eval_inputs file = units_input file ∷ []
 abbrev pub results_line : ℕ → ℕ → List ℕ
 results_line y z = line (eight_hex_digits y ++ codes " " ++ eight_hex_digits z)
 
--- it puts the results y and z that the module of this number, counted from 0, has at these values of its inputs
+-- it puts the results y and z that the module of this number, counted from 0, has at these values of its inputs a, b
+-- and c, where d and e are 0
 pub record IsEvalMade (number : ℕ) (arguments : List ℕ) (read : List (List ℕ)) (success : Success) : Type 0 where
   pub bytes : List ℕ
   pub read_is : read ≡ bytes ∷ []
@@ -29,7 +30,8 @@ pub record IsEvalMade (number : ℕ) (arguments : List ℕ) (read : List (List �
   pub there : slice_get modules number ≡ Some chosen
   pub y : ℕ
   pub z : ℕ
-  pub results : IsValueOf chosen arguments (y ∷ z ∷ [])
+  pub x : ℕ
+  pub results : IsValueOf chosen (arguments ++ 0 ∷ 0 ∷ []) (y ∷ z ∷ x ∷ [])
   pub text_is : success.text.items ≡ results_line y z
   pub writes_none : success.writes.items ≡ []
 

@@ -10,7 +10,7 @@ use ci_reading::push_hex;
 use std::alloc::{AllocError, Global};
 
 /// Makes the line of the results y and z of the module of this number, counted from 0, at these values of its inputs a,
-/// b and c.
+/// b and c. In a wide module d and e are 0.
 ///
 /// # Errors
 ///
@@ -37,7 +37,7 @@ pub fn evaluate<'a, F: Shelf>(
         });
     };
     let (a, b, c) = arguments;
-    let (y, z) = ci_verilog::eval(chosen, a, b, c);
+    let (y, z, _) = ci_verilog::eval(chosen, a, b, c, 0, 0);
     let text = results_text(alloc, y, z)?;
     Ok(Success {
         writes: Vec::new(alloc),

@@ -1,18 +1,14 @@
 -- What `find` makes tells the best.
-use Rattle.std.proofs.Common.{◌≡◌, ◌∙◌, ℕ, List, ◌∷◌, ◌++◌, Some, reverse, refl, ap, subst}
-use Rattle.std.specs.Prelude.{option_map}
+use Rattle.std.proofs.Common.{◌≡◌, ◌∙◌, ℕ, List, ◌∷◌, ◌++◌, Some, reverse, refl, ap}
 use Rattle.std.specs.FinSet as finite
-use Rattle.std.proofs.lemmas.Option.{get_or_from_slice_get, slice_get_within}
 use Rattle.ci_log.specs.declared.book.Entry.{Entry}
 use Rattle.ci_log.specs.declared.book.Entry.TheVariants.{Take}
 use Rattle.ci_log.specs.Books.{Book}
 use Rattle.ci_lat.specs.TableRules.{IsLatencyTable}
 use Rattle.ci_unit.specs.Tables.{IsTable}
-use Rattle.ci_unit.specs.Units.{IsUnit, Unit, unit_of}
-use Rattle.ci_vemit.specs.Templates.{module_of, modules_of}
-use Rattle.ci_vemit.proofs.BuildingLaws.{modules_are_in_order}
+use Rattle.ci_unit.specs.Units.{Unit, unit_of}
+use Rattle.ci_vemit.specs.Templates.{modules_of}
 use Rattle.ci_vemit.proofs.UnitTexts.{units_spelt}
-use Rattle.ci_vemit.proofs.UnitValues.{modules_compute}
 use Rattle.ci_select.specs.Instances.{Instance, AreOfSomeFile}
 use Rattle.ci_select.specs.GivenUp.{GivesUpByNeed}
 use Rattle.ci_select.specs.LegalBooks.{IsLegal}
@@ -22,6 +18,7 @@ use Rattle.ci_select.proofs.PresentLaws.{blocks_in_order}
 use Rattle.ci_select.proofs.TakenUnits.{takes_name_their_units}
 use Rattle.ci_select.proofs.TruthLaws.{entries_are_true, takes_are_best}
 use Rattle.ci_select.proofs.UnitLaws.{unit_is_one}
+use Rattle.ci_choice.proofs.UnitModules.{module_computes}
 use Rattle.ci_find.specs.Headline.{IsChosenCut, TellTheBest}
 use Rattle.ci_find.specs.Laws.{ChoicesTellTheBest}
 use Rattle.ci_find.specs.Profiled.{instance_by}
@@ -41,19 +38,11 @@ module _ (instance : Instance) (book : Book) (units : List Unit) (of_file : AreO
       let unit = unit_of insns (graph_at instance leader insns) (finite.contains cut) in
       let own : IsUnitAt instance (reverse before) leader unit =
       record { insns = insns; cut = cut; has_cut = has_cut; unit_is = refl } in
-      let same : named ≡ unit = unit_is_one order at_take own in
-      let is_unit : IsUnit unit =
-      subst IsUnit (get_or_from_slice_get units number named named at ∙ same)
-      (keep.units_are number named (slice_get_within units number named at)) in
       record {
         insns = insns;
         cut = cut;
         has_cut = has_cut;
-        computes = record {
-          computing = module_of number unit;
-          there = modules_are_in_order units number ∙ ap (option_map (module_of number)) (at ∙ ap Some same);
-          value = modules_compute number unit is_unit;
-        };
+        computes = module_computes units number unit (at ∙ ap Some (unit_is_one order at_take own)) keep;
         is_best = best;
       }
 

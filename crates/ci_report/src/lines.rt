@@ -30,7 +30,7 @@ fn push_word(text: &mut String, name: &str, word: u32) -> Result<(), AllocError>
     ci_reading::push_word(text, name, word)
 }
 
-/// Appends the line of the limits of the choice, with what no-ops and reads of the hidden register cost.
+/// Appends the line of the limits of the choice, with what no-ops and `cread` cost.
 pub fn push_plan(text: &mut String, plan: &Plan, table: &Table) -> Result<(), AllocError>
     ensures { OnOk result (string_bytes text.new ≡ string_bytes text.old ++ lines.plan_line plan.now table.now) }
 {

@@ -1,9 +1,9 @@
 -- A block of a file is a block that can be folded.
-use Rattle.std.proofs.Common.{◌≡◌, ℕ, ◌+◌, ◌-◌, ◌*◌, ◌<◌, true, false, List, length, sym, subst, inl, inr, arith, true≢false}
+use Rattle.std.proofs.Common.{◌≡◌, ℕ, ◌+◌, ◌-◌, ◌*◌, ◌<◌, true, false, List, length, sym, subst, inl, inr, arith}
 use Rattle.std.proofs.lemmas.Bool.{cases_Bool, cases_lt}
 use Rattle.ci_isa.specs.declared.instruction.Insn.{Insn}
-use Rattle.ci_isa.specs.declared.instruction.Insn.TheVariants.{Unit, Cread, Illegal, Ebreak}
-use Rattle.ci_isa.specs.Effects.{ends_block, is_cread}
+use Rattle.ci_isa.specs.declared.instruction.Insn.TheVariants.{Unit, Cread, Cput, Illegal, Ebreak}
+use Rattle.ci_isa.specs.Effects.{ends_block}
 use Rattle.ci_isa.specs.Sequences.{nth_insn}
 use Rattle.ci_isa.specs.Table.{IsInsnAt, IsWordOf, IsWellFormed}
 use Rattle.ci_isa.proofs.WellFormed.{fields_fit, well_formed}
@@ -12,13 +12,15 @@ use Rattle.ci_elf.proofs.FieldLaws.{field_fits}
 use Rattle.ci_machine.specs.Words.{AreBytes}
 use Rattle.ci_block.specs.declared.blocks.Block.{Block}
 use Rattle.ci_block.specs.Blocks.{IsBlockAt, size_of}
-use Rattle.ci_rewrite.specs.Blocks.{AllFieldsFit, AreActionsOf, AreBundled, IsBlock}
+use Rattle.ci_rewrite.specs.Blocks.{AllFieldsFit, AreActionsOf, IsBlock}
+use Rattle.ci_rewrite.proofs.PlainBlocks.{plain_bundled, plain_narrow}
 
 -- what stands at a word is spelt by it
 pub word_of_insn : (word : ℕ) (insn : Insn) → word < 4294967296 → IsInsnAt word insn → IsWordOf word insn
 word_of_insn word (Illegal w) small is = (small, sym is.0)
 word_of_insn word (Unit number rd rs1 rs2 rs3) small is = absurd is.1
-word_of_insn word (Cread rd) small is = absurd is.1
+word_of_insn word (Cread rd index) small is = absurd is.1
+word_of_insn word (Cput rs1 rs2) small is = absurd is.1
 word_of_insn word insn small is = is
 
 -- instructions whose fields fit have words
@@ -38,15 +40,6 @@ module _ {image : Executable} {leaders : List ℕ} {block : Block} (bytes : AreB
         word_of_insn (text_word image address) (nth_insn block.insns.items k) (text_word_small image address bytes)
             (is.insns k Ebreak below).reads,
       )
-
-  -- a plain block has no `cread`
-  no_cread : AreBundled block.insns.items
-  no_cread k below reads =
-      absurd (plain (text_word image (block.leader + 4 * k)) (nth_insn block.insns.items k) (is.insns k Ebreak below).reads reads)
-    where
-      plain : (word : ℕ) (insn : Insn) → IsInsnAt word insn → is_cread insn ≡ true → ⊥
-      plain word (Cread rd) at reads = at.1
-      plain word insn at reads = absurd (true≢false (sym reads))
 
   -- its actions are all of its instructions but a terminator
   actions_of : (n : ℕ) × AreActionsOf block.insns.items n
@@ -76,8 +69,21 @@ module _ {image : Executable} {leaders : List ℕ} {block : Block} (bytes : AreB
     )
   ]
 
+  -- the word of instruction k reads as it in the plain table
+  abbrev word : ℕ → ℕ
+  word k = text_word image (block.leader + 4 * k)
+
+  reads : (k : ℕ) → k < length block.insns.items → IsInsnAt (word k) (nth_insn block.insns.items k)
+  reads k below = (is.insns k Ebreak below).reads
+
   pub block_can_be_folded : (n : ℕ) × IsBlock block.insns.items n
   block_can_be_folded = (
     actions_of.0,
-    record { actions = actions_of.1; few = is.at_most; fit = fields_of_block; bundled = no_cread },
+    record {
+      actions = actions_of.1;
+      few = is.at_most;
+      fit = fields_of_block;
+      bundled = plain_bundled block.insns.items word reads;
+      narrow = plain_narrow block.insns.items word reads;
+    },
   )

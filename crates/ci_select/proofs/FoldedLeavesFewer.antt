@@ -29,7 +29,7 @@ pub joining-append : (xs ys : List Insn) → joining (xs ++ ys) ≡ joining xs +
 joining-append xs ys = ap length (filter-append may_join xs ys) ∙ length-append (filter may_join xs) (filter may_join ys)
 
 -- no word of a use may, and no no-op
-joining_reads : (rs : List ℕ) → joining (map (λ r. Cread r) rs) ≡ 0
+joining_reads : (rs : List ℕ) → joining (map (λ r. Cread r 0) rs) ≡ 0
 joining_reads [] = refl
 joining_reads (r ∷ rs) = joining_reads rs
 

@@ -6,7 +6,7 @@ use Rattle.std.proofs.lemmas.Int.{ints}
 use Rattle.ci_word.specs.Arithmetic.{signed_of_width}
 use Rattle.ci_isa.specs.declared.instruction.Insn.{Insn}
 use Rattle.ci_isa.specs.declared.instruction.Insn.TheVariants.{Alu, AluImm, Lui, Auipc, Jal, Jalr, Branch, Load, Store}
-use Rattle.ci_isa.specs.declared.instruction.Insn.TheVariants.{Fence, Ecall, Ebreak, Unit, Cread, Illegal}
+use Rattle.ci_isa.specs.declared.instruction.Insn.TheVariants.{Fence, Ecall, Ebreak, Unit, Cread, Cput, Illegal}
 use Rattle.ci_isa.specs.Fields.{branch_format, field, funct3, funct7, immediate, immediate_format, jump_format, opcode}
 use Rattle.ci_isa.specs.Fields.{rd_field, rs1_field, rs2_field, signed_immediate, store_format}
 use Rattle.ci_isa.specs.Table.{ConstantForm, HoldsConstant, IsWordOf, NoForm, ShiftAmount, SignedImmediate}
@@ -142,6 +142,8 @@ word_is_one (Unit number rd rs1 rs2 rs3) v w (below, a) (under, b) =
     let top : field v 26 25 ≡ field w 26 25 = a.1 ∙ sym b.1 in
     let third : field v 31 27 ≡ field w 31 27 = a.6 ∙ sym b.6 in
     same_fields v w below under (a.0 ∙ sym b.0) (a.3 ∙ sym b.3) (a.2 ∙ sym b.2) (a.4 ∙ sym b.4) (a.5 ∙ sym b.5) (omega arith)
-word_is_one (Cread rd) v w (below, a) (under, b) =
-    same_upper_fields v w below under (a.0 ∙ sym b.0) (a.1 ∙ sym b.1) (a.2 ∙ sym b.2)
+word_is_one (Cread rd index) v w (below, a) (under, b) =
+    same_fields v w below under (a.0 ∙ sym b.0) (a.3 ∙ sym b.3) (a.1 ∙ sym b.1) (a.4 ∙ sym b.4) (a.5 ∙ sym b.5) (a.2 ∙ sym b.2)
+word_is_one (Cput rs1 rs2) v w (below, a) (under, b) =
+    same_fields v w below under (a.0 ∙ sym b.0) (a.3 ∙ sym b.3) (a.1 ∙ sym b.1) (a.4 ∙ sym b.4) (a.5 ∙ sym b.5) (a.2 ∙ sym b.2)
 word_is_one (Illegal word) v w a b = a.1 ∙ sym b.1

@@ -48,6 +48,7 @@ returns-clause-made g c =
         there = slice_get_read modules (length modules) c.args.number c.in-Some.chosen.now refl found.3.0 found.1;
         y = c.eval-y.result.0;
         z = c.eval-y.result.1;
+        x = c.eval-y.result.2;
         results = c.eval-y.ensures;
         text_is = rw c.into_bytes.ensures.value c.in_ok-text.ensures;
         writes_none = c.new.ensures.items;

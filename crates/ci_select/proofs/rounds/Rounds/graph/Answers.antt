@@ -1,6 +1,6 @@
-use Rattle.std.proofs.Common.{◌≡◌, length, ap, ◌∙◌, arith}
+use Rattle.std.proofs.Common.{◌≡◌, length, ap, sym, subst, ◌∙◌, arith}
 use Rattle.std.proofs.lemmas.Result.{IfOk-weaker}
-use Rattle.ci_dfg.specs.BlockGraph.{graph_of}
+use Rattle.ci_dfg.specs.BlockGraph.{AreNarrow, graph_of}
 use Rattle.ci_live.specs.Sets.{after_block}
 use Rattle.ci_select.specs.Followed.{IsDueGraph, instance_in}
 use Rattle.ci_select.proofs.DuePlaces.{block_of_file, order_of, present_at}
@@ -18,7 +18,10 @@ graph-requires c =
     let present =
     present_at c.place-place.result block follows there.within (there.block history leader block follows c.requires.3) in
     let sound = present_is_sound follows.of_file follows.legal present in
-    record { few = omega (arith, sound.can_be_folded.few, ap length same) }
+    record {
+      few = omega (arith, sound.can_be_folded.few, ap length same);
+      narrow = subst (λ i. AreNarrow i) (sym same) sound.can_be_folded.narrow;
+    }
 
 pub returns : goal.returns
 returns c = IfOk-weaker c.graph.result _ (IsDueGraph c.args.self.now) (λ graph is. λ history leader insns follows due present.
