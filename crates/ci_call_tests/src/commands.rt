@@ -318,8 +318,8 @@ fn texts_with_faults(rt: HostRuntime) -> Result<(), AllocError> {
     expect_no_assemblies(&rt, wrong_texts())
 }
 
-/// Bytes, and the lines of their words: a unit word, a read of the hidden register and a word of neither table are in
-/// one of them.
+/// Bytes, and the lines of their words: a unit word, a read of the first hidden result and a word of neither table are
+/// in one of them, a word that passes operands and the reads of both results in another.
 fn listed() -> &'static [(&'static [u8], &'static str)] {
     &[
         (&[0xB3, 0x02, 0xB5, 0x00], "00b502b3 add x5, x10, x11\n"),
@@ -328,6 +328,12 @@ fn listed() -> &'static [(&'static [u8], &'static str)] {
                 0x8B, 0x02, 0xB5, 0x60, 0x2B, 0x03, 0x00, 0x00, 0xFF, 0xFF, 0xFF, 0xFF,
             ],
             "60b5028b ci 0, x5, x10, x11, x12\n0000032b cread x6\nffffffff .word 0xffffffff\n",
+        ),
+        (
+            &[
+                0x2B, 0x90, 0xE6, 0x00, 0x2B, 0x03, 0x00, 0x00, 0xAB, 0x03, 0x10, 0x00,
+            ],
+            "00e6902b cput x13, x14\n0000032b cread x6\n001003ab cread x7, 1\n",
         ),
         (&[0x13, 0x05], ""),
         (

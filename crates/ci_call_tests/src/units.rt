@@ -34,6 +34,18 @@ fn constant() -> &'static str {
     assign y = t1;\nassign z = 32'h00000000;\nendmodule\n"
 }
 
+/// A wide unit, of which each result takes another input, and a narrow one with wires of those names.
+fn wide_and_narrow() -> &'static str {
+    "// cycles 1\n\
+    module ci_0(input [31:0] a, input [31:0] b, input [31:0] c, input [31:0] d, input [31:0] e, \
+    output [31:0] y, output [31:0] z, output [31:0] x);\n\
+    assign y = a ^ d;\nassign z = e - b;\nassign x = c;\nendmodule\n\
+    // cycles 1\n\
+    module ci_1(input [31:0] a, input [31:0] b, input [31:0] c, output [31:0] y, output [31:0] z);\n\
+    wire [31:0] d;\nassign d = b;\nwire [31:0] e;\nassign e = c;\nwire [31:0] x;\nassign x = d + e;\n\
+    assign y = x;\nassign z = d;\nendmodule\n"
+}
+
 /// Texts that spell no modules, and the line of their fault.
 fn refused() -> &'static [(&'static str, &'static str)] {
     &[
@@ -79,6 +91,15 @@ fn modules_evaluated(rt: HostRuntime) -> Result<(), AllocError> {
     expect_of_units(&rt, shift(), text, 0, "ffffffff 00000000\n")?;
     let text = "eval -- F 0 0x7 0x8 0x9";
     expect_of_units(&rt, constant(), text, 0, "12345678 00000000\n")
+}
+
+// The further inputs of a wide unit are 0, and its third result isn't told.
+#[test]
+fn wide_modules_evaluated(rt: HostRuntime) -> Result<(), AllocError> {
+    let text = "eval F 0 0x7 0x8 0x9";
+    expect_of_units(&rt, wide_and_narrow(), text, 0, "00000007 fffffff8\n")?;
+    let text = "eval F 1 0x7 0x8 0x9";
+    expect_of_units(&rt, wide_and_narrow(), text, 0, "00000011 00000008\n")
 }
 
 /// Calls with words that have no reading.

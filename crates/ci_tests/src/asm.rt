@@ -61,7 +61,10 @@ fn lines() -> &'static [(&'static str, u32)] {
         ("ci 0, x5, x10, x11, x12", 0x60b5_028b),
         ("ci 3, x5, x10, x11, x12", 0x60b5_328b),
         ("ci 31, x31, x1, x2, x3", 0x1e20_ff8b),
+        ("cput x13, x14", 0x00e6_902b),
+        ("cput x1, x31", 0x01f0_902b),
         ("cread x6", 0x0000_032b),
+        ("cread x7, 1", 0x0010_03ab),
         (".word 0x00000013", 0x0000_0013),
         (".word 0xffffffff", 0xffff_ffff),
     ]
@@ -157,6 +160,10 @@ fn spellings() -> &'static [(&'static str, u32)] {
         ("addi x5, x6, 0x7fF", 0x7ff3_0293),
         ("slli x5, x6, -0", 0x0003_1293),
         ("addi x5, x6, 0000000001", 0x0013_0293),
+        ("cread x6# 1", 0x0000_032b),
+        ("cread x6 ,01 # the second", 0x0010_032b),
+        ("cread x6, 0x1\n", 0x0010_032b),
+        ("cread: jal x0, cread", 0x0000_006f),
     ]
 }
 
@@ -226,6 +233,27 @@ fn faults() -> &'static [(&'static str, (u8, u32, u32))] {
         ("addi x5, x5, -0x5", (7, 1, 16)),
         (".wordx 5", (3, 1, 6)),
         ("ecall ecall", (7, 1, 7)),
+        ("cread x6 @", (1, 1, 10)),
+        ("cread x6, -", (1, 1, 11)),
+        ("cread", (3, 1, 6)),
+        ("cread 1", (3, 1, 7)),
+        ("cread x6,", (3, 1, 10)),
+        ("cread x6, x1", (3, 1, 11)),
+        ("cread x6,, 1", (3, 1, 10)),
+        ("cread x6, 0", (4, 1, 11)),
+        ("cread x6, 2", (4, 1, 11)),
+        ("cread x6, -1", (4, 1, 11)),
+        ("cread x6, 0x00", (4, 1, 11)),
+        ("cread x6, 00000000001", (4, 1, 11)),
+        ("cread x6 1", (7, 1, 10)),
+        ("cread x6 x7, 1", (7, 1, 10)),
+        ("cread x6: ecall", (7, 1, 9)),
+        ("cread x6, 1, 1", (7, 1, 12)),
+        ("cput", (3, 1, 5)),
+        ("cput x13", (3, 1, 9)),
+        ("cput x13 x14", (3, 1, 10)),
+        ("cput x13, 1", (3, 1, 11)),
+        ("cput x13, x14, 1", (7, 1, 14)),
     ]
 }
 

@@ -2,7 +2,7 @@
 use crate::common::{all_registers, insns_of, set_of};
 use ci_cut::Source::{Entry, Made};
 use ci_cut::{Graph, Source};
-use ci_dfg::{graph, sources};
+use ci_dfg::{are_narrow, graph, sources};
 use ci_isa::insn_at;
 use ci_lat::Table;
 use ci_word::Row;
@@ -24,6 +24,7 @@ fn graph_before(
 ) -> Result<Graph, AllocError> {
     let insns = insns_of(alloc, words)?;
     assert!(rt; insns.len() <= 256);
+    assert!(rt; are_narrow(&insns));
     let graph = graph(alloc, &insns, live, &Table::usual());
     drop(insns);
     graph
@@ -104,6 +105,31 @@ fn two_values(rt: HostRuntime) -> Result<(), AllocError> {
             (&[Made(0), Entry(11)], &[0], true),
         ],
     )
+}
+
+/// Asserts whether a block of these words has none of the use of a wide unit.
+fn expect_narrow(
+    rt: &impl Abort,
+    alloc: Global,
+    words: &[u32],
+    due: bool,
+) -> Result<(), AllocError> {
+    let insns = insns_of(alloc, words)?;
+    let narrow = are_narrow(&insns);
+    drop(insns);
+    assert_eq!(rt; narrow, due);
+    Ok(())
+}
+
+/// ci 0, x10, x0, x0, x0; cread x6; addi x0, x0, 0
+/// cput x13, x14; ci 0, x10, x0, x0, x0
+/// ci 0, x10, x0, x0, x0; cread x6; cread x7, 1
+#[test]
+fn tells_words_of_wide_units(rt: HostRuntime) -> Result<(), AllocError> {
+    let alloc = rt.alloc();
+    expect_narrow(&rt, alloc, &[0x0000_050B, 0x0000_032B, 0x0000_0013], true)?;
+    expect_narrow(&rt, alloc, &[0x00E6_902B, 0x0000_050B], false)?;
+    expect_narrow(&rt, alloc, &[0x0000_050B, 0x0000_032B, 0x0010_03AB], false)
 }
 
 /// add x5, x10, x11; add x5, x5, x12

@@ -3,8 +3,8 @@ ghost use Rattle.std.specs.Prelude.{◌≡◌, ◌<◌};
 
 use ci_isa::{
     Cond, Insn, LoadKind, Reg, Width, class, decode, decode_x, destination, encode, insn_at,
-    is_access, is_cread, is_eligible, is_terminator, is_unit, operands, reads, reads_register,
-    writes, writes_register,
+    is_access, is_cput, is_cread, is_eligible, is_terminator, is_unit, operands, reads,
+    reads_register, writes, writes_register,
 };
 use ci_word::{Class, Op, Row};
 use std::process::Abort;
@@ -251,7 +251,7 @@ fn reads_the_environment(rt: HostRuntime) {
 }
 
 #[test]
-fn reads_the_words_of_its_own(rt: HostRuntime) {
+fn reads_the_words_of_units(rt: HostRuntime) {
     let first = Insn::Unit {
         number: 0,
         rd: x(5),
@@ -268,9 +268,26 @@ fn reads_the_words_of_its_own(rt: HostRuntime) {
         rs3: x(3),
     };
     is_extended_row(&rt, 0x1e20_ff8b, last);
-    is_extended_row(&rt, 0x0000_032b, Insn::Cread { rd: x(6) });
     assert_eq!(rt; decode(0x60b5_028b), None);
+}
+
+#[test]
+fn reads_what_passes_further_operands_and_results(rt: HostRuntime) {
+    let first = Insn::Cread { rd: x(6), index: 0 };
+    is_extended_row(&rt, 0x0000_032b, first);
+    let second = Insn::Cread { rd: x(7), index: 1 };
+    is_extended_row(&rt, 0x0010_03ab, second);
+    let pair = Insn::Cput {
+        rs1: x(13),
+        rs2: x(14),
+    };
+    is_extended_row(&rt, 0x00e6_902b, pair);
+    assert!(rt; is_cread(&second) && !is_cput(&second));
+    assert!(rt; is_cput(&pair) && !is_cread(&pair) && !is_unit(&pair));
+    assert_eq!(rt; operands(&pair), [13, 14, 0, 0]);
+    assert_eq!(rt; destination(&pair), 0);
     assert_eq!(rt; decode(0x0000_032b), None);
+    assert_eq!(rt; decode(0x00e6_902b), None);
 }
 
 /// Words that are no instructions.
@@ -298,9 +315,21 @@ fn others() -> &'static [u32] {
         0x0020_0073,
         0x2000_0033,
         0x4000_4033,
-        0x0000_102b,
+        // cread x0, 2; cread x0, 31; cread with rs1, with bits 25 and 31
+        0x0020_002b,
+        0x01f0_002b,
         0x0000_802b,
+        0x0200_002b,
         0x8000_002b,
+        // cput x0, x0 with rd, with bit 25; the other codes of funct3
+        0x0000_10ab,
+        0x0200_102b,
+        0x0000_202b,
+        0x0000_302b,
+        0x0000_402b,
+        0x0000_502b,
+        0x0000_602b,
+        0x0000_702b,
     ]
 }
 
@@ -434,9 +463,12 @@ fn kinds_of_others() -> &'static [Told] {
         ),
         (0x0010_0073, Class::System, Place::End, &[], &[]),
         (0xffff_ffff, Class::Free, Place::End, &[], &[]),
-        // ci 0, x5, x10, x11, x12; cread x6; addi x0, x0, 0
+        // ci 0, x5, x10, x11, x12; cread x6; cread x7, 1; cput x13, x14; cput x0, x1; addi x0, x0, 0
         (0x60b5_028b, Class::Free, Place::Block, &[10, 11, 12], &[5]),
         (0x0000_032b, Class::Free, Place::Block, &[], &[6]),
+        (0x0010_03ab, Class::Free, Place::Block, &[], &[7]),
+        (0x00e6_902b, Class::Free, Place::Block, &[13, 14], &[]),
+        (0x0010_102b, Class::Free, Place::Block, &[1], &[]),
         (0x0000_0013, Class::Free, Place::Block, &[], &[]),
     ]
 }

@@ -182,7 +182,10 @@ fn opens(rt: HostRuntime) -> Result<(), Fail> {
         let due = if n == 2 { 0x7ffffff0 } else { 0 };
         assert_eq!(&rt; state.register(x(n)), due, "x{n}");
     }
-    assert_eq!(&rt; state.hidden(), 0);
+    assert_eq!(&rt; state.hidden(0), 0);
+    assert_eq!(&rt; state.hidden(1), 0);
+    assert_eq!(&rt; state.operand(0), 0);
+    assert_eq!(&rt; state.operand(1), 0);
     assert_eq!(&rt; state.output().len(), 0);
     drop(state);
     Ok(())
@@ -211,12 +214,18 @@ fn keeps_registers(rt: HostRuntime) -> Result<(), Fail> {
     let mut state = sample(&rt, rt.alloc())?;
     state.set_register(x(0), 7);
     state.set_register(x(31), 8);
-    state.set_hidden(9);
+    state.set_hidden(0, 9);
+    state.set_hidden(1, 10);
+    state.set_operand(0, 11);
+    state.set_operand(1, 13);
     state.set_pc(12);
     assert_eq!(&rt; state.register(x(0)), 0);
     assert_eq!(&rt; state.register(x(31)), 8);
     assert_eq!(&rt; state.register(x(2)), 0x7ffffff0);
-    assert_eq!(&rt; state.hidden(), 9);
+    assert_eq!(&rt; state.hidden(0), 9);
+    assert_eq!(&rt; state.hidden(1), 10);
+    assert_eq!(&rt; state.operand(0), 11);
+    assert_eq!(&rt; state.operand(1), 13);
     assert_eq!(&rt; state.pc(), 12);
     drop(state);
     Ok(())

@@ -4,7 +4,7 @@ ghost use Rattle.std.specs.FinSet as set;
 
 use crate::common::{all_registers, insns_of};
 use ci_cut::{Limits, fits};
-use ci_dfg::graph;
+use ci_dfg::{are_narrow, graph};
 use ci_isa::encode;
 use ci_lat::Table;
 use ci_rewrite::fold;
@@ -37,6 +37,7 @@ fn check(
     let block = insns_of(alloc, words)?;
     let insns = block.as_slice();
     assert!(rt; insns.len() <= 256);
+    assert!(rt; are_narrow(insns));
     let graph = graph(alloc, insns, live, &Table::usual())?;
     let cut = row(rt, members, insns.len());
     let limits = Limits {

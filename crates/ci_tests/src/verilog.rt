@@ -67,18 +67,32 @@ fn declare(
     wires.push(wire)
 }
 
-/// The module of these wires with y and z.
+/// The narrow module of these wires with y and z.
 fn module(rt: &impl Abort, wires: Wires, y: Expr, z: Expr) -> Module {
+    let x = Expr::One(Term::Plain(Simple::Number {
+        width: 32,
+        value: 0,
+    }));
     assert_eq!(rt; wires.expr_width(&y), Some(32));
     assert_eq!(rt; wires.expr_width(&z), Some(32));
-    Module::new(0, 1, wires, y, z)
+    assert_eq!(rt; wires.expr_width(&x), Some(32));
+    Module::new(0, 1, wires, y, z, x)
+}
+
+/// The wide module of these wires with y, z and x.
+fn wide_module(rt: &impl Abort, wires: Wires, y: Expr, z: Expr, x: Expr) -> Module {
+    assert!(rt; wires.is_wide());
+    assert_eq!(rt; wires.expr_width(&y), Some(32));
+    assert_eq!(rt; wires.expr_width(&z), Some(32));
+    assert_eq!(rt; wires.expr_width(&x), Some(32));
+    Module::new(0, 1, wires, y, z, x)
 }
 
 // Modules and expressions are let go by calls of `drop`, which a proof does not look into.
 
-/// y and z, of which nothing is known.
-fn value(module: Module, a: u32, b: u32, c: u32) -> (u32, u32) {
-    let values = eval(&module, a, b, c);
+/// y, z and x, of which nothing is known.
+fn value(module: Module, a: u32, b: u32, c: u32, d: u32, e: u32) -> (u32, u32, u32) {
+    let values = eval(&module, a, b, c, d, e);
     drop(module);
     values
 }
@@ -87,7 +101,7 @@ fn value(module: Module, a: u32, b: u32, c: u32) -> (u32, u32) {
 fn constant(rt: &impl Abort, alloc: Global, z: u64) -> Module {
     module(
         rt,
-        Wires::new(alloc),
+        Wires::new(false, alloc),
         one(number(32, 7)),
         one(number(32, z)),
     )
@@ -136,10 +150,16 @@ fn product(alloc: Global, wires: &Wires) -> Result<Expr, AllocError> {
     }
 }
 
-/// An operator on a and b.
-fn on_both(alloc: Global, wires: &Wires, operator: Operator) -> Result<Expr, AllocError> {
-    let left = whole(alloc, wires, b"a")?;
-    let right = whole(alloc, wires, b"b")?;
+/// An operator on two inputs.
+fn on_both(
+    alloc: Global,
+    wires: &Wires,
+    operator: Operator,
+    left: &[u8],
+    right: &[u8],
+) -> Result<Expr, AllocError> {
+    let left = whole(alloc, wires, left)?;
+    let right = whole(alloc, wires, right)?;
     Ok(two(operator, left, right))
 }
 
@@ -151,11 +171,11 @@ fn on(
     a: u32,
     b: u32,
 ) -> Result<u32, AllocError> {
-    let wires = Wires::new(alloc);
-    match on_both(alloc, &wires, operator) {
+    let wires = Wires::new(false, alloc);
+    match on_both(alloc, &wires, operator, b"a", b"b") {
         Ok(y) => {
             let module = module(rt, wires, y, one(number(32, 0)));
-            Ok(value(module, a, b, 0).0)
+            Ok(value(module, a, b, 0, 0, 0).0)
         }
         Err(e) => {
             drop(wires);
@@ -174,12 +194,12 @@ fn upper_half(rt: &impl Abort, alloc: Global, wires: &mut Wires) -> Result<Expr,
 
 #[test]
 fn mulhsu(rt: HostRuntime) -> Result<(), AllocError> {
-    let mut wires = Wires::new(rt.alloc());
+    let mut wires = Wires::new(false, rt.alloc());
     match upper_half(&rt, rt.alloc(), &mut wires) {
         Ok(y) => {
             let module = module(&rt, wires, y, one(number(32, 0)));
-            let values = value(module, 0x8000_0000, 0xffff_ffff, 0);
-            assert_eq!(rt; values, (0x8000_0000, 0));
+            let values = value(module, 0x8000_0000, 0xffff_ffff, 0, 7, 9);
+            assert_eq!(rt; values, (0x8000_0000, 0, 0));
             Ok(())
         }
         Err(e) => {
@@ -187,6 +207,59 @@ fn mulhsu(rt: HostRuntime) -> Result<(), AllocError> {
             Err(e)
         }
     }
+}
+
+#[test]
+fn five_inputs_and_three_results(rt: HostRuntime) -> Result<(), AllocError> {
+    let wires = Wires::new(true, rt.alloc());
+    match on_both(rt.alloc(), &wires, Operator::Minus, b"d", b"e") {
+        Ok(y) => {
+            let module = wide_module(&rt, wires, y, one(number(32, 3)), one(number(32, 5)));
+            assert!(rt; module.is_wide());
+            assert_eq!(rt; value(module, 100, 200, 300, 10, 4), (6, 3, 5));
+            Ok(())
+        }
+        Err(e) => {
+            drop(wires);
+            Err(e)
+        }
+    }
+}
+
+/// Whether the first wire of a module may have the name.
+fn allows(alloc: Global, wide: bool, name: &[u8]) -> Result<bool, AllocError> {
+    let name = Name::new(name.to_vec(alloc)?);
+    let wires = Wires::new(wide, alloc);
+    let wire = Wire {
+        name,
+        width: 32,
+        value: one(number(32, 7)),
+    };
+    let is_allowed = wires.allows(&wire);
+    drop(wire);
+    drop(wires);
+    Ok(is_allowed)
+}
+
+/// Names of one letter, and whether a wire of a narrow module and of a wide one may have them.
+fn letters() -> &'static [(u8, bool, bool)] {
+    &[
+        (b'a', false, false),
+        (b'c', false, false),
+        (b'd', true, false),
+        (b'e', true, false),
+        (b'x', true, false),
+        (b'f', true, true),
+    ]
+}
+
+#[test]
+fn words_of_a_wide_module_name_no_wire(rt: HostRuntime) -> Result<(), AllocError> {
+    for (letter, narrow, wide) in letters() {
+        assert_eq!(rt; allows(rt.alloc(), false, &[*letter])?, *narrow, "{letter}");
+        assert_eq!(rt; allows(rt.alloc(), true, &[*letter])?, *wide, "{letter}");
+    }
+    Ok(())
 }
 
 // A long table is the answer of a function, so that the proof of a test doesn't look at it.
@@ -236,7 +309,7 @@ fn expect_widths(rt: &impl Abort, alloc: Global, wires: &mut Wires) -> Result<()
 
 #[test]
 fn names_are_told(rt: HostRuntime) -> Result<(), AllocError> {
-    let mut wires = Wires::new(rt.alloc());
+    let mut wires = Wires::new(false, rt.alloc());
     let outcome = expect_widths(&rt, rt.alloc(), &mut wires);
     drop(wires);
     outcome

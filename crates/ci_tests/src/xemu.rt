@@ -47,12 +47,17 @@ fn differences(
     number: u8,
     cycles: u32,
 ) -> Result<Module, AllocError> {
-    let wires = Wires::new(alloc);
+    let wires = Wires::new(false, alloc);
     match both_differences(alloc, &wires) {
         Ok((y, z)) => {
             assert_eq!(rt; wires.expr_width(&y), Some(32));
+            let x = Expr::One(Term::Plain(Simple::Number {
+                width: 32,
+                value: 0,
+            }));
             assert_eq!(rt; wires.expr_width(&z), Some(32));
-            Ok(Module::new(number, cycles, wires, y, z))
+            assert_eq!(rt; wires.expr_width(&x), Some(32));
+            Ok(Module::new(number, cycles, wires, y, z, x))
         }
         Err(e) => {
             drop(wires);
@@ -179,6 +184,34 @@ fn expect_one_step(rt: &impl Abort, state: &mut State) -> Result<(), AllocError>
 fn makes_one_step(rt: HostRuntime) -> Result<(), Fail> {
     let mut state = opening(&rt, rt.alloc(), &[0x0000052b], &[], &[], b"")?;
     let outcome = expect_one_step(&rt, &mut state);
+    drop(state);
+    outcome?;
+    Ok(())
+}
+
+/// The hidden operands and the hidden results, by their numbers.
+fn hidden_registers(state: &State) -> [u32; 4] {
+    [
+        state.operand(0),
+        state.operand(1),
+        state.hidden(0),
+        state.hidden(1),
+    ]
+}
+
+/// Makes a step without modules, and fails where it passes other operands than the stack pointer and 0.
+fn expect_operands(rt: &impl Abort, state: &mut State) -> Result<(), AllocError> {
+    assert_eq!(rt; hidden_registers(state), [0, 0, 0, 0]);
+    assert_eq!(rt; step_x(state, &[])?, Outcome::Next);
+    assert_eq!(rt; hidden_registers(state), [0x7fff_fff0, 0, 0, 0]);
+    Ok(())
+}
+
+// cput x2, x0
+#[test]
+fn passes_operands_in_their_order(rt: HostRuntime) -> Result<(), Fail> {
+    let mut state = opening(&rt, rt.alloc(), &[0x0001102b], &[], &[], b"")?;
+    let outcome = expect_operands(&rt, &mut state);
     drop(state);
     outcome?;
     Ok(())
