@@ -1,65 +1,151 @@
 #!/usr/bin/env python3
-"""Compares `rumtsafi run` with and without --units on programs that have no unit words.
+"""Compares `rumtsafi run` with --units and without, and with a plain machine in Python.
 
     compare_machines.py PROGRAM
 
 Each C program of checks/programs is compiled for RV32IM by GCC with -O2 and with -Os, and linked with picolibc; the
-executables of samples/ are taken as they are. Each runs on the same input by the plain machine, by the extended one
-without modules, and by the one with a module; what is printed has to be the same, byte for byte, and the status 0.
+executables of samples/ are taken as they are. None has unit words. Each runs on the same input by the plain machine, by
+the extended one without modules, and by the one with a module; what is printed has to be the same, byte for byte, and
+the status 0. Where the tools are missing, this is skipped, with a line that says so.
 
-It ends with status 0 where all agree, and where the tools are missing, with a line that says so.
+Then 400 programs with units are made up, always in the same way: modules of all forms, most of them wide, and bundles
+of `cput`, unit word and `cread` of both indices, each of which may be left out. `run` has to print what the plain
+machine in Python does, by two tables and for some number of steps, where the run leaves its text alone. In each of them
+a word of each of the three kinds, of those that were executed, is then changed, to see by the plain machine that such
+errors would show.
+
+It ends with status 0 where all agree.
 """
 import os
+import random
 import subprocess
 import sys
 import tempfile
+from collections import Counter
 
 import shared  # noqa: F401  (it lets the modules of views/ be imported)
 import compiled
-from made_units import HEADER
+import units
+from choices import text_places
+from cuts import Table
+from emulator import Machine, Program
+from folds import cput_word, is_cput, is_cread, is_unit
+from made_programs import program_of_units
+from made_units import HEADER, WIDE_HEADER, Maker, spell
 
 INPUT = os.path.join(compiled.PROGRAMS, "count.c")
 LIMIT = 60
 MODULE = HEADER.format(cycles=7, number=0) + "assign y = a + b;\nassign z = c;\nendmodule\n"
-
-
-def texts(folder):
-    """Files of units: one without modules, and one with a module."""
-    names = {}
-    for name, text in (("none", ""), ("one", MODULE)):
-        names[name] = os.path.join(folder, f"{name}.v")
-        with open(names[name], "w", encoding="ascii") as file:
-            file.write(text)
-    return names
+# The results of a wide module, each of which tells its operands.
+RESULTS = "assign y = d - e;\nassign z = a ^ d;\nassign x = e - b;\nendmodule\n"
+# How many programs with units are made up, for how many steps they run, and how many of the wrong words of a kind have
+# to show.
+MADE, MOST, LEAST = 400, 2500, 50
+# Wrong words by their kinds: which words are changed, and to what.
+WRONG = (("operands exchanged", is_cput, lambda word: cput_word(word >> 20 & 31, word >> 15 & 31)),
+         ("another index", is_cread, lambda word: word ^ 1 << 20),
+         ("another unit", is_unit, lambda word: word ^ 1 << 12))
 
 
 def run(program, *words):
     """What a run prints, and its status."""
-    done = subprocess.run([os.path.abspath(sys.argv[1]), "run", program, "--input", INPUT, *words],
-                          stdout=subprocess.PIPE, timeout=LIMIT, check=False)
+    done = subprocess.run([os.path.abspath(sys.argv[1]), "run", program, *words], stdout=subprocess.PIPE,
+                          timeout=LIMIT, check=False)
     return done.returncode, done.stdout
 
 
-def main():
+def compare_compiled(folder):
+    """Compares what GCC compiled on three machines, and gives the number of differences."""
     missing = compiled.missing({})
     if missing:
         print(missing)
         return 0
-    faults = 0
-    with tempfile.TemporaryDirectory() as folder:
-        programs, units = compiled.executables(folder), texts(folder)
-        for name, program in programs:
-            status, plain = run(program)
-            if status != 0:
+    faults, programs, files = 0, compiled.executables(folder), {}
+    for name, text in (("none", ""), ("one", MODULE)):
+        files[name] = os.path.join(folder, f"{name}.v")
+        with open(files[name], "w", encoding="ascii") as file:
+            file.write(text)
+    for name, program in programs:
+        status, plain = run(program, "--input", INPUT)
+        if status != 0:
+            faults += 1
+            print(f"{name}: status {status}, {plain[-80:]!r}")
+        for modules, file in files.items():
+            status, extended = run(program, "--input", INPUT, "--units", file)
+            if (status, extended) != (0, plain):
                 faults += 1
-                print(f"{name}: status {status}, {plain[-80:]!r}")
-            for modules, file in units.items():
-                status, extended = run(program, "--units", file)
-                if (status, extended) != (0, plain):
-                    faults += 1
-                    print(f"{name}: {extended[-80:]!r} with --units, modules {modules}, against {plain[-80:]!r}")
-    print(f"{len(programs)} executables compared on {1 + len(units)} machines, {faults} faults")
-    return 1 if faults or len(programs) < 20 else 0
+                print(f"{name}: {extended[-80:]!r} with --units, modules {modules}, against {plain[-80:]!r}")
+    print(f"{len(programs)} executables compared on {1 + len(files)} machines")
+    return faults + (len(programs) < 20)
+
+
+class MadeUp:
+    """Programs with units that are made up, and what was found of their runs."""
+
+    def __init__(self, folder):
+        self.source, self.counts, self.ends = random.Random(1), Counter(), Counter()
+        self.paths = {name: os.path.join(folder, name) for name in ("made", "made.v", "table", "input")}
+
+    def modules(self):
+        """A text of one to six modules of all forms, most of them wide, and of a small wide one."""
+        source, tokens, count = self.source, [], self.source.choice((0, 1, 2, 6))
+        for number in range(count):
+            tokens += Maker(source).module(number, source.randrange(8), source.randrange(4) > 0)
+        return (spell(source, tokens) + WIDE_HEADER.format(cycles=3, number=count) + RESULTS).encode()
+
+    def compare(self):
+        """Compares the run of a program, and looks whether wrong words would show."""
+        source, text, table = self.source, self.modules(), Table()
+        table.read = source.choice((1, 1, 3))
+        modules, given = units.read(text), source.randbytes(source.randrange(33))
+        data, most = program_of_units(source, len(modules)), source.choice((MOST, MOST, source.randrange(1, 500)))
+        machine = Machine(Program(data, table, modules), given)
+        machine.run(most)
+        if machine.wild:
+            self.counts["wild"] += 1
+            return
+        self.counts.update(runs=1, steps=machine.steps, wide=any(module.wide for module in modules))
+        self.ends[(machine.end or "limit").split()[0]] += 1
+        for name, part in (("made", data), ("made.v", text), ("table", table.text().encode()), ("input", given)):
+            with open(self.paths[name], "wb") as file:
+                file.write(part)
+        ours = run(self.paths["made"], "--units", self.paths["made.v"], "--table", self.paths["table"], "--input",
+                   self.paths["input"], "--steps", str(most))
+        if ours != (0, machine.told()):
+            self.counts["faults"] += 1
+            print(f"number {self.counts['runs']}: {ours} and not {machine.told()[-60:]!r}")
+        self.plant(data, machine, given, most)
+
+    def plant(self, data, machine, given, most):
+        """Plants wrong words, one of a kind, and counts those by which the plain machine prints something else."""
+        program, place = machine.program, text_places(data)
+        for kind, is_kind, other in WRONG:
+            found = [address for address in program.actions if is_kind(program.words[address])]
+            if found:
+                address, changed = self.source.choice(found), bytearray(data)
+                changed[place(address):place(address) + 4] = other(program.words[address]).to_bytes(4, "little")
+                wrong = Machine(Program(bytes(changed), program.table, program.modules), given)
+                wrong.run(most)
+                self.counts[kind] += wrong.told() != machine.told()
+
+    def tell(self):
+        """Says what was compared, and gives the number of differences."""
+        counts, kinds = self.counts, [kind for kind, _, _ in WRONG]
+        print(f"{counts['runs']} programs with units, {counts['wide']} of them with wide ones, compared for "
+              f"{counts['steps']} steps; {counts['wild']} others touch their text")
+        print("ends: " + ", ".join(f"{end} {count}" for end, count in sorted(self.ends.items())))
+        print("wrong words that show: " + ", ".join(f"{kind} {counts[kind]}" for kind in kinds))
+        return counts["faults"] + sum(counts[kind] < LEAST for kind in kinds)
+
+
+def main():
+    with tempfile.TemporaryDirectory() as folder:
+        faults, made = compare_compiled(folder), MadeUp(folder)
+        for _ in range(MADE):
+            made.compare()
+        faults += made.tell()
+    print(f"{faults} differences")
+    return 1 if faults else 0
 
 
 sys.exit(main())

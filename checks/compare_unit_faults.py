@@ -5,9 +5,10 @@
 
 There are texts of which each shows one rule, and texts that are valid, made up always in the same way, in which then
 one or two places are changed: bytes and tokens are dropped, doubled or changed, numbers, widths and constants go to
-their bounds or just past them, and texts end too early. With none of these texts may `eval` print another fault than
-the first one by the plain reading, or other values than the module has. Without PROGRAM, only the rows are compared
-with the plain reading. It ends with status 0 where all agree, and with 1 too where faults of a kind were hardly due.
+their bounds or just past them, and texts end too early. So many have modules of all kinds, and so many wide ones alone.
+With none of these texts may `eval` print another fault than the first one by the plain reading, or other values than
+the module has. Without PROGRAM, only the rows are compared with the plain reading. It ends with status 0 where all
+agree, and with 1 too where faults of a kind were hardly due.
 """
 import collections
 import os
@@ -23,27 +24,31 @@ from unit_rows import NAME, rows
 
 LIMIT = 60
 COUNT = 2000
-# How many texts are left as they are, in what is made up, and how many of a kind of fault are due at least.
+# How many texts are left as they are, in addition, and how many of a kind of fault are due at least.
 WHOLE, LEAST = 100, 20
-# The tokens of a module up to its first wire.
-HEADER_TOKENS = 45
-# Shapes of modules by the number of their wires; 0 are templates.
+# Shapes of modules by the number of their wires; of 0 narrow ones are templates.
 SHAPES = (0, 1, 2, 3, 6, 12)
-BYTES = b" \n\t\r01238abcyzwtpqnAFhxX_'\"/@#.$>~!%\x00\x7f\xc3\xff(){}[]:;,=+-*&|^<?"
+BYTES = b" \n\t\r01238abcdeyzwtpqnAFhxX_'\"/@#.$>~!%\x00\x7f\xc3\xff(){}[]:;,=+-*&|^<?"
 TOKENS = ("0", "1", "5", "00", "01", "31", "32", "63", "64", "65", "9999999", "10000000", "2047", "a", "b", "c", "y",
-          "z", "d", "t0", "p0", "ci_0", "ci_1", "cycles", "module", "input", "output", "wire", "assign", "endmodule",
-          NAME + "x", NAME + "xx", "(", ")", "[", "]", "{", "}", ":", ";", ",", "=", "+", "-", "*", "&", "|", "^", "<<",
-          ">>", "<", "?", "// cycles 1\n", "// cycles 01\n", "// cycles 10000000\n", "// cycles 1", "1'h0", "1'h1",
-          "1'h2", "0'h0", "0'h1", "4'hf", "4'h10", "32'h0", "32'hFFFFFFFF", "32'h100000000", "64'hffffffffffffffff",
-          "64'h0ffffffffffffffff", "65'h0", "9999999'h0", "10000000'h0", "032'h0", "8'", "8'h", "8'd1", "{2{a}}",
-          "{3{a}}", "{64{1'h1}}", "{65{1'h1}}", "{0{a}}", "{a, b, c}", "a[31]", "a[32]", "a[4:5]", "a[4:4]", "+ a",
-          "? a : b", "[0]")
-def some_tokens(source):
-    """The tokens of a valid text of one of the shapes."""
+          "z", "d", "e", "x", "t0", "p0", "ci_0", "ci_1", "cycles", "module", "input", "output", "wire", "assign",
+          "endmodule", NAME + "x", NAME + "xx", "(", ")", "[", "]", "{", "}", ":", ";", ",", "=", "+", "-", "*", "&",
+          "|", "^", "<<", ">>", "<", "?", "// cycles 1\n", "// cycles 01\n", "// cycles 10000000\n", "// cycles 1",
+          "1'h0", "1'h1", "1'h2", "0'h0", "0'h1", "4'hf", "4'h10", "32'h0", "32'hFFFFFFFF", "32'h100000000",
+          "64'hffffffffffffffff", "64'h0ffffffffffffffff", "65'h0", "9999999'h0", "10000000'h0", "032'h0", "8'", "8'h",
+          "8'd1", "{2{a}}", "{3{a}}", "{64{1'h1}}", "{65{1'h1}}", "{0{a}}", "{a, b, c}", "a[31]", "a[32]", "a[4:5]",
+          "a[4:4]", "+ a", "? a : b", "[0]")
+
+
+def some_tokens(source, all_wide):
+    """The tokens of a valid text of one of the shapes, of modules that are all wide, or not."""
     shape, maker, tokens = source.choice(SHAPES), Maker(source), []
     for number in range(source.choice((1, 1, 1, 2, 3))):
-        tokens += split(unit_text(number, some_unit(source, source.randrange(1, 4)))) if shape == 0 else maker.module(
-            number, shape)
+        if all_wide:
+            tokens += maker.module(number, shape, True)
+        elif shape == 0:
+            tokens += split(unit_text(number, some_unit(source, source.randrange(1, 4))))
+        else:
+            tokens += maker.module(number, shape, source.randrange(2) == 0)
     return tokens
 
 
@@ -88,7 +93,8 @@ def change_tokens(source, tokens):
 
 def change_meaning(source, tokens):
     """A change by which mostly another thing is named or counted, behind the header."""
-    places = [place for place in range(HEADER_TOKENS, len(tokens))
+    header = tokens.index(";") if ";" in tokens else 0
+    places = [place for place in range(header + 1, len(tokens))
               if kind_of(tokens[place]) in ("name", "number", "constant")]
     if not places:
         change_tokens(source, tokens)
@@ -115,10 +121,10 @@ def change_bytes(source, data):
         data[place] = source.randrange(256)
 
 
-def changed(source):
+def changed(source, all_wide):
     """A text that was valid before one or two places were changed."""
-    tokens, ways = some_tokens(source), source.choices((change_meaning, change_tokens, change_bytes), (4, 2, 1),
-                                                       k=source.choice((1, 1, 2)))
+    tokens = some_tokens(source, all_wide)
+    ways = source.choices((change_meaning, change_tokens, change_bytes), (4, 2, 1), k=source.choice((1, 1, 2)))
     for way in ways:
         if way is not change_bytes:
             way(source, tokens)
@@ -146,7 +152,7 @@ def answer(fault, modules, number, operands):
         return "fault 9 units {} {}\n".format(*fault), 9
     if number >= len(modules):
         return f"fault 7 unsupported {number:08x} 00000000\n", 7
-    return "{:08x} {:08x}\n".format(*units.evaluate(modules[number], *operands)), 0
+    return "{:08x} {:08x}\n".format(*units.evaluate(modules[number], *operands)[:2]), 0
 
 
 class Comparison:
@@ -187,20 +193,20 @@ def main():
             fault = comparison.text(data)
             if fault != due:
                 comparison.faults.append(f"the plain reading of {data[-200:]!r} is {fault} and not {due}")
-        for number in range(COUNT):
-            if number >= WHOLE:
-                comparison.text(changed(source))
-                continue
-            data = spell(source, some_tokens(source)).encode()
-            fault = comparison.text(data)
-            if fault is not None:
-                comparison.faults.append(f"the plain reading of {data!r} is {fault}")
+        for all_wide in (False, True):
+            for _ in range(WHOLE):
+                data = spell(source, some_tokens(source, all_wide)).encode()
+                fault = comparison.text(data)
+                if fault is not None:
+                    comparison.faults.append(f"the plain reading of {data!r} is {fault}")
+            for _ in range(COUNT):
+                comparison.text(changed(source, all_wide))
     for fault in comparison.faults[:20]:
         print(fault)
     kinds = comparison.kinds
     done = "compared" if comparison.program else "read"
-    print(f"{count} rows and {COUNT} made up texts {done}: {kinds[None]} valid, "
-          + ", ".join(f"{kinds[kind]} of kind {kind}" for kind in range(1, 10))
+    print(f"{count} rows, {2 * WHOLE} texts made up, {COUNT} changed, and {COUNT} wide ones changed {done}: "
+          f"{kinds[None]} valid, " + ", ".join(f"{kinds[kind]} of kind {kind}" for kind in range(1, 10))
           + f": {len(comparison.faults)} differences")
     rare = [str(kind) for kind in range(1, 8) if kinds[kind] < LEAST]
     if rare:

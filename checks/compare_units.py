@@ -5,11 +5,12 @@
 
 EMITTER is the program of the crate `ci_units`: it writes the units of the cuts that it is given. These are of each
 operation alone, on all kinds of operands and by all shift amounts; of chains; and of blocks that are made up, always in
-the same way. Their text has to be the templates' one. Icarus Verilog simulates the modules,
-on words at their bounds and others, as do `eval` of PROGRAM and a plain reading of the text, and all have to give what
-the operations of the standard give. The same is done, but for the operations, with modules of all forms that a text of
-units may have. Yosys has to take all modules, and Verilator to warn of nothing but what their layout asks for. What
-takes a tool that is missing is skipped, with a line that says so. It ends with status 0 where all agree.
+the same way. Their text has to be the templates' one. Icarus Verilog simulates the modules, on words at their bounds
+and others, as do `eval` of PROGRAM and a plain reading of the text, and all have to give what the operations of the
+standard give. The same is done, but for the operations, with modules of all forms that a text of units may have, most
+of them wide, of which `eval` has to give what they are of d and e as 0. Yosys has to take all modules, and Verilator to
+warn of nothing in those of units but what their layout asks for. What takes a tool that is missing is skipped, with a
+line that says so. It ends with status 0 where all agree.
 """
 import collections
 import os
@@ -28,7 +29,9 @@ from simulation import ICARUS, LIMIT, VERILATOR, YOSYS, Texts, vectors
 # How many units one text has at most, and how many have to be compared.
 MOST, LEAST = 32, 500
 CHAINS = (2, 3, 5, 8, 13, 64, 256)
-BLOCKS, SMALL, MODULES = 90, 20, 48
+BLOCKS, SMALL = 90, 20
+# How many modules of all forms there are, of which each fifth is narrow and the others are wide.
+MODULES = 250
 EVERY_REGISTER = set(range(1, 32))
 # Lines that have no block with a cut that fits, each by another cause.
 REFUSED = "00b502b3", "x | 0", "000b502b3 | 0", "00b502b3 | x", "00b502b3 | 1", "00b502b3 |", "02b542b3 | 0"
@@ -130,7 +133,7 @@ def some_modules(folder, source, values):
     """Modules of all forms."""
     texts = Texts(folder, "modules", values)
     for number in range(MODULES):
-        texts.add(spell(source, Maker(source).module(0, number % 13), (" ", "\n")))
+        texts.add(spell(source, Maker(source).module(0, number % 13, number % 5 > 0), (" ", "\n")))
     return texts
 
 
@@ -151,7 +154,9 @@ def main():
             # Leading zeros of a constant may go past its width.
             made.simulate("extra digits given")
         if YOSYS in there:
+            given.elaborate()
             given.synthesise()
+            made.elaborate()
         if VERILATOR in there:
             given.lint()
     for tool in {ICARUS, YOSYS, VERILATOR}.difference(there):

@@ -9,7 +9,7 @@ from latencies import KEYS, MEMORY, ROWS, may_join
 
 
 class Table:
-    """Latencies and delays by the keys of the latency table, the latency of `cread`, and the cost of a no-op in a
+    """Latencies and delays by the keys of the latency table, the latency of `cread` and `cput`, and the cost of a no-op in a
     folded block."""
 
     def __init__(self):

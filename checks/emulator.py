@@ -4,11 +4,13 @@ compare the two."""
 import executable
 import units
 from cuts import KEYS
-from folds import NO_OPERATION, is_cread, is_unit
+from folds import NO_OPERATION, is_cput, is_cread, is_unit
 from instructions import BRANCHES, LOADS, STORES, mnemonic, offset
 from operations import ALU, IMMEDIATE, WORD, immediate, signed
 
-STACK_POINTER, HIDDEN = 0x7FFFFFF0, 32
+STACK_POINTER = 0x7FFFFFF0
+# The places of the hidden registers behind x31: of two results, and of two operands.
+RESULTS, OPERANDS, REGISTERS = 32, 34, 36
 WRONG_FILE, WRONG_ADDRESS, NO_SUCH_CALL = -9 % WORD, -14 % WORD, -38 % WORD
 # The latencies of what joins no cut, by the usual table.
 LATENCIES = {**dict.fromkeys(LOADS.values(), 2), **dict.fromkeys(STORES.values(), 1),
@@ -85,17 +87,19 @@ class Program:
         number = (word >> 25 & 3) * 8 + (word >> 12 & 7)
         if self.modules is not None and is_unit(word) and number < len(self.modules):
             return self.modules[number].cycles, self.use(number, target, (first, second, word >> 27))
-        if self.modules is not None and is_cread(word) and word == word & 0xF80 | 0x2B:
-            return self.table.read, on_constant(ALU["add"], target, HIDDEN, 0)
+        if self.modules is not None and is_cread(word):
+            return self.table.read, on_constant(ALU["add"], target, RESULTS + second, 0)
+        if self.modules is not None and is_cput(word):
+            return self.table.read, passing(first, second)
         return 0, ending(f"illegal {word:08x}")
 
     def use(self, number, target, sources):
         def act(machine):
             x = machine.x
-            key = (number, *(x[source] for source in sources))
+            key = (number, *(x[source] for source in sources), *x[OPERANDS:REGISTERS])
             if key not in self.results:
                 self.results[key] = units.evaluate(self.modules[number], *key[1:])
-            x[target], x[HIDDEN] = self.results[key]
+            x[target], *x[RESULTS:OPERANDS] = self.results[key]
             x[0] = 0
             machine.pc += 4
         return act
@@ -108,7 +112,7 @@ class Machine:
 
     def __init__(self, program, given, listed=None):
         self.program, self.listed = program, program.words if listed is None else listed
-        self.x, self.pc, self.memory = [0] * (HIDDEN + 1), program.image.entry, dict(program.image.loaded)
+        self.x, self.pc, self.memory = [0] * REGISTERS, program.image.entry, dict(program.image.loaded)
         self.x[2] = STACK_POINTER
         self.heap, self.input, self.output = program.heap, given, bytearray()
         self.steps, self.cost, self.end, self.wild = 0, 0, None, False
@@ -224,6 +228,13 @@ def on_constant(compute, target, first, constant):
         x[target] = compute(x[first], constant) % WORD
         machine.pc += 4
     return act if target else go_on
+
+
+def passing(first, second):
+    def act(machine):
+        machine.x[OPERANDS:REGISTERS] = machine.x[first], machine.x[second]
+        machine.pc += 4
+    return act
 
 
 def setting(target, value):

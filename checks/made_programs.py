@@ -1,6 +1,7 @@
 """Small programs that are made up: blocks of operations with loads and stores between them, joined by branches, jumps,
-calls and jumps through a table of addresses, until a counter is spent."""
+calls and jumps through a table of addresses, until a counter is spent; and such programs with unit words."""
 import executable
+from folds import cput_word, cread_word, unit_word
 from instructions import with_offset
 from operations import WORDS, with_registers
 
@@ -160,6 +161,45 @@ class Maker:
         return executable.frame(self.words, (), table + [self.source.getrandbits(32) for _ in range(SIZE // 4 - TABLE)])
 
 
+class UnitMaker(Maker):
+    """Makes a program with words of so many units, and with those that pass their operands and read their results."""
+
+    def __init__(self, source, count):
+        super().__init__(source)
+        self.count = count
+
+    def operation(self):
+        if self.source.random() < 0.8:
+            super().operation()
+        else:
+            self.bundle()
+
+    def bundle(self):
+        """A unit word, with the words before and behind it, and mostly stores of what they write. Each of these may be
+        left out, or write x0; now and then there is no such unit, or a word that is nearly a `cread`."""
+        source = self.source
+        if source.random() < 0.7:
+            self.add(cput_word(self.some(), self.some()))
+        if source.random() < 0.9:
+            number = self.count if source.random() < 0.01 else source.randrange(self.count)
+            self.add(unit_word(number, self.written(), [self.some() for _ in "abc"]))
+        for index in source.choice(((0, 1), (0, 1), (1, 0), (0,), (1,), ())):
+            self.add(cread_word(self.written(), index))
+        for register in self.recent[-3:]:
+            if source.random() < 0.5:
+                self.add(with_table(0x2023, register, BASE, 4 * source.randrange(TABLE, SIZE // 4)))
+        if source.random() < 0.01:
+            self.add(cread_word(self.written()) | 1 << source.choice((13, 15, 21, 25)))
+
+    def written(self):
+        return 0 if self.source.random() < 0.05 else self.target()
+
+
 def program(source):
     """The bytes of some executable."""
     return Maker(source).program()
+
+
+def program_of_units(source, count):
+    """The bytes of some executable with words of so many units."""
+    return UnitMaker(source, count).program()

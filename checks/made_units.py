@@ -1,6 +1,10 @@
 """Texts of units that are made up, and modules of all forms that the grammar has."""
 from templates import HEADER, LINES, unit_text
-from units import INPUTS, OPERATORS, SHIFTS, WIDEST
+from units import FURTHER, INPUTS, OPERATORS, SHIFTS, WIDE_WORDS, WIDEST
+
+# The header of a wide module.
+WIDE_HEADER = HEADER.replace("output [31:0] y", "input [31:0] d, input [31:0] e, output [31:0] y").replace(
+    "z)", "z, output [31:0] x)")
 
 
 def some_unit(source, size):
@@ -19,24 +23,26 @@ class Maker:
     """Makes modules of all forms, each as a list of tokens."""
 
     def __init__(self, source):
-        self.source, self.widths = source, {}
+        self.source, self.wide, self.widths = source, False, {}
 
-    def module(self, number, wires):
-        found = HEADER.format(cycles=self.source.choice((0, 1, 7, 9_999_999)), number=number)
+    def module(self, number, wires, wide=False):
+        header = WIDE_HEADER if wide else HEADER
+        found = header.format(cycles=self.source.choice((0, 1, 7, 9_999_999)), number=number)
         mark, header = found.split("\n", 1)
         tokens = [mark + "\n", *header_tokens(header)]
-        self.widths = dict.fromkeys(INPUTS, 32)
+        self.wide, self.widths = wide, dict.fromkeys((*INPUTS, *FURTHER) if wide else INPUTS, 32)
         for _ in range(wires):
             tokens += self.wire()
-        for target in "yz":
+        for target in "yzx" if wide else "yz":
             tokens += ["assign", target, "=", *self.expression(32), ";"]
         return tokens + ["endmodule"]
 
     def wire(self):
         width = self.width()
         while True:
-            name = self.source.choice("dpqtuvwXM") + self.source.choice(("", str(self.source.randrange(60)), "_" * 31))
-            if name not in self.widths:
+            name = self.source.choice("depqtuvwxXM") + self.source.choice(
+                ("", str(self.source.randrange(60)), "_" * 31))
+            if name not in self.widths and not (self.wide and name in WIDE_WORDS):
                 break
         tokens = ["wire", "[", str(width - 1), ":", "0", "]", name, ";", "assign", name, "=", *self.expression(width),
                   ";"]

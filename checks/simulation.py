@@ -23,7 +23,9 @@ class Texts:
     """Texts of units, and what their modules have to give of each vector."""
 
     def __init__(self, folder, name, values):
-        self.folder, self.name, self.vectors = folder, name, values
+        self.folder, self.name = folder, name
+        # Behind a, b and c stand d and e, which only wide modules have.
+        self.vectors = [(*vector, *other[:2]) for vector, other in zip(values, reversed(values))]
         self.texts, self.wanted, self.faults = [], [], []
         self.path = os.path.join(folder, f"{name}.v")
 
@@ -34,8 +36,9 @@ class Texts:
             read = [units.evaluate(module, *vector) for vector in self.vectors]
             if known is not None:
                 unit = known[module.number]
-                self.compare(f"the text of {unit}", read, [outputs(unit, vector) for vector in self.vectors])
-            self.wanted.append((len(self.texts) - 1, module.number, read))
+                self.compare(f"the text of {unit}", [found[:2] for found in read],
+                             [outputs(unit, vector[:3]) for vector in self.vectors])
+            self.wanted.append((len(self.texts) - 1, module, read))
 
     def compare(self, name, ours, due):
         for vector, our, wanted in zip(self.vectors, ours, due, strict=True):
@@ -58,52 +61,62 @@ class Texts:
     def simulate(self, allowed=None):
         """Icarus runs all modules on all vectors."""
         bench, built = os.path.join(self.folder, "bench.v"), os.path.join(self.folder, "bench")
-        names = [f"t{text}_ci_{number}" for text, number, _ in self.wanted]
+        names = [f"t{text}_ci_{module.number}" for text, module, _ in self.wanted]
         with open(bench, "w", encoding="ascii") as file:
-            print("module bench;\nreg [31:0] a, b, c;", file=file)
-            for name in names:
-                print(f"wire [31:0] {name}_y, {name}_z;\n{name} {name}_unit(a, b, c, {name}_y, {name}_z);", file=file)
+            print("module bench;\nreg [31:0] a, b, c, d, e;", file=file)
+            for name, (_, module, _) in zip(names, self.wanted):
+                further, third = ("d, e, ", f", {name}_x") if module.wide else ("", "")
+                print(f"wire [31:0] {name}_y, {name}_z, {name}_x;\n"
+                      f"{name} {name}_unit(a, b, c, {further}{name}_y, {name}_z{third});", file=file)
+                if not module.wide:
+                    print(f"assign {name}_x = 32'h0;", file=file)
             print("initial begin", file=file)
             for vector in self.vectors:
-                print("a = 32'h{:x}; b = 32'h{:x}; c = 32'h{:x}; #1 show;".format(*vector), file=file)
+                print("a = 32'h{:x}; b = 32'h{:x}; c = 32'h{:x}; d = 32'h{:x}; e = 32'h{:x}; #1 show;".format(*vector),
+                      file=file)
             print("end\ntask show; begin", file=file)
             for name in names:
-                print(f'$display("%h %h", {name}_y, {name}_z);', file=file)
+                print(f'$display("%h %h %h", {name}_y, {name}_z, {name}_x);', file=file)
             print("end endtask\nendmodule", file=file)
         self.say(ICARUS, told([ICARUS, "-g2005", "-Wall", "-Wno-timescale", "-o", built, bench, self.path]), allowed)
         printed = told(["vvp", "-n", built]).stdout.splitlines()
-        for place, (text, number, due) in enumerate(self.wanted):
+        for place, (text, module, due) in enumerate(self.wanted):
             lines = printed[place:len(self.vectors) * len(names):len(names)]
             # Digits that are no number say that a bit is unknown.
             ours = [tuple(int(digits, 16) if re.fullmatch("[0-9a-f]+", digits) else digits for digits in line.split())
                     for line in lines]
-            self.compare(f"module {number} of text {text}, by Icarus,", ours, due)
+            self.compare(f"module {module.number} of text {text}, by Icarus,", ours, due)
 
     def call(self, program, source):
-        """The program evaluates each module on a few of the vectors. Gives the number of the calls."""
+        """The program evaluates each module on a few of the vectors, but for d and e. Gives the number of the calls."""
         path, held, calls = os.path.join(self.folder, "units"), None, 0
-        for text, number, due in self.wanted:
+        for text, module, _ in self.wanted:
             if held != text:
                 held = text
                 with open(path, "w", encoding="ascii") as file:
                     file.write(self.texts[text])
             for place in source.sample(range(len(self.vectors)), CALLS):
-                words = [str(number), *(f"0x{operand:x}" for operand in self.vectors[place])]
-                done, wanted = told([program, "eval", path, *words]), "{:08x} {:08x}\n".format(*due[place])
+                given = self.vectors[place][:3]
+                words = [str(module.number), *(f"0x{operand:x}" for operand in given)]
+                done = told([program, "eval", path, *words])
+                wanted = "{:08x} {:08x}\n".format(*units.evaluate(module, *given)[:2])
                 calls += 1
                 if (done.returncode, done.stdout) != (0, wanted):
                     self.faults.append(f"{self.name}: eval {' '.join(words)} of text {text}: status "
                                        f"{done.returncode}, {done.stdout!r} and not {wanted!r}")
         return calls
 
+    def elaborate(self):
+        """Yosys takes all modules."""
+        self.say(YOSYS, told([YOSYS, "-q", "-p", f"read_verilog {self.path}; {ELABORATION}"]))
+
     def synthesise(self):
-        """Yosys takes all modules, and makes gates of one for each operation."""
+        """Yosys makes gates of a unit of each operation."""
         each = os.path.join(self.folder, "each.v")
         with open(each, "w", encoding="ascii") as file:
             for number, name in enumerate(ALU):
                 file.write(unit_text(number, ([(name, ("input", 0), ("input", 1))], [0], 1)))
-        for path, passes in ((self.path, ELABORATION), (each, SYNTHESIS)):
-            self.say(YOSYS, told([YOSYS, "-q", "-p", f"read_verilog {path}; {passes}"]))
+        self.say(YOSYS, told([YOSYS, "-q", "-p", f"read_verilog {each}; {SYNTHESIS}"]))
 
     def lint(self):
         self.say(VERILATOR, told([VERILATOR, "--lint-only", "-Wall", *(f"-Wno-{name}" for name in UNAVOIDABLE),

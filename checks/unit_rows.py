@@ -1,5 +1,5 @@
 """Texts of units of which each shows one rule, with the first fault of each."""
-from made_units import HEADER, many_modules, many_wires
+from made_units import HEADER, WIDE_HEADER, many_modules, many_wires
 
 # A name of 31 letters.
 NAME = "n" * 31
@@ -126,13 +126,72 @@ BODIES = (
     (None, "wire [63:0] w; assign w = {64{1'h1}}; wire [63:0] v; assign v = {a, {2{b[15:0]}}}; "
            "assign y = {{16{w[3]}}, v[15:0]}; assign z = {1{c}}; endmodule"),
 )
-# The header of a module.
-HEAD = HEADER.format(cycles=1, number=0)
+# Like these, behind the first three inputs.
+PORTS = (
+    (2, "~"), (2, "~in"), (2, "input~"), (2, "output~"), (2, "~wire"), (1, "~@"), (2, "~d"), (2, "input [~30:0] d"),
+    (2, "input [31:0] d~"), (2, "input [31:0] ~e"), (2, "input [31:0] d,~"), (2, "input [31:0] d, ~output"),
+    (2, "input [31:0] d, input [31:0] ~d"), (2, "input [31:0] d, input [31:0] e, output [31:0] y, output [31:0] z~)"),
+    (2, "input [31:0] d, input [31:0] e, output [31:0] y, output [31:0] z, output [31:0] ~w"),
+    (2, "input [31:0] d, input [31:0] e, output [31:0] y, output [31:0] z, ~input"),
+    (2, "output [31:0] y, output [31:0] z~, output [31:0] x);"), (2, "output [31:0] y, ~input"),
+    (2, "input [31:0] ~dd"),
+    (2, "input [31:0] d, input [31:0] e, output [31:0] y, output [31:0] z, output [31:0] x~,"),
+)
+# Behind the header of a wide module.
+WIDE_BODIES = (
+    (None, "assign y = a; assign z = b; assign x = c; endmodule"),
+    (None, "assign y = d; assign z = d ^ e; assign x = {d[31:16], e[15:0]}; endmodule"),
+    (2, "assign y = a; assign z = b; ~endmodule"), (2, "assign y = a; assign ~x = b;"),
+    (2, "assign y = a; assign z = b; assign ~z = c;"), (5, "assign y = a; assign z = b; assign x = ~31'h0;"),
+    (2, "assign y = a; assign z = b; assign x = 32'h0~"),
+    (5, "assign y = a; assign z = b; assign x = ~33'h1ffffffff;"), (2, "assign y = a; assign z = b; assign ~d = a;"),
+    (2, "assign ~x = a;"), (2, "assign y = a; assign z = b; assign x = c; ~assign"), (2, "assign y = ~x;"),
+    (2, "assign y = ~x"), (2, "assign y = ~y;"), (3, "assign y = ~w;"), (2, "assign y = {2{~x"),
+    (2, "assign y = a + ~x[0];"), (2, "assign y = d + e~"), (2, "wire [31:0] ~d"), (2, "wire [31:0] ~e;"),
+    (2, "wire [31:0] ~x;"), (2, "wire [31:0] ~a"),
+    (None, "wire [31:0] dx; assign dx = e; assign y = a; assign z = b; assign x = c; endmodule"),
+    (None, "wire [0:0] xx; assign xx = d < e; assign y = a; assign z = b; assign x = c; endmodule"),
+    (2, "wire [31:0] w; assign ~x = a;"), (2, "wire [31:0] w; assign ~d = a;"), (2, "wire [31:0] w; assign ~e = a;"),
+    (7, "wire [31:0] w; assign ~v = a;"), (2, "wire [31:0] w; assign ~y = a;"),
+    (4, "wire [31:0] w; assign w = e; wire [31:0] ~w;"),
+    (None, "wire [7:0] w; assign w = e[7:0]; assign y = {w, w, d[15:0]}; assign z = e >> w; assign x = {4{w}}; "
+           "endmodule"),
+    (6, "assign y = d[~32];"), (6, "assign y = e[3:~4];"), (6, "assign y = {d, e, ~1'h0};"),
+)
+# Behind the header of a narrow one, in which d, e and x are names.
+NARROW_BODIES = (
+    (None, "assign y = a; assign z = b; endmodule"), (2, "assign y = a; assign z = b; ~assign x = c; endmodule"),
+    (3, "assign y = ~x;"), (3, "assign y = ~d;"), (3, "assign y = ~e;"),
+    (None, "wire [31:0] d; assign d = a; wire [31:0] e; assign e = d; wire [31:0] x; assign x = e; assign y = x; "
+           "assign z = d; endmodule"),
+    (4, "wire [31:0] d; assign d = a; wire [31:0] ~d;"), (7, "wire [31:0] x; assign ~d = a;"),
+    (7, "wire [31:0] w; assign ~x = a;"), (7, "wire [31:0] w; assign ~d = a;"),
+)
+# Behind the header of a second module, with whether the first is wide, and whether this one is.
+SECOND_BODIES = (
+    (True, False, 3, "assign y = ~d;"), (True, False, 3, "assign y = ~x;"),
+    (True, False, None, "wire [31:0] d; assign d = a; assign y = d; assign z = d; endmodule"),
+    (False, True, None, "assign y = d; assign z = e; assign x = a; endmodule"), (False, True, 2, "assign y = ~x"),
+    (True, True, 2, "wire [31:0] ~x"), (True, False, 2, "wire [31:0] x~"),
+)
+# The headers of modules, and what may stand behind them.
+HEAD, WIDE_HEAD = (header.format(cycles=1, number=0) for header in (HEADER, WIDE_HEADER))
+INPUTS_HEAD = HEAD[:HEAD.index("output")]
+REST = "assign y = a;\nassign z = a;\nendmodule\n"
+WIDE_REST = REST.replace("endmodule", "assign x = a;\nendmodule")
 
 
 def rows():
     """Texts with their first faults: a kind and an offset, or None."""
-    due = [(kind, text) for kind, text in TEXTS] + [(kind, HEAD + body) for kind, body in BODIES]
+    due = [(kind, text) for kind, text in TEXTS] + [(kind, HEAD + body) for kind, body in BODIES + NARROW_BODIES]
+    due += [(kind, INPUTS_HEAD + ports) for kind, ports in PORTS]
+    due += [(kind, WIDE_HEAD + body) for kind, body in WIDE_BODIES]
+    due += [(kind, (WIDE_HEAD + WIDE_REST if first else HEAD + REST)
+             + (WIDE_HEADER if wide else HEADER).format(cycles=1, number=1) + body)
+            for first, wide, kind, body in SECOND_BODIES]
+    due += [(9, WIDE_HEAD + WIDE_REST + "// cycles 1\nmodule ~ci_0("), (9, "// cycles 1\nmodule ~d("),
+            (9, "// cycles 1\nmodule ~x"), (2, "~d")]
+    due += [(None, widened(many_wires(2048))), (8, marked(widened(many_wires(2049)), "wire [31:0] n2048"))]
     due += [(None, many_wires(2048)), (8, marked(many_wires(2049), "wire [31:0] n2048")),
             (4, marked(many_wires(2049).replace("n2048", "n2047"), "wire [31:0] n2047", 1)),
             (2, marked(many_wires(2049).replace("n2048", "a"), "wire [31:0] a")),
@@ -140,6 +199,11 @@ def rows():
              + "// cycles 1\nmodule~"), (9, many_modules(32) + "// cycles 1\nmodule ~d")]
     for kind, text in due:
         yield text.replace(MARK, "", 1).encode("latin-1"), kind and (kind, text.index(MARK))
+
+
+def widened(text):
+    """The module of a text, as a wide one."""
+    return text.replace(HEAD, WIDE_HEAD).replace("endmodule", "assign x = e;\nendmodule")
 
 
 def marked(text, part, number=0):

@@ -20,6 +20,8 @@ from collections import namedtuple
 LONGEST_NAME, MOST_DIGITS, MOST_HEX_DIGITS = 32, 7, 16
 WIDEST, MOST_WIRES, MOST_MODULES = 64, 2048, 32
 INPUTS = "a", "b", "c"
+# The further inputs of a wide module, and what is a word there and a name elsewhere.
+FURTHER, WIDE_WORDS = ("d", "e"), ("d", "e", "x")
 RESERVED = {*INPUTS, "y", "z", "module", "input", "output", "wire", "assign", "endmodule"}
 # The operators of two operands; a shift's amount may have any width.
 OPERATORS = {
@@ -36,7 +38,7 @@ BLANKS = re.compile(r"[ \t\n]*")
 # Of the kinds mark, word, name, number, constant and sign; or long, which is allowed nowhere, bad and end.
 Token = namedtuple("Token", "kind text offset")
 Wire = namedtuple("Wire", "name width value")
-Module = namedtuple("Module", "number cycles wires y z")
+Module = namedtuple("Module", "number cycles wide wires y z x")
 # Expressions: one term, two of them around an operator, or a choice.
 One = namedtuple("One", "term")
 Two = namedtuple("Two", "operator left right")
@@ -93,7 +95,7 @@ class Reader:
         # As many letters as bytes; those past ASCII begin no token.
         self.tokens = tokens(data.decode("latin-1"))
         self.token, self.last = next(self.tokens), None
-        self.widths = {}
+        self.wide, self.widths = False, {}
 
     def refuse(self):
         """The due token isn't allowed."""
@@ -107,9 +109,15 @@ class Reader:
 
     def due(self, *texts):
         for text in texts:
-            if self.token.text != text or self.token.kind not in ("word", "sign", "number"):
+            if self.token.text != text or self.token.kind not in ("word", "sign", "number", "name"):
                 self.refuse()
             self.take(self.token.kind)
+
+    def name(self, but=()):
+        """A name, which in a wide module is none of its words, but for these."""
+        if self.wide and self.token.text in WIDE_WORDS and self.token.text not in but:
+            self.refuse()
+        return self.take("name")
 
     def number(self, most, least=0):
         """A number within bounds."""
@@ -137,31 +145,38 @@ class Reader:
         name = self.take("name")
         self.need(name == f"ci_{number}" and number < MOST_MODULES, 9)
         self.due("(")
-        for direction, port, after in (("input", "a", ","), ("input", "b", ","), ("input", "c", ","),
-                                       ("output", "y", ","), ("output", "z", ")")):
-            self.due(direction, "[", "31", ":", "0", "]", port, after)
+        for port in INPUTS:
+            self.due("input", "[", "31", ":", "0", "]", port, ",")
+        self.wide = self.token.kind == "word" and self.token.text == "input"
+        for port in FURTHER if self.wide else ():
+            self.due("input", "[", "31", ":", "0", "]", port, ",")
+        targets = "yzx" if self.wide else "yz"
+        for port in targets:
+            self.due("output", "[", "31", ":", "0", "]", port, ")" if port == targets[-1] else ",")
         self.due(";")
-        self.widths, wires = dict.fromkeys(INPUTS, 32), []
+        self.widths, wires = dict.fromkeys((*INPUTS, *FURTHER) if self.wide else INPUTS, 32), []
+        most = len(self.widths) + MOST_WIRES
         while self.token.text == "wire":
-            wires.append(self.wire())
+            wires.append(self.wire(most))
             self.widths[wires[-1].name] = wires[-1].width
         results = []
-        for target in "yz":
+        for target in targets:
             self.due("assign", target, "=")
             results.append(self.expression(32))
             self.due(";")
         self.due("endmodule")
-        return Module(number, cycles, wires, *results)
+        wide, self.wide = self.wide, False
+        return Module(number, cycles, wide, wires, *results[:2], results[2] if wide else One(Number(32, 0)))
 
-    def wire(self):
+    def wire(self, most):
         self.due("wire", "[")
         width = self.number(WIDEST - 1) + 1
         self.due(":", "0", "]")
-        name = self.take("name")
+        name = self.name()
         self.need(name not in self.widths, 4)
-        self.need(len(self.widths) < len(INPUTS) + MOST_WIRES, 8)
+        self.need(len(self.widths) < most, 8)
         self.due(";", "assign")
-        self.need(self.take("name") == name, 7)
+        self.need(self.name() == name, 7)
         self.due("=")
         value = self.expression(width)
         self.due(";")
@@ -243,8 +258,7 @@ class Reader:
             number = Number(int(width), int(digits, 16))
             self.need(number.value < 2 ** number.width, 5)
             return number, number.width
-        self.take(self.token.kind if self.token.text in INPUTS else "name")
-        name = self.last.text
+        name = self.take("word") if self.token.text in INPUTS else self.name(FURTHER)
         self.need(name in self.widths, 3)
         width = self.widths[name]
         if self.token.kind == "end":
@@ -296,9 +310,10 @@ def value(expression, values):
     return OPERATORS[expression.operator](left, right) % 2 ** width
 
 
-def evaluate(module, a, b, c):
-    """The values of y and z."""
-    values = {name: (number, 32) for name, number in zip(INPUTS, (a, b, c))}
+def evaluate(module, a, b, c, d=0, e=0):
+    """The values of y, z and x, which is 0 where the module isn't wide."""
+    inputs = zip((*INPUTS, *FURTHER), (a, b, c, d, e) if module.wide else (a, b, c))
+    values = {name: (number, 32) for name, number in inputs}
     for wire in module.wires:
         values[wire.name] = value(wire.value, values), wire.width
-    return value(module.y, values), value(module.z, values)
+    return value(module.y, values), value(module.z, values), value(module.x, values)

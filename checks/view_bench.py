@@ -4,8 +4,8 @@
     view_bench.py PROGRAM
 
 The units of a sample pass by Icarus, by the line that the view tells and by its own run; Verilator takes the testbench
-too. Units that were changed don't pass. Yosys tells the area and the longest path of a unit by a small library of
-cells. A text that is no units is refused, and wrong calls end with the usage and status 2.
+too. Wide units pass as well, and units that were changed don't. Yosys tells the area and the longest path of a unit by
+a small library of cells. A text that is no units is refused, and wrong calls end with the usage and status 2.
 
 It ends with status 0 where all agree, and where tools are missing, with a line that says so.
 """
@@ -13,7 +13,9 @@ import os
 import re
 import subprocess
 
+import shared  # noqa: F401  (it lets the modules of views/ be imported)
 import viewing
+from made_units import WIDE_HEADER
 
 SAMPLE = os.path.join(viewing.TOP, "samples", "sha256.elf")
 CELLS = (("INV", 1, "A", "!A"), ("BUF", 2, "A", "A"), ("NAND2", 2, "AB", "!(A*B)"), ("NOR2", 2, "AB", "!(A+B)"))
@@ -21,6 +23,8 @@ AXES = 'index_1 ("0.01, 1"); index_2 ("0.01, 1");'
 TABLES = " ".join(f'{name} (delays) {{ {AXES} values ("0.02, 0.1", "0.1, 0.2"); }}'
                   for name in ("cell_rise", "cell_fall", "rise_transition", "fall_transition"))
 UNIT = 3
+# What stands behind the header of a wide unit: of d and e as 0, y is a, and z is -b.
+WIDE_REST = "assign y = a ^ d;\nassign z = e - b;\nassign x = c;\nendmodule\n"
 
 
 def library():
@@ -50,7 +54,8 @@ def look(views):
     with open(views.path("units.v"), encoding="ascii") as file:
         text = file.read()
     for name, part in (("CELLS.lib", library()), ("changed.v", text.replace(" t3 = p3 | q3;", " t3 = p3 & q3;")),
-                       ("none.v", ""), ("fault.v", "module")):
+                       ("none.v", ""), ("fault.v", "module"),
+                       ("wide.v", text + WIDE_HEADER.format(cycles=1, number=text.count("endmodule")) + WIDE_REST)):
         with open(views.path(name), "w", encoding="ascii") as file:
             file.write(part)
     before = views.hashes("units.v", "CELLS.lib")
@@ -66,6 +71,7 @@ def look(views):
     status, printed = shell(views, "verilator --lint-only " + lines["Verilator"].split("--binary ")[1].split(" && ")[0])
     views.need(status == 0, f"Verilator says {printed[:600]}")
     views.need(views.works("bench", "units.v", "--run", "icarus").endswith(" vectors, 0 wrong\n"), "the view's own run")
+    views.need(views.works("bench", "wide.v", "--run", "icarus").endswith(" vectors, 0 wrong\n"), "a wide unit")
     views.need(views.works("bench", "none.v", "--run", "icarus") == "0 vectors, 0 wrong\n", "no units")
     status, printed = shell(views, lines["Icarus"].replace(" units.v", " changed.v"))
     views.need(status != 0 and re.search(r"^\d+ vectors, [1-9]\d* wrong$", printed, re.M), f"changed: {printed[-300:]}")

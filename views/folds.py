@@ -1,10 +1,15 @@
 """A naive reading of what a folded block is, by sets of nodes and all walks along the arcs of its graph, where words
-may be units and `cread`. It shares nothing with the program, so that the checks can compare the two."""
+may be units, `cread` and `cput`. It shares nothing with the program, so that the checks can compare the two."""
 import instructions
 from instructions import mnemonic
 from latencies import MEMORY, NO_OPERATION, may_join
 
-UNIT, CREAD = 0x0B, 0x2B
+# The opcodes of unit words, and of `cread` and `cput`.
+UNIT, HIDDEN = 0x0B, 0x2B
+# What the words of `cread` and `cput` are but for the bits of their operands: rd and the lowest bit of the index, and
+# rs1 and rs2.
+CREAD, CREAD_FIELDS = 0x0000002B, 0x00100F80
+CPUT, CPUT_FIELDS = 0x0000102B, 0x01FF8000
 
 
 def is_unit(word):
@@ -12,7 +17,11 @@ def is_unit(word):
 
 
 def is_cread(word):
-    return word & 0x7F == CREAD
+    return word & ~CREAD_FIELDS == CREAD
+
+
+def is_cput(word):
+    return word & ~CPUT_FIELDS == CPUT
 
 
 def unit_word(number, target, sources):
@@ -21,12 +30,24 @@ def unit_word(number, target, sources):
     return third << 27 | number // 8 << 25 | second << 20 | first << 15 | number % 8 << 12 | target << 7 | UNIT
 
 
+def cread_word(target, index=0):
+    """The word that reads the hidden result of an index, 0 or 1."""
+    return index << 20 | target << 7 | CREAD
+
+
+def cput_word(first, second):
+    """The word that passes two registers as the hidden operands."""
+    return second << 20 | first << 15 | CPUT
+
+
 def operands(word):
     """The registers that a word reads, in their order."""
     if is_unit(word):
         return word >> 15 & 31, word >> 20 & 31, word >> 27
     if mnemonic(word) == "ecall":
         return 10, 11, 12, 17
+    if is_cput(word):
+        return word >> 15 & 31, word >> 20 & 31
     read = instructions.reads(word)
     return [field for field in (word >> 15 & 31, word >> 20 & 31) if field in read]
 
@@ -103,13 +124,13 @@ class Block:
                 and 1 <= len(self.outputs(cut)) <= 2 and len(cut) >= len(self.outputs(cut)))
 
     def joins(self, node):
-        return self.words[node] & 0x7F not in (UNIT, CREAD) and may_join(self.words[node])
+        return self.words[node] & 0x7F not in (UNIT, HIDDEN) and may_join(self.words[node])
 
     def folded(self, cut, number):
         """The words of the folded block, where the unit of this number stands for the members."""
         outputs = [next(iter(self.writes[node])) for node in self.outputs(cut)]
         early = [node for node in self.nodes if node not in cut and self.behind[node] & cut]
         late = [node for node in self.nodes if node not in cut and node not in early]
-        use = [unit_word(number, outputs[0], self.inputs(cut)), *(register << 7 | CREAD for register in outputs[1:])]
+        use = [unit_word(number, outputs[0], self.inputs(cut)), *map(cread_word, outputs[1:])]
         return [*(self.words[node] for node in early), *use, *[NO_OPERATION] * (len(cut) - len(use)),
                 *(self.words[node] for node in late)]

@@ -5,7 +5,7 @@ from collections import Counter, namedtuple
 
 import executable
 import folds
-from folds import is_cread, is_unit
+from folds import is_cput, is_cread, is_unit
 from instructions import mnemonic, ways
 from program import fail, told
 
@@ -106,10 +106,11 @@ def words_at(image, addresses):
 
 
 def cost(word, latencies, units):
-    """The cycles of an instruction, or of a word of a unit, of which the cycles are given."""
+    """The cycles of an instruction, or of a word of a unit, of which the cycles are given; `cread` and `cput` take the
+    same."""
     if is_unit(word):
         return units[(word >> 25 & 3) * 8 + (word >> 12 & 7)]
-    return latencies.read if is_cread(word) else latencies.latency(word)
+    return latencies.read if is_cread(word) or is_cput(word) else latencies.latency(word)
 
 
 def critical_path(block, cut, latencies):
