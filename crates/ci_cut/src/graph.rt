@@ -85,12 +85,12 @@ pub struct Node {
 /// The limits on the ports of a cut.
 #[derive(Clone, Copy, Debug, PartialEq, Eq)]
 pub struct Limits {
-    /// The greatest number of inputs, from 1 to 3.
+    /// The greatest number of inputs, from 1 to 5.
     pub inputs: u8,
-    /// The greatest number of outputs, from 1 to 2.
+    /// The greatest number of outputs, from 1 to 3.
     pub outputs: u8,
-    ghost inputs_in_range: { (1 ≤ inputs) × (inputs ≤ 3) },
-    ghost outputs_in_range: { (1 ≤ outputs) × (outputs ≤ 2) },
+    ghost inputs_in_range: { (1 ≤ inputs) × (inputs ≤ 5) },
+    ghost outputs_in_range: { (1 ≤ outputs) × (outputs ≤ 3) },
 }
 
 /// The data-flow graph of a basic block.
