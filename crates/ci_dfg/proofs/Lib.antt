@@ -1,10 +1,14 @@
 pub mod ArcLaws
-pub mod Bundles
 pub mod BlockIsGraph
+pub mod BundleArcs
+pub mod BundleEnds
+pub mod BundleWords
+pub mod BundledLists
+pub mod PlainLists
+pub mod FilledSets
 pub mod InstructionLaws
 pub mod KindLaws
 pub mod Rows
-pub mod FilledSets
-pub mod NarrowLaws
 pub mod SourceLaws
+pub mod TrueArcs
 pub mod WritersByPlace

@@ -1,14 +1,13 @@
 -- The data-flow graph of a basic block: its nodes are the instructions in order, numbered from 0.
-use Rattle.std.specs.Prelude.{◌≡◌, ℕ, ◌+◌, ◌-◌, ◌<◌, Bool, true, false, not, ◌&&◌, ◌||◌, ◌==◌, nat_lt}
-use Rattle.std.specs.Prelude.{List, map, length, Option, Some, None}
+use Rattle.std.specs.Prelude.{ℕ, zero, suc, Bool, true, false, not, ◌&&◌, ◌||◌, ◌==◌, nat_lt, nat_le, List, map, length}
+use Rattle.std.specs.Prelude.{Option, Some, None}
 use Rattle.std.specs.Ordering.{nat_cmp}
 use Rattle.std.specs.List.{list_any}
 use Rattle.std.specs.FinSet as set
 use Rattle.ci_word.specs.Numbers.{numbers_below, set_below, some_below}
 use Rattle.ci_isa.specs.declared.instruction.Insn.{Insn}
-use Rattle.ci_isa.specs.declared.instruction.Insn.TheVariants.{Cread, Cput}
 use Rattle.ci_isa.specs.Effects.{operands, results, without_x0, reads_register, writes_register, is_access, ends_block}
-use Rattle.ci_isa.specs.Effects.{is_unit, is_cread, class_of, may_join}
+use Rattle.ci_isa.specs.Effects.{is_unit, is_cread, is_cput, class_of, may_join}
 use Rattle.ci_isa.specs.Sequences.{nth_insn, latest_writer}
 use Rattle.ci_lat.specs.Latencies.{Latencies, latency_of, delay_of}
 use Rattle.ci_cut.specs.declared.graph.Source.{Source}
@@ -16,17 +15,16 @@ use Rattle.ci_cut.specs.declared.graph.Source.TheVariants.{Entry, Made}
 use Rattle.ci_cut.specs.declared.graph.Node.{Node}
 use Rattle.ci_cut.specs.FlowGraph.{FlowGraph, is_source}
 
--- ---- words of blocks
+-- ---- bundles
 
--- a word of the use of a wide unit: it passes operands to the unit, or reads its third result
-abbrev pub is_wide : Insn → Bool
-is_wide (Cput rs1 rs2) = true
-is_wide (Cread rd index) = not (index == 0)
-is_wide insn = false
+-- The second word stands in one bundle with the first, directly before it: it is a unit word behind a `cput`, or a
+-- `cread` behind a unit word or behind the `cread` of one.
+abbrev pub stay_together : Insn → Insn → Bool
+stay_together first second = (is_cput first && is_unit second) || ((is_unit first || is_cread first) && is_cread second)
 
--- the list has no such word
-abbrev pub AreNarrow : List Insn → Type 0
-AreNarrow insns = (k : ℕ) → k < length insns → is_wide (nth_insn insns k) ≡ false
+-- some number from the first to the last passes the test
+abbrev pub some_between : ℕ → ℕ → (ℕ → Bool) → Bool
+some_between first last p = some_below (suc last) (λ n. nat_le first n && p n)
 
 -- ---- sources
 
@@ -65,28 +63,40 @@ module _ (insns : List Insn) where
   abbrev pub has_control_arc : ℕ → ℕ → Bool
   has_control_arc k j = ends_block (nth_insn insns k)
 
+  -- by their order alone, whatever values k takes
+  abbrev pub has_order_arc : ℕ → ℕ → Bool
+  has_order_arc k j = ((has_anti_arc k j || has_output_arc k j) || has_memory_arc k j) || has_control_arc k j
+
+  -- by what the two do
   abbrev pub has_own_arc : ℕ → ℕ → Bool
-  has_own_arc k j =
-      (((has_true_arc k j || has_anti_arc k j) || has_output_arc k j) || has_memory_arc k j) || has_control_arc k j
+  has_own_arc k j = has_true_arc k j || has_order_arc k j
 
-  -- node k is the `cread` of the unit word directly before it, with which it forms a bundle
-  abbrev pub ends_bundle : ℕ → Bool
-  ends_bundle k = is_cread (nth_insn insns k) && is_unit (nth_insn insns (k - 1))
+  -- node k stands in one bundle with the node directly before it
+  abbrev pub is_joined : ℕ → Bool
+  is_joined zero = false
+  is_joined (suc k) = stay_together (nth_insn insns k) (nth_insn insns (suc k))
 
-  -- bundle: what has to stay behind the unit word has to stay behind its `cread`
+  -- so do all nodes from the first to the last
+  abbrev pub is_span : ℕ → ℕ → Bool
+  is_span first last = nat_le first last && not (some_below (suc last) (λ i. nat_lt first i && not (is_joined i)))
+
+  -- bundle: what has to stay behind a node of a bundle has to stay behind its last node
   abbrev pub has_arc_from_bundle : ℕ → ℕ → Bool
-  has_arc_from_bundle k j = has_own_arc k j || (ends_bundle j && has_own_arc k (j - 1))
+  has_arc_from_bundle k j =
+      has_own_arc k j || (not (is_joined (suc j)) && some_below j (λ i. is_span i j && has_own_arc k i))
 
-  -- bundle: what has to stay before the `cread` has to stay before its unit word
-  abbrev pub has_arc_by_cread : ℕ → ℕ → Bool
-  has_arc_by_cread k j = ends_bundle (k + 1) && has_arc_from_bundle (k + 1) j
+  -- bundle: what has to stay before a node of a bundle has to stay before its first node
+  abbrev pub has_arc_into_bundle : ℕ → ℕ → Bool
+  has_arc_into_bundle k j =
+      not (is_joined k)
+      && some_below (length insns) (λ l. nat_lt k l && (is_span k l && has_arc_from_bundle l j))
 
-  -- bundle: the `cread` has to stay behind its unit word
+  -- bundle: each node of a bundle has to stay behind the one before it
   abbrev pub has_arc_inside_bundle : ℕ → ℕ → Bool
-  has_arc_inside_bundle k j = (k == j + 1) && ends_bundle k
+  has_arc_inside_bundle k j = (k == suc j) && is_joined k
 
   abbrev pub has_arc_into : ℕ → ℕ → Bool
-  has_arc_into k j = (has_arc_from_bundle k j || has_arc_by_cread k j) || has_arc_inside_bundle k j
+  has_arc_into k j = (has_arc_from_bundle k j || has_arc_into_bundle k j) || has_arc_inside_bundle k j
 
   -- ---- live values
 

@@ -6,7 +6,7 @@ use Rattle.ci_isa.specs.Sequences.{nth_insn}
 use Rattle.ci_dfg.specs.BlockGraph.{has_arc_into}
 
 -- A data hazard in register r: the second reads what the first writes, or writes what the first reads or writes. This
--- speaks of x1 to x31 alone: the hidden register is what a unit word and its `cread` share.
+-- speaks of x1 to x31 alone: the hidden registers are what the words of a bundle share.
 pub data HasHazard (r : ℕ) (first second : Insn) : Type 0 where
   read_after_write : writes_register first r ≡ true → reads_register second r ≡ true → HasHazard r first second
   write_after_read : reads_register first r ≡ true → writes_register second r ≡ true → HasHazard r first second

@@ -1,3 +1,5 @@
 pub mod Arcs
 pub mod BlockGraph
+pub mod BundleArcs
+pub mod Bundles
 pub mod Hazards

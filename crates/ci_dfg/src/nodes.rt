@@ -1,7 +1,8 @@
 //! The nodes of a block's graph.
 ghost use Rattle.std.specs.Prelude.{◌≡◌, ◌≤◌, ◌<◌, length, IfOk};
 ghost use Rattle.ci_dfg.specs.BlockGraph as terms;
-ghost use Rattle.ci_dfg.specs.BlockGraph.{AreNarrow, graph_of};
+ghost use Rattle.ci_dfg.specs.BlockGraph.{graph_of};
+ghost use Rattle.ci_dfg.specs.Bundles.{AreBundled};
 
 use crate::arcs::nodes_before;
 use crate::operand_sources::sources;
@@ -12,9 +13,9 @@ use ci_word::Row;
 use std::alloc::{AllocError, Global};
 
 /// The graph of a block of these instructions, at most 256, after which the registers `live_out` are live. Latencies
-/// and delays are those of the table. A `cread` that doesn't stand directly behind a unit word is in no bundle, and
-/// each instruction that ends a block has arcs from all earlier ones. None of them may be a `cput`, or a `cread` of the
-/// second hidden result (`are_narrow`).
+/// and delays are those of the table. Bundles are whole: each `cput` stands directly before a unit word, each `cread`
+/// of index 0 directly behind one, and each `cread` of index 1 directly behind a `cread` of index 0. Each instruction
+/// that ends a block has arcs from all earlier ones.
 ///
 /// An Err is out of memory.
 #[tactic(auto, using(crate::proofs::BlockIsGraph::so_far))]
@@ -25,7 +26,7 @@ pub fn graph(
     table: &Table,
 ) -> Result<Graph, AllocError>
     requires few { length insns.now ≤ 256 }
-    requires narrow { AreNarrow insns.now }
+    requires bundled { AreBundled insns.now }
     ensures { IfOk result (λ graph. graph ≡ graph_of insns.now live_out table.now) }
 {
     let mut nodes = Vec::new(alloc);

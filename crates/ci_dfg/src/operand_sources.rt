@@ -50,7 +50,7 @@ fn push_source(
 
 /// The latest node before `k` that writes the register.
 #[tactic(auto, using(crate::proofs::WritersByPlace::writers))]
-fn latest_writer(insns: &[Insn], register: u8, k: usize) -> Option<u8>
+pub(crate) fn latest_writer(insns: &[Insn], register: u8, k: usize) -> Option<u8>
     requires few { length insns.now ≤ 256 }
     requires there { k ≤ length insns.now }
     ensures { result ≡ sequences.latest_writer insns.now register k }
