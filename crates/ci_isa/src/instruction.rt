@@ -144,3 +144,15 @@ pub enum Insn {
         word: u32,
     },
 }
+
+/// The canonical no-op, the word 00000013. It only fills the unused places of a small vector.
+impl Default for Insn {
+    fn default() -> Insn {
+        Insn::AluImm {
+            op: Op::Add,
+            rd: Reg::zero(),
+            rs1: Reg::zero(),
+            imm: 0,
+        }
+    }
+}

@@ -41,7 +41,7 @@ unfoldable pub keys_by_value : List Key
 keys_by_value = (Read ∷ Pad ∷ Software ∷ software_keys) ++ Hardware ∷ hardware_keys
 
 -- The keys whose values `pad` may not exceed, in the order in which it is compared with them: the latencies of what a
--- custom instruction may take in, and that of a read of the hidden register.
+-- custom instruction may take in, and that of a read of a hidden result.
 unfoldable pub keys_above_pad : List Key
 keys_above_pad = map (λ r. SoftwareOf r.class) delayed_rows ++ Read ∷ []
 

@@ -7,7 +7,7 @@ use Rattle.ci_lat.specs.Latencies.{Latencies, place}
 abbrev pub HasDelay : Class → Type 0
 HasDelay c = place c < 8
 
--- What each latency table keeps. A no-op takes at most what a read of the hidden register takes, and at most what each
+-- What each latency table keeps. A no-op takes at most what a read of a hidden result takes, and at most what each
 -- instruction of the first eight classes does, those with a delay.
 pub record IsLatencyTable (table : Latencies) : Type 0 where
   pub rows_with_latency : length table.software ≡ 16

@@ -58,7 +58,7 @@ module _ (cut : ℕ → Bool) (inputs : List Source) (f : ℕ → Source) where
 
 -- an argument of operation n, whatever the constants are
 abbrev IsPlaced : ℕ → Arg → Type 0
-IsPlaced n (Input i) = i < 3
+IsPlaced n (Input i) = i < 5
 IsPlaced n (Earlier m) = m < n
 IsPlaced n (Constant word) = ⊤
 
@@ -118,15 +118,15 @@ module _ (insns : List Insn) (graph : FlowGraph) (cut : ℕ → Bool) (kept : Is
   is_node : (k : ℕ) → IsTrue (cut k) → k < length graph.nodes
   is_node k member = eligible_below graph k (fits.eligible k member)
 
-  pub three_inputs : length (inputs_of insns graph cut) ≤ 3
-  three_inputs = omega (arith, few_inputs insns graph cut kept.sources_rise are.same_length small, fits.inputs_within, limits.inputs_in_range.1)
+  pub five_inputs : length (inputs_of insns graph cut) ≤ 5
+  five_inputs = omega (arith, few_inputs insns graph cut kept.sources_rise are.same_length small, fits.inputs_within, limits.inputs_in_range.1)
 
   arg_placed : (k : ℕ) (s : Source) → k < length insns → IsTrue (cut k) → reads graph k s ≡ true
       → IsPlaced (count_below k cut) (arg_from cut (inputs_of insns graph cut) s)
   arg_placed k (Entry r) below member reading =
       omega (
         arith,
-        three_inputs,
+        five_inputs,
         place_within (Entry r) (inputs_of insns graph cut)
             (has_input insns graph cut k (Entry r) below member reading refl),
       )
@@ -139,7 +139,7 @@ module _ (insns : List Insn) (graph : FlowGraph) (cut : ℕ → Bool) (kept : Is
         (sym outside)
         (omega (
           arith,
-          three_inputs,
+          five_inputs,
           place_within (Made m) (inputs_of insns graph cut)
               (has_input insns graph cut k (Made m) below member reading (not_from_false (cut m) outside)),
         ))
@@ -251,8 +251,8 @@ module _ (insns : List Insn) (graph : FlowGraph) (cut : ℕ → Bool) (kept : Is
   small_read : All IsSmall (inputs_of insns graph cut)
   small_read = subst (All IsSmall) inputs_read small
 
-  pub three_read : length inputs ≤ 3
-  three_read = subst (λ list. length list ≤ 3) (sym inputs_read) (three_inputs insns graph cut kept are some.0 some.1 small_read)
+  pub five_read : length inputs ≤ 5
+  five_read = subst (λ list. length list ≤ 5) (sym inputs_read) (five_inputs insns graph cut kept are some.0 some.1 small_read)
 
   module _ (ops : List UnitOp) (outputs : List ℕ) (cycles : ℕ)
       (ops_are : ops ≡ map (op_of insns graph cut inputs) (numbers_below (length insns) cut))

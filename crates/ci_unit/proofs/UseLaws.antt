@@ -1,9 +1,10 @@
 -- The words of a use: the registers of inputs and outputs, one by one.
 use Rattle.std.proofs.Common.{◌≡◌, ℕ, zero, suc, ◌+◌, ◌<◌, ◌≤◌, Bool, true, false, if◌then◌else◌, List, [], ◌∷◌, ◌++◌, length, map, drop, find}
-use Rattle.std.proofs.Common.{Option, Some, None, slice_get, slice_index, slice_index_or, unwrap_or, option_map, IfSome, refl, sym, ap, ◌∙◌, arith, add-one}
+use Rattle.std.proofs.Common.{Option, Some, None, slice_get, slice_index, slice_index_or, unwrap_or, option_map, IfSome}
+use Rattle.std.proofs.Common.{refl, sym, ap, ◌∙◌, subst, arith, add-one}
 use Rattle.std.specs.Option.{option_to_list, option_or, option_and}
 use Rattle.std.specs.List.{AllByRecursion}
-use Rattle.std.proofs.lemmas.List.{at_drop_more, append-nil}
+use Rattle.std.proofs.lemmas.List.{at_drop_more, append-nil, append_assoc}
 use Rattle.std.proofs.lemmas.List.Folds.{find-append}
 use Rattle.ci_word.specs.Numbers.{numbers_below, count_below}
 use Rattle.ci_word.proofs.NumberLaws.{length-numbers_below}
@@ -14,9 +15,10 @@ use Rattle.ci_cut.specs.declared.graph.Source.TheVariants.{Entry, Made}
 use Rattle.ci_cut.specs.FlowGraph.{FlowGraph, node_at, reads}
 use Rattle.ci_cut.specs.Ports.{is_output}
 use Rattle.ci_unit.specs.Operands.{AreOperands, FitsSomeLimits}
-use Rattle.ci_unit.specs.Reading.{AreFirstOf, inputs_below, outputs_below, is_further, sources_below, IsRegister}
+use Rattle.ci_unit.specs.Reading.{AreFirstOf, inputs_below, outputs_below, is_further, sources_below, IsRegister, read_of}
 use Rattle.ci_unit.specs.Units.{inputs_of, outputs_of}
 use Rattle.ci_unit.specs.Uses.{AreRegisters, result_register, register_of, output_reads}
+use Rattle.ci_unit.specs.UseWords.{reads_of}
 use Rattle.ci_unit.proofs.SourceLaws.{each_weaker, each_flat, own_sources}
 use Rattle.ci_unit.proofs.ReadingLaws.{added, inputs_are, inputs_added, sources_more, further_first, further_none, further_rest}
 
@@ -31,6 +33,13 @@ pub second_pushed : {X : Type 0} (xs : List X) (x : X)
 second_pushed [] x = refl
 second_pushed (y ∷ []) x = refl
 second_pushed (y ∷ z ∷ xs) x = refl
+
+pub third_pushed : {X : Type 0} (xs : List X) (x : X)
+    → option_or (slice_get xs 2) (option_and (slice_get xs 1) (Some x)) ≡ slice_get (xs ++ x ∷ []) 2
+third_pushed [] x = refl
+third_pushed (y ∷ []) x = refl
+third_pushed (y ∷ z ∷ []) x = refl
+third_pushed (y ∷ z ∷ w ∷ xs) x = refl
 
 -- the first item from a place on that passes is the one there, or is behind it
 pub find_from : {X : Type 0} (p : X → Bool) (xs : List X) (i : ℕ) (d : X) (b : Bool) → i < length xs → p (slice_index_or xs i d) ≡ b
@@ -64,30 +73,39 @@ module _ (graph : FlowGraph) (cut : ℕ → Bool) where
     abbrev next : List Source → Option Source
     next seen = find (is_further cut seen) (sources_below graph cut n)
 
-    pub no_input : next [] ≡ None → AreFirstOf (inputs_below graph cut n) None None None
-    no_input none =
-        let are : inputs_below graph cut n ≡ [] = inputs_added graph cut n ∙ further_none cut [] (sources_below graph cut n) none in
-        record { first_is = sym (ap (λ l. slice_get l 0) are); second_is = sym (ap (λ l. slice_get l 1) are); third_is = sym (ap (λ l. slice_get l 2) are) }
+    -- these are the first inputs, and the sources add the others to them
+    abbrev pub BeginWith : List Source → Type 0
+    BeginWith seen = inputs_below graph cut n ≡ seen ++ added cut seen (sources_below graph cut n)
 
-    module _ (s : Source) (first : next [] ≡ Some s) where
-      from_first : inputs_below graph cut n ≡ s ∷ added cut (s ∷ []) (sources_below graph cut n)
-      from_first = inputs_added graph cut n ∙ further_rest cut [] (sources_below graph cut n) s first
+    pub begin : BeginWith []
+    begin = inputs_added graph cut n
 
-      pub one_input : next (s ∷ []) ≡ None → AreFirstOf (inputs_below graph cut n) (Some s) None None
-      one_input none =
-          let are : inputs_below graph cut n ≡ s ∷ [] =
-          from_first ∙ ap (λ l. s ∷ l) (further_none cut (s ∷ []) (sources_below graph cut n) none) in
-          record { first_is = sym (ap (λ l. slice_get l 0) are); second_is = sym (ap (λ l. slice_get l 1) are); third_is = sym (ap (λ l. slice_get l 2) are) }
+    pub one_more : (seen : List Source) (s : Source) → BeginWith seen → next seen ≡ Some s → BeginWith (seen ++ s ∷ [])
+    one_more seen s are found =
+        are ∙ ap (λ l. seen ++ l) (further_rest cut seen (sources_below graph cut n) s found)
+        ∙ sym (append_assoc seen (s ∷ []) (added cut (seen ++ s ∷ []) (sources_below graph cut n)))
 
-      pub more_inputs : (t : Source) → next (s ∷ []) ≡ Some t → AreFirstOf (inputs_below graph cut n) (Some s) (Some t) (next (s ∷ t ∷ []))
-      more_inputs t second =
-          let are : inputs_below graph cut n ≡ s ∷ t ∷ added cut (s ∷ t ∷ []) (sources_below graph cut n) =
-          from_first ∙ ap (λ l. s ∷ l) (further_rest cut (s ∷ []) (sources_below graph cut n) t second) in
-          record {
-            first_is = sym (ap (λ l. slice_get l 0) are);
-            second_is = sym (ap (λ l. slice_get l 1) are);
-            third_is = further_first cut (s ∷ t ∷ []) (sources_below graph cut n) ∙ sym (ap (λ l. slice_get l 2) are);
-          }
+    pub no_more : (seen : List Source) → BeginWith seen → next seen ≡ None → inputs_below graph cut n ≡ seen
+    no_more seen are none =
+        are ∙ ap (λ l. seen ++ l) (further_none cut seen (sources_below graph cut n) none) ∙ append-nil seen
+
+    pub first_five : (list : List Source) → inputs_below graph cut n ≡ list
+        → AreFirstOf (inputs_below graph cut n) (slice_get list 0) (slice_get list 1) (slice_get list 2) (slice_get list 3) (slice_get list 4)
+    first_five list are = record {
+      first_is = sym (ap (λ l. slice_get l 0) are);
+      second_is = sym (ap (λ l. slice_get l 1) are);
+      third_is = sym (ap (λ l. slice_get l 2) are);
+      fourth_is = sym (ap (λ l. slice_get l 3) are);
+      fifth_is = sym (ap (λ l. slice_get l 4) are);
+    }
+
+    pub four_and_next : (p q r s : Source) → BeginWith (p ∷ q ∷ r ∷ s ∷ [])
+        → AreFirstOf (inputs_below graph cut n) (Some p) (Some q) (Some r) (Some s) (next (p ∷ q ∷ r ∷ s ∷ []))
+    four_and_next p q r s are =
+        let seen : List Source = p ∷ q ∷ r ∷ s ∷ [] in
+        subst (AreFirstOf (inputs_below graph cut n) (Some p) (Some q) (Some r) (Some s))
+        (sym (further_first cut seen (sources_below graph cut n)))
+        (first_five (seen ++ added cut seen (sources_below graph cut n)) are)
 
 -- ---- registers at the entry
 
@@ -144,7 +162,7 @@ module _ (insns : List Insn) (graph : FlowGraph) (cut : ℕ → Bool) (are : Are
       ∙ ap (λ l. slice_index (map (register_of insns) l) 0) outputs_are
       ∙ ap (λ (l : List ℕ). slice_index l 0) (made_map (outputs_of insns graph cut))
 
-  few_outputs : FitsSomeLimits graph cut → length (outputs_of insns graph cut) ≤ 2
+  few_outputs : FitsSomeLimits graph cut → length (outputs_of insns graph cut) ≤ 3
   few_outputs (limits, fits) =
       omega (
         arith,
@@ -154,17 +172,18 @@ module _ (insns : List Insn) (graph : FlowGraph) (cut : ℕ → Bool) (are : Are
         length-numbers_below (length insns) (is_output graph cut),
       )
 
-  second_read : (numbers : List ℕ) → length numbers ≤ 2
-      → option_to_list (option_map (λ s. Cread (register_of insns s) 0) (slice_get (map (λ k. Made k) numbers) 1))
-      ≡ map (λ r. Cread r 0) (drop 1 (map (result_register insns) numbers))
-  second_read [] few = refl
-  second_read (j ∷ []) few = refl
-  second_read (j ∷ k ∷ []) few = refl
-  second_read (j ∷ k ∷ l ∷ numbers) few = absurd (omega arith)
+  reads_are : (numbers : List ℕ) → length numbers ≤ 3
+      → read_of insns 0 (slice_get (map (λ k. Made k) numbers) 1) ++ read_of insns 1 (slice_get (map (λ k. Made k) numbers) 2)
+      ≡ reads_of 0 (drop 1 (map (result_register insns) numbers))
+  reads_are [] few = refl
+  reads_are (j ∷ []) few = refl
+  reads_are (j ∷ k ∷ []) few = refl
+  reads_are (j ∷ k ∷ l ∷ []) few = refl
+  reads_are (j ∷ k ∷ l ∷ m ∷ numbers) few = absurd (omega arith)
 
-  pub read_is : FitsSomeLimits graph cut
-      → option_to_list (option_map (λ s. Cread (register_of insns s) 0) (slice_get (outputs_below graph cut (length graph.nodes)) 1))
+  pub output_reads_are : FitsSomeLimits graph cut
+      → read_of insns 0 (slice_get (outputs_below graph cut (length graph.nodes)) 1) ++ read_of insns 1 (slice_get (outputs_below graph cut (length graph.nodes)) 2)
       ≡ output_reads insns graph cut
-  read_is fits =
-      ap (λ l. option_to_list (option_map (λ s. Cread (register_of insns s) 0) (slice_get l 1))) outputs_are
-      ∙ second_read (outputs_of insns graph cut) (few_outputs fits)
+  output_reads_are fits =
+      ap (λ l. read_of insns 0 (slice_get l 1) ++ read_of insns 1 (slice_get l 2)) outputs_are
+      ∙ reads_are (outputs_of insns graph cut) (few_outputs fits)

@@ -4,9 +4,9 @@ use Rattle.std.proofs.Common.{refl, sym, ap, ◌∙◌, subst, inl, inr, arith, 
 use Rattle.std.proofs.Common.{◌%◌, Bool, true, false, if◌then◌else◌, nat_lt, [], ◌∷◌, lit<, true≢false, ℤ, pos, negsuc}
 use Rattle.std.specs.Prelude.{int_lt}
 use Rattle.std.specs.List.{Contains}
-use Rattle.std.proofs.lemmas.Bool.{cases_eq, lt-ltb}
+use Rattle.std.proofs.lemmas.Bool.{cases_eq, ltb-true, ltb-false}
 use Rattle.std.proofs.lemmas.List.{get_or-set_same, get_or-set_other, get_or-take, get_or-map, length-set, length-map}
-use Rattle.std.proofs.lemmas.List.{length-replicate, length-take-le, same_lists, get_or_default}
+use Rattle.std.proofs.lemmas.List.{length-replicate, length-take-le, same_lists, get_or_default, get_or_past}
 use Rattle.std.proofs.lemmas.List.Elements.{Contains-get_or}
 use Rattle.std.proofs.Math.Nat.{mod-lt, div-le_self, div-lt_iff_lt-mul}
 use Rattle.std.proofs.lemmas.Nat.{xor_lt, or_lt, and_le_l, mul-lt}
@@ -150,11 +150,11 @@ operation_word Divu a b other is_a is_b = absurd (true≢false other)
 operation_word Rem a b other is_a is_b = absurd (true≢false other)
 operation_word Remu a b other is_a is_b = absurd (true≢false other)
 
-module _ (unit : units.Unit) (inputs results : List ℕ) (is : IsUnit unit) (three : length inputs ≡ 3)
+module _ (unit : units.Unit) (inputs results : List ℕ) (is : IsUnit unit) (five : length inputs ≡ 5)
     (words : All (λ n. n < 2 ^ 32) inputs) (are : AreResults unit inputs results (length unit.ops)) where
   arg_word : (k : ℕ) → ((m : ℕ) → m < k → slice_index results m < 2 ^ 32) → (arg : Arg) → IsArg k arg
       → arg_value inputs results arg < 2 ^ 32
-  arg_word k earlier (Input i) is_arg = words i 0 (omega (arith, three))
+  arg_word k earlier (Input i) is_arg = words i 0 (omega (arith, five))
   arg_word k earlier (Earlier m) is_arg = earlier m is_arg
   arg_word k earlier (Constant word) is_arg = is_arg
 
@@ -175,19 +175,25 @@ module _ (unit : units.Unit) (inputs results : List ℕ) (is : IsUnit unit) (thr
       subst (λ word. word < 2 ^ 32) (sym (get_or-map (slice_index results) unit.outputs k 0 d within))
       (results_words (length unit.ops) output there there)
 
--- ---- the outputs as two words
+-- ---- the outputs as three words
 
-module _ (results : List ℕ) where
-  pub pair_of_two : (outputs : List ℕ) (second : ℕ) → length outputs ≤ 2 → true ≡ nat_lt 1 (length outputs)
-      → second ≡ get_or outputs 1 second
-      → slice_index results (slice_index outputs 0) ∷ slice_index results second ∷ [] ≡ padded 2 (map (slice_index results) outputs)
-  pair_of_two [] second few two is = absurd (true≢false two)
-  pair_of_two (a ∷ []) second few two is = absurd (true≢false two)
-  pair_of_two (a ∷ b ∷ []) second few two is = λ i. slice_index results a ∷ slice_index results (is i) ∷ []
-  pair_of_two (a ∷ b ∷ c ∷ rest) second few two is = absurd (omega arith)
+pub padded_three : (outputs : List ℕ) → length outputs ≤ 3
+    → slice_index outputs 0 ∷ slice_index outputs 1 ∷ slice_index outputs 2 ∷ [] ≡ padded 3 outputs
+padded_three [] few = refl
+padded_three (x ∷ []) few = refl
+padded_three (x ∷ y ∷ []) few = refl
+padded_three (x ∷ y ∷ z ∷ []) few = refl
+padded_three (x ∷ y ∷ z ∷ w ∷ rest) few = absurd (omega arith)
 
-  pub pair_of_one : (outputs : List ℕ) → 1 ≤ length outputs → false ≡ nat_lt 1 (length outputs)
-      → slice_index results (slice_index outputs 0) ∷ 0 ∷ [] ≡ padded 2 (map (slice_index results) outputs)
-  pair_of_one [] some one = absurd (omega arith)
-  pair_of_one (a ∷ []) some one = refl
-  pair_of_one (a ∷ b ∷ rest) some one = let more : 1 < length (a ∷ b ∷ rest) = omega arith in absurd (true≢false (sym (one ∙ lt-ltb 1 _ more)))
+-- the result at a place among the outputs, and 0 past their end
+module _ (results outputs : List ℕ) (place : ℕ) where
+  pub output_there : (n : ℕ) → true ≡ nat_lt place (length outputs) → n ≡ get_or outputs place n
+      → slice_index results n ≡ slice_index (map (slice_index results) outputs) place
+  output_there n within is =
+      ap (slice_index results) is
+      ∙ sym (get_or-map (slice_index results) outputs place n 0 (ltb-true place (length outputs) (sym within)))
+
+  pub output_absent : false ≡ nat_lt place (length outputs) → 0 ≡ slice_index (map (slice_index results) outputs) place
+  output_absent past =
+      let long : length outputs ≤ place = ltb-false place (length outputs) (sym past) in
+      sym (get_or_past (map (slice_index results) outputs) place 0 (omega (arith, long, length-map outputs (slice_index results))))

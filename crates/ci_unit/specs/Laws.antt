@@ -2,10 +2,10 @@
 use Rattle.std.specs.Prelude.{◌≡◌, ℕ, ◌^◌, ◌<◌, List, length, All}
 use Rattle.ci_unit.specs.Units.{Unit, IsUnit, IsValueOf}
 
--- it has outputs at each list of three inputs
+-- it has outputs at each list of five inputs
 abbrev pub ValueExists : Type 0
 ValueExists =
-    (unit : Unit) → IsUnit unit → (inputs : List ℕ) → length inputs ≡ 3
+    (unit : Unit) → IsUnit unit → (inputs : List ℕ) → length inputs ≡ 5
     → (outputs : List ℕ) × IsValueOf unit inputs outputs
 
 -- and no others
@@ -17,7 +17,7 @@ ValueIsOne =
 -- at words they are words
 abbrev pub ValuesAreWords : Type 0
 ValuesAreWords =
-    (unit : Unit) → IsUnit unit → (inputs outputs : List ℕ) → length inputs ≡ 3 → All (λ n. n < 2 ^ 32) inputs
+    (unit : Unit) → IsUnit unit → (inputs outputs : List ℕ) → length inputs ≡ 5 → All (λ n. n < 2 ^ 32) inputs
     → IsValueOf unit inputs outputs → All (λ n. n < 2 ^ 32) outputs
 
 -- as many as the unit says

@@ -1,5 +1,6 @@
 pub mod Units
 pub mod Operands
+pub mod UseWords
 pub mod Uses
 pub mod Tables
 pub mod Equality

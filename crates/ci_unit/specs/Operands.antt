@@ -16,6 +16,6 @@ pub record AreOperands (insns : List Insn) (graph : FlowGraph) : Type 0 where
   pub sources_fit : (k : ℕ) → k < length insns
       → length (node_at graph k).sources ≡ length (without_x0 (operands (nth_insn insns k)))
 
--- The set may become an instruction under some limits. All limits are at most three inputs and two outputs.
+-- The set may become an instruction under some limits. All limits are at most five inputs and three outputs.
 abbrev pub FitsSomeLimits : FlowGraph → (ℕ → Bool) → Type 0
 FitsSomeLimits graph cut = (limits : Limits) × Fits graph limits cut

@@ -34,9 +34,9 @@ no_op = record { class = class_of Ebreak; op = Add; left = Constant 0; right = C
 abbrev pub op_at : Unit → ℕ → UnitOp
 op_at unit n = slice_index_or unit.ops n no_op
 
--- the argument of operation n is one of the three inputs, an earlier operation or a word
+-- the argument of operation n is one of the five inputs, an earlier operation or a word
 abbrev pub IsArg : ℕ → Arg → Type 0
-IsArg n (Input i) = i < 3
+IsArg n (Input i) = i < 5
 IsArg n (Earlier m) = m < n
 IsArg n (Constant word) = word < 2 ^ 32
 
@@ -54,7 +54,7 @@ pub record IsUnit (unit : Unit) : Type 0 where
   pub outputs_rise : (j k : ℕ) → j < k → k < length unit.outputs
       → slice_index unit.outputs j < slice_index unit.outputs k
   pub has_output : 1 ≤ length unit.outputs
-  pub few_outputs : length unit.outputs ≤ 2
+  pub few_outputs : length unit.outputs ≤ 3
   pub cycles_least : 1 ≤ unit.cycles
   pub cycles_most : unit.cycles ≤ 9999999
 
@@ -142,8 +142,8 @@ pub record IsValueOf (unit : Unit) (inputs outputs : List ℕ) : Type 0 where
   pub results_are : results ≡ map (op_value inputs results) unit.ops
   pub outputs_are : outputs ≡ map (slice_index results) unit.outputs
 
--- the same as two words, of which the second is 0 where there is one output
-pub record IsPairOf (unit : Unit) (inputs : List ℕ) (first second : ℕ) : Type 0 where
+-- the same as three words, of which those past the outputs are 0
+pub record IsTripleOf (unit : Unit) (inputs given : List ℕ) : Type 0 where
   pub outputs : List ℕ
   pub value : IsValueOf unit inputs outputs
-  pub pair : first ∷ second ∷ [] ≡ padded 2 outputs
+  pub triple : given ≡ padded 3 outputs

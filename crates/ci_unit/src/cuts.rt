@@ -1,13 +1,11 @@
 //! The unit of a cut.
-ghost use Rattle.std.specs.Prelude.{◌≡◌, ℕ, ◌<◌, ◌≤◌, not, [], ◌∷◌, drop, length, map, All, IfOk, OnOk};
+ghost use Rattle.std.specs.Prelude.{◌≡◌, ◌<◌, ◌≤◌, not, [], ◌∷◌, drop, length, map, All, IfOk, OnOk};
 ghost use Rattle.std.specs.FinSet as set;
 ghost use Rattle.std.specs.List.{list_any};
 ghost use Rattle.ci_word.specs.Numbers.{count_below, numbers_below};
 ghost use Rattle.ci_isa.specs.Effects as effects;
-ghost use Rattle.ci_isa.specs.Sequences.{nth_insn};
 ghost use Rattle.ci_cut.specs.declared.graph.Source.TheVariants.{Made};
-ghost use Rattle.ci_cut.specs.FlowGraph.{node_at, is_source};
-ghost use Rattle.ci_cut.specs.GraphRules.{AreNodes};
+ghost use Rattle.ci_cut.specs.FlowGraph.{is_source};
 ghost use Rattle.ci_cut.specs.Ports as ports;
 ghost use Rattle.ci_unit.specs.Operands.{AreOperands, FitsSomeLimits};
 ghost use Rattle.ci_unit.specs.Reading.{inputs_below, with_inputs, IsSmall, IsWordArg, HasWords};
@@ -107,7 +105,7 @@ fn operations(
     inputs: &[Source],
 ) -> Result<Vec<UnitOp>, AllocError>
     requires same_length { length graph.now.nodes ≡ length insns.now }
-    requires few { length inputs.now ≤ 3 }
+    requires few { length inputs.now ≤ 5 }
     ensures value { let cut = set.contains cut.now in IfOk result (λ ops.
         ops.items ≡ map (terms.op_of insns.now graph.now cut inputs.now) (numbers_below (length insns.now) cut)) }
     ensures words { IfOk result (λ ops. All HasWords ops.items) }
@@ -123,7 +121,7 @@ fn operations(
 
 /// The operation of an instruction whose operands have these sources.
 fn operation(insn: &Insn, sources: &[Source], inputs: &[Source], cut: &Row) -> UnitOp
-    requires { length inputs.now ≤ 3 }
+    requires { length inputs.now ≤ 5 }
     ensures value { result ≡ operation_of insn.now (args_from (set.contains cut.now) inputs.now
         (effects.operands insn.now) sources.now) }
     ensures words { HasWords result }
@@ -169,7 +167,7 @@ fn operation(insn: &Insn, sources: &[Source], inputs: &[Source], cut: &Row) -> U
 
 /// What an operand in this register is, where the source at this place is its own.
 fn argument(register: u8, sources: &[Source], place: usize, inputs: &[Source], cut: &Row) -> Arg
-    requires { length inputs.now ≤ 3 }
+    requires { length inputs.now ≤ 5 }
     ensures value { result
         ≡ arg_at (args_from (set.contains cut.now) inputs.now (register ∷ []) (drop place sources.now)) 0 }
     ensures word { IsWordArg result }
@@ -185,7 +183,7 @@ fn argument(register: u8, sources: &[Source], place: usize, inputs: &[Source], c
 
 /// What an operand of this source is: a member's result, by its number among the members, or an input.
 fn argument_from(source: Source, inputs: &[Source], cut: &Row) -> Arg
-    requires { length inputs.now ≤ 3 }
+    requires { length inputs.now ≤ 5 }
     ensures value { result ≡ arg_from (set.contains cut.now) inputs.now source }
     ensures word { IsWordArg result }
 {
@@ -216,7 +214,7 @@ fn members_below(cut: &Row, node: u8) -> u8
 
 /// The place of the source among the inputs, and past their end where it is none.
 fn place_of(source: Source, inputs: &[Source]) -> u8
-    requires { length inputs.now ≤ 3 }
+    requires { length inputs.now ≤ 5 }
     ensures { result ≡ place_in inputs.now source }
 {
     for (place, input) in inputs.iter().enumerate() {
@@ -228,7 +226,7 @@ fn place_of(source: Source, inputs: &[Source]) -> u8
 }
 
 /// The outputs, by their numbers among the members.
-fn outputs(alloc: Global, graph: &Graph, cut: &Row) -> Result<SmallVec<u8, 2>, AllocError>
+fn outputs(alloc: Global, graph: &Graph, cut: &Row) -> Result<SmallVec<u8, 3>, AllocError>
     ensures { IfOk result (λ outputs. outputs.items ≡ map (λ k. count_below k (set.contains cut.now))
         (numbers_below (length graph.now.nodes) (ports.is_output graph.now (set.contains cut.now)))) }
 {

@@ -7,14 +7,14 @@ use std::hash::{Hash, Hasher};
 use std::marker::Model;
 
 /// The body of one instruction: from 1 to 256 operations in their order, none of them a division or a remainder, of
-/// which one or two are outputs, and the cycles of one use, from 1 to 9,999,999.
+/// which one to three are outputs, and the cycles of one use, from 1 to 9,999,999.
 ///
-/// It has up to three inputs. An operation's arguments are inputs, earlier operations and constants.
+/// It has up to five inputs. An operation's arguments are inputs, earlier operations and constants.
 #[derive(Drop)]
 pub struct Unit {
     ops: Vec<UnitOp>,
     /// The numbers of the operations that are outputs. They rise.
-    outputs: SmallVec<u8, 2>,
+    outputs: SmallVec<u8, 3>,
     cycles: u32,
 }
 
@@ -33,7 +33,7 @@ impl Unit {
     ghost use Rattle.ci_unit.specs.Units.{IsUnit};
 
     /// The unit of these operations, outputs and cycles.
-    pub(crate) fn new(ops: Vec<UnitOp>, outputs: SmallVec<u8, 2>, cycles: u32) -> Unit
+    pub(crate) fn new(ops: Vec<UnitOp>, outputs: SmallVec<u8, 3>, cycles: u32) -> Unit
         requires { IsUnit (record { ops = ops.items; outputs = outputs.items; cycles = cycles }) }
         ensures { result ≡ record { ops = ops.items; outputs = outputs.items; cycles = cycles } }
     {

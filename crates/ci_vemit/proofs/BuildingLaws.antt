@@ -1,15 +1,15 @@
 -- What building the module of a unit needs: one operation more, one unit more, and that the module may be made.
-use Rattle.std.proofs.Common.{◌≡◌, ℕ, false, zero, suc, ◌+◌, ◌<◌, ◌≤◌, List, [], ◌∷◌, ◌++◌, take, length, slice_index_or, Some}
+use Rattle.std.proofs.Common.{◌≡◌, ℕ, Bool, false, zero, suc, ◌+◌, ◌<◌, ◌≤◌, List, [], ◌∷◌, ◌++◌, take, length, slice_index_or, Some}
 use Rattle.std.proofs.Common.{slice_get, refl, sym, ap, ◌∙◌, subst, arith, append_assoc, append-nil}
 use Rattle.std.specs.Prelude.{option_map}
 use Rattle.ci_verilog.specs.declared.expressions.Expr.{Expr}
 use Rattle.ci_verilog.specs.declared.expressions.Wire.{Wire}
-use Rattle.ci_verilog.specs.Modules.{WireList, wires_of, inputs, known_by, IsExpr, AreWires, AreFree}
+use Rattle.ci_verilog.specs.Modules.{WireList, wires_of, inputs, known_by, nothing, IsExpr, AreWires, AreFree}
 use Rattle.ci_unit.specs.declared.operations.UnitOp.{UnitOp}
 use Rattle.ci_unit.specs.Units.{Unit, IsUnit}
 use Rattle.ci_vemit.specs.Laws.{ModulesAreInOrder}
-use Rattle.ci_vemit.specs.Templates.{op_wires, wires_from, output_at, module_of, modules_from, modules_of}
-use Rattle.ci_vemit.proofs.UnitModules.{module_is, output_is_allowed}
+use Rattle.ci_vemit.specs.Templates.{op_wires, wires_from, is_wide, output_at, module_of, modules_from, modules_of}
+use Rattle.ci_vemit.proofs.UnitModules.{module_is, output_is_allowed, nothing_behind}
 
 more_wires : (m n : ℕ) (ops : List UnitOp) (d : UnitOp) → n < length ops
     → wires_from m (take (suc n) ops) ≡ wires_from m (take n ops) ++ op_wires (m + n) (slice_index_or ops n d)
@@ -46,22 +46,30 @@ modules_more k units unit below is =
 
 -- ---- the module may be made
 
-module _ (unit : Unit) (is : IsUnit unit) where
+module _ (unit : Unit) (is : IsUnit unit) (wide : Bool) (wide_is : wide ≡ is_wide unit) where
   module _ (wires : List Wire) (made : wires ≡ wires_from 0 unit.ops) where
-    pub wires_allowed : AreWires (inputs false) wires
-    wires_allowed = subst (λ ws. AreWires (inputs false) ws) (sym made) (module_is 0 unit is).are_wires
+    pub wires_allowed : AreWires (inputs wide) wires
+    wires_allowed =
+        subst (λ b. AreWires (inputs b) wires) (sym wide_is)
+        (subst (λ ws. AreWires (inputs (is_wide unit)) ws) (sym made) (module_is 0 unit is).are_wires)
 
-    pub wires_free : AreFree false wires
-    wires_free = subst (λ ws. AreFree false ws) (sym made) (module_is 0 unit is).are_free
+    pub wires_free : AreFree wide wires
+    wires_free = subst (λ b. AreFree b wires) (sym wide_is) (subst (λ ws. AreFree (is_wide unit) ws) (sym made) (module_is 0 unit is).are_free)
 
     pub wires_few : length wires ≤ 2048
     wires_few = subst (λ ws. length ws ≤ 2048) (sym made) (module_is 0 unit is).few
 
-  pub output_allowed : (wires : WireList) → wires ≡ wires_of false (wires_from 0 unit.ops) → (place : ℕ) (expr : Expr)
-      → expr ≡ output_at unit.outputs place → IsExpr (known_by wires) expr 32
-  output_allowed wires made place expr same =
-      subst (λ ws. IsExpr (known_by ws) expr 32) (sym made)
-      (subst (λ e. IsExpr (known_by (wires_of false (wires_from 0 unit.ops))) e 32) (sym same) (output_is_allowed unit is place))
+    module _ (list : WireList) (list_is : list ≡ wires_of wide wires) where
+      pub list_made : list ≡ wires_of (is_wide unit) (wires_from 0 unit.ops)
+      list_made = list_is ∙ (λ i. wires_of (wide_is i) (made i))
+
+      pub output_allowed : (place : ℕ) (expr : Expr) → expr ≡ output_at unit.outputs place → IsExpr (known_by list) expr 32
+      output_allowed place expr same =
+          subst (λ ws. IsExpr (known_by ws) expr 32) (sym list_made)
+          (subst (λ e. IsExpr (known_by (wires_of (is_wide unit) (wires_from 0 unit.ops))) e 32) (sym same) (output_is_allowed unit is place))
+
+      pub third_is_nothing : (x : Expr) → x ≡ output_at unit.outputs 2 → list.wide ≡ false → x ≡ nothing
+      third_is_nothing x same narrow = same ∙ nothing_behind unit (sym (ap (λ l. l.wide) list_made) ∙ narrow)
 
 -- ---- the order of modules
 

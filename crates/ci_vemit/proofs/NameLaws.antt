@@ -81,3 +81,21 @@ numbered_name_is letter n is small =
       no_word = λ s. no_word_with_digits letter (decimal n) s (decimal_is_IsNumeral n (omega arith)).0;
       short = omega (arith, digits);
     }
+
+-- ---- the further inputs and the further result of a wide module
+
+-- a letter alone that is none of those of the grammar
+abbrev is_further : List ℕ → Bool
+is_further (c ∷ []) = c == 100 || (c == 101 || c == 120)
+is_further bytes = false
+
+no_further_words : (s : Sign) → is_further (spelling s) ≡ false
+no_further_words signs.ModuleWord = refl
+no_further_words s = refl
+
+pub further_name_is : (letter : ℕ) → is_ascii_alphabetic letter ≡ true → is_further (letter ∷ []) ≡ true → IsName (letter ∷ [])
+further_name_is letter is further = record {
+  letters = (is, tt);
+  no_word = λ s e. true_is_not_false (ap is_further (sym e) ∙ further) (no_further_words s);
+  short = omega arith;
+}

@@ -16,13 +16,13 @@ use Rattle.ci_verilog.specs.declared.expressions.Operator.TheVariants as operato
 use Rattle.ci_verilog.specs.declared.expressions.Expr.{Expr}
 use Rattle.ci_verilog.specs.declared.expressions.Wire.{Wire}
 use Rattle.ci_verilog.specs.Modules.{Known, vector, inputs, declared_by, IsSimple, IsItem, AreItems, IsTerm, IsExpr, IsWire}
-use Rattle.ci_vread.specs.declared.tokens.Sign.{Sign}
 use Rattle.ci_vread.specs.declared.tokens.Sign.TheVariants.{NameA, NameB, NameC, LeftBracket, RightBracket, LeftBrace, RightBrace, Comma, Colon, Question}
-use Rattle.ci_vread.specs.Lexicon.{Token, sign, operator, name, number, constant, spelling, operator_spelling, Spells, of_sign, of_operator, of_name}
+use Rattle.ci_vread.specs.Lexicon.{Token, sign, operator, name, number, constant, operator_spelling, Spells, of_sign, of_operator, of_name}
 use Rattle.ci_vread.specs.Grammar.{Fits, its_use, a_use, input_a, input_b, input_c}
 use Rattle.ci_vread.specs.Rules.{bytes_of}
 use Rattle.ci_vread.specs.Spelling.{SpellsSimple, whole_name, one_bit, some_bits, some_constant, repeated, SpellsItem, SpellsItems, SpellsTerm, SpellsExpr}
 use Rattle.ci_vemit.specs.Texts.{simple_text, repeat_text, item_text, term_text, expr_text, IsName}
+use Rattle.ci_vemit.proofs.NameLaws.{further_name_is}
 use Rattle.ci_vemit.proofs.TokenBytes.{is_word, name_joins, word_of_joins}
 use Rattle.ci_vemit.proofs.WrittenPhrases.{Written, none, lone, word, mark, blank, phrase, number_word, number_spelt, constant_spelt, constant_word}
 
@@ -55,17 +55,31 @@ use_of : (bytes : List ℕ) → IsName bytes → IsUse bytes
 use_of bytes is =
     record { its = name bytes; fits = a_use bytes; bytes_are = refl; spelt = name_spelt bytes is; is_word = name_word bytes is }
 
-pub inputs_usable : AllByRecursion IsUsable (inputs false)
-inputs_usable = (
-  input NameA (record { its = sign NameA; fits = input_a; bytes_are = refl; spelt = of_sign NameA; is_word = refl }),
-  (
-    input NameB (record { its = sign NameB; fits = input_b; bytes_are = refl; spelt = of_sign NameB; is_word = refl }),
-    (input NameC (record { its = sign NameC; fits = input_c; bytes_are = refl; spelt = of_sign NameC; is_word = refl }), tt),
-  ),
-)
-  where
-    input : (s : Sign) → IsUse (spelling s) → IsUsable (vector (spelling s) 32)
-    input s is = record { use_is = is; least = lit≤ tt; most = lit≤ tt }
+input_usable : (bytes : List ℕ) → IsUse bytes → IsUsable (vector bytes 32)
+input_usable bytes is = record { use_is = is; least = lit≤ tt; most = lit≤ tt }
+
+a_usable : IsUsable (vector (codes "a") 32)
+a_usable = input_usable (codes "a") (record { its = sign NameA; fits = input_a; bytes_are = refl; spelt = of_sign NameA; is_word = refl })
+
+b_usable : IsUsable (vector (codes "b") 32)
+b_usable = input_usable (codes "b") (record { its = sign NameB; fits = input_b; bytes_are = refl; spelt = of_sign NameB; is_word = refl })
+
+c_usable : IsUsable (vector (codes "c") 32)
+c_usable = input_usable (codes "c") (record { its = sign NameC; fits = input_c; bytes_are = refl; spelt = of_sign NameC; is_word = refl })
+
+pub name_d_is : IsName (codes "d")
+name_d_is = further_name_is 100 refl refl
+
+pub name_e_is : IsName (codes "e")
+name_e_is = further_name_is 101 refl refl
+
+pub name_x_is : IsName (codes "x")
+name_x_is = further_name_is 120 refl refl
+
+pub inputs_usable : (wide : Bool) → AllByRecursion IsUsable (inputs wide)
+inputs_usable false = (a_usable, (b_usable, (c_usable, tt)))
+inputs_usable true =
+    (a_usable, (b_usable, (c_usable, (input_usable (codes "d") (use_of (codes "d") name_d_is), (input_usable (codes "e") (use_of (codes "e") name_e_is), tt)))))
 
 pub wire_usable : (known : List Known) (wire : Wire) → IsName wire.name → IsWire known wire → IsUsable (declared_by wire)
 wire_usable known wire is kept = record { use_is = use_of wire.name is; least = kept.least; most = kept.most }

@@ -1,6 +1,6 @@
 -- How long the text of the modules of units is: no longer than a file of modules that is read.
 use Rattle.std.proofs.Common.{◌≡◌, ℕ, zero, suc, ◌+◌, ◌-◌, ◌*◌, ◌<◌, ◌≤◌, true, List, [], ◌∷◌, ◌++◌, map, length}
-use Rattle.std.proofs.Common.{Contains, decimal, refl, ap, arith, length-append, lit<}
+use Rattle.std.proofs.Common.{Contains, Bool, false, decimal, refl, ap, arith, length-append, lit<, lit≤}
 use Rattle.std.specs.Prelude.{All, codes, nat_le}
 use Rattle.std.specs.List.{flat_map, join_by}
 use Rattle.std.specs.Fmt.{digits}
@@ -27,9 +27,9 @@ use Rattle.ci_unit.specs.Units.{Unit, IsArg, IsUnit}
 use Rattle.ci_unit.specs.Tables.{IsTable}
 use Rattle.ci_vemit.specs.Templates.{input_name, module_of, modules_from, modules_of, numbered, numbered_expr}
 use Rattle.ci_vemit.specs.Templates.{numbered_item, numbered_simple, numbered_term, numbered_wire, op_wires, operand}
-use Rattle.ci_vemit.specs.Templates.{output_at, p, q, t, template, wires_from}
-use Rattle.ci_vemit.specs.Texts.{assign_text, cycles_text, expr_text, header_text, item_text, module_text, ports_text}
-use Rattle.ci_vemit.specs.Texts.{range_text, repeat_text, simple_text, term_text, text_of, wire_text}
+use Rattle.ci_vemit.specs.Templates.{is_wide, output_at, p, q, template, wires_from}
+use Rattle.ci_vemit.specs.Texts.{assign_text, cycles_text, end_text, expr_text, header_text, item_text, module_text, ports_text}
+use Rattle.ci_vemit.specs.Texts.{range_text, repeat_text, simple_text, term_text, text_of, third_text, wire_text}
 use Rattle.ci_vemit.proofs.UnitModules.{AreOps, ops_of_unit}
 
 -- ---- a bound of each part of a template, whose letters get a number of three digits at most
@@ -224,7 +224,9 @@ constant_length word = refl
 name_short : (i : ℕ) → length (input_name i) ≤ 12
 name_short zero = omega arith
 name_short (suc zero) = omega arith
-name_short (suc (suc i)) = omega arith
+name_short (suc (suc zero)) = omega arith
+name_short (suc (suc (suc zero))) = omega arith
+name_short (suc (suc (suc (suc i)))) = omega arith
 
 -- an operand has twelve at most
 operand_short : (n : ℕ) (arg : Arg) → n < 1000 → IsArg n arg → length (term_text (operand arg)) ≤ 12
@@ -267,17 +269,17 @@ op_short n op small left right =
     )
 
 -- so have those of each of several
-ops_short : (n : ℕ) (ops : List UnitOp) → n + length ops ≤ 256 → AreOps n ops
+ops_short : (wide : Bool) (n : ℕ) (ops : List UnitOp) → n + length ops ≤ 256 → AreOps wide n ops
     → length (flat_map wire_text (wires_from n ops)) ≤ 500 * length ops
-ops_short n [] few are = omega arith
-ops_short n (op ∷ ops) few are =
+ops_short wide n [] few are = omega arith
+ops_short wide n (op ∷ ops) few are =
     let whole = ap length (flat_map-append wire_text (op_wires n op) (wires_from (suc n) ops)) in
     omega (
       arith,
       whole,
       length-append (flat_map wire_text (op_wires n op)) (flat_map wire_text (wires_from (suc n) ops)),
-      op_short n op (omega (arith, few)) are.0.left are.0.right,
-      ops_short (suc n) ops (omega (arith, few)) are.1,
+      op_short n op (omega (arith, few)) are.0.is.left are.0.is.right,
+      ops_short wide (suc n) ops (omega (arith, few)) are.1,
     )
 
 -- ---- modules
@@ -308,42 +310,58 @@ cycles_short n few =
     omega (arith, length-append (decimal n) (codes "\n"), length-decimal-le 7 n (lit< tt) (omega (arith, few)) (omega (arith, few)))
 
 -- the line of the name and the ports
-header_short : (k : ℕ) → k < 32 → length (header_text k) ≤ 200
-unfolding header_text ports_text
-header_short k below =
+ports_short : (wide : Bool) → length (ports_text wide) ≤ 150
+unfolding ports_text
+ports_short false = lit≤ tt
+ports_short true = lit≤ tt
+
+header_short : (wide : Bool) (k : ℕ) → k < 32 → length (header_text wide k) ≤ 200
+unfolding header_text
+header_short wide k below =
     omega (
       arith,
-      length-append (decimal k) ports_text,
-      length-append (decimal k ++ ports_text) (codes "\n"),
+      ports_short wide,
+      length-append (decimal k) (ports_text wide),
+      length-append (decimal k ++ ports_text wide) (codes "\n"),
       length-decimal-le 2 k (lit< tt) (omega (arith, below)) (omega (arith, below)),
     )
 
+-- the assignment of the third result
+third_short : (wide : Bool) (x : Expr) → length (third_text wide x) ≤ 13 + length (expr_text x)
+unfolding third_text
+third_short false x = omega arith
+third_short true x = omega (arith, assign_length (codes "x") x)
+
 -- a module has 131,072 bytes at most
 module_short : (k : ℕ) (unit : Unit) → k < 32 → IsUnit unit → length (module_text (module_of k unit)) ≤ 131072
-unfolding module_text
+unfolding module_text end_text
 module_short k unit below is =
     let first = cycles_text unit.cycles in
-    let header = header_text k in
+    let header = header_text (is_wide unit) k in
     let lines = flat_map wire_text (wires_from 0 unit.ops) in
     let y = assign_text (codes "y") (output_at unit.outputs 0) in
     let z = assign_text (codes "z") (output_at unit.outputs 1) in
+    let x = third_text (is_wide unit) (output_at unit.outputs 2) in
     let small : (m : ℕ) → Contains unit.outputs m → m < 1000 =
     λ m has. (let below = is.outputs m has in omega (arith, below, is.few)) in
     omega (
       arith,
-      length-append first (header ++ (lines ++ (y ++ (z ++ codes "endmodule\n")))),
-      length-append header (lines ++ (y ++ (z ++ codes "endmodule\n"))),
-      length-append lines (y ++ (z ++ codes "endmodule\n")),
-      length-append y (z ++ codes "endmodule\n"),
-      length-append z (codes "endmodule\n"),
+      length-append first (header ++ (lines ++ (y ++ (z ++ (x ++ codes "endmodule\n"))))),
+      length-append header (lines ++ (y ++ (z ++ (x ++ codes "endmodule\n")))),
+      length-append lines (y ++ (z ++ (x ++ codes "endmodule\n"))),
+      length-append y (z ++ (x ++ codes "endmodule\n")),
+      length-append z (x ++ codes "endmodule\n"),
+      length-append x (codes "endmodule\n"),
       cycles_short unit.cycles is.cycles_most,
-      header_short k below,
-      ops_short 0 unit.ops (omega (arith, is.few)) (ops_of_unit unit is),
+      header_short (is_wide unit) k below,
+      ops_short (is_wide unit) 0 unit.ops (omega (arith, is.few)) (ops_of_unit unit is),
       is.few,
       assign_length (codes "y") (output_at unit.outputs 0),
       assign_length (codes "z") (output_at unit.outputs 1),
+      third_short (is_wide unit) (output_at unit.outputs 2),
       output_short unit.outputs 0 small,
       output_short unit.outputs 1 small,
+      output_short unit.outputs 2 small,
     )
 
 -- so has each of several

@@ -54,7 +54,6 @@ wires_have_names n (op ∷ ops) few =
 module_spellable : (k : ℕ) (unit : Unit) → k < 32 → IsUnit unit → IsSpellable k (module_of k unit)
 module_spellable k unit below is = record {
   is_module = module_is k unit is;
-  narrow = refl;
   number_is = refl;
   below = below;
   few_cycles = is.cycles_most;

@@ -2,18 +2,19 @@
 use Rattle.std.specs.Prelude.{◌≡◌, ℕ, ◌^◌, ◌<◌, ◌↔◌, List, [], ◌∷◌, slice_get, option_map}
 use Rattle.ci_verilog.specs.Modules.{IsModule}
 use Rattle.ci_verilog.specs.Values.{IsValueOf}
-use Rattle.ci_unit.specs.Units.{Unit, IsUnit, IsPairOf}
+use Rattle.ci_unit.specs.Units.{Unit, IsUnit, IsTripleOf}
 use Rattle.ci_vemit.specs.Templates.{module_of, modules_of}
 
 -- it keeps what every module keeps
 abbrev pub ModulesAreModules : Type 0
 ModulesAreModules = (k : ℕ) (unit : Unit) → IsUnit unit → IsModule (module_of k unit)
 
--- at words it has the values of the unit, and 0, whatever stands for d and e
+-- at words it has the values of the unit
 abbrev pub ModulesComputeUnits : Type 0
 ModulesComputeUnits =
-    (k : ℕ) (unit : Unit) → IsUnit unit → (a b c d e y z : ℕ) → a < 2 ^ 32 → b < 2 ^ 32 → c < 2 ^ 32
-    → IsValueOf (module_of k unit) (a ∷ b ∷ c ∷ d ∷ e ∷ []) (y ∷ z ∷ 0 ∷ []) ↔ IsPairOf unit (a ∷ b ∷ c ∷ []) y z
+    (k : ℕ) (unit : Unit) → IsUnit unit
+    → (a b c d e : ℕ) → a < 2 ^ 32 → b < 2 ^ 32 → c < 2 ^ 32 → d < 2 ^ 32 → e < 2 ^ 32 → (results : List ℕ)
+    → IsValueOf (module_of k unit) (a ∷ b ∷ c ∷ d ∷ e ∷ []) results ↔ IsTripleOf unit (a ∷ b ∷ c ∷ d ∷ e ∷ []) results
 
 -- it has its number, and the unit's cycles
 abbrev pub ModulesKeepCycles : Type 0

@@ -1,7 +1,9 @@
 -- The modules of units, for everybody: the wires that compute each operation, and the module of a unit (RISC-V
 -- Unprivileged ISA 20191213, sections 2.4 and 7.1, operations; IEEE 1364-2005, sections 5.1 and 5.2.1, operators and
 -- parts of vectors).
-use Rattle.std.specs.Prelude.{ℕ, false, zero, suc, List, [], ◌∷◌, ◌++◌, map, codes, Option, Some, None, slice_get}
+use Rattle.std.specs.Prelude.{ℕ, zero, suc, Bool, false, ◌||◌, nat_lt, List, [], ◌∷◌, ◌++◌, length, map, codes}
+use Rattle.std.specs.Prelude.{Option, Some, None, slice_get}
+use Rattle.std.specs.List.{list_any}
 use Rattle.std.specs.Fmt.{decimal}
 use Rattle.ci_word.specs.declared.arithmetic.Op.{Op}
 use Rattle.ci_word.specs.declared.arithmetic.Op.TheVariants.{Add, Sub, Sll, Slt, Sltu, Xor, Srl, Sra, Or, And}
@@ -17,7 +19,7 @@ use Rattle.ci_verilog.specs.declared.expressions.Operator.TheVariants as operato
 use Rattle.ci_verilog.specs.declared.expressions.Expr.{Expr}
 use Rattle.ci_verilog.specs.declared.expressions.Expr.TheVariants.{One, Two, Choose}
 use Rattle.ci_verilog.specs.declared.expressions.Wire.{Wire}
-use Rattle.ci_verilog.specs.Modules.{Module, nothing}
+use Rattle.ci_verilog.specs.Modules.{Module}
 use Rattle.ci_unit.specs.declared.operations.Arg.{Arg}
 use Rattle.ci_unit.specs.declared.operations.Arg.TheVariants.{Input, Earlier, Constant}
 use Rattle.ci_unit.specs.declared.operations.UnitOp.{UnitOp}
@@ -150,7 +152,9 @@ module _ (n : ℕ) where
 abbrev pub input_name : ℕ → List ℕ
 input_name zero = codes "a"
 input_name (suc zero) = codes "b"
-input_name (suc (suc i)) = codes "c"
+input_name (suc (suc zero)) = codes "c"
+input_name (suc (suc (suc zero))) = codes "d"
+input_name (suc (suc (suc (suc i)))) = codes "e"
 
 -- an input, the result of an earlier operation, or a constant
 abbrev pub operand : Arg → Term
@@ -171,6 +175,19 @@ wires_from n (op ∷ ops) = op_wires n op ++ wires_from (suc n) ops
 
 -- ---- modules
 
+-- an input that a narrow module doesn't have
+abbrev pub is_further : Arg → Bool
+is_further (Input i) = nat_lt 2 i
+is_further (Earlier m) = false
+is_further (Constant word) = false
+
+abbrev pub takes_further : UnitOp → Bool
+takes_further op = is_further op.left || is_further op.right
+
+-- an operation takes the fourth or the fifth input, or the unit has three outputs
+abbrev pub is_wide : Unit → Bool
+is_wide unit = list_any takes_further unit.ops || nat_lt 2 (length unit.outputs)
+
 -- the result of an operation, or 0 where there is no output
 abbrev pub result_of : Option ℕ → Expr
 result_of None = One (constant 0)
@@ -180,15 +197,15 @@ result_of (Some n) = One (whole (numbered n t))
 abbrev pub output_at : List ℕ → ℕ → Expr
 output_at outputs k = result_of (slice_get outputs k)
 
--- the module of this number that computes the unit, a narrow one
+-- the module of this number that computes the unit
 abbrev pub module_of : ℕ → Unit → Module
 module_of k unit = record {
   number = k;
   cycles = unit.cycles;
-  wires = record { wide = false; list = wires_from 0 unit.ops };
+  wires = record { wide = is_wide unit; list = wires_from 0 unit.ops };
   y = output_at unit.outputs 0;
   z = output_at unit.outputs 1;
-  x = nothing;
+  x = output_at unit.outputs 2;
 }
 
 -- the modules of these units, of which the first has number k

@@ -1,8 +1,8 @@
 -- The text of modules, for everybody: one statement a line, with no space at its front. A space stands between words,
 -- on both sides of the bounds of a vector that is declared, of `=`, of operators, of `?` and of the `:` of a choice,
 -- and behind commas, and nowhere else. Digits of constants are in lower case.
-use Rattle.std.specs.Prelude.{◌≡◌, ℕ, false, suc, ◌-◌, ◌/◌, ◌%◌, ◌^◌, ◌<◌, ◌≤◌, ◌==◌, nat_le, if◌then◌else◌, List, []}
-use Rattle.std.specs.Prelude.{◌∷◌, ◌++◌, length, codes, ⊤}
+use Rattle.std.specs.Prelude.{◌≡◌, ℕ, suc, ◌-◌, ◌/◌, ◌%◌, ◌^◌, ◌<◌, ◌≤◌, ◌==◌, nat_le, Bool, true, false, if◌then◌else◌}
+use Rattle.std.specs.Prelude.{List, [], ◌∷◌, ◌++◌, length, codes, ⊤}
 use Rattle.std.specs.List.{AllByRecursion, flat_map, join_by}
 use Rattle.std.specs.Fmt.{decimal}
 use Rattle.ci_reading.specs.Hex.{eight_hex_digits}
@@ -67,21 +67,34 @@ wire_text wire =
     line (codes "wire [" ++ (decimal (wire.width - 1) ++ (codes ":0] " ++ (wire.name ++ codes ";"))))
     ++ assign_text wire.name wire.value
 
-unfoldable pub ports_text : List ℕ
-ports_text = codes "(input [31:0] a, input [31:0] b, input [31:0] c, output [31:0] y, output [31:0] z);"
+-- the ports of a narrow module, and of a wide one
+unfoldable pub ports_text : Bool → List ℕ
+ports_text false = codes "(input [31:0] a, input [31:0] b, input [31:0] c, output [31:0] y, output [31:0] z);"
+ports_text true =
+    codes "(input [31:0] a, input [31:0] b, input [31:0] c, input [31:0] d, input [31:0] e, "
+    ++ codes "output [31:0] y, output [31:0] z, output [31:0] x);"
 
 unfoldable pub cycles_text : ℕ → List ℕ
 cycles_text n = line (codes "// cycles " ++ decimal n)
 
-unfoldable pub header_text : ℕ → List ℕ
-header_text number = line (codes "module " ++ (module_name number ++ ports_text))
+unfoldable pub header_text : Bool → ℕ → List ℕ
+header_text wide number = line (codes "module " ++ (module_name number ++ ports_text wide))
+
+-- the result x, of which a narrow module says nothing
+unfoldable pub third_text : Bool → Expr → List ℕ
+third_text false x = []
+third_text true x = assign_text (codes "x") x
+
+-- the results, and the end of the module
+unfoldable pub end_text : Module → List ℕ
+end_text m =
+    assign_text (codes "y") m.y
+    ++ (assign_text (codes "z") m.z ++ (third_text m.wires.wide m.x ++ line (codes "endmodule")))
 
 unfoldable pub module_text : Module → List ℕ
 module_text m =
     cycles_text m.cycles
-    ++ (header_text m.number
-    ++ (flat_map wire_text m.wires.list
-    ++ (assign_text (codes "y") m.y ++ (assign_text (codes "z") m.z ++ line (codes "endmodule")))))
+    ++ (header_text m.wires.wide m.number ++ (flat_map wire_text m.wires.list ++ end_text m))
 
 -- the modules in their order, with nothing between them
 abbrev pub text_of : List Module → List ℕ
@@ -94,10 +107,9 @@ pub record IsName (bytes : List ℕ) : Type 0 where
   pub no_word : (s : Sign) → ¬ (bytes ≡ spelling s)
   pub short : length bytes ≤ 32
 
--- it is a narrow one, its number is this one, and its names and cycles are those of the grammar
+-- its number is this one, and its names and cycles are those of the grammar
 pub record IsSpellable (number : ℕ) (m : Module) : Type 0 where
   pub is_module : IsModule m
-  pub narrow : m.wires.wide ≡ false
   pub number_is : m.number ≡ number
   pub below : number < 32
   pub few_cycles : m.cycles ≤ 9999999

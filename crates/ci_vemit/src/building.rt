@@ -1,10 +1,12 @@
 //! The modules of units.
 ghost use Rattle.std.specs.Prelude.{◌≡◌, IfOk};
+ghost use Rattle.std.specs.List.{list_any};
+ghost use Rattle.ci_vemit.specs.Templates as terms;
 ghost use Rattle.ci_vemit.specs.Templates.{output_at, wires_from, module_of, modules_of};
 
 use crate::parts::{constant, whole};
 use crate::templates::push_operation;
-use ci_unit::{Unit, UnitTable};
+use ci_unit::{Arg, Unit, UnitOp, UnitTable};
 use ci_verilog::{Expr, Module, Wire, Wires};
 use std::alloc::{AllocError, Global};
 
@@ -31,23 +33,61 @@ fn module(alloc: Global, number: u8, unit: &Unit) -> Result<Module, AllocError>
 {
     let wires = wires_of(alloc, unit)?;
     let outputs = unit.outputs();
-    let (y, z) = results(alloc, &wires, outputs)?;
+    let (y, z, x) = results(alloc, &wires, outputs)?;
     let cycles = unit.cycles();
-    let wires = Wires::from_vec(false, wires);
-    Ok(Module::new(number, cycles, wires, y, z, Expr::One(constant(0))))
+    let wires = Wires::from_vec(is_wide(unit), wires);
+    Ok(Module::new(number, cycles, wires, y, z, x))
 }
 
-/// The results of the first two outputs.
-fn results(alloc: Global, wires: &[Wire], outputs: &[u8]) -> Result<(Expr, Expr), AllocError>
-    ensures y { IfOk result (λ both. both.0 ≡ output_at outputs.now 0) }
-    ensures z { IfOk result (λ both. both.1 ≡ output_at outputs.now 1) }
+/// Whether the unit has more than three inputs, of which an operation takes the fourth or the fifth, or three outputs.
+fn is_wide(unit: &Unit) -> bool
+    ensures { result ≡ terms.is_wide unit.now }
+{
+    take_further(unit.ops()) || unit.outputs().len() > 2
+}
+
+/// Whether one of the operations takes an input that a narrow module doesn't have.
+fn take_further(ops: &[UnitOp]) -> bool
+    ensures { result ≡ list_any terms.takes_further ops.now }
+{
+    for op in ops {
+        if is_further(op.left) || is_further(op.right) {
+            return true;
+        }
+    }
+    false
+}
+
+/// Whether the argument is an input that a narrow module doesn't have.
+fn is_further(arg: Arg) -> bool
+    ensures { result ≡ terms.is_further arg }
+{
+    match arg {
+        Arg::Input(i) => i > 2,
+        Arg::Earlier(_) | Arg::Constant(_) => false,
+    }
+}
+
+/// The results of the first three outputs.
+fn results(alloc: Global, wires: &[Wire], outputs: &[u8]) -> Result<(Expr, Expr, Expr), AllocError>
+    ensures y { IfOk result (λ all. all.0 ≡ output_at outputs.now 0) }
+    ensures z { IfOk result (λ all. all.1 ≡ output_at outputs.now 1) }
+    ensures x { IfOk result (λ all. all.2 ≡ output_at outputs.now 2) }
 {
     let y = output(alloc, wires, outputs, 0)?;
-    match output(alloc, wires, outputs, 1) {
-        Ok(z) => Ok((y, z)),
-        // At a `?` the proof would walk through all that an expression can be.
+    // At a `?` the proof would walk through all that an expression can be.
+    let z = match output(alloc, wires, outputs, 1) {
+        Ok(z) => z,
         Err(error) => {
             drop(y);
+            return Err(error);
+        }
+    };
+    match output(alloc, wires, outputs, 2) {
+        Ok(x) => Ok((y, z, x)),
+        Err(error) => {
+            drop(y);
+            drop(z);
             Err(error)
         }
     }

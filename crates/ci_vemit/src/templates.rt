@@ -33,7 +33,9 @@ fn operand(alloc: Global, wires: &[Wire], arg: Arg) -> Result<Term, AllocError>
     match arg {
         Arg::Input(0) => input(alloc, "a"),
         Arg::Input(1) => input(alloc, "b"),
-        Arg::Input(_) => input(alloc, "c"),
+        Arg::Input(2) => input(alloc, "c"),
+        Arg::Input(3) => input(alloc, "d"),
+        Arg::Input(_) => input(alloc, "e"),
         Arg::Earlier(number) => whole(alloc, wires, "t", number),
         Arg::Constant(word) => Ok(constant(word)),
     }

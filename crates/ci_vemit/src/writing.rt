@@ -7,7 +7,7 @@ ghost use Rattle.ci_vread.specs.Spelling.{Spell};
 ghost use Rattle.ci_vemit.specs.Templates.{modules_of};
 ghost use Rattle.ci_vemit.specs.Texts.{hex_digits, range_text, simple_text, repeat_text, item_text, term_text};
 ghost use Rattle.ci_vemit.specs.Texts.{expr_text, assign_text, wire_text, cycles_text, ports_text, header_text};
-ghost use Rattle.ci_vemit.specs.Texts.{module_text, text_of, AreSpellable};
+ghost use Rattle.ci_vemit.specs.Texts.{third_text, end_text, module_text, text_of, AreSpellable};
 
 use crate::building::modules;
 use ci_reading::hex_text;
@@ -201,25 +201,32 @@ fn push_cycles(text: &mut Vec<u8>, cycles: u32) -> Result<(), AllocError>
     push_str(text, "\n")
 }
 
-/// Appends a module's ports.
+/// Appends the ports of a narrow module, or of a wide one.
 #[tactic(auto, unfolding(crate::specs::Texts::ports_text))]
-fn push_ports(text: &mut Vec<u8>) -> Result<(), AllocError>
-    ensures { OnOk result (text.new.items ≡ text.old.items ++ ports_text) }
+fn push_ports(text: &mut Vec<u8>, wide: bool) -> Result<(), AllocError>
+    ensures { OnOk result (text.new.items ≡ text.old.items ++ ports_text wide) }
 {
+    if !wide {
+        return push_str(
+            text,
+            "(input [31:0] a, input [31:0] b, input [31:0] c, output [31:0] y, output [31:0] z);",
+        );
+    }
     push_str(
         text,
-        "(input [31:0] a, input [31:0] b, input [31:0] c, output [31:0] y, output [31:0] z);",
-    )
+        "(input [31:0] a, input [31:0] b, input [31:0] c, input [31:0] d, input [31:0] e, ",
+    )?;
+    push_str(text, "output [31:0] y, output [31:0] z, output [31:0] x);")
 }
 
 /// Appends the line of a module's name and ports.
 #[tactic(auto, unfolding(crate::specs::Texts::header_text))]
-fn push_header(text: &mut Vec<u8>, number: u8) -> Result<(), AllocError>
-    ensures { OnOk result (text.new.items ≡ text.old.items ++ header_text number) }
+fn push_header(text: &mut Vec<u8>, wide: bool, number: u8) -> Result<(), AllocError>
+    ensures { OnOk result (text.new.items ≡ text.old.items ++ header_text wide number) }
 {
     push_str(text, "module ci_")?;
     push_number(text, u32::from(number))?;
-    push_ports(text)?;
+    push_ports(text, wide)?;
     push_str(text, "\n")
 }
 
@@ -228,13 +235,35 @@ fn push_module(text: &mut Vec<u8>, module: &Module) -> Result<(), AllocError>
     ensures { OnOk result (text.new.items ≡ text.old.items ++ module_text «module».now) }
 {
     push_cycles(text, module.cycles())?;
-    push_header(text, module.number())?;
-    for wire in module.wires().as_slice() {
+    let wires = module.wires();
+    push_header(text, wires.is_wide(), module.number())?;
+    for wire in wires.as_slice() {
         push_wire(text, wire)?;
     }
+    push_end(text, module)
+}
+
+/// Appends the assignments of a module's results, and its end.
+#[tactic(auto, unfolding(crate::specs::Texts::end_text))]
+fn push_end(text: &mut Vec<u8>, module: &Module) -> Result<(), AllocError>
+    ensures { OnOk result (text.new.items ≡ text.old.items ++ end_text «module».now) }
+{
     push_assign(text, b"y", module.y())?;
     push_assign(text, b"z", module.z())?;
+    push_third(text, module.wires().is_wide(), module.x())?;
     push_str(text, "endmodule\n")
+}
+
+/// Appends the assignment of the result x of a wide module.
+#[tactic(auto, unfolding(crate::specs::Texts::third_text))]
+fn push_third(text: &mut Vec<u8>, wide: bool, x: &Expr) -> Result<(), AllocError>
+    ensures { OnOk result (text.new.items ≡ text.old.items ++ third_text wide x.now) }
+{
+    if wide {
+        push_assign(text, b"x", x)
+    } else {
+        Ok(())
+    }
 }
 
 /// The text of the modules, in their order: one statement a line.

@@ -28,8 +28,8 @@ pub enum Op {
 
 /// A kind of instruction with a latency of its own.
 ///
-/// `Shift` is a shift by a register, `ShiftConst` one by a constant. `Free` is what has no latency of its
-/// own: unit words, reads of the hidden register, the canonical no-op, and words that are no instruction.
+/// `Shift` is a shift by a register, `ShiftConst` one by a constant. `Free` is what has no latency of its own: unit
+/// words, `cread` and `cput`, the canonical no-op, and words that are no instruction.
 #[derive(Clone, Copy, Debug, PartialEq, Eq)]
 pub enum Class {
     Add,
