@@ -14,7 +14,8 @@ use Rattle.ci_isa.proofs.LastWriter.{written}
 use Rattle.ci_lat.specs.Latencies.{Latencies}
 use Rattle.ci_machine.specs.Cores.{first_hidden}
 use Rattle.ci_machine.specs.Agreement.{writes}
-use Rattle.ci_machine.proofs.NamedReads.{reads, needed, needed_behind, reads_is, writes_is}
+use Rattle.ci_machine.proofs.NamedReads.{reads, needed, needed_behind, reads_is}
+use Rattle.ci_machine.proofs.NamedReads.{writes_is}
 use Rattle.ci_cut.specs.FlowGraph.{node_at}
 use Rattle.ci_dfg.specs.BlockGraph.{is_written_after, graph_of}
 use Rattle.ci_dfg.proofs.ArcLaws.{found_among}

@@ -1,9 +1,11 @@
--- Units that ignore the hidden operands do what units do that take none.
-use Rattle.std.specs.Prelude.{◌≡◌, ℕ, zero, suc, ◌+◌, ◌<◌, ◌↔◌, Bool, false, List, [], ◌∷◌, ◌++◌, length, All, Option, Some, None}
-use Rattle.std.proofs.Common.{refl, sym, ap, ◌∙◌, subst, arith, lit<}
+-- Units of which some ignore the hidden operands do what units do of which these take none.
+use Rattle.std.specs.Prelude.{◌≡◌, ℕ, ◌+◌, ◌<◌, ◌↔◌, if◌then◌else◌, Bool, true, false, not, List, [], ◌∷◌, ◌++◌, length, All, Option, Some, None}
+use Rattle.std.proofs.Common.{refl, sym, ap, ◌∙◌, subst, arith, lit<, true≢false}
+use Rattle.std.proofs.lemmas.Bool.{and_parts}
 use Rattle.std.proofs.lemmas.List.Elements.{All-nil, All-cons, All-head, All-tail, All-contains}
 use Rattle.ci_isa.specs.declared.instruction.Insn.{Insn}
 use Rattle.ci_isa.specs.declared.instruction.Insn.TheVariants.{Unit}
+use Rattle.ci_isa.specs.Effects.{is_among, is_kept}
 use Rattle.ci_isa.specs.Sequences.{nth_insn}
 use Rattle.ci_elf.specs.WordLists.{AreWords}
 use Rattle.ci_machine.specs.declared.ends.End.{End}
@@ -13,11 +15,12 @@ use Rattle.ci_machine.specs.Cores.{Core, hidden, hidden_operands, values_in, wit
 use Rattle.ci_machine.specs.Outcomes.{Next, Reached, reached, continued, from_end, at_start}
 use Rattle.ci_machine.specs.Words.{AreTaken, HoldsWords, MakesWords}
 use Rattle.ci_machine.proofs.ExtendedMeaning.{five_words}
+use Rattle.ci_machine.proofs.TestLaws.{by_test}
 use Rattle.ci_machine.proofs.WordLaws.{lists_words}
 use Rattle.ci_unit.specs.Units as terms
-use Rattle.ci_rewrite.specs.BareWords.{OfUnit}
 use Rattle.ci_rewrite.specs.SameEffect.{IgnoresOperands, ComputesUnit, HasSameEffect}
-use Rattle.ci_rewrite.proofs.NamedUnits.{ServeNamed, ComputesNamed}
+use Rattle.ci_rewrite.proofs.BareWordLaws.{stands_bare, bare_along, bare_from}
+use Rattle.ci_rewrite.proofs.PassedUnits.{ServePassed, ComputesPassed}
 
 -- ---- units that do the same
 
@@ -47,113 +50,133 @@ effect_carried left right text set old new old_same new_same effect = record {
 
 -- ---- bare units
 
--- the units without the hidden operands, in whose place they take zeros
-abbrev pub bare_units : Units → Units
-bare_units units = record { further = λ number. []; results = λ number values. units.results number (values ++ 0 ∷ 0 ∷ []) }
-
--- the instruction makes words of words, and the unit of a unit word ignores the hidden operands
-abbrev pub IsBare : Units → Insn → Type 0
-IsBare units insn = MakesWords units insn × OfUnit (IgnoresOperands units) insn
-
-module _ (units : Units) (operands : (number : ℕ) → units.further number ≡ hidden_operands) where
-  abbrev bares : Units
-  bares = bare_units units
-
-  -- ---- words
-
-  with_zeros : (values : List ℕ) → length values ≡ 3 → AreWords values
-      → (length (values ++ 0 ∷ 0 ∷ []) ≡ 5) × AreWords (values ++ 0 ∷ 0 ∷ [])
-  with_zeros (a ∷ b ∷ c ∷ []) three words = (refl, five_words a b c 0 0 (words 0) (words 1) (words 2) (lit< tt) (lit< tt))
-  with_zeros values three words = absurd (omega (arith, three))
-
-  bare_words : (number : ℕ) → ((values : List ℕ) → AreTaken units number values → AreWords (units.results number values))
-      → (values : List ℕ) → AreTaken bares number values → AreWords (bares.results number values)
-  bare_words number words values taken =
-      let (five, are) = with_zeros values taken.count taken.words in
-      words (values ++ 0 ∷ 0 ∷ []) (record { count = five ∙ ap (λ l. 3 + length l) (sym (operands number)); words = are })
-
-  bare_makes : (insn : Insn) → MakesWords units insn → MakesWords bares insn
-  bare_makes (Unit number rd rs1 rs2 rs3) makes = bare_words number makes
-  bare_makes insn makes = makes
-
-  pub serve_named : (insns : List Insn) → ((k : ℕ) → k < length insns → MakesWords units (nth_insn insns k)) → ServeNamed bares insns
-  serve_named insns words = record {
-    named = λ number. refl;
-    words = λ k below. bare_makes (nth_insn insns k) (words k below);
+module _ (bare : ℕ → Bool) where
+  -- the units, of which those of the test take no hidden operands, but zeros in their place
+  abbrev pub bare_units : Units → Units
+  bare_units units = record {
+    further = λ number. if bare number then [] else units.further number;
+    results = λ number values. if bare number then units.results number (values ++ 0 ∷ 0 ∷ []) else units.results number values;
   }
 
-  -- ---- what they compute
+  module _ (units : Units) (operands : (number : ℕ) → units.further number ≡ hidden_operands)
+      (ignores : (number : ℕ) → bare number ≡ true → IgnoresOperands units number) where
+    abbrev bares : Units
+    bares = bare_units units
 
-  module _ (number : ℕ) (unit : terms.Unit) (computes : ComputesUnit units number unit) where
-    pub computes_named : ComputesNamed bares number unit
-    computes_named = record {
-      words = bare_words number computes.words;
-      value = λ values taken. of_three values taken.count taken.words;
+    -- ---- words
+
+    with_zeros : (values : List ℕ) → length values ≡ 3 → AreWords values
+        → (length (values ++ 0 ∷ 0 ∷ []) ≡ 5) × AreWords (values ++ 0 ∷ 0 ∷ [])
+    with_zeros (a ∷ b ∷ c ∷ []) three words = (refl, five_words a b c 0 0 (words 0) (words 1) (words 2) (lit< tt) (lit< tt))
+    with_zeros values three words = absurd (omega (arith, three))
+
+    bare_words : (number : ℕ) → ((values : List ℕ) → AreTaken units number values → AreWords (units.results number values))
+        → (values : List ℕ) → AreTaken bares number values → AreWords (bares.results number values)
+    bare_words number words values taken = by_number (bare number) taken.count
+      where
+        by_number : (b : Bool) → length values ≡ 3 + length (if b then [] else units.further number)
+            → AreWords (if b then units.results number (values ++ 0 ∷ 0 ∷ []) else units.results number values)
+        by_number true three =
+            let (five, are) = with_zeros values three taken.words in
+            words (values ++ 0 ∷ 0 ∷ []) (record { count = five ∙ ap (λ l. 3 + length l) (sym (operands number)); words = are })
+        by_number false five = words values (record { count = five; words = taken.words })
+
+    bare_makes : (insn : Insn) → MakesWords units insn → MakesWords bares insn
+    bare_makes (Unit number rd rs1 rs2 rs3) makes = bare_words number makes
+    bare_makes insn makes = makes
+
+    -- ---- what a list needs of them
+
+    pub serve_passed : (insns : List Insn) → ((m : ℕ) → stands_bare insns m ≡ true → bare m ≡ true)
+        → ((k : ℕ) → k < length insns → MakesWords units (nth_insn insns k)) → ServePassed bares insns
+    serve_passed insns stand words = record {
+      operands = λ number r. passed number r (bare number);
+      bare = bare_along (λ number. bares.further number ≡ []) insns
+          (bare_from (λ number. bares.further number ≡ []) insns (λ number is. ap (λ b. if b then [] else units.further number) (stand number is)));
+      words = λ k below. bare_makes (nth_insn insns k) (words k below);
     }
       where
-        of_three : (values : List ℕ) → length values ≡ 3 → AreWords values
-            → (first second third : ℕ) × (bares.results number values ≡ first ∷ second ∷ third ∷ []) × terms.IsPairOf unit values first second
-        of_three (a ∷ b ∷ c ∷ []) three words =
-            let (first, second, same, pair) = computes.value a b c words in (first, second, 0, same 0 0 (lit< tt) (lit< tt), pair)
-        of_three values three words = absurd (omega (arith, three))
+        passed : (number r : ℕ) (b : Bool) → is_among (if b then [] else units.further number) r ≡ true → is_among hidden_operands r ≡ true
+        passed number r true among = absurd (true≢false (sym (and_parts (is_kept r) false among).1))
+        passed number r false among = ap (λ l. is_among l r) (sym (operands number)) ∙ among
 
-    -- the unit gives the same whatever the hidden operands are
-    pub unit_ignores : IgnoresOperands units number
-    unit_ignores a b c d e words =
-        let (first, second, same, pair) = computes.value a b c three in
-        same d e (words 3) (words 4) ∙ sym (same 0 0 (lit< tt) (lit< tt))
+    -- ---- what they compute
+
+    module _ (passes : Bool) (number : ℕ) (unit : terms.Unit) (computes : ComputesUnit units number unit)
+        (three : passes ≡ false → bare number ≡ true) where
+      pub computes_passed : ComputesPassed bares passes number unit
+      computes_passed = record {
+        takes = not (bare number);
+        further = further (bare number);
+        passed = λ takes. by_test passes (λ is. is) (λ none. absurd (true≢false (sym takes ∙ ap not (three none))));
+        words = bare_words number computes.words;
+        value = λ a b c d e words. value a b c d e words (bare number) (ignores number);
+      }
+        where
+          further : (b : Bool) → (if b then [] else units.further number) ≡ (if not b then hidden_operands else [])
+          further true = refl
+          further false = operands number
+
+          value : (a b c d e : ℕ) → AreWords (a ∷ b ∷ c ∷ d ∷ e ∷ []) → (t : Bool) → (t ≡ true → IgnoresOperands units number)
+              → terms.IsTripleOf unit (a ∷ b ∷ c ∷ d ∷ e ∷ [])
+              (if t then units.results number ((a ∷ b ∷ c ∷ (if not t then d ∷ e ∷ [] else [])) ++ 0 ∷ 0 ∷ [])
+              else units.results number (a ∷ b ∷ c ∷ (if not t then d ∷ e ∷ [] else [])))
+          value a b c d e words true ignoring =
+              subst (terms.IsTripleOf unit (a ∷ b ∷ c ∷ d ∷ e ∷ [])) (ignoring refl a b c d e words) (computes.value a b c d e words)
+          value a b c d e words false ignoring = computes.value a b c d e words
+
+    -- ---- what instructions do
+
+    same_results : (number : ℕ) (core : Core) (rs1 rs2 rs3 : ℕ) → HoldsWords core → (b : Bool) → (b ≡ true → IgnoresOperands units number)
+        → units.results number (values_in core (rs1 ∷ rs2 ∷ rs3 ∷ units.further number))
+        ≡ (if b then units.results number (values_in core (rs1 ∷ rs2 ∷ rs3 ∷ (if b then [] else units.further number)) ++ 0 ∷ 0 ∷ [])
+        else units.results number (values_in core (rs1 ∷ rs2 ∷ rs3 ∷ (if b then [] else units.further number))))
+    same_results number core rs1 rs2 rs3 holds true ignoring =
+        ap (λ further. units.results number (values_in core (rs1 ∷ rs2 ∷ rs3 ∷ further))) (operands number)
+        ∙ ignoring refl _ _ _ _ _
+        (five_words _ _ _ _ _ (holds.registers rs1) (holds.registers rs2) (holds.registers rs3) (holds.registers 34) (holds.registers 35))
+    same_results number core rs1 rs2 rs3 holds false ignoring = refl
+
+    same_act : (insn : Insn) (core : Core) → HoldsWords core → act units insn core ≡ act bares insn core
+    same_act (Unit number rd rs1 rs2 rs3) core holds =
+        ap (λ results. Next (with_registers core (rd ∷ hidden) results)) (same_results number core rs1 rs2 rs3 holds (bare number) (ignores number))
+    same_act insn core holds = refl
+
+    same_step : (insn : Insn) (run : Reached Core) → HoldsWords run.state → continued (act units insn) run ≡ continued (act bares insn) run
+    same_step insn run holds = by_end run.end
       where
-        three : AreWords (a ∷ b ∷ c ∷ [])
-        three zero = words 0
-        three (suc zero) = words 1
-        three (suc (suc zero)) = words 2
-        three (suc (suc (suc k))) = lit< tt
+        by_end : (end : Option End) → from_end (act units insn) run end ≡ from_end (act bares insn) run end
+        by_end None = ap (reached run.state) (same_act insn run.state holds)
+        by_end (Some e) = refl
 
-  -- ---- what instructions do
+    words_stay : (insn : Insn) (run : Reached Core) → MakesWords units insn → HoldsWords run.state → HoldsWords (continued (act units insn) run).state
+    words_stay insn run makes holds = lists_words units (insn ∷ []) run
+        (λ other. All-contains (MakesWords units) (insn ∷ []) other (All-cons (MakesWords units) insn [] makes (All-nil (MakesWords units)))) holds
 
-  same_act : (insn : Insn) (core : Core) → IsBare units insn → HoldsWords core → act units insn core ≡ act bares insn core
-  same_act (Unit number rd rs1 rs2 rs3) core bare holds =
-      ap (λ results. Next (with_registers core (rd ∷ hidden) results))
-      (ap (λ further. units.results number (values_in core (rs1 ∷ rs2 ∷ rs3 ∷ further))) (operands number)
-      ∙ bare.1 _ _ _ _ _
-      (five_words _ _ _ _ _ (holds.registers rs1) (holds.registers rs2) (holds.registers rs3) (holds.registers 34) (holds.registers 35)))
-  same_act insn core bare holds = refl
+    -- ---- what lists do
 
-  same_step : (insn : Insn) (run : Reached Core) → IsBare units insn → HoldsWords run.state
-      → continued (act units insn) run ≡ continued (act bares insn) run
-  same_step insn run bare holds = by_end run.end
-    where
-      by_end : (end : Option End) → from_end (act units insn) run end ≡ from_end (act bares insn) run end
-      by_end None = ap (reached run.state) (same_act insn run.state bare holds)
-      by_end (Some e) = refl
+    same_runs : (insns : List Insn) (run : Reached Core) → All (MakesWords units) insns → HoldsWords run.state
+        → act_all units insns run ≡ act_all bares insns run
+    same_runs [] run makes holds = refl
+    same_runs (insn ∷ insns) run makes holds =
+        same_runs insns (continued (act units insn) run) (All-tail (MakesWords units) insn insns makes)
+        (words_stay insn run (All-head (MakesWords units) insn insns makes) holds)
+        ∙ ap (act_all bares insns) (same_step insn run holds)
 
-  words_stay : (insn : Insn) (run : Reached Core) → IsBare units insn → HoldsWords run.state → HoldsWords (continued (act units insn) run).state
-  words_stay insn run bare holds = lists_words units (insn ∷ []) run
-      (λ other. All-contains (MakesWords units) (insn ∷ []) other (All-cons (MakesWords units) insn [] bare.0 (All-nil (MakesWords units)))) holds
+    same_leaving : (text : ℕ → Bool) (insns : List Insn) (run : Reached Core) → All (MakesWords units) insns → HoldsWords run.state
+        → AllLeaveText units text insns run ↔ AllLeaveText bares text insns run
+    same_leaving text [] run makes holds = (λ clear. clear, λ clear. clear)
+    same_leaving text (insn ∷ insns) run makes holds =
+        let (there, back) =
+        same_leaving text insns (continued (act units insn) run) (All-tail (MakesWords units) insn insns makes)
+        (words_stay insn run (All-head (MakesWords units) insn insns makes) holds) in
+        let step = same_step insn run holds in (
+          λ clear. (clear.0, subst (AllLeaveText bares text insns) step (there clear.1)),
+          λ clear. (clear.0, back (subst (AllLeaveText bares text insns) (sym step) clear.1)),
+        )
 
-  -- ---- what lists do
-
-  same_runs : (insns : List Insn) (run : Reached Core) → All (IsBare units) insns → HoldsWords run.state → act_all units insns run ≡ act_all bares insns run
-  same_runs [] run bare holds = refl
-  same_runs (insn ∷ insns) run bare holds =
-      let here = All-head (IsBare units) insn insns bare in
-      same_runs insns (continued (act units insn) run) (All-tail (IsBare units) insn insns bare) (words_stay insn run here holds)
-      ∙ ap (act_all bares insns) (same_step insn run here holds)
-
-  same_leaving : (text : ℕ → Bool) (insns : List Insn) (run : Reached Core) → All (IsBare units) insns → HoldsWords run.state
-      → AllLeaveText units text insns run ↔ AllLeaveText bares text insns run
-  same_leaving text [] run bare holds = (λ clear. clear, λ clear. clear)
-  same_leaving text (insn ∷ insns) run bare holds =
-      let here = All-head (IsBare units) insn insns bare in
-      let (there, back) =
-      same_leaving text insns (continued (act units insn) run) (All-tail (IsBare units) insn insns bare) (words_stay insn run here holds) in
-      let step = same_step insn run here holds in (
-        λ clear. (clear.0, subst (AllLeaveText bares text insns) step (there clear.1)),
-        λ clear. (clear.0, back (subst (AllLeaveText bares text insns) (sym step) clear.1)),
-      )
-
-  pub do_the_same : (insns : List Insn) → All (IsBare units) insns → DoTheSame units bares insns
-  do_the_same insns bare = record {
-    runs = λ core holds. same_runs insns (at_start core) bare holds;
-    leaves_text = λ text core holds. same_leaving text insns (at_start core) bare holds;
-  }
+    pub do_the_same : (insns : List Insn) → All (MakesWords units) insns → DoTheSame units bares insns
+    do_the_same insns makes = record {
+      runs = λ core holds. same_runs insns (at_start core) makes holds;
+      leaves_text = λ text core holds. same_leaving text insns (at_start core) makes holds;
+    }

@@ -1,6 +1,6 @@
 -- Where the words of a block's bundles stand in its folded block.
-use Rattle.std.proofs.Common.{◌≡◌, ℕ, ◌+◌, ◌<◌, Bool, true, false, not, ◌&&◌, List, ◌++◌, length, replicate}
-use Rattle.std.proofs.Common.{refl, sym, ap, ◌∙◌, arith, if◌then◌else◌, append_assoc, add-one}
+use Rattle.std.proofs.Common.{◌≡◌, ℕ, zero, suc, ◌+◌, ◌<◌, Bool, true, false, not, ◌&&◌, List, ◌++◌, length, replicate}
+use Rattle.std.proofs.Common.{refl, sym, ap, ◌∙◌, arith, if◌then◌else◌, append_assoc, inl, inr, true≢false}
 use Rattle.std.proofs.lemmas.List.{get_or-map, get_or_append_left, get_or-append-add, length-append, length-map}
 use Rattle.std.specs.FinSet as finite
 use Rattle.std.specs.Ordering.{nat_cmp}
@@ -8,37 +8,42 @@ use Rattle.ci_word.specs.Numbers.{numbers_below, count_below}
 use Rattle.ci_word.proofs.NumberLaws.{length-numbers_below}
 use Rattle.ci_isa.specs.declared.instruction.Insn.{Insn}
 use Rattle.ci_isa.specs.declared.instruction.Insn.TheVariants.{Ebreak}
-use Rattle.ci_isa.specs.Effects.{is_unit, is_cread}
 use Rattle.ci_isa.specs.Sequences.{nth_insn}
 use Rattle.ci_lat.specs.Latencies.{Latencies}
 use Rattle.ci_machine.proofs.TestLaws.{by_test}
 use Rattle.ci_cut.proofs.RisingCounts.{count_below-one, count_below-more}
-use Rattle.ci_dfg.specs.Arcs.{IsBundle}
-use Rattle.ci_dfg.specs.BlockGraph.{graph_of}
+use Rattle.ci_dfg.specs.BlockGraph.{graph_of, is_joined, stay_together}
 use Rattle.ci_unit.specs.Uses.{use_of}
 use Rattle.ci_unit.proofs.CountLaws.{number_there, same_count}
 use Rattle.ci_rewrite.specs.FoldedBlock.{no_op, places_left, those, IsFolded}
-use Rattle.ci_rewrite.specs.SameEffect.{KeepsBundles}
-use Rattle.ci_rewrite.proofs.CutNodes.{IsFolding, late, late_from, bundle_within, unit_outside, cread_outside, same_side}
+use Rattle.ci_rewrite.specs.SameEffect.{KeepsBundles, StandsInBundle}
+use Rattle.ci_rewrite.proofs.CutNodes.{IsFolding, late, late_from, joined_within, first_outside, second_outside, same_side}
 
 -- ---- several folds
 
 pub bundles_stay : (insns : List Insn) → KeepsBundles insns insns
-bundles_stay insns = record { place = λ u. u; unit_word = λ u is. refl; cread_behind = λ u is. refl; apart = λ u v is other same. same }
+bundles_stay insns =
+    record { place = λ u. u; first = λ u is. refl; second = λ u is. refl; behind = λ u is. refl; apart = λ u v is other same. same }
 
 pub bundles_join : (insns folded last : List Insn) → KeepsBundles insns folded → KeepsBundles folded last → KeepsBundles insns last
 bundles_join insns folded last first second = record {
   place = λ u. second.place (first.place u);
-  unit_word = λ u is. second.unit_word (first.place u) (kept u is) ∙ first.unit_word u is;
-  cread_behind = λ u is. second.cread_behind (first.place u) (kept u is) ∙ first.cread_behind u is;
-  apart = λ u v is other same. first.apart u v is other (second.apart (first.place u) (first.place v) (kept u is) (kept v other) same);
+  first = λ u is. second.first (first.place u) (kept u is) ∙ first.first u is;
+  second = λ u is.
+      ap (λ k. nth_insn last (second.place k)) (first.behind u is) ∙ second.second (first.place u) (kept u is)
+      ∙ ap (nth_insn folded) (sym (first.behind u is)) ∙ first.second u is;
+  behind = λ u is. ap second.place (first.behind u is) ∙ second.behind (first.place u) (kept u is);
+  apart = λ u v is other same. first.apart u v is other (second.apart (first.place u) (first.place v) (in_bundle u is) (in_bundle v other) same);
 }
   where
-    kept : (u : ℕ) → IsBundle insns u → IsBundle folded (first.place u)
-    kept u is = record {
-      unit_word = ap is_unit (first.unit_word u is) ∙ is.unit_word;
-      cread_behind = ap is_cread (first.cread_behind u is) ∙ is.cread_behind;
-    }
+    kept : (u : ℕ) → is_joined insns (suc u) ≡ true → is_joined folded (suc (first.place u)) ≡ true
+    kept u is =
+        (λ i. stay_together (first.first u is i) ((ap (nth_insn folded) (sym (first.behind u is)) ∙ first.second u is) i)) ∙ is
+
+    in_bundle : (u : ℕ) → StandsInBundle insns u → StandsInBundle folded (first.place u)
+    in_bundle zero (inl never) = absurd (true≢false (sym never))
+    in_bundle (suc u) (inl is) = inl (ap (is_joined folded) (first.behind u is) ∙ kept u is)
+    in_bundle u (inr is) = inr (kept u is)
 
 -- ---- places of those that pass a test
 
@@ -86,14 +91,16 @@ module _ {insns : List Insn} {live_out : finite.FinSet nat_cmp} {table : Latenci
       ∙ get_or-append-add (those insns early ++ middle) (those insns (late known)) (count_below k (late known)) Ebreak
       ∙ nth_those insns (late known) k there (late_from known k outside none))
 
-  place_behind : (u : ℕ) → IsBundle insns u → place u + 1 ≡ place (u + 1)
-  place_behind u bundle = by_test (early u)
-      (λ is.
-      let next = ap (λ k. count_below k early) (add-one u) ∙ count_below-one early u is in
-      omega (arith, early_place u is, early_place (u + 1) (sym (same_side known u bundle) ∙ is), next))
+  place_behind : (u : ℕ) → is_joined insns (suc u) ≡ true → place (suc u) ≡ suc (place u)
+  place_behind u joined = by_test (early u)
+      (λ is. omega (arith, early_place u is, early_place (suc u) (sym (same_side known u joined) ∙ is), count_below-one early u is))
       (λ none.
-      let next = ap (λ k. count_below k (late known)) (add-one u) ∙ count_below-one (late known) u (late_from known u (unit_outside known u bundle) none) in
-      omega (arith, late_place u none, late_place (u + 1) (sym (same_side known u bundle) ∙ none), next))
+      omega (
+        arith,
+        late_place u none,
+        late_place (suc u) (sym (same_side known u joined) ∙ none),
+        count_below-one (late known) u (late_from known u (first_outside known u joined) none),
+      ))
 
   early_before : (j k : ℕ) → j < length insns → early j ≡ true → early k ≡ false → place j < place k
   early_before j k there is none =
@@ -112,13 +119,24 @@ module _ {insns : List Insn} {live_out : finite.FinSet nat_cmp} {table : Latenci
   bundles_kept : KeepsBundles insns folded
   bundles_kept = record {
     place = place;
-    unit_word = λ u is. stands u (unit_within u is) (unit_outside known u is);
-    cread_behind = λ u is. ap (nth_insn folded) (place_behind u is) ∙ stands (u + 1) (bundle_within insns u is) (cread_outside known u is);
-    apart = λ u v is other. places_differ u v (unit_within u is) (unit_within v other) (unit_outside known u is) (unit_outside known v other);
+    first = λ u is. stands u (first_within u is) (first_outside known u is);
+    second = λ u is. stands (suc u) (joined_within known u is) (second_outside known u is);
+    behind = place_behind;
+    apart = λ u v is other. places_differ u v (in_bundle_within u is) (in_bundle_within v other) (in_bundle_outside u is) (in_bundle_outside v other);
   }
     where
-      unit_within : (u : ℕ) → IsBundle insns u → u < length insns
-      unit_within u is = let within = bundle_within insns u is in omega (arith, within)
+      first_within : (u : ℕ) → is_joined insns (suc u) ≡ true → u < length insns
+      first_within u is = let within = joined_within known u is in omega arith
+
+      in_bundle_within : (u : ℕ) → StandsInBundle insns u → u < length insns
+      in_bundle_within zero (inl never) = absurd (true≢false (sym never))
+      in_bundle_within (suc u) (inl is) = joined_within known u is
+      in_bundle_within u (inr is) = first_within u is
+
+      in_bundle_outside : (u : ℕ) → StandsInBundle insns u → cut u ≡ false
+      in_bundle_outside zero (inl never) = absurd (true≢false (sym never))
+      in_bundle_outside (suc u) (inl is) = second_outside known u is
+      in_bundle_outside u (inr is) = first_outside known u is
 
 pub keeps_bundles : {insns : List Insn} {live_out : finite.FinSet nat_cmp} {table : Latencies} {cut early : ℕ → Bool} {n : ℕ}
     (known : IsFolding insns live_out table cut early n) (number : ℕ) (folded : List Insn)

@@ -1,6 +1,6 @@
 -- The unit of a cut, in one step, makes what the members make one after the other.
 use Rattle.std.specs.Prelude.{◌≡◌, ◌≢◌, ℕ, zero, suc, ◌+◌, ◌%◌, ◌^◌, ◌<◌, ◌≤◌, Bool, true, false, not, ◌&&◌, ◌||◌, ◌==◌, if◌then◌else◌}
-use Rattle.std.specs.Prelude.{List, [], ◌∷◌, length, slice_index}
+use Rattle.std.specs.Prelude.{List, length, slice_index}
 use Rattle.std.specs.FinSet as finite
 use Rattle.std.specs.List.{list_any}
 use Rattle.std.specs.Ordering.{nat_cmp}
@@ -20,14 +20,16 @@ use Rattle.ci_isa.proofs.LastPassing.{IsLast, last_or_none}
 use Rattle.ci_isa.proofs.LastWriter.{written, last_writer, latest_writer_is_last, no_writer}
 use Rattle.ci_isa.proofs.OperandLaws.{operand_below, single_result, joins}
 use Rattle.ci_lat.specs.Latencies.{Latencies}
-use Rattle.ci_machine.specs.Cores.{Core, first_hidden, register}
+use Rattle.ci_machine.specs.Cores.{Core, first_hidden, register, values_in}
+use Rattle.ci_rewrite.specs.Bundles.{taken_from}
 use Rattle.ci_machine.specs.Actions.{Units}
 use Rattle.ci_machine.specs.Agreement.{acted}
 use Rattle.ci_machine.specs.Blocks.{HaveSameStreams}
 use Rattle.ci_machine.proofs.RegisterLaws.{register_written}
 use Rattle.ci_machine.proofs.TestLaws.{either_first}
 use Rattle.ci_cut.specs.declared.graph.Source.{Source}
-use Rattle.ci_cut.specs.declared.graph.Source.TheVariants.{Entry, Made}
+use Rattle.ci_cut.specs.declared.graph.Source.TheVariants.{Entry}
+use Rattle.ci_cut.specs.declared.graph.Source.TheVariants.{Made}
 use Rattle.ci_cut.specs.FlowGraph.{FlowGraph, node_at, is_source}
 use Rattle.ci_cut.specs.Ports.{is_outside, is_output}
 use Rattle.ci_cut.proofs.RisingCounts.{count_below-more}
@@ -36,7 +38,9 @@ use Rattle.ci_dfg.specs.BlockGraph.{source_from, source_of, graph_of}
 use Rattle.ci_dfg.proofs.ArcLaws.{found_among}
 use Rattle.ci_dfg.proofs.BlockIsGraph.{node_at_within}
 use Rattle.ci_unit.specs.declared.operations.Arg.{Arg}
-use Rattle.ci_unit.specs.declared.operations.Arg.TheVariants.{Input, Earlier, Constant}
+use Rattle.ci_unit.specs.declared.operations.Arg.TheVariants.{Input}
+use Rattle.ci_unit.specs.declared.operations.Arg.TheVariants.{Earlier}
+use Rattle.ci_unit.specs.declared.operations.Arg.TheVariants.{Constant}
 use Rattle.ci_unit.specs.Units as terms
 use Rattle.ci_unit.specs.Uses as uses
 use Rattle.ci_unit.proofs.CountLaws.{number_there}
@@ -90,7 +94,7 @@ module _ {insns : List Insn} {live_out : finite.FinSet nat_cmp} {table : Latenci
   input_now i = register now (slice_index (uses.input_registers insns graph cut) i)
 
   abbrev pub inputs_now : List ℕ
-  inputs_now = input_now 0 ∷ input_now 1 ∷ input_now 2 ∷ []
+  inputs_now = values_in now (taken_from true (uses.input_registers insns graph cut))
 
   -- what member k reads in a register
   module _ (k : ℕ) (member : cut k ≡ true) (r : ℕ) (kept : is_kept r ≡ true) (among : list_any (λ q. q == r) (operands (nth_insn insns k)) ≡ true) where
@@ -147,15 +151,17 @@ module _ {insns : List Insn} {live_out : finite.FinSet nat_cmp} {table : Latenci
   input_value : (s : Source) → list_any (is_source s) inputs ≡ true → slice_index inputs_now (terms.place_in inputs s) ≡ register now (uses.register_of insns s)
   input_value s has =
       let below = place_within s inputs has in
-      one_of_three (terms.place_in inputs s) (omega (arith, below, known.few_inputs))
+      taken_there (terms.place_in inputs s) (omega (arith, below, known.few_inputs))
       ∙ ap (register now)
       (get_or-map (uses.register_of insns) inputs (terms.place_in inputs s) (Entry 0) 0 below ∙ ap (uses.register_of insns) (at_place s inputs (Entry 0) has))
     where
-      one_of_three : (i : ℕ) → i < 3 → slice_index inputs_now i ≡ input_now i
-      one_of_three zero below = refl
-      one_of_three (suc zero) below = refl
-      one_of_three (suc (suc zero)) below = refl
-      one_of_three (suc (suc (suc i))) below = absurd (omega arith)
+      taken_there : (i : ℕ) → i < 5 → slice_index inputs_now i ≡ input_now i
+      taken_there zero below = refl
+      taken_there (suc zero) below = refl
+      taken_there (suc (suc zero)) below = refl
+      taken_there (suc (suc (suc zero))) below = refl
+      taken_there (suc (suc (suc (suc zero)))) below = refl
+      taken_there (suc (suc (suc (suc (suc i))))) below = absurd (omega arith)
 
   module _ (values : List ℕ) where
     abbrev IsMade : ℕ → Type 0

@@ -1,5 +1,5 @@
 -- What a folded block needs of the registers, the block needs.
-use Rattle.std.specs.Prelude.{◌≡◌, ◌≢◌, ℕ, ◌<◌, ◌⊎◌, Bool, true, false, not, ◌&&◌, ◌==◌}
+use Rattle.std.specs.Prelude.{◌≡◌, ◌≢◌, ℕ, zero, suc, ◌+◌, ◌<◌, ◌≤◌, ◌⊎◌, Bool, true, false, not, ◌&&◌, ◌==◌}
 use Rattle.std.specs.Prelude.{List, [], ◌∷◌, ◌++◌, length, replicate, slice_index}
 use Rattle.std.specs.FinSet as finite
 use Rattle.std.specs.List.{list_any}
@@ -8,7 +8,7 @@ use Rattle.std.proofs.Common.{refl, sym, ap, ◌∙◌, arith, inl, inr, true≢
 use Rattle.std.proofs.lemmas.Bool.{cases_eq, cases_Bool, and_parts, and_from, and_left, or_cases, false_from_ne_true}
 use Rattle.std.proofs.lemmas.Bool.Decides.{nat_tests}
 use Rattle.ci_isa.specs.declared.instruction.Insn.{Insn}
-use Rattle.ci_isa.specs.declared.instruction.Insn.TheVariants.{Cread}
+use Rattle.ci_isa.specs.declared.instruction.Insn.TheVariants.{Unit, Cread, Cput}
 use Rattle.ci_isa.specs.Effects.{operands, is_kept, is_among}
 use Rattle.ci_isa.specs.Sequences.{nth_insn, latest_writer}
 use Rattle.ci_isa.proofs.LastPassing.{last_or_none}
@@ -16,11 +16,12 @@ use Rattle.ci_isa.proofs.LastWriter.{written, last_writer, latest_writer_is_last
 use Rattle.ci_isa.proofs.OperandLaws.{single_result}
 use Rattle.ci_lat.specs.Latencies.{Latencies}
 use Rattle.ci_machine.specs.Agreement.{writes}
-use Rattle.ci_machine.specs.Cores.{first_hidden, hidden, hidden_result}
+use Rattle.ci_machine.specs.Cores.{first_hidden, hidden}
 use Rattle.ci_machine.proofs.NamedReads.{reads, needed, needed-append}
 use Rattle.ci_machine.proofs.TestLaws.{either_first}
 use Rattle.ci_cut.specs.declared.graph.Source.{Source}
-use Rattle.ci_cut.specs.declared.graph.Source.TheVariants.{Entry, Made}
+use Rattle.ci_cut.specs.declared.graph.Source.TheVariants.{Entry}
+use Rattle.ci_cut.specs.declared.graph.Source.TheVariants.{Made}
 use Rattle.ci_cut.specs.FlowGraph.{FlowGraph}
 use Rattle.ci_cut.specs.Ports.{is_output}
 use Rattle.ci_dfg.specs.Arcs.{true_arc}
@@ -31,12 +32,18 @@ use Rattle.ci_unit.specs.Uses as uses
 use Rattle.ci_unit.proofs.SourceLaws.{not_true, given_at}
 use Rattle.ci_rewrite.specs.FoldedBlock.{no_op, places_left}
 use Rattle.ci_rewrite.proofs.Alive.{live_there}
-use Rattle.ci_rewrite.proofs.CutNodes.{IsFolding, late, late_parts, is_dead, before_early, before_member, read_outside}
+use Rattle.ci_rewrite.proofs.CutNodes.{IsFolding, late, late_parts, is_dead, member_within, before_early, before_member, read_outside}
 use Rattle.ci_rewrite.proofs.Lists.{whole_list}
 use Rattle.ci_rewrite.proofs.ReadFirst.{IsReadFirst, no_ops_need, needed_parts, needed_from_set, needed_from_read}
 use Rattle.ci_rewrite.proofs.Stages.{those_below}
 use Rattle.ci_rewrite.proofs.Tracking.{reads_at}
-use Rattle.ci_rewrite.proofs.UnitPorts.{IsInput, input_is, unit_word, used_one, used_two, is_sole, is_either}
+use Rattle.ci_rewrite.proofs.UnitPorts.{IsInput, input_is, output_member}
+use Rattle.ci_unit.proofs.CountLaws.{number_there}
+use Rattle.ci_cut.proofs.RisingCounts.{count_below-more}
+use Rattle.ci_unit.specs.UseWords.{reads_of, use_words}
+use Rattle.ci_word.specs.Numbers.{count_below}
+use Rattle.ci_word.proofs.NumberLaws.{length-numbers_below}
+use Rattle.std.proofs.lemmas.List.{get_or-map, length-map}
 
 module _ {insns : List Insn} {live_out : finite.FinSet nat_cmp} {table : Latencies} {cut early : ℕ → Bool} {n : ℕ}
     (known : IsFolding insns live_out table cut early n) (number r : ℕ) (other : r < first_hidden) where
@@ -48,9 +55,6 @@ module _ {insns : List Insn} {live_out : finite.FinSet nat_cmp} {table : Latenci
 
   abbrev result : ℕ → ℕ
   result = uses.result_register insns
-
-  abbrev word : ℕ → Insn
-  word = unit_word known number
 
   abbrev words : List Insn
   words = uses.use_of insns graph cut number
@@ -143,86 +147,132 @@ module _ {insns : List Insn} {live_out : finite.FinSet nat_cmp} {table : Latenci
       absurd (true≢false (sym (ap (λ q. written insns q w) (sym at_r) ∙ last.writes)
       ∙ no_early w (omega (arith, last.before, is.there)) (either_first (early w) (cut w) before (not_true (cut w) is.outside))))
 
-  by_unit : NoneOf early → (m : ℕ) → reads (word m) r ≡ true → IsNeeded
-  by_unit no_early m read = elim (cases_eq r (input 0)) [
-    | inl same ↦ by_input 0 same
+  abbrev input : ℕ → ℕ
+  input = slice_index (uses.input_registers insns graph cut)
+
+  abbrev registers : List ℕ
+  registers = uses.output_registers insns graph cut
+
+  no_zero : is_kept r ≡ true → r ≡ 0 → ⊥
+  no_zero kept same = grind (arith, nat_tests)
+
+  by_input : NoneOf early → is_kept r ≡ true → (i : ℕ) → r ≡ input i → IsNeeded
+  by_input no_early kept i same = elim (given_at (uses.register_of insns) (terms.inputs_of insns graph cut) i) [
+    | inl past ↦ absurd (no_zero kept (same ∙ past))
+    | inr (s, among, is) ↦ by_source no_early s (input_is insns live_out table cut known.fit s among) (is ∙ sym same)
+  ]
+
+  kept_among : (list : List ℕ) → is_among list r ≡ true → is_kept r ≡ true
+  kept_among list among = (and_parts (is_kept r) (list_any (λ n. n == r) list) among).0
+
+  by_unit : NoneOf early → is_among (input 0 ∷ input 1 ∷ input 2 ∷ []) r ≡ true → IsNeeded
+  by_unit no_early read = elim (cases_eq r (input 0)) [
+    | inl same ↦ by_input no_early kept 0 same
     | inr not_first ↦ elim (cases_eq r (input 1)) [
-      | inl same ↦ by_input 1 same
-      | inr not_second ↦ by_input 2 (third (input 0) (input 1) (input 2) read not_first not_second)
+      | inl same ↦ by_input no_early kept 1 same
+      | inr not_second ↦ by_input no_early kept 2 (third (input 0) (input 1) (input 2) read not_first not_second)
     ]
   ]
     where
-      input : ℕ → ℕ
-      input = slice_index (uses.input_registers insns graph cut)
+      kept : is_kept r ≡ true
+      kept = kept_among (input 0 ∷ input 1 ∷ input 2 ∷ []) read
 
       third : (a b c : ℕ) → is_among (a ∷ b ∷ c ∷ []) r ≡ true → r ≢ a → r ≢ b → r ≡ c
       third a b c among no_a no_b = grind (arith, nat_tests, no_a, no_b)
 
-      no_zero : is_kept r ≡ true → r ≡ 0 → ⊥
-      no_zero kept same = grind (arith, nat_tests)
+  by_put : NoneOf early → is_among (input 3 ∷ input 4 ∷ []) r ≡ true → IsNeeded
+  by_put no_early read = elim (cases_eq r (input 3)) [
+    | inl same ↦ by_input no_early kept 3 same
+    | inr not_first ↦ by_input no_early kept 4 (second (input 3) (input 4) read not_first)
+  ]
+    where
+      kept : is_kept r ≡ true
+      kept = kept_among (input 3 ∷ input 4 ∷ []) read
 
-      by_input : (i : ℕ) → r ≡ input i → IsNeeded
-      by_input i same = elim (given_at (uses.register_of insns) (terms.inputs_of insns graph cut) i) [
-        | inl past ↦ absurd (no_zero (and_parts (is_kept r) _ read).0 (same ∙ past))
-        | inr (s, among, is) ↦ by_source no_early s (input_is insns live_out table cut known.fit s among) (is ∙ sym same)
+      second : (a b : ℕ) → is_among (a ∷ b ∷ []) r ≡ true → r ≢ a → r ≡ b
+      second a b among no_a = grind (arith, nat_tests, no_a)
+
+  -- ---- by the words of the use
+
+  -- none of the registers is the one
+  abbrev NoneIs : List ℕ → Type 0
+  NoneIs list = (i : ℕ) → i < length list → is_among (slice_index list i ∷ []) r ≡ false
+
+  not_hidden : (index : ℕ) → is_among ((32 + index) ∷ []) r ≡ true → ⊥
+  not_hidden index among = grind (arith, nat_tests, other)
+
+  by_reads : (index : ℕ) (list : List ℕ) (set : ℕ → Bool) → needed (reads_of index list) set r ≡ true → (set r ≡ true) × NoneIs list
+  by_reads index [] set is = (is, λ i below. absurd (omega arith))
+  by_reads index (q ∷ list) set is =
+      elim (or_cases (reads (Cread q index) r) (needed (reads_of (suc index) list) set r && not (writes (Cread q index) r)) is) [
+        | inl read ↦ absurd (not_hidden index read)
+        | inr kept ↦
+            let (rest, none) = and_parts (needed (reads_of (suc index) list) set r) (not (writes (Cread q index) r)) kept in
+            let (is_set, others) = by_reads (suc index) list set rest in
+            (is_set, first_too q list (not_true (is_among (q ∷ []) r) none) others)
+      ]
+    where
+      first_too : (q : ℕ) (list : List ℕ) → is_among (q ∷ []) r ≡ false → NoneIs list → NoneIs (q ∷ list)
+      first_too q list none others zero below = none
+      first_too q list none others (suc i) below = others i (omega arith)
+
+  by_unit_and_reads : NoneOf early → (rd : ℕ) (list : List ℕ) (set : ℕ → Bool)
+      → needed (Unit number rd (input 0) (input 1) (input 2) ∷ reads_of 0 list) set r ≡ true
+      → IsNeeded ⊎ ((set r ≡ true) × NoneIs (rd ∷ list))
+  by_unit_and_reads no_early rd list set is =
+      elim (or_cases (reads (Unit number rd (input 0) (input 1) (input 2)) r)
+      (needed (reads_of 0 list) set r && not (writes (Unit number rd (input 0) (input 1) (input 2)) r)) is) [
+        | inl read ↦ inl (by_unit no_early read)
+        | inr kept ↦
+            let (rest, none) = and_parts (needed (reads_of 0 list) set r) (not (writes (Unit number rd (input 0) (input 1) (input 2)) r)) kept in
+            let (is_set, others) = by_reads 0 list set rest in
+            inr (is_set, both rd list (alone rd (not_true (is_among (rd ∷ hidden) r) none)) others)
+      ]
+    where
+      alone : (rd : ℕ) → is_among (rd ∷ hidden) r ≡ false → is_among (rd ∷ []) r ≡ false
+      alone rd none = grind (arith, nat_tests)
+
+      both : (q : ℕ) (list : List ℕ) → is_among (q ∷ []) r ≡ false → NoneIs list → NoneIs (q ∷ list)
+      both q list none others zero below = none
+      both q list none others (suc i) below = others i (omega arith)
+
+  by_words : NoneOf early → (b : Bool) (list : List ℕ) (set : ℕ → Bool) → 1 ≤ length list
+      → needed (use_words b number (uses.input_registers insns graph cut) list) set r ≡ true → IsNeeded ⊎ ((set r ≡ true) × NoneIs list)
+  by_words no_early b [] set some is = absurd (omega arith)
+  by_words no_early false (rd ∷ list) set some is = by_unit_and_reads no_early rd list set is
+  by_words no_early true (rd ∷ list) set some is =
+      elim (or_cases (reads (Cput (input 3) (input 4)) r)
+      (needed (Unit number rd (input 0) (input 1) (input 2) ∷ reads_of 0 list) set r && not (writes (Cput (input 3) (input 4)) r)) is) [
+        | inl read ↦ inl (by_put no_early read)
+        | inr kept ↦ by_unit_and_reads no_early rd list set
+            (and_parts (needed (Unit number rd (input 0) (input 1) (input 2) ∷ reads_of 0 list) set r) (not (writes (Cput (input 3) (input 4)) r)) kept).0
       ]
 
-  -- ---- by the unit word and its `cread`
-
-  -- an output does not write the register, where a list of registers with its result does not have it
-  unwritten_by : (m : ℕ) (list : List ℕ) → ((q : ℕ) → q ≡ r → is_kept r ≡ true → not (is_among (q ∷ list) r) ≡ true → ⊥)
-      → not (is_among (result m ∷ list) r) ≡ true → written insns r m ≡ false
-  unwritten_by m list apart none = false_from_ne_true (written insns r m) (λ is.
-      apart (result m) (single_result (nth_insn insns m) r is) (and_parts (is_kept r) _ is).0 none)
-
-  unit_quiet : (m : ℕ) → not (writes (word m) r) ≡ true → written insns r m ≡ false
-  unit_quiet m = unwritten_by m hidden apart
-    where
-      apart : (q : ℕ) → q ≡ r → is_kept r ≡ true → not (is_among (q ∷ hidden) r) ≡ true → ⊥
-      apart q same kept none = grind (arith, nat_tests)
-
-  cread_quiet : (o : ℕ) → not (writes (Cread (result o) 0) r) ≡ true → written insns r o ≡ false
-  cread_quiet o = unwritten_by o [] apart
-    where
-      apart : (q : ℕ) → q ≡ r → is_kept r ≡ true → not (is_among (q ∷ []) r) ≡ true → ⊥
-      apart q same kept none = grind (arith, nat_tests)
-
-  hidden_only : reads (Cread 0 0) r ≡ true → ⊥
-  hidden_only among = absurd (omega (arith, alone among))
-    where
-      alone : is_among (hidden_result 0 ∷ []) r ≡ true → r ≡ first_hidden
-      alone among = grind (arith, nat_tests)
+  itself : (q : ℕ) → is_kept q ≡ true → is_among (q ∷ []) q ≡ true
+  itself q kept = grind (arith, nat_tests)
 
   by_used : NoneOf early → (set : ℕ → Bool) → needed words set r ≡ true → IsNeeded ⊎ ((set r ≡ true) × NoneOf is_out)
-  by_used no_early set is = elim known.outs [
-    | inl (m, same) ↦
-        elim (or_cases (reads (word m) r) (set r && not (writes (word m) r)) (sym (ap (λ l. needed l set r) (used_one known number m same)) ∙ is)) [
-          | inl read ↦ inl (by_unit no_early m read)
-          | inr kept ↦
-              let (is_set, unwritten) = and_parts (set r) (not (writes (word m) r)) kept in
-              inr (is_set, λ o there o_is. ap (written insns r) (is_sole known m same o o_is) ∙ unit_quiet m unwritten)
-        ]
-    | inr (m, o, same) ↦
-        let cread : Insn = Cread (result o) 0 in
-        elim (or_cases (reads (word m) r) (needed (cread ∷ []) set r && not (writes (word m) r))
-        (sym (ap (λ l. needed l set r) (used_two known number m o same)) ∙ is)) [
-          | inl read ↦ inl (by_unit no_early m read)
-          | inr kept ↦
-              let (rest, m_none) = and_parts (needed (cread ∷ []) set r) (not (writes (word m) r)) kept in
-              elim (or_cases (reads cread r) (set r && not (writes cread r)) rest) [
-                | inl read ↦ absurd (hidden_only read)
-                | inr left ↦
-                    let (is_set, o_none) = and_parts (set r) (not (writes cread r)) left in
-                    inr (
-                      is_set,
-                      λ p there p_is. elim (is_either known m o same p p_is) [
-                        | inl at_m ↦ ap (written insns r) at_m ∙ unit_quiet m m_none
-                        | inr at_o ↦ ap (written insns r) at_o ∙ cread_quiet o o_none
-                      ],
-                    )
-              ]
-        ]
-  ]
+  by_used no_early set is =
+      elim (by_words no_early (uses.passes graph cut) registers set (omega (arith, length-map (terms.outputs_of insns graph cut) result, known.some_outputs)) is) [
+        | inl found ↦ inl found
+        | inr (is_set, none) ↦ inr (is_set, λ o there o_is. unwritten o o_is none)
+      ]
+    where
+      unwritten : (o : ℕ) → is_out o ≡ true → NoneIs registers → written insns r o ≡ false
+      unwritten o o_is none = false_from_ne_true (written insns r o) (λ writes.
+          let within = member_within known o (output_member known o o_is) in
+          let i = count_below o is_out in
+          let below : i < length registers = omega (
+            arith,
+            length-map (terms.outputs_of insns graph cut) result,
+            length-numbers_below (length insns) is_out,
+            count_below-more is_out o (length insns) o_is within,
+          ) in
+          let at : slice_index registers i ≡ result o =
+          get_or-map result (terms.outputs_of insns graph cut) i 0 0 (omega (arith, below, length-map (terms.outputs_of insns graph cut) result))
+          ∙ ap result (number_there is_out (length insns) o 0 within o_is) in
+          let is_r : result o ≡ r = single_result (nth_insn insns o) r writes in
+          true≢false (sym (itself r (and_parts (is_kept r) _ writes).0) ∙ sym (ap (λ q. is_among (q ∷ []) r) (at ∙ is_r)) ∙ none i below))
 
   -- ---- by the folded block
 

@@ -5,28 +5,32 @@ use Rattle.std.proofs.Common.{refl, sym, ap, ◌∙◌, subst, inl, inr, arith, 
 use Rattle.std.specs.FinSet as set
 use Rattle.std.specs.Ordering.{nat_cmp}
 use Rattle.std.specs.Cmp.{nat_cmp_total}
+use Rattle.std.specs.Option.{option_to_list}
+use Rattle.std.specs.Prelude.{Option, Some, None, IfSome}
 use Rattle.std.proofs.lemmas.Bool.{cases_eq, cases_lt, and_parts, and_from, or_cases, or_left, or_right}
 use Rattle.std.proofs.lemmas.List.{replicate-append-replicate}
-use Rattle.std.proofs.lemmas.List.Elements.{All-get_or, All-from_get_or, All-append, All-replicate}
+use Rattle.std.proofs.lemmas.List.Elements.{All-nil, All-cons, All-weaker, All-get_or, All-from_get_or, All-append, All-replicate}
 use Rattle.ci_word.specs.Numbers.{numbers_below}
 use Rattle.ci_word.proofs.NumberLaws.{numbers_below-zero, len-count_below}
 use Rattle.ci_isa.specs.declared.instruction.Insn.{Insn}
 use Rattle.ci_isa.specs.declared.instruction.Insn.TheVariants.{Ebreak}
 use Rattle.ci_isa.specs.FieldBounds.{FieldsFit}
 use Rattle.ci_isa.specs.Sequences.{nth_insn}
+use Rattle.ci_isa.specs.Table.{IsWellFormed}
+use Rattle.ci_isa.proofs.WellFormed.{fields_fit}
 use Rattle.ci_cut.specs.FlowGraph.{FlowGraph, HasArc, node_at}
 use Rattle.ci_cut.specs.GraphRules.{IsFlowGraph, AreNodes}
 use Rattle.ci_cut.specs.Walks.{arc}
 use Rattle.ci_cut.proofs.NodeLaws.{node_in-past}
 use Rattle.ci_cut.proofs.WalkLaws.{first_arc, walk_on}
-use Rattle.ci_cut.specs.Ports.{size, outputs}
+use Rattle.ci_cut.specs.Gain.{further_words}
+use Rattle.ci_cut.specs.Ports.{size}
 use Rattle.ci_dfg.proofs.InstructionLaws.{insn_there}
 use Rattle.ci_unit.specs.Operands.{FitsSomeLimits}
-use Rattle.ci_unit.specs.Uses.{use_of}
+use Rattle.ci_unit.specs.Uses.{input_put, unit_word, output_reads, use_of}
 use Rattle.ci_unit.proofs.CountLaws.{made_here, not_made}
 use Rattle.ci_rewrite.specs.Blocks.{AllFieldsFit}
 use Rattle.ci_rewrite.specs.FoldedBlock.{IsFolded, LeadsToMember, no_op, places_left, those}
-use Rattle.ci_rewrite.proofs.FurtherWords.{places_fill}
 use Rattle.ci_rewrite.proofs.Lists.{all_those}
 
 -- ---- members
@@ -190,10 +194,10 @@ one_more before items first k insn from so_far =
     count : k - first + 1 ≡ k + 1 - first
     count = omega arith
 
--- a cut that fits has as many members as outputs and places that are left
+-- a cut that fits has as many members as words of its use and places that are left
 pub places_are_left : (graph : FlowGraph) (cut : ℕ → Bool) → FitsSomeLimits graph cut
-    → (outputs graph cut ≤ size graph cut) × (places_left graph cut ≡ size graph cut - outputs graph cut)
-places_are_left graph cut (limits, fits) = let filled = places_fill graph limits cut fits in (omega (arith, filled), omega (arith, filled))
+    → (1 + further_words graph cut ≤ size graph cut) × (places_left graph cut ≡ size graph cut - (1 + further_words graph cut))
+places_are_left graph cut (limits, fits) = let room = fits.room in (room, omega (arith, room))
 
 -- those that are neither members nor early are not in both sets together
 pub others_are : (insns : List Insn) (cut early : set.FinSet nat_cmp)
@@ -208,6 +212,23 @@ others_are insns cut early = λ i. those insns (λ k. neither k i)
     neither k = ap not (set.contains-union nat_cmp_total cut early k) ∙ by_parts (set.contains cut k) (set.contains early k)
 
 -- ---- fields
+
+-- the fields of a word that is well formed fit
+some_fits : (word : Option Insn) → IfSome word IsWellFormed → All FieldsFit (option_to_list word)
+some_fits None well = All-nil FieldsFit
+some_fits (Some insn) well = All-cons FieldsFit insn [] (fields_fit insn well) (All-nil FieldsFit)
+
+-- so do those of the words of a use
+pub use_fits : (insns : List Insn) (graph : FlowGraph) (cut : ℕ → Bool) (number : ℕ) (put : Option Insn) (unit : Insn) (reads : List Insn)
+    → option_to_list put ≡ input_put insns graph cut → unit ≡ unit_word insns graph cut number
+    → reads ≡ output_reads insns graph cut
+    → IfSome put IsWellFormed × IsWellFormed unit × All IsWellFormed reads
+    → AllFieldsFit (use_of insns graph cut number)
+use_fits insns graph cut number put unit reads is_put is_unit are_reads well k below =
+    All-get_or FieldsFit (use_of insns graph cut number) k Ebreak below
+    (subst (All FieldsFit) (λ i. is_put i ++ (is_unit i ∷ are_reads i))
+    (All-append FieldsFit (option_to_list put) (unit ∷ reads) (some_fits put well.0)
+    (All-cons FieldsFit unit reads (fields_fit unit well.1) (All-weaker IsWellFormed FieldsFit fields_fit reads well.2))))
 
 -- where the fields of a block and of the use fit, those of the folded block do
 pub folded_fits : (insns : List Insn) (graph : FlowGraph) (cut : ℕ → Bool) (number : ℕ) (folded : List Insn)

@@ -22,7 +22,7 @@ use Rattle.ci_rewrite.proofs.EndSteps.{passed_blocks_end_alike}
 use Rattle.ci_rewrite.proofs.Keeping.{shape, have_modules, covers}
 use Rattle.ci_rewrite.proofs.ModuleUnits.{computing_ignores, modules_serve, modules_compute}
 use Rattle.ci_rewrite.proofs.Steps.{folding_keeps_steps}
-use Rattle.ci_rewrite.proofs.WithOperands.{stay_bare, folding_keeps}
+use Rattle.ci_rewrite.proofs.WithOperands.{stay_bare, three_matter, folding_keeps}
 
 module _ (insns : List Insn) (n : ℕ) (live_out : finite.FinSet nat_cmp) (table : Latencies) (limits : Limits)
     (cut : ℕ → Bool) (number : ℕ) (folded : List Insn) (block : IsBlock insns n) (named : AreNamed live_out)
@@ -46,9 +46,10 @@ pub folded_has_same_effect : FoldedHasSameEffect
 folded_has_same_effect insns n live_out table limits cut number folded block named fits small is = record {
   covers = covers insns n live_out table limits cut number folded block fits small is named;
   have_modules = have_modules insns n live_out table limits cut number folded block fits small is;
-  stay_bare = λ modules bare compute.
-      stay_bare insns n live_out table limits cut number folded block fits is (IgnoreOperands modules)
-      (computing_ignores modules number (unit_of insns (graph_of insns live_out table) cut) compute) bare;
+  stay_bare = λ modules all bare compute.
+      stay_bare insns n live_out table limits cut number folded block fits small is (IgnoreOperands modules)
+      (λ none. computing_ignores modules all number (unit_of insns (graph_of insns live_out table) cut) compute
+      (three_matter insns n live_out table limits cut number folded block fits small is none)) bare;
   passes = passes insns n live_out table limits cut number folded block named fits small is;
   ends = λ modules meaning units program set left right covered start left_mapped right_mapped leaves.
       passed_blocks_end_alike meaning program insns folded n live_out (behind (take n insns) left.pc) left right

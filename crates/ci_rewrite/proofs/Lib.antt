@@ -1,14 +1,16 @@
-pub mod NamedUnits
+pub mod PassedUnits
 pub mod Rows
+pub mod UseLaws
+pub mod BundleLaws
+pub mod FollowLaws
+pub mod GivenLists
 pub mod PlainBlocks
 pub mod BareWordLaws
 pub mod BareUnits
-pub mod NarrowReads
 pub mod CutNodes
 pub mod Tracking
 pub mod Stages
 pub mod Lists
-pub mod FurtherWords
 pub mod BundlePlaces
 pub mod Orders
 pub mod UnitPorts
@@ -23,6 +25,7 @@ pub mod Coverage
 pub mod CoverLaws
 pub mod Keeping
 pub mod TwoCores
+pub mod UnitIsOne
 pub mod WithOperands
 pub mod ModuleUnits
 pub mod Steps

@@ -8,11 +8,11 @@ use Rattle.ci_isa.specs.FieldBounds.{FieldsFit}
 use Rattle.ci_isa.specs.Sequences.{nth_insn}
 use Rattle.ci_elf.specs.WordLists.{AreWords}
 use Rattle.ci_verilog.specs.Modules.{Module, IsModule}
-use Rattle.ci_verilog.specs.Values.{IsValueOf, expr_value}
-use Rattle.ci_verilog.proofs.ValueLaws.{value_is_one}
+use Rattle.ci_verilog.specs.Values.{IsValueOf}
+use Rattle.ci_verilog.proofs.ValueLaws.{value_exists, value_is_one}
 use Rattle.ci_machine.specs.Extended.{HasModule, IsExtended}
 use Rattle.ci_machine.specs.Steps.{Meaning}
-use Rattle.ci_machine.specs.Words.{IsWord, MakesWords}
+use Rattle.ci_machine.specs.Words.{MakesWords}
 use Rattle.ci_machine.proofs.ExtendedMeaning.{five_words, units_give_words}
 use Rattle.ci_machine.proofs.TestLaws.{some_is}
 use Rattle.ci_unit.specs.Units as terms
@@ -38,34 +38,33 @@ module _ (modules : List Module) (number : ℕ) where
     | inr past ↦ absurd (omega (arith, past.0))
   ]
 
--- a value of a module is three results
-three_results : (m : Module) (arguments results : List ℕ) → IsValueOf m arguments results
-    → (y z x : ℕ) × (results ≡ y ∷ z ∷ x ∷ []) × IsValueOf m arguments (y ∷ z ∷ x ∷ [])
-three_results m arguments results value = (
-  expr_value value.names m.y,
-  expr_value value.names m.z,
-  expr_value value.names m.x,
-  value.results_are,
-  subst (IsValueOf m arguments) value.results_are value,
-)
+-- a module that is found is one
+found_is : (modules : List Module) → All IsModule modules → (number : ℕ) (m : Module) → slice_get modules number ≡ Some m → IsModule m
+found_is modules all number m there =
+    subst IsModule (get_or_from_slice_get modules number m m there) (all number m (found_below modules number m there))
 
--- the module of a unit ignores the hidden operands
-pub computing_ignores : (modules : List Module) (number : ℕ) (unit : terms.Unit) → ComputeUnit modules number unit → IgnoreOperands modules number
-computing_ignores modules number unit compute m there = subst IgnoresOperands (some_is (sym compute.there ∙ there)) same
+-- the module of a unit whose value no hidden operand changes ignores them
+pub computing_ignores : (modules : List Module) → All IsModule modules → (number : ℕ) (unit : terms.Unit) → ComputeUnit modules number unit
+    → ((a b c d e p q : ℕ) (given others : List ℕ)
+    → terms.IsTripleOf unit (a ∷ b ∷ c ∷ d ∷ e ∷ []) given → terms.IsTripleOf unit (a ∷ b ∷ c ∷ p ∷ q ∷ []) others → given ≡ others)
+    → IgnoreOperands modules number
+computing_ignores modules all number unit compute alike m there = subst IgnoresOperands (some_is (sym compute.there ∙ there)) same
   where
     same : IgnoresOperands compute.computing
     same a b c d e p q results words p_word q_word value =
-        let (y, z, x, are, given) = three_results compute.computing (a ∷ b ∷ c ∷ d ∷ e ∷ []) results value in
-        subst (IsValueOf compute.computing (a ∷ b ∷ c ∷ p ∷ q ∷ [])) (sym are)
-        ((compute.value a b c p q y z x (words 0) (words 1) (words 2) p_word q_word).1
-        ((compute.value a b c d e y z x (words 0) (words 1) (words 2) (words 3) (words 4)).0 given))
+        let (others, other) =
+        value_exists compute.computing (found_is modules all number compute.computing compute.there) (a ∷ b ∷ c ∷ p ∷ q ∷ []) in
+        let also = five_words a b c p q (words 0) (words 1) (words 2) p_word q_word in
+        subst (IsValueOf compute.computing (a ∷ b ∷ c ∷ p ∷ q ∷ []))
+        (sym (alike a b c d e p q results others ((compute.value a b c d e results words).0 value) ((compute.value a b c p q others also).0 other)))
+        other
 
 -- ---- what the unit of a machine gives
 
 module _ (modules : List Module) (meaning : Meaning) (all : All IsModule modules) (is : IsExtended modules meaning)
     (number : ℕ) (m : Module) (there : slice_get modules number ≡ Some m) where
   is_module : IsModule m
-  is_module = subst IsModule (get_or_from_slice_get modules number m m there) (all number m (found_below modules number m there))
+  is_module = found_is modules all number m there
 
   module _ (a b c d e : ℕ) (words : AreWords (a ∷ b ∷ c ∷ d ∷ e ∷ [])) where
     abbrev given : List ℕ
@@ -103,26 +102,7 @@ modules_serve modules meaning all is insns fit have bare = record {
 pub modules_compute : ModulesCompute
 modules_compute modules meaning all is number unit compute = record {
   words = units_give_words modules all meaning is number (found_below modules number compute.computing compute.there);
-  value = value;
+  value = λ a b c d e words.
+      (compute.value a b c d e (meaning.units.results number (a ∷ b ∷ c ∷ d ∷ e ∷ [])) words).0
+      (computed modules meaning all is number compute.computing compute.there a b c d e words);
 }
-  where
-    m : Module
-    m = compute.computing
-
-    value : (a b c : ℕ) → AreWords (a ∷ b ∷ c ∷ []) → (first second : ℕ)
-        × ((d e : ℕ) → IsWord d → IsWord e → meaning.units.results number (a ∷ b ∷ c ∷ d ∷ e ∷ []) ≡ first ∷ second ∷ 0 ∷ [])
-        × terms.IsPairOf unit (a ∷ b ∷ c ∷ []) first second
-    value a b c words =
-        let five : (d e : ℕ) → IsWord d → IsWord e → AreWords (a ∷ b ∷ c ∷ d ∷ e ∷ []) =
-        λ d e d_word e_word. five_words a b c d e (words 0) (words 1) (words 2) d_word e_word in
-        let zeros = five 0 0 (lit< tt) (lit< tt) in
-        let (y, z, x, are, at_zeros) =
-        three_results m (a ∷ b ∷ c ∷ 0 ∷ 0 ∷ []) _ (computed modules meaning all is number m compute.there a b c 0 0 zeros) in
-        let pair = ((compute.value a b c 0 0 y z x (words 0) (words 1) (words 2) (lit< tt) (lit< tt)).0 at_zeros).0 in (
-          y,
-          z,
-          λ d e d_word e_word.
-              gives modules meaning all is number m compute.there a b c d e (five d e d_word e_word) (y ∷ z ∷ 0 ∷ [])
-              ((compute.value a b c d e y z 0 (words 0) (words 1) (words 2) d_word e_word).1 (pair, refl)),
-          pair,
-        )

@@ -10,17 +10,18 @@ use Rattle.ci_isa.proofs.LastWriter.{written, last_writer}
 use Rattle.ci_lat.specs.Latencies.{Latencies}
 use Rattle.ci_machine.specs.Cores.{Core}
 use Rattle.ci_machine.specs.Actions.{Units}
+use Rattle.ci_rewrite.specs.Bundles.{TakeGiven}
 use Rattle.ci_machine.proofs.TestLaws.{by_test}
 use Rattle.ci_cut.specs.Ports.{is_output}
-use Rattle.ci_dfg.specs.Arcs.{IsArc, true_arc, anti_arc, output_arc, memory_arc}
+use Rattle.ci_dfg.specs.Arcs.{IsOwnArc, true_arc, anti_arc, output_arc, memory_arc}
 use Rattle.ci_dfg.specs.BlockGraph.{graph_of}
 use Rattle.ci_rewrite.proofs.CutNodes.{IsFolding, late, late_parts, is_dead, within, early_outside, read_outside}
-use Rattle.ci_rewrite.proofs.CutNodes.{before_early, before_member, early_bundled, late_bundled}
+use Rattle.ci_rewrite.proofs.CutNodes.{before_early, before_member, found_behind, same_side, late_same}
 use Rattle.ci_rewrite.proofs.Stages.{IsOrder, up_to}
 use Rattle.ci_rewrite.proofs.Tracking.{reads_at}
 
 -- a later node that writes what an earlier one reads or writes stays behind it
-hazard : (insns : List Insn) (r j k : ℕ) → j < k → (reads_at insns j r || written insns r j) ≡ true → written insns r k ≡ true → IsArc insns j k
+hazard : (insns : List Insn) (r j k : ℕ) → j < k → (reads_at insns j r || written insns r j) ≡ true → written insns r k ≡ true → IsOwnArc insns j k
 hazard insns r j k before used writes = elim (or_cases (reads_at insns j r) (written insns r j) used) [
   | inl reads ↦ anti_arc j k r before reads writes
   | inr also ↦ output_arc j k r before also writes
@@ -37,7 +38,7 @@ not_placed : (e : Bool) (j b : ℕ) (w : Bool) → b < j → ((false || (e && na
 not_placed e j b w later = grind (arith, nat_tests)
 
 module _ {insns : List Insn} {live_out : finite.FinSet nat_cmp} {table : Latencies} {cut early : ℕ → Bool} {n : ℕ}
-    (known : IsFolding insns live_out table cut early n) (units : Units) (start : Core) where
+    (known : IsFolding insns live_out table cut early n) (units : Units) (take : TakeGiven units insns) (start : Core) where
   pub early_order : IsOrder units insns start n (λ _. false) (is_dead known) early
   early_order = record {
     ready = λ b below is. record {
@@ -55,7 +56,9 @@ module _ {insns : List Insn} {live_out : finite.FinSet nat_cmp} {table : Latenci
         | inr behind ↦ at_behind (early j) j b behind
       ];
     };
-    bundled = λ b below. early_bundled known b (within known b below);
+    bundled = λ b r below is hidden wants.
+        let ((u, same, joined), given) = found_behind known units take b r (within known b below) hidden wants in
+        (u, same, same_side known u joined ∙ ap early (sym same) ∙ is, given);
   }
     where
       at_before : (e : Bool) (j b : ℕ) → j < b → e ≡ true → (false || (e && nat_lt j b)) ≡ nat_lt j b
@@ -65,7 +68,7 @@ module _ {insns : List Insn} {live_out : finite.FinSet nat_cmp} {table : Latenci
       at_behind e j b behind = grind (arith, nat_tests)
 
   -- what has to stay behind a late node is late
-  late_behind : (b j : ℕ) → j < n → IsArc insns b j → late known b ≡ true → (early j ≡ false) × (cut j ≡ false)
+  late_behind : (b j : ℕ) → j < n → IsOwnArc insns b j → late known b ≡ true → (early j ≡ false) × (cut j ≡ false)
   late_behind b j below is b_late =
       let (b_out, b_not_early) = late_parts known b b_late in (
         false_from_ne_true (early j) (λ j_early. true≢false (sym (before_early known b j (within known j below) is j_early) ∙ b_not_early)),
@@ -97,7 +100,9 @@ module _ {insns : List Insn} {live_out : finite.FinSet nat_cmp} {table : Latenci
         ]
       ];
     };
-    bundled = λ b below. late_bundled known b (within known b below);
+    bundled = λ b r below is hidden wants.
+        let ((u, same, joined), given) = found_behind known units take b r (within known b below) hidden wants in
+        (u, same, late_same known u joined ∙ ap (late known) (sym same) ∙ is, given);
   }
     where
       not_itself : (e c : Bool) (b : ℕ) → (not c && not e) ≡ true → ((e || c) || ((not c && not e) && nat_lt b b)) ≡ false
@@ -130,7 +135,9 @@ module _ {insns : List Insn} {live_out : finite.FinSet nat_cmp} {table : Latenci
       no_later = λ r j used later there. not_placed true j b (written insns r j) later;
       accesses = λ it_moves j there moves. same_test (nat_lt j b);
     };
-    bundled = λ b below is it_reads. let (u, same, unit) = known.bundled b (within known b below) it_reads in (u, same, refl, unit);
+    bundled = λ b r below is hidden wants.
+        let ((u, same, joined), given) = found_behind known units take b r (within known b below) hidden wants in
+        (u, same, refl, given);
   }
     where
       same_test : (t : Bool) → (false || (true && t)) ≡ t

@@ -1,67 +1,19 @@
--- What lists of nodes need of a register, and that hidden ones are not needed.
-use Rattle.std.specs.Prelude.{◌≡◌, ℕ, zero, suc, ◌<◌, ◌≤◌, ◌⊎◌, Bool, true, false, not, ◌&&◌, ◌||◌, List, [], ◌∷◌, replicate, All}
-use Rattle.std.proofs.Common.{refl, sym, ap, ◌∙◌, subst, arith, inl, inr, true≢false}
-use Rattle.std.proofs.lemmas.Bool.{cases_eq, cases_Bool, and_parts, and_from, and_left, and_right, or_cases, or_from, or_left, or_right}
-use Rattle.std.proofs.lemmas.Bool.{not_from_true, false_from_ne_true}
+-- What lists of nodes need of a register, and that the hidden one is not needed.
+use Rattle.std.specs.Prelude.{◌≡◌, ◌≢◌, ℕ, zero, suc, ◌<◌, ◌⊎◌, Bool, true, false, not, ◌&&◌, ◌||◌, List, [], ◌∷◌, replicate}
+use Rattle.std.proofs.Common.{refl, sym, ap, ◌∙◌, arith, inl, inr, true≢false}
+use Rattle.std.proofs.lemmas.Bool.{cases_eq, cases_Bool, and_parts, and_from, or_cases, or_left, or_right}
 use Rattle.std.proofs.lemmas.Bool.Decides.{nat_tests}
-use Rattle.std.proofs.lemmas.List.Elements.{All-head, All-tail}
 use Rattle.ci_isa.specs.declared.instruction.Insn.{Insn}
-use Rattle.ci_isa.specs.FieldBounds.{FieldsFit}
-use Rattle.ci_isa.specs.Effects.{is_among, is_unit}
+use Rattle.ci_isa.specs.Effects.{is_among}
 use Rattle.ci_isa.specs.Sequences.{nth_insn}
 use Rattle.ci_isa.proofs.LastWriter.{written}
-use Rattle.ci_machine.specs.Agreement.{writes}
 use Rattle.ci_machine.specs.Cores.{first_hidden}
-use Rattle.ci_machine.proofs.NamedReads.{reads, needed, needed-append, reads_is, writes_is}
+use Rattle.ci_machine.proofs.NamedReads.{needed, needed-append, reads_is}
+use Rattle.ci_machine.proofs.NamedReads.{writes_is}
 use Rattle.ci_unit.proofs.SourceLaws.{not_true}
 use Rattle.ci_rewrite.specs.FoldedBlock.{no_op}
-use Rattle.ci_rewrite.proofs.Lists.{Bundled}
-use Rattle.ci_rewrite.proofs.NarrowReads.{IsNarrow, reads_named, unit_writes}
 use Rattle.ci_rewrite.proofs.Stages.{those_below, those_zero, those_more, those_same}
 use Rattle.ci_rewrite.proofs.Tracking.{reads_at}
-
--- No hidden register is needed before a narrow list in which each `cread` stands directly behind a unit word.
-module _ (set : ℕ → Bool) where
-  -- the first one, which units write
-  first_unneeded : (b : Bool) (insns : List Insn) → b ≡ false → Bundled b insns → All FieldsFit insns → All IsNarrow insns → set first_hidden ≡ false
-      → needed insns set first_hidden ≡ false
-  first_unneeded b [] none bundled fit narrow is = is
-  first_unneeded b (insn ∷ insns) none bundled fit narrow is =
-      or_from (reads insn first_hidden) (needed insns set first_hidden && not (writes insn first_hidden))
-      (false_from_ne_true (reads insn first_hidden) (λ read.
-      elim (reads_named insn first_hidden (All-head FieldsFit insn insns fit) (All-head IsNarrow insn insns narrow) read) [
-        | inl below ↦ omega arith
-        | inr (same, it_reads) ↦ true≢false (sym (bundled.0 it_reads) ∙ none)
-      ]))
-      (elim (cases_Bool (is_unit insn)) [
-        | inl unit ↦
-            and_right (needed insns set first_hidden) (not (writes insn first_hidden)) (not_from_true (writes insn first_hidden) (unit_writes insn unit))
-        | inr other ↦
-            and_left (needed insns set first_hidden) (not (writes insn first_hidden))
-            (first_unneeded false insns refl (subst (λ c. Bundled c insns) other bundled.1) (All-tail FieldsFit insn insns fit)
-            (All-tail IsNarrow insn insns narrow) is)
-      ])
-
-  -- and the others, which nothing reads
-  others_unneeded : (insns : List Insn) (r : ℕ) → first_hidden < r → All FieldsFit insns → All IsNarrow insns → set r ≡ false → needed insns set r ≡ false
-  others_unneeded [] r past fit narrow is = is
-  others_unneeded (insn ∷ insns) r past fit narrow is =
-      or_from (reads insn r) (needed insns set r && not (writes insn r))
-      (false_from_ne_true (reads insn r) (λ read.
-      elim (reads_named insn r (All-head FieldsFit insn insns fit) (All-head IsNarrow insn insns narrow) read) [
-        | inl below ↦ omega arith
-        | inr (same, it_reads) ↦ omega (arith, same)
-      ]))
-      (and_left (needed insns set r) (not (writes insn r))
-      (others_unneeded insns r past (All-tail FieldsFit insn insns fit) (All-tail IsNarrow insn insns narrow) is))
-
-  pub no_hidden : (insns : List Insn) (r : ℕ) → first_hidden ≤ r → Bundled false insns → All FieldsFit insns → All IsNarrow insns → set r ≡ false
-      → needed insns set r ≡ false
-  no_hidden insns r hidden bundled fit narrow is = elim (cases_eq r first_hidden) [
-    | inl same ↦
-        ap (needed insns set) same ∙ first_unneeded false insns refl bundled fit narrow (ap set (sym same) ∙ is)
-    | inr other ↦ others_unneeded insns r (omega arith) fit narrow is
-  ]
 
 pub no_ops_need : (count : ℕ) (set : ℕ → Bool) (r : ℕ) → needed (replicate count no_op) set r ≡ set r
 no_ops_need zero set r = refl

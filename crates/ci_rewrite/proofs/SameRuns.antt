@@ -1,25 +1,28 @@
 -- A folded block has the same effect as the block.
-use Rattle.std.specs.Prelude.{◌≡◌, ℕ, zero, suc, ◌<◌, Bool, true, false, not, ◌&&◌, ◌||◌, nat_lt}
-use Rattle.std.specs.Prelude.{List, [], ◌∷◌, ◌++◌, replicate, slice_index, slice_index_or, drop, None, Some}
+use Rattle.std.specs.Prelude.{◌≡◌, ℕ, zero, suc, ◌+◌, ◌<◌, ◌≤◌, if◌then◌else◌, Bool, true, false, not, ◌&&◌, ◌||◌, nat_lt}
+use Rattle.std.specs.Prelude.{List, [], ◌∷◌, ◌++◌, replicate, slice_index, drop, None, Some}
 use Rattle.std.specs.FinSet as finite
 use Rattle.std.specs.List.{list_any}
 use Rattle.std.specs.Ordering.{nat_cmp}
 use Rattle.std.proofs.Common.{refl, sym, ap, ◌∙◌, subst, arith, inl, inr}
 use Rattle.std.proofs.lemmas.Bool.{or_cases, lt-ltb}
 use Rattle.std.proofs.lemmas.Bool.Decides.{nat_tests}
-use Rattle.std.proofs.lemmas.List.{length-map}
 use Rattle.std.proofs.lemmas.List.Elements.{All-contains}
 use Rattle.ci_isa.specs.declared.instruction.Insn.{Insn}
-use Rattle.ci_isa.specs.declared.instruction.Insn.TheVariants.{Cread}
-use Rattle.ci_isa.specs.Effects.{is_access}
+use Rattle.ci_isa.specs.Effects.{is_access, is_among}
 use Rattle.ci_isa.specs.Sequences.{nth_insn}
 use Rattle.ci_isa.proofs.LastPassing.{IsLast}
 use Rattle.ci_isa.proofs.LastWriter.{written}
 use Rattle.ci_isa.proofs.OperandLaws.{joins}
 use Rattle.ci_lat.specs.Latencies.{Latencies}
 use Rattle.ci_machine.specs.declared.ends.End.{End}
-use Rattle.ci_machine.specs.Cores.{Core, first_hidden, register, values_in}
-use Rattle.ci_machine.specs.Outcomes.{Reached, Next, continued, at_start}
+use Rattle.ci_machine.specs.Cores.{Core, first_hidden, hidden_operands, register, values_in}
+use Rattle.ci_unit.specs.UseWords.{reads_of, use_words}
+use Rattle.ci_rewrite.specs.Bundles.{taken_from}
+use Rattle.ci_machine.specs.Agreement.{TakeHidden}
+use Rattle.ci_rewrite.specs.Bundles.{TakeGiven}
+use Rattle.ci_rewrite.proofs.FollowLaws.{take_given}
+use Rattle.ci_machine.specs.Outcomes.{Reached, Next, at_start}
 use Rattle.ci_machine.specs.Actions.{Units, act}
 use Rattle.ci_machine.specs.Agreement.{act_all, AreRelated, LeavesText, AllLeaveText}
 use Rattle.ci_machine.specs.Words.{HoldsWords, MakesWords}
@@ -35,17 +38,16 @@ use Rattle.ci_dfg.specs.BlockGraph.{graph_of}
 use Rattle.ci_unit.specs.Units as terms
 use Rattle.ci_unit.specs.Uses as uses
 use Rattle.ci_rewrite.specs.FoldedBlock.{no_op, places_left}
+use Rattle.ci_rewrite.proofs.PassedUnits.{ServePassed, ComputesPassed}
 use Rattle.ci_rewrite.proofs.AllNodes.{all_related, start_follows}
 use Rattle.ci_rewrite.proofs.Contraction.{HasOutputs, tracks_gathered}
 use Rattle.ci_rewrite.proofs.CutNodes.{IsFolding, late, is_dead, within}
 use Rattle.ci_rewrite.proofs.Lists.{all_those}
-use Rattle.ci_rewrite.proofs.NamedUnits.{ServeNamed, ComputesNamed}
-use Rattle.ci_rewrite.proofs.NarrowReads.{reads_named}
 use Rattle.ci_rewrite.proofs.Orders.{early_order, late_order, block_order}
 use Rattle.ci_rewrite.proofs.Stages.{IsStage, those_below, up_to, stage}
 use Rattle.ci_rewrite.proofs.Tracking.{Tracks, Follows, IsBody, core_at, end_at, goes_to_memory, follows_same}
-use Rattle.ci_rewrite.proofs.UnitPorts.{unit_word, used_one, used_two, in_place, folded_actions}
-use Rattle.ci_rewrite.proofs.UnitSteps.{behind_unit, behind_cread, one_output, two_outputs}
+use Rattle.ci_rewrite.proofs.UnitPorts.{in_place, folded_actions}
+use Rattle.ci_rewrite.proofs.UnitSteps.{use_makes}
 
 -- ---- no-ops
 
@@ -57,7 +59,7 @@ quiet_no_ops (suc count) = quiet_no_ops count
 
 module _ {insns : List Insn} {live_out : finite.FinSet nat_cmp} {table : Latencies} {cut early : ℕ → Bool} {n : ℕ}
     (known : IsFolding insns live_out table cut early n) {units : Units} (number : ℕ)
-    (serve : ServeNamed units insns) (gives : ComputesNamed units number (terms.unit_of insns (graph_of insns live_out table) cut)) where
+    (serve : ServePassed units insns) (gives : ComputesPassed units (uses.passes (graph_of insns live_out table) cut) number (terms.unit_of insns (graph_of insns live_out table) cut)) where
   abbrev graph : FlowGraph
   graph = graph_of insns live_out table
 
@@ -70,64 +72,67 @@ module _ {insns : List Insn} {live_out : finite.FinSet nat_cmp} {table : Latenci
   abbrev in_its_place : List Insn
   in_its_place = in_place known number
 
+  given : TakeGiven units insns
+  given = take_given units insns serve.operands serve.bare
+
+  abbrev passes : Bool
+  passes = uses.passes graph cut
+
+  abbrev in_registers : List ℕ
+  in_registers = uses.input_registers insns graph cut
+
   -- what the unit gives, from a core of words
-  abbrev input : ℕ → ℕ
-  input = slice_index (uses.input_registers insns graph cut)
-
-  abbrev input_of : Core → ℕ → ℕ
-  input_of core i = register core (input i)
-
-  abbrev sources : List ℕ
-  sources = input 0 ∷ input 1 ∷ input 2 ∷ units.further number
-
-  abbrev values_of : Core → List ℕ
-  values_of core = values_in core sources
-
-  abbrev Gives : List ℕ → List ℕ → Type 0
-  Gives inputs results = terms.IsPairOf (terms.unit_of insns graph cut) inputs (slice_index_or results 0 0) (slice_index_or (drop 1 results) 0 0)
-
-  gives_same : (values inputs made results : List ℕ) → values ≡ inputs → made ≡ results → Gives values made → Gives inputs results
-  gives_same values inputs made results same_inputs same_results pair =
-      subst (λ (p : List ℕ × List ℕ). Gives p.0 p.1) (λ i. (same_inputs i, same_results i)) pair
-
-  gives_at : (core : Core) → HoldsWords core → Gives (input_of core 0 ∷ input_of core 1 ∷ input_of core 2 ∷ []) (units.results number (values_of core))
+  gives_at : (core : Core) → HoldsWords core
+      → terms.IsTripleOf (terms.unit_of insns graph cut) (values_in core (taken_from true in_registers))
+      (units.results number (values_in core (taken_from gives.takes in_registers)))
   gives_at core holds =
-      let made = gives.value (values_of core)
-      (record { count = omega (arith, length-map (units.further number) (register core)); words = values_words core holds sources }) in
-      gives_same (values_of core) _ (made.0 ∷ made.1 ∷ made.2 ∷ []) _
-      (λ i. input_of core 0 ∷ input_of core 1 ∷ input_of core 2 ∷ values_in core (serve.named number i)) (sym made.3) made.4
+      subst (λ l. terms.IsTripleOf (terms.unit_of insns graph cut) (values_in core (taken_from true in_registers)) (units.results number l))
+      (pick gives.takes) (gives.value _ _ _ _ _ (values_words core holds (taken_from true in_registers)))
+    where
+      at : ℕ → ℕ
+      at i = register core (slice_index in_registers i)
+
+      pick : (b : Bool) → at 0 ∷ at 1 ∷ at 2 ∷ (if b then at 3 ∷ at 4 ∷ [] else []) ≡ values_in core (taken_from b in_registers)
+      pick true = refl
+      pick false = refl
 
   -- the use of the unit goes to no memory
+  quiet_reads : (index : ℕ) (registers : List ℕ) → list_any is_access (reads_of index registers) ≡ false
+  quiet_reads index [] = refl
+  quiet_reads index (r ∷ registers) = quiet_reads (suc index) registers
+
+  quiet_words : (b : Bool) (inputs outputs : List ℕ) → list_any is_access (use_words b number inputs outputs) ≡ false
+  quiet_words true inputs outputs = quiet_reads 0 (drop 1 outputs)
+  quiet_words false inputs outputs = quiet_reads 0 (drop 1 outputs)
+
   quiet_use : list_any is_access used ≡ false
-  quiet_use = elim known.outs [
-    | inl (m, same) ↦ ap (list_any is_access) (used_one known number m same)
-    | inr (m, o, same) ↦ ap (list_any is_access) (used_two known number m o same)
-  ]
+  quiet_use = quiet_words passes (uses.input_registers insns graph cut) (uses.output_registers insns graph cut)
 
   module _ (start : Core) (holds : HoldsWords start) (text : ℕ → Bool)
       (clear : (k : ℕ) → k < n → goes_to_memory insns k ≡ true → ((j : ℕ) → j < k → end_at units insns start j ≡ None)
       → LeavesText text (nth_insn insns k) (core_at units insns start k)) where
+    hidden_ones : TakeHidden units
+    hidden_ones number r among = low r (serve.operands number r among)
+      where
+        low : (r : ℕ) → is_among hidden_operands r ≡ true → first_hidden ≤ r
+        low r is = grind (arith, nat_tests)
+
     body : IsBody units insns start n text
     body = record {
-      named = serve.named;
+      hidden_ones = hidden_ones;
       acts = known.actions.act;
-      hidden_read = λ k r below past is.
-          elim (reads_named (nth_insn insns k) r (known.fit k (within known k below)) (known.narrow k (within known k below)) is) [
-            | inl named ↦ absurd (omega arith)
-            | inr reads ↦ reads
-          ];
       clear = clear;
     }
 
     -- the block
     block_stage : IsStage units insns start n text (λ _. false) (λ _. false) (λ _. true) (at_start start) n
     block_stage = stage units insns start n text (λ _. false) (λ _. false) (λ _. true) (at_start start) body
-        (block_order known units start) (start_follows units insns start n (λ _. false)) n (omega arith)
+        (block_order known units given start) (start_follows units insns start n (λ _. false)) n (omega arith)
 
     -- the nodes before the unit
     early_stage : IsStage units insns start n text (λ _. false) dead early (at_start start) n
     early_stage = stage units insns start n text (λ _. false) dead early (at_start start) body
-        (early_order known units start) (start_follows units insns start n dead) n (omega arith)
+        (early_order known units given start) (start_follows units insns start n dead) n (omega arith)
 
     abbrev before_unit : Reached Core
     before_unit = act_all units (those_below insns early n) (at_start start)
@@ -154,24 +159,15 @@ module _ {insns : List Insn} {live_out : finite.FinSet nat_cmp} {table : Latenci
     unit_follows : Follows units insns start n gathered dead behind_unit_run
     unit_follows = by_end before_unit.end going_on over
       where
-        no_ops : (words : List Insn) → used ≡ words → behind_unit_run ≡ act_all units words before_unit
-        no_ops words same =
+        no_ops : behind_unit_run ≡ act_all units used before_unit
+        no_ops =
             act_all-append units used (replicate (places_left graph cut) no_op) before_unit
             ∙ idle_stays units no_op (λ core i. Next (x0_stays core 0 i)) (places_left graph cut) (act_all units used before_unit)
-            ∙ ap (λ l. act_all units l before_unit) same
 
         going_on : before_unit.end ≡ None → Follows units insns start n gathered dead behind_unit_run
-        going_on on = elim known.outs [
-          | inl (m, same) ↦
-              made (behind_unit known tracks number m)
-              (no_ops _ (used_one known number m same) ∙ goes_on units (unit_word known number m) before_unit on)
-              (one_output known tracks number (gives_at before_unit.state words_before) m same)
-          | inr (m, o, same) ↦
-              made (behind_cread known tracks number m o)
-              (no_ops _ (used_two known number m o same)
-              ∙ ap (continued (act units (Cread (uses.result_register insns o) 0))) (goes_on units (unit_word known number m) before_unit on))
-              (two_outputs known tracks number (gives_at before_unit.state words_before) m o same)
-        ]
+        going_on on =
+            let (behind, run, has) = use_makes known tracks number gives.takes gives.further gives.passed (gives_at before_unit.state words_before) in
+            made behind (no_ops ∙ ap (act_all units used) (λ i. record { state = before_unit.state; end = on i }) ∙ run) has
           where
             tracks : Tracks units insns start n early dead before_unit.state
             tracks = early_follows.going on
@@ -197,7 +193,7 @@ module _ {insns : List Insn} {live_out : finite.FinSet nat_cmp} {table : Latenci
 
     -- the nodes behind the unit
     late_stage : IsStage units insns start n text gathered dead (late known) behind_unit_run n
-    late_stage = stage units insns start n text gathered dead (late known) behind_unit_run body (late_order known units start) unit_follows n (omega arith)
+    late_stage = stage units insns start n text gathered dead (late known) behind_unit_run body (late_order known units given start) unit_follows n (omega arith)
 
     -- ---- the law
 

@@ -1,16 +1,16 @@
 -- A folded block costs less by the gain of the cut.
 use Rattle.std.specs.Prelude.{◌≡◌, ℕ, zero, suc, ◌+◌, ◌-◌, ◌*◌, ◌<◌, ◌≤◌, Bool, true, false, not, ◌&&◌, ◌==◌, if◌then◌else◌}
-use Rattle.std.specs.Prelude.{ℤ, pos, ◌+ℤ◌, ◌-ℤ◌, ◌*ℤ◌, List, ◌++◌, length, replicate, sum_by}
+use Rattle.std.specs.Prelude.{ℤ, pos, ◌+ℤ◌, ◌-ℤ◌, ◌*ℤ◌, List, [], ◌∷◌, slice_index, ◌++◌, length, replicate, sum_by}
 use Rattle.std.proofs.Common.{refl, sym, ap, ◌∙◌, arith, inl, inr}
 use Rattle.std.proofs.lemmas.Bool.{cases_Bool, and_parts}
 use Rattle.std.proofs.lemmas.List.Folds.{sum_by-replicate}
-use Rattle.std.proofs.lemmas.List.Sums.{sum_by-append, sum_by_push}
+use Rattle.std.proofs.lemmas.List.Sums.{sum_by-append, sum_by-cons, sum_by_push}
 use Rattle.ci_word.specs.declared.arithmetic.Op.{Op}
 use Rattle.ci_word.specs.declared.arithmetic.Op.TheVariants.{Add}
 use Rattle.ci_word.specs.Numbers.{sum_below}
 use Rattle.ci_word.proofs.NumberLaws.{sum_below-zero, sum_below-suc, sum_below-same}
 use Rattle.ci_isa.specs.declared.instruction.Insn.{Insn}
-use Rattle.ci_isa.specs.declared.instruction.Insn.TheVariants.{Alu, AluImm, Lui}
+use Rattle.ci_isa.specs.declared.instruction.Insn.TheVariants.{Alu, AluImm, Lui, Unit, Cread, Cput}
 use Rattle.ci_isa.specs.Effects.{may_join, class_of, is_no_op, is_division}
 use Rattle.ci_isa.specs.Sequences.{nth_insn}
 use Rattle.ci_lat.specs.Latencies.{Latencies as Table, latency_of}
@@ -26,11 +26,13 @@ use Rattle.ci_rewrite.specs.Costs.{cost_of, FoldingSaves}
 use Rattle.ci_rewrite.specs.RunLatencies.{AreOfTable}
 use Rattle.ci_rewrite.specs.FoldedBlock.{no_op, places_left}
 use Rattle.ci_rewrite.proofs.CutNodes.{IsFolding, early_outside}
-use Rattle.ci_rewrite.proofs.FurtherWords.{further_are}
 use Rattle.ci_rewrite.proofs.Keeping.{folding_of}
 use Rattle.ci_rewrite.proofs.Lists.{whole_list}
 use Rattle.ci_rewrite.proofs.Stages.{those_below, those_zero, those_more, those_same}
-use Rattle.ci_rewrite.proofs.UnitPorts.{used_one, used_two, length-outputs_of}
+use Rattle.ci_rewrite.proofs.UnitPorts.{length-outputs_of}
+use Rattle.ci_unit.specs.UseWords.{reads_of, use_words}
+use Rattle.ci_unit.specs.Units as terms
+use Rattle.std.proofs.lemmas.List.{length-map}
 
 -- ---- sums
 
@@ -101,6 +103,18 @@ left_over s w pad room = ap (λ z. z *ℤ pos pad) (difference s w room)
     difference : (s w : ℕ) → 1 + w ≤ s → (pos s -ℤ pos 1) -ℤ pos w ≡ pos (s - 1 - w)
     difference s w room = grind arith
 
+more_reads : (m r : ℕ) → ((suc m - 1) + 1) * r ≡ r + m * r
+more_reads m r = grind arith
+
+same_reads : (m r : ℕ) → ((suc m - 1) + 0) * r ≡ m * r
+same_reads m r = grind arith
+
+none_reads : (r : ℕ) → 0 ≡ 0 * r
+none_reads r = grind arith
+
+mul-suc : (m r : ℕ) → suc m * r ≡ r + m * r
+mul-suc m r = grind arith
+
 -- ---- the theorem
 
 pub folding_saves : FoldingSaves
@@ -130,7 +144,7 @@ folding_saves insns n live_out table latencies limits cut number folded block ar
     no_ops = replicate (places_left graph cut) no_op
 
     reads : ℕ
-    reads = (outputs graph cut - 1) * table.read
+    reads = further_words graph cut * table.read
 
     pads : ℕ
     pads = places_left graph cut * table.pad
@@ -151,23 +165,39 @@ folding_saves insns n live_out table latencies limits cut number folded block ar
         ∙ sum_parts (λ k. f (nth_insn insns k)) is.early cut (length insns) (early_outside known)
         ∙ ap (λ m. cost_by is.early + m + cost_by rest) software_is
 
-    used_cost : sum_by f used ≡ hardware graph cut + reads
-    used_cost = elim known.outs [
-      | inl (m, same) ↦
-          let one : 1 ≡ outputs graph cut = sym (ap length same) ∙ length-outputs_of insns live_out table cut in
-          ap (sum_by f) (used_one known number m same)
-          ∙ ap (λ h. 0 + h) same_cycles ∙ alone (hardware graph cut) table.read ∙ ap (λ o. hardware graph cut + (o - 1) * table.read) one
-      | inr (m, o, same) ↦
-          let two : 2 ≡ outputs graph cut = sym (ap length same) ∙ length-outputs_of insns live_out table cut in
-          ap (sum_by f) (used_two known number m o same)
-          ∙ (λ i. (0 + same_cycles i) + are.read i) ∙ both (hardware graph cut) table.read ∙ ap (λ o. hardware graph cut + (o - 1) * table.read) two
-    ]
-      where
-        alone : (h r : ℕ) → 0 + h ≡ h + (1 - 1) * r
-        alone h r = omega arith
+    reads_cost : (index : ℕ) (list : List ℕ) → sum_by f (reads_of index list) ≡ length list * table.read
+    reads_cost index [] = none_reads table.read
+    reads_cost index (r ∷ list) =
+        let rest = reads_cost (suc index) list in
+        let whole = sum_by-cons f (Cread r index) (reads_of (suc index) list) in
+        omega (arith, rest, whole, are.read, mul-suc (length list) table.read)
 
-        both : (h r : ℕ) → (0 + h) + r ≡ h + (2 - 1) * r
-        both h r = omega arith
+    words_cost : (b : Bool) (ins list : List ℕ) → 1 ≤ length list
+        → sum_by f (use_words b number ins list) ≡ hardware graph cut + ((length list - 1) + (if b then 1 else 0)) * table.read
+    words_cost b ins [] some = absurd (omega arith)
+    words_cost true ins (rd ∷ more) some =
+        let unit : Insn = Unit number rd (slice_index ins 0) (slice_index ins 1) (slice_index ins 2) in
+        let put : Insn = Cput (slice_index ins 3) (slice_index ins 4) in
+        omega (
+          arith,
+          sum_by-cons f put (unit ∷ reads_of 0 more),
+          sum_by-cons f unit (reads_of 0 more),
+          reads_cost 0 more,
+          are.read,
+          same_cycles,
+          more_reads (length more) table.read,
+        )
+    words_cost false ins (rd ∷ more) some =
+        let unit : Insn = Unit number rd (slice_index ins 0) (slice_index ins 1) (slice_index ins 2) in
+        omega (arith, sum_by-cons f unit (reads_of 0 more), reads_cost 0 more, same_cycles, same_reads (length more) table.read)
+
+    used_cost : sum_by f used ≡ hardware graph cut + reads
+    used_cost =
+        let registers : List ℕ = uses.output_registers insns graph cut in
+        let long : length registers ≡ outputs graph cut =
+        length-map (terms.outputs_of insns graph cut) (uses.result_register insns) ∙ length-outputs_of insns live_out table cut in
+        words_cost (uses.passes graph cut) (uses.input_registers insns graph cut) registers (omega (arith, long, fits.has_output))
+        ∙ ap (λ o. hardware graph cut + ((o - 1) + (if uses.passes graph cut then 1 else 0)) * table.read) long
 
     pad_cost : sum_by f no_ops ≡ pads
     pad_cost = sum_by-replicate f (places_left graph cut) no_op ∙ ap (λ p. places_left graph cut * p) are.pad
@@ -185,5 +215,4 @@ folding_saves insns n live_out table latencies limits cut number folded block ar
     gain_is =
         let cycles : ℤ = pos (software graph cut) -ℤ pos (hardware graph cut) in
         let no_op_cycles : ℤ = ((pos (size graph cut) -ℤ pos 1) -ℤ pos (further_words graph cut)) *ℤ pos table.pad in
-        ap (λ w. (cycles -ℤ pos (w * table.read)) -ℤ no_op_cycles) (further_are graph limits cut fits)
-        ∙ ap (λ z. (cycles -ℤ pos reads) -ℤ z) (left_over (size graph cut) (further_words graph cut) table.pad fits.room)
+        ap (λ z. (cycles -ℤ pos reads) -ℤ z) (left_over (size graph cut) (further_words graph cut) table.pad fits.room)

@@ -7,16 +7,16 @@ use Rattle.std.proofs.lemmas.List.{map-append, append-nil}
 use Rattle.ci_word.specs.Numbers.{numbers_below}
 use Rattle.ci_word.proofs.NumberLaws.{numbers_below-zero, numbers_below-suc}
 use Rattle.ci_isa.specs.declared.instruction.Insn.{Insn}
-use Rattle.ci_isa.specs.Effects.{is_unit, is_cread}
 use Rattle.ci_isa.specs.Sequences.{nth_insn}
 use Rattle.ci_machine.specs.Cores.{Core, register, first_hidden}
 use Rattle.ci_machine.specs.Outcomes.{Reached, continued}
 use Rattle.ci_machine.specs.Actions.{Units, act}
+use Rattle.ci_rewrite.specs.Bundles.{given_at}
 use Rattle.ci_machine.specs.Agreement.{act_all, AllLeaveText}
 use Rattle.ci_machine.proofs.TestLaws.{by_test}
 use Rattle.ci_machine.proofs.LeavingLists.{leaves-append}
 use Rattle.ci_machine.proofs.RelatedLists.{act_all-append}
-use Rattle.ci_rewrite.proofs.Tracking.{IsReady, IsBody, Follows, IsStep, core_at, step, follows_same}
+use Rattle.ci_rewrite.proofs.Tracking.{IsReady, IsBody, Follows, IsStep, Wants, core_at, step, follows_same}
 
 -- the nodes of a test below b
 abbrev pub those_below : List Insn → (ℕ → Bool) → ℕ → List Insn
@@ -46,15 +46,17 @@ module _ (units : Units) (insns : List Insn) (start : Core) (n : ℕ) where
     pub follows : Follows units insns start n (up_to placed test b) dead (act_all units (those_below insns test b) run)
     pub leaves_text : AllLeaveText units text (those_below insns test b) run
     pub hidden_there :
-        (u : ℕ) → b ≡ suc u → test u ≡ true → is_unit (nth_insn insns u) ≡ true → (act_all units (those_below insns test b) run).end ≡ None
-        → register (core_at units insns start b) first_hidden ≡ register (act_all units (those_below insns test b) run).state first_hidden
+        (u : ℕ) → b ≡ suc u → test u ≡ true → (r : ℕ) → first_hidden ≤ r → given_at insns b r ≡ true
+        → (act_all units (those_below insns test b) run).end ≡ None
+        → register (core_at units insns start b) r ≡ register (act_all units (those_below insns test b) run).state r
 
-  -- Each node of the test may act when the others of the test before it have, and a `cread` directly behind its unit word.
+  -- Each node of the test may act when the others of the test before it have, and one that wants a hidden register directly
+  -- behind the word of its bundle before it.
   pub record IsOrder (placed dead test : ℕ → Bool) : Type 0 where
     pub ready : (b : ℕ) → b < n → test b ≡ true → IsReady units insns start n (up_to placed test b) dead b
     pub bundled :
-        (b : ℕ) → b < n → test b ≡ true → is_cread (nth_insn insns b) ≡ true
-        → (u : ℕ) × (b ≡ suc u) × (test u ≡ true) × (is_unit (nth_insn insns u) ≡ true)
+        (b r : ℕ) → b < n → test b ≡ true → first_hidden ≤ r → Wants units insns start n b r
+        → (u : ℕ) × (b ≡ suc u) × (test u ≡ true) × (given_at insns b r ≡ true)
 
   module _ (text placed dead test : ℕ → Bool) (run : Reached Core) (body : IsBody units insns start n text) (order : IsOrder placed dead test)
       (follows : Follows units insns start n placed dead run) where
@@ -96,10 +98,8 @@ module _ (units : Units) (insns : List Insn) (start : Core) (n : ℕ) where
           follows = subst (Follows units insns start n (up_to placed test (suc b)) dead) (sym run_is) now.follows;
           leaves_text = subst (λ l. AllLeaveText units text l run) (sym list)
               (leaves-append text units (those_below insns test b) (nth_insn insns b ∷ []) run before.leaves_text (now.leaves_text, tt));
-          hidden_there = λ u same there is_unit_u on.
-              let at_it : u ≡ b = omega arith in
-              now.hidden_there (ap (λ k. is_unit (nth_insn insns k)) (sym at_it) ∙ is_unit_u) (ap (λ r. r.end) (sym run_is) ∙ on)
-              ∙ ap (λ r. register r.state first_hidden) (sym run_is);
+          hidden_there = λ u same there r hidden given on.
+              now.hidden_there r hidden given (ap (λ run. run.end) (sym run_is) ∙ on) ∙ ap (λ run. register run.state r) (sym run_is);
         }
 
     pub stage : (b : ℕ) → b ≤ n → IsStage text placed dead test run b
@@ -117,8 +117,8 @@ module _ (units : Units) (insns : List Insn) (start : Core) (n : ℕ) where
         by_test (test b)
         (λ is. whole b before is
         (step units insns start n text (up_to placed test b) dead (up_to placed test (suc b)) (after b) body before.follows
-        b (order.ready b (omega arith) is) (λ j below. one_more b j is) (λ on it_reads.
-        let (u, same, there, unit) = order.bundled b (omega arith) is it_reads in before.hidden_there u same there unit on)))
+        b (order.ready b (omega arith) is) (λ j below. one_more b j is) (λ on r hidden wants.
+        let (u, same, there, given) = order.bundled b r (omega arith) is hidden wants in before.hidden_there u same there r hidden given on)))
         (λ fails. record {
           follows = subst (λ list. Follows units insns start n (up_to placed test (suc b)) dead (act_all units list run)) (sym (those_same insns test b fails))
               (follows_same units insns start n (up_to placed test b) (up_to placed test (suc b)) dead _ (λ j below. none_more b j fails) before.follows);

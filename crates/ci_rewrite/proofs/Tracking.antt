@@ -1,35 +1,40 @@
 -- Nodes of a block in another order than that of the block: what a run through some of them has to do with the run
 -- through the block.
-use Rattle.std.proofs.Common.{◌≡◌, ℕ, zero, suc, ◌<◌, ◌≤◌, inl, inr, ap, sym, ◌∙◌, arith, subst, List, Option, Some, None, true≢false}
-use Rattle.std.specs.Prelude.{Bool, true, false, ◌&&◌, ◌||◌, ◌==◌, ◌≢◌, nat_lt}
+use Rattle.std.proofs.Common.{◌≡◌, ℕ, zero, suc, ◌<◌, ◌≤◌, inl, inr, ap, sym, ◌∙◌, arith, List, Option, Some, None, true≢false}
+use Rattle.std.specs.Prelude.{Bool, true, false, ◌&&◌, ◌||◌, ◌==◌, ◌≢◌, ◌⊎◌, nat_lt}
 use Rattle.std.specs.List.{list_any}
 use Rattle.std.proofs.lemmas.Bool.{cases_eq, cases_lt, and_from, and_left, and_right, or_left, or_right, lt-ltb, ltb-true}
 use Rattle.std.proofs.lemmas.Bool.Decides.{nat_tests}
 use Rattle.ci_isa.specs.declared.instruction.Insn.{Insn}
 use Rattle.ci_isa.specs.declared.instruction.Insn.TheVariants.{Load, Store}
-use Rattle.ci_isa.specs.Effects.{ends_block, is_access, is_unit, is_cread, reads_register}
+use Rattle.ci_isa.specs.Effects.{ends_block, is_access, is_cread, reads_register}
 use Rattle.ci_isa.specs.Sequences.{nth_insn}
 use Rattle.ci_isa.proofs.LastPassing.{IsLast, last_or_none}
 use Rattle.ci_isa.proofs.LastWriter.{written}
+use Rattle.ci_isa.proofs.Registers.{reads_register_is}
 use Rattle.ci_machine.specs.declared.ends.End.{End}
 use Rattle.ci_machine.specs.Cores.{Core, register, first_hidden}
 use Rattle.ci_machine.specs.Outcomes.{Reached, continued}
 use Rattle.ci_machine.specs.Actions.{Units, act, accessed}
-use Rattle.ci_machine.specs.Agreement.{acted, AgreeOn, LeavesText}
+use Rattle.ci_machine.specs.Agreement.{acted, reads, writes, AgreeOn, LeavesText, TakeHidden}
 use Rattle.ci_machine.specs.Blocks.{HaveSameStreams}
+use Rattle.ci_rewrite.specs.Bundles.{given_at}
 use Rattle.ci_machine.proofs.EndLaws.{acted_keeps_streams}
-use Rattle.ci_machine.proofs.TestLaws.{by_test, by_end, no_end}
-use Rattle.ci_machine.proofs.NamedReads.{no_further, reads, reads_is, writes_is}
+use Rattle.ci_machine.proofs.TestLaws.{by_test, by_end, no_end, or_second}
+use Rattle.ci_machine.proofs.NamedReads.{writes_is}
+use Rattle.ci_machine.proofs.PlainMeaning.{registers_read_are}
 use Rattle.ci_machine.proofs.InstructionFrame.{keeps, AgreeAt, AreAlike, alike, store_accesses, outside_text}
 use Rattle.ci_machine.proofs.LeavingLists.{same_accessed, nothing_moved}
 use Rattle.ci_machine.proofs.RelatedLists.{no_text, goes_on, has_ended}
-use Rattle.ci_rewrite.proofs.NamedUnits.{TakeNamed}
-use Rattle.ci_rewrite.proofs.NarrowReads.{reads_same, unit_writes}
 
 none_moved : (insn : Insn) (core : Core) (left right : ℕ → Option ℕ) → is_access insn ≡ false → AgreeAt (accessed insn core) left right
 none_moved (Load kind rd rs1 offset) core left right none = cc
 none_moved (Store width rs1 rs2 offset) core left right none = cc
 none_moved insn core left right none = tt
+
+-- of the registers that programs can name, an instruction reads those of its operands
+reads_is : (units : Units) → TakeHidden units → (insn : Insn) (r : ℕ) → r < 32 → reads units insn r ≡ reads_register insn r
+reads_is units hidden_ones insn r below = registers_read_are units hidden_ones insn r below ∙ sym (reads_register_is insn r)
 
 -- ---- the run through the block
 
@@ -134,14 +139,13 @@ module _ (units : Units) (insns : List Insn) (start : Core) where
             ∙ sym (tracks.untouched r other (λ j. unwritten r 0 is (λ i from to. none i to) j (omega arith)))
       ]
 
-      module _ (named : TakeNamed units) (acts : ends_block (nth_insn insns k) ≡ false) (read : AgreeOn (reads (nth_insn insns k)) (core_at k) core) where
+      module _ (acts : ends_block (nth_insn insns k) ≡ false) (read : AgreeOn (reads units (nth_insn insns k)) (core_at k) core) where
         memory_there : goes_to_memory insns k ≡ true → (address : ℕ) → (core_at k).memory address ≡ core.memory address
         memory_there is address = sym (tracks.memory k (omega (arith, ready.within)) (ready.accesses is) address)
 
         -- it does what it does in the block
         pub same : AreAlike (nth_insn insns k) (core_at k) core (acted units (nth_insn insns k) (core_at k)) (acted units (nth_insn insns k) core)
-        same = alike units (core_at k) core (nth_insn insns k) acts
-            (subst (λ set. AgreeOn set (core_at k) core) (sym (reads_same units named (nth_insn insns k))) read)
+        same = alike units (core_at k) core (nth_insn insns k) acts read
             (by_test (goes_to_memory insns k)
             (λ is. outside_text (λ _. false) moves _ _ (λ address clear. memory_there is address) (no_text moves))
             (λ none. none_moved _ _ _ _ none))
@@ -244,14 +248,15 @@ module _ (units : Units) (insns : List Insn) (start : Core) where
       pub unended : run.end ≡ None → (j : ℕ) → j < n → placed j ≡ true → end_at j ≡ None
       pub stopped : (e : End) → run.end ≡ Some e → HasStopped e run.state
 
-    -- What is known of the block: its nodes act, of the hidden registers they read the first one alone, by a `cread`, and
-    -- where no node before it ends, each access leaves the text alone.
+    -- A hidden register that node k reads, or that its bundle has written before it and that it leaves to the words behind.
+    abbrev pub Wants : ℕ → ℕ → Type 0
+    Wants k r = (reads units (nth_insn insns k) r ≡ true) ⊎ ((is_cread (nth_insn insns k) && given_at insns k r) ≡ true)
+
+    -- What is known of the block: its nodes act, units take hidden registers beside those that their words name, and where
+    -- no node before it ends, each access leaves the text alone.
     pub record IsBody (text : ℕ → Bool) : Type 0 where
-      pub named : TakeNamed units
+      pub hidden_ones : TakeHidden units
       pub acts : (k : ℕ) → k < n → ends_block (nth_insn insns k) ≡ false
-      pub hidden_read :
-          (k r : ℕ) → k < n → first_hidden ≤ r → reads (nth_insn insns k) r ≡ true
-          → (r ≡ first_hidden) × (is_cread (nth_insn insns k) ≡ true)
       pub clear :
           (k : ℕ) → k < n → goes_to_memory insns k ≡ true → ((j : ℕ) → j < k → end_at j ≡ None)
           → LeavesText text (nth_insn insns k) (core_at k)
@@ -261,26 +266,24 @@ module _ (units : Units) (insns : List Insn) (start : Core) where
       pub follows : Follows more dead (continued (act units (nth_insn insns k)) run)
       pub leaves_text : run.end ≡ None → LeavesText text (nth_insn insns k) run.state
       pub hidden_there :
-          is_unit (nth_insn insns k) ≡ true → (continued (act units (nth_insn insns k)) run).end ≡ None
-          → register (core_at (suc k)) first_hidden ≡ register (continued (act units (nth_insn insns k)) run).state first_hidden
+          (r : ℕ) → first_hidden ≤ r → given_at insns (suc k) r ≡ true → (continued (act units (nth_insn insns k)) run).end ≡ None
+          → register (core_at (suc k)) r ≡ register (continued (act units (nth_insn insns k)) run).state r
 
     module _ (text placed dead more : ℕ → Bool) (run : Reached Core) (body : IsBody text) (follows : Follows placed dead run)
         (k : ℕ) (ready : IsReady placed dead k) (one_more : (j : ℕ) → j < n → more j ≡ (placed j || (j == k)))
-        (cread : run.end ≡ None → is_cread (nth_insn insns k) ≡ true → register (core_at k) first_hidden ≡ register run.state first_hidden) where
+        (found : run.end ≡ None → (r : ℕ) → first_hidden ≤ r → Wants k r → register (core_at k) r ≡ register run.state r) where
       module _ (on : run.end ≡ None) where
         tracks_now : Tracks placed dead run.state
         tracks_now = follows.going on
 
-        read_now : AgreeOn (reads (nth_insn insns k)) (core_at k) run.state
+        read_now : AgreeOn (reads units (nth_insn insns k)) (core_at k) run.state
         read_now r is = elim (cases_lt r first_hidden) [
-          | inl below ↦ operand_there placed dead run.state tracks_now k ready r below (sym (reads_is (nth_insn insns k) r below) ∙ is)
-          | inr past ↦
-              let (same, it_is) = body.hidden_read k r ready.within past is in
-              ap (register (core_at k)) same ∙ cread on it_is ∙ ap (register run.state) (sym same)
+          | inl named ↦ operand_there placed dead run.state tracks_now k ready r named (sym (reads_is units body.hidden_ones (nth_insn insns k) r named) ∙ is)
+          | inr hidden ↦ found on r hidden (inl is)
         ]
 
         same_now : AreAlike (nth_insn insns k) (core_at k) run.state (acted units (nth_insn insns k) (core_at k)) (acted units (nth_insn insns k) run.state)
-        same_now = same placed dead run.state tracks_now k ready body.named (body.acts k ready.within) read_now
+        same_now = same placed dead run.state tracks_now k ready (body.acts k ready.within) read_now
 
         -- no node before it ends, where it is an access
         none_before : goes_to_memory insns k ≡ true → (j : ℕ) → j < k → end_at j ≡ None
@@ -292,15 +295,25 @@ module _ (units : Units) (insns : List Insn) (start : Core) where
 
         leaves_now : LeavesText text (nth_insn insns k) run.state
         leaves_now =
-            ap (list_any text) (sym (same_accessed no_further (nth_insn insns k) (core_at k) run.state read_now))
+            ap (list_any text) (sym (same_accessed units (nth_insn insns k) (core_at k) run.state read_now))
             ∙ by_test (goes_to_memory insns k)
             (λ is. body.clear k ready.within is (none_before is))
             (λ none. nothing_moved text (nth_insn insns k) (core_at k) none)
 
+        -- it has written a hidden register, or left it as it was
+        hidden_now : end_at k ≡ None → (r : ℕ) → first_hidden ≤ r → given_at insns (suc k) r ≡ true
+            → register (core_at (suc k)) r ≡ register (acted units (nth_insn insns k) run.state).state r
+        hidden_now none r hidden given = by_test (writes (nth_insn insns k) r)
+            (λ is. same_now.written none r is)
+            (λ unwritten.
+            (keeps units (nth_insn insns k) (core_at k)).registers r unwritten
+            ∙ found on r hidden (inr (or_second (writes (nth_insn insns k) r) (is_cread (nth_insn insns k) && given_at insns k r) given unwritten))
+            ∙ sym ((keeps units (nth_insn insns k) run.state).registers r unwritten))
+
         goes_if : end_at k ≡ None → IsStep text k more dead run
         goes_if none = record {
           follows = rw (goes_on units (nth_insn insns k) run on) (record {
-            going = λ _. next placed dead run.state tracks_now k ready body.named (body.acts k ready.within) read_now none more one_more;
+            going = λ _. next placed dead run.state tracks_now k ready (body.acts k ready.within) read_now none more one_more;
             unended = λ _ j below acted. elim (cases_eq j k) [
               | inl at_it ↦ ap end_at at_it ∙ none
               | inr differs ↦ follows.unended on j below (was (placed j) differs (sym (one_more j below) ∙ acted))
@@ -308,7 +321,7 @@ module _ (units : Units) (insns : List Insn) (start : Core) where
             stopped = λ e is. absurd (no_end _ e (sym same_now.end ∙ none) is);
           });
           leaves_text = λ _. leaves_now;
-          hidden_there = λ is _. rw (goes_on units (nth_insn insns k) run on) (same_now.written none first_hidden (unit_writes (nth_insn insns k) is));
+          hidden_there = λ r hidden given _. rw (goes_on units (nth_insn insns k) run on) (hidden_now none r hidden given);
         }
           where
             was : (p : Bool) → {j : ℕ} → j ≢ k → (p || (j == k)) ≡ true → p ≡ true
@@ -336,7 +349,7 @@ module _ (units : Units) (insns : List Insn) (start : Core) where
                 };
               });
               leaves_text = λ _. leaves_now;
-              hidden_there = λ is none. absurd (no_end _ e (ap (λ r. r.end) (sym (goes_on units (nth_insn insns k) run on)) ∙ none) stops);
+              hidden_there = λ r hidden given none. absurd (no_end _ e (ap (λ r. r.end) (sym (goes_on units (nth_insn insns k) run on)) ∙ none) stops);
             }
 
       pub step : IsStep text k more dead run
@@ -349,7 +362,7 @@ module _ (units : Units) (insns : List Insn) (start : Core) where
               stopped = follows.stopped;
             });
             leaves_text = λ none. absurd (no_end run.end e none ended);
-            hidden_there = λ is none. absurd (no_end run.end e (ap (λ r. r.end) (sym (has_ended units (nth_insn insns k) run e ended)) ∙ none) ended);
+            hidden_there = λ r hidden given none. absurd (no_end run.end e (ap (λ r. r.end) (sym (has_ended units (nth_insn insns k) run e ended)) ∙ none) ended);
           })
 
     -- what holds of the nodes of one test holds of those of an equal one

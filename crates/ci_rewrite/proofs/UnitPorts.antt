@@ -1,16 +1,14 @@
 -- The inputs and the outputs of the unit of a cut: how many they are, and in which registers.
-use Rattle.std.specs.Prelude.{◌≡◌, ℕ, ◌<◌, ◌≤◌, ◌⊎◌, Bool, true, ◌==◌, List, [], ◌∷◌, ◌++◌, map, drop, replicate, length, slice_index}
+use Rattle.std.specs.Prelude.{◌≡◌, ℕ, ◌<◌, ◌≤◌, Bool, true, ◌==◌, List, ◌++◌, replicate, length, slice_index}
 use Rattle.std.specs.FinSet as finite
 use Rattle.std.specs.List.{list_any}
 use Rattle.std.specs.Ordering.{nat_cmp}
-use Rattle.std.proofs.Common.{refl, sym, ap, ◌∙◌, subst, arith, inl, inr}
-use Rattle.std.proofs.lemmas.Bool.{cases_eq, and_parts}
-use Rattle.std.proofs.lemmas.Bool.Decides.{nat_tests}
+use Rattle.std.proofs.Common.{sym, ap, ◌∙◌, subst, arith, inl, inr}
+use Rattle.std.proofs.lemmas.Bool.{and_parts}
 use Rattle.std.proofs.lemmas.List.Elements.{All-from_recursion}
 use Rattle.ci_word.specs.Numbers.{count_below}
 use Rattle.ci_word.proofs.NumberLaws.{length-numbers_below}
 use Rattle.ci_isa.specs.declared.instruction.Insn.{Insn}
-use Rattle.ci_isa.specs.declared.instruction.Insn.TheVariants.{Unit, Cread}
 use Rattle.ci_isa.specs.FieldBounds.{FieldsFit}
 use Rattle.ci_isa.specs.Effects.{operands, is_kept}
 use Rattle.ci_isa.specs.Sequences.{nth_insn}
@@ -18,7 +16,8 @@ use Rattle.ci_isa.proofs.LastWriter.{latest_writer_is_last}
 use Rattle.ci_isa.proofs.OperandLaws.{operand_below, result_below}
 use Rattle.ci_lat.specs.Latencies.{Latencies}
 use Rattle.ci_cut.specs.declared.graph.Source.{Source}
-use Rattle.ci_cut.specs.declared.graph.Source.TheVariants.{Entry, Made}
+use Rattle.ci_cut.specs.declared.graph.Source.TheVariants.{Entry}
+use Rattle.ci_cut.specs.declared.graph.Source.TheVariants.{Made}
 use Rattle.ci_cut.specs.FlowGraph.{FlowGraph, is_source}
 use Rattle.ci_cut.specs.Ports.{is_outside, is_output, inputs, outputs}
 use Rattle.ci_dfg.specs.BlockGraph.{source_of, graph_of}
@@ -28,11 +27,11 @@ use Rattle.ci_dfg.proofs.SourceLaws.{entry_is, made_is}
 use Rattle.ci_unit.specs.Reading.{IsSmall}
 use Rattle.ci_unit.specs.Units.{inputs_of, outputs_of}
 use Rattle.ci_unit.specs.Uses as uses
-use Rattle.ci_unit.proofs.CountLaws.{passes_there, is_among_them}
+use Rattle.ci_unit.proofs.CountLaws.{passes_there}
 use Rattle.ci_unit.proofs.InputLaws as lists
 use Rattle.ci_unit.proofs.SourceLaws.{same_source, each_weaker, own_sources, given_at}
 use Rattle.ci_rewrite.specs.FoldedBlock.{no_op, places_left}
-use Rattle.ci_rewrite.proofs.CutNodes.{IsFolding, HasOutputNodes, late, member_within}
+use Rattle.ci_rewrite.proofs.CutNodes.{IsFolding, late}
 use Rattle.ci_rewrite.proofs.Stages.{those_below}
 
 -- ---- inputs
@@ -112,16 +111,6 @@ module _ (insns : List Insn) (live_out : finite.FinSet nat_cmp) (table : Latenci
       length-numbers_below (length insns) (is_output (graph_of insns live_out table) cut)
       ∙ ap (λ m. count_below m (is_output (graph_of insns live_out table) cut)) (sym (length-nodes insns live_out table))
 
-  pub output_nodes : 1 ≤ outputs (graph_of insns live_out table) cut → outputs (graph_of insns live_out table) cut ≤ 2
-      → HasOutputNodes (outputs_of insns (graph_of insns live_out table) cut)
-  output_nodes some few = by_list (outputs_of insns (graph_of insns live_out table) cut) length-outputs_of
-    where
-      by_list : (outs : List ℕ) → length outs ≡ outputs (graph_of insns live_out table) cut → HasOutputNodes outs
-      by_list [] same = absurd (omega arith)
-      by_list (m ∷ []) same = inl (m, refl)
-      by_list (m ∷ o ∷ []) same = inr (m, o, refl)
-      by_list (m ∷ o ∷ p ∷ outs) same = absurd (omega arith)
-
 module _ {insns : List Insn} {live_out : finite.FinSet nat_cmp} {table : Latencies} {cut early : ℕ → Bool} {n : ℕ}
     (known : IsFolding insns live_out table cut early n) where
   abbrev is_out : ℕ → Bool
@@ -135,50 +124,10 @@ module _ {insns : List Insn} {live_out : finite.FinSet nat_cmp} {table : Latenci
     pub output_at : (i : ℕ) → i < length nodes → is_out (slice_index nodes i) ≡ true
     output_at = passes_there is_out (length insns) nodes same
 
-    among_outputs : (o : ℕ) → is_out o ≡ true → list_any (λ y. y == o) nodes ≡ true
-    among_outputs o is = is_among_them is_out (length insns) nodes same o (member_within known o (output_member o is)) is
-
-  pub is_sole : (m : ℕ) → outputs_of insns (graph_of insns live_out table) cut ≡ m ∷ [] → (o : ℕ) → is_out o ≡ true → o ≡ m
-  is_sole m same o is = sole (among_outputs (m ∷ []) same o is)
-    where
-      sole : list_any (λ y. y == o) (m ∷ []) ≡ true → o ≡ m
-      sole among = grind (arith, nat_tests)
-
-  pub is_either : (m k : ℕ) → outputs_of insns (graph_of insns live_out table) cut ≡ m ∷ k ∷ [] → (o : ℕ) → is_out o ≡ true → (o ≡ m) ⊎ (o ≡ k)
-  is_either m k same o is = elim (cases_eq o m) [
-    | inl first ↦ inl first
-    | inr other ↦ inr (second (among_outputs (m ∷ k ∷ []) same o is) other)
-  ]
-    where
-      second : list_any (λ y. y == o) (m ∷ k ∷ []) ≡ true → (o ≡ m → ⊥) → o ≡ k
-      second among other = grind (arith, nat_tests, other)
-
 -- ---- the use of a unit
-
--- with its outputs in these registers
-abbrev pub use_with : List Insn → FlowGraph → (ℕ → Bool) → ℕ → List ℕ → List Insn
-use_with insns graph cut number registers =
-    let input : ℕ → ℕ = slice_index (uses.input_registers insns graph cut) in
-    Unit number (slice_index registers 0) (input 0) (input 1) (input 2) ∷ map (λ r. Cread r 0) (drop 1 registers)
 
 module _ {insns : List Insn} {live_out : finite.FinSet nat_cmp} {table : Latencies} {cut early : ℕ → Bool} {n : ℕ}
     (known : IsFolding insns live_out table cut early n) (number : ℕ) where
-  abbrev result : ℕ → ℕ
-  result = uses.result_register insns
-
-  abbrev pub unit_word : ℕ → Insn
-  unit_word m =
-      let input : ℕ → ℕ = slice_index (uses.input_registers insns (graph_of insns live_out table) cut) in
-      Unit number (result m) (input 0) (input 1) (input 2)
-
-  pub used_one : (m : ℕ) → outputs_of insns (graph_of insns live_out table) cut ≡ m ∷ []
-      → uses.use_of insns (graph_of insns live_out table) cut number ≡ unit_word m ∷ []
-  used_one m same = ap (λ l. use_with insns (graph_of insns live_out table) cut number (map result l)) same
-
-  pub used_two : (m o : ℕ) → outputs_of insns (graph_of insns live_out table) cut ≡ m ∷ o ∷ []
-      → uses.use_of insns (graph_of insns live_out table) cut number ≡ unit_word m ∷ Cread (result o) 0 ∷ []
-  used_two m o same = ap (λ l. use_with insns (graph_of insns live_out table) cut number (map result l)) same
-
   -- the unit word and its `cread`, and the no-ops
   abbrev pub in_place : List Insn
   in_place =

@@ -5,19 +5,13 @@ use Rattle.std.specs.List.{list_any}
 use Rattle.std.specs.Ordering.{nat_cmp}
 use Rattle.ci_isa.specs.declared.instruction.Insn.{Insn}
 use Rattle.ci_isa.specs.FieldBounds.{FieldsFit}
-use Rattle.ci_isa.specs.Effects.{ends_block, is_unit, is_cread, reads_register, writes_register}
+use Rattle.ci_isa.specs.Effects.{ends_block, reads_register, writes_register}
 use Rattle.ci_isa.specs.Sequences.{nth_insn, ReadFirst, Write}
-use Rattle.ci_dfg.specs.BlockGraph.{AreNarrow}
+use Rattle.ci_dfg.specs.Bundles.{AreBundled}
 
 -- the fields of each instruction are within their places in a word
 abbrev pub AllFieldsFit : List Insn → Type 0
 AllFieldsFit insns = (k : ℕ) → k < length insns → FieldsFit (nth_insn insns k)
-
--- each `cread` stands directly behind a unit word
-abbrev pub AreBundled : List Insn → Type 0
-AreBundled insns =
-    (k : ℕ) → k < length insns → is_cread (nth_insn insns k) ≡ true
-    → (u : ℕ) × (k ≡ suc u) × (is_unit (nth_insn insns u) ≡ true)
 
 -- The first n instructions are the block's actions: behind them stands at most one more, which ends the block.
 pub record AreActionsOf (insns : List Insn) (n : ℕ) : Type 0 where
@@ -32,7 +26,6 @@ pub record IsBlock (insns : List Insn) (n : ℕ) : Type 0 where
   pub few : length insns ≤ 256
   pub fit : AllFieldsFit insns
   pub bundled : AreBundled insns
-  pub narrow : AreNarrow insns
 
 -- a set of registers that programs can name
 abbrev pub AreNamed : finite.FinSet nat_cmp → Type 0

@@ -1,14 +1,15 @@
 -- Modules that compute units, for everybody.
-use Rattle.std.specs.Prelude.{◌≡◌, ℕ, ◌^◌, ◌<◌, ◌↔◌, List, [], ◌∷◌, slice_get, Some}
+use Rattle.std.specs.Prelude.{◌≡◌, ℕ, ◌↔◌, List, [], ◌∷◌, slice_get, Some}
+use Rattle.ci_elf.specs.WordLists.{AreWords}
 use Rattle.ci_verilog.specs.Modules.{Module}
 use Rattle.ci_verilog.specs.Values.{IsValueOf}
-use Rattle.ci_unit.specs.Units.{Unit, IsPairOf}
+use Rattle.ci_unit.specs.Units.{Unit, IsTripleOf}
 
--- at all words the module has the unit's value: y and z are what the unit gives of a, b and c, and x is 0
+-- at all words the module has the unit's value: y, z and x are its outputs, and 0 where it has no more
 abbrev pub HasUnitValue : Module → Unit → Type 0
 HasUnitValue m unit =
-    (a b c d e y z x : ℕ) → a < 2 ^ 32 → b < 2 ^ 32 → c < 2 ^ 32 → d < 2 ^ 32 → e < 2 ^ 32
-    → IsValueOf m (a ∷ b ∷ c ∷ d ∷ e ∷ []) (y ∷ z ∷ x ∷ []) ↔ (IsPairOf unit (a ∷ b ∷ c ∷ []) y z × (x ≡ 0))
+    (a b c d e : ℕ) (results : List ℕ) → AreWords (a ∷ b ∷ c ∷ d ∷ e ∷ [])
+    → IsValueOf m (a ∷ b ∷ c ∷ d ∷ e ∷ []) results ↔ IsTripleOf unit (a ∷ b ∷ c ∷ d ∷ e ∷ []) results
 
 -- so does the module of this number
 pub record ComputeUnit (modules : List Module) (number : ℕ) (unit : Unit) : Type 0 where

@@ -34,7 +34,7 @@ AreEarly insns graph cut early =
     (k : ℕ) → k < length insns → IsTrue (early k) ↔ ((¬ IsTrue (cut k)) × LeadsToMember graph cut k)
 
 -- The places of the members that a use of their unit leaves over: it takes one for the unit word, and one for each of
--- the further words, as the `cread` of a second output.
+-- the further words, which are a `cput` and the `cread` of each output behind the first.
 abbrev pub places_left : FlowGraph → (ℕ → Bool) → ℕ
 places_left graph cut = size graph cut - 1 - further_words graph cut
 

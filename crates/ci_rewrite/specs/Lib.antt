@@ -1,6 +1,8 @@
 pub mod FoldedBlock
 pub mod Blocks
 pub mod BareWords
+pub mod Follows
+pub mod Bundles
 pub mod SameEffect
 pub mod ComputedUnits
 pub mod UnitModules

@@ -1,5 +1,5 @@
 -- A folded block has the same effect as the block, for everybody.
-use Rattle.std.specs.Prelude.{◌≡◌, ℕ, ◌+◌, ◌<◌, Bool, false, List, [], ◌∷◌, length, take, drop}
+use Rattle.std.specs.Prelude.{◌≡◌, ℕ, suc, ◌<◌, ◌⊎◌, Bool, true, false, List, [], ◌∷◌, length, take, drop}
 use Rattle.std.specs.FinSet as finite
 use Rattle.std.specs.Ordering.{nat_cmp}
 use Rattle.ci_isa.specs.declared.instruction.Insn.{Insn}
@@ -10,11 +10,10 @@ use Rattle.ci_machine.specs.Outcomes.{at_start}
 use Rattle.ci_machine.specs.Actions.{Units}
 use Rattle.ci_machine.specs.Agreement.{act_all, AgreeOutside, AgreeOn, AreRelated, AllLeaveText}
 use Rattle.ci_elf.specs.WordLists.{AreWords}
-use Rattle.ci_machine.specs.Words.{AreTaken, HoldsWords, IsWord, MakesWords}
+use Rattle.ci_machine.specs.Words.{AreTaken, HoldsWords, MakesWords}
 use Rattle.ci_cut.specs.declared.graph.Limits.{Limits}
 use Rattle.ci_cut.specs.Gain.{Fits}
-use Rattle.ci_dfg.specs.Arcs.{IsBundle}
-use Rattle.ci_dfg.specs.BlockGraph.{graph_of}
+use Rattle.ci_dfg.specs.BlockGraph.{graph_of, is_joined}
 use Rattle.ci_unit.specs.Units as terms
 use Rattle.ci_rewrite.specs.Blocks.{IsBlock, AreNamed, Covers, live_behind}
 use Rattle.ci_rewrite.specs.BareWords.{OfBareWords}
@@ -35,16 +34,13 @@ pub record Serve (units : Units) (insns : List Insn) : Type 0 where
   pub bare : OfBareWords (IgnoresOperands units) insns
   pub words : (k : ℕ) → k < length insns → MakesWords units (nth_insn insns k)
 
--- The unit of this number makes words of words. Whatever the hidden operands are, it gives of the first three what the
--- cut's unit gives, of which the second is 0 where that has one output, and 0 for the third.
+-- The unit of this number makes words of words, and gives of all five what the cut's unit gives, and 0 where that has
+-- no more outputs.
 pub record ComputesUnit (units : Units) (number : ℕ) (unit : terms.Unit) : Type 0 where
   pub words : (values : List ℕ) → AreTaken units number values → AreWords (units.results number values)
   pub value :
-      (a b c : ℕ) → AreWords (a ∷ b ∷ c ∷ [])
-      → (first second : ℕ)
-      × ((d e : ℕ) → IsWord d → IsWord e
-      → units.results number (a ∷ b ∷ c ∷ d ∷ e ∷ []) ≡ first ∷ second ∷ 0 ∷ [])
-      × terms.IsPairOf unit (a ∷ b ∷ c ∷ []) first second
+      (a b c d e : ℕ) → AreWords (a ∷ b ∷ c ∷ d ∷ e ∷ [])
+      → terms.IsTripleOf unit (a ∷ b ∷ c ∷ d ∷ e ∷ []) (units.results number (a ∷ b ∷ c ∷ d ∷ e ∷ []))
 
 -- ---- from one core
 
@@ -58,14 +54,19 @@ pub record HasSameEffect (text set : ℕ → Bool) (units : Units) (old new : Li
       (core : Core) → HoldsWords core → AllLeaveText units text old (at_start core)
       → AllLeaveText units text new (at_start core)
 
--- Each `cread` still stands directly behind its own unit word: the words of a bundle stand side by side in the folded
--- block too, and those of two bundles at two places. (These lie in the folded block: no `cread` stands past its end.)
+-- a word that stands with another one in a bundle
+abbrev pub StandsInBundle : List Insn → ℕ → Type 0
+StandsInBundle insns u = (is_joined insns u ≡ true) ⊎ (is_joined insns (suc u) ≡ true)
+
+-- The words of each bundle still stand together in their order: each word that stands behind another one of its bundle
+-- does so in the folded block too, and no two words of bundles stand at one place.
 pub record KeepsBundles (insns folded : List Insn) : Type 0 where
-  -- where the unit word from this place stands
+  -- where the word from this place stands
   pub place : ℕ → ℕ
-  pub unit_word : (u : ℕ) → IsBundle insns u → nth_insn folded (place u) ≡ nth_insn insns u
-  pub cread_behind : (u : ℕ) → IsBundle insns u → nth_insn folded (place u + 1) ≡ nth_insn insns (u + 1)
-  pub apart : (u v : ℕ) → IsBundle insns u → IsBundle insns v → place u ≡ place v → u ≡ v
+  pub first : (u : ℕ) → is_joined insns (suc u) ≡ true → nth_insn folded (place u) ≡ nth_insn insns u
+  pub second : (u : ℕ) → is_joined insns (suc u) ≡ true → nth_insn folded (place (suc u)) ≡ nth_insn insns (suc u)
+  pub behind : (u : ℕ) → is_joined insns (suc u) ≡ true → place (suc u) ≡ suc (place u)
+  pub apart : (u v : ℕ) → StandsInBundle insns u → StandsInBundle insns v → place u ≡ place v → u ≡ v
 
 -- What folding keeps of the shape of a block: its length, its end, its bundles, and that it can be folded.
 pub record KeepsShape (insns : List Insn) (n : ℕ) (folded : List Insn) : Type 0 where
@@ -92,7 +93,7 @@ FoldingKeepsShape =
     → KeepsShape insns n folded
 
 -- and its effect, where the units of its unit words give words, and the one of the number what the cut's unit does.
--- (Limits are at most 3 and 2.)
+-- (Limits are at most 5 and 3.)
 abbrev pub FoldingKeeps : Type 0
 FoldingKeeps =
     (text : ℕ → Bool) (units : Units) (insns : List Insn) (n : ℕ) (live_out : finite.FinSet nat_cmp)

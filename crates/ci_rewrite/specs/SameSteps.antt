@@ -1,11 +1,11 @@
 -- A folded block that stands in the text makes the steps of the block, for everybody.
-use Rattle.std.specs.Prelude.{◌≡◌, ℕ, ◌<◌, Bool, true, List, length, take, Some, None}
+use Rattle.std.specs.Prelude.{◌≡◌, ℕ, ◌<◌, Bool, true, List, All, length, take, Some, None}
 use Rattle.std.specs.FinSet as finite
 use Rattle.std.specs.Ordering.{nat_cmp}
 use Rattle.ci_isa.specs.declared.instruction.Insn.{Insn}
 use Rattle.ci_isa.specs.Sequences.{nth_insn}
 use Rattle.ci_lat.specs.Latencies.{Latencies}
-use Rattle.ci_verilog.specs.Modules.{Module}
+use Rattle.ci_verilog.specs.Modules.{Module, IsModule}
 use Rattle.ci_machine.specs.declared.ends.End.{End}
 use Rattle.ci_machine.specs.Agreement.{AgreeOutside, AgreeOn}
 use Rattle.ci_machine.specs.Programs.{Program, State, in_text}
@@ -72,9 +72,11 @@ pub record KeepsRuns
   pub have_modules :
       (modules : List Module) → HaveModules modules insns → number < length modules → HaveModules modules folded
   -- Where for each bare unit word of the block the value of its module doesn't depend on d and e, and the module of the
-  -- number has the unit's value, so it is for each bare unit word of the folded block.
+  -- number has the unit's value, so it is for each bare unit word of the folded block. The modules are such as keep what
+  -- the type of modules keeps.
   pub stay_bare :
-      (modules : List Module) → OfBareWords (IgnoreOperands modules) insns → ComputeUnit modules number unit
+      (modules : List Module) → All IsModule modules → OfBareWords (IgnoreOperands modules) insns
+      → ComputeUnit modules number unit
       → OfBareWords (IgnoreOperands modules) folded
   -- From states that agree on such a set, where the run of the block leaves the text alone, both pass alike, up to
   -- their last instruction, if that ends them, or to their length. They agree there on what that instruction reads, and

@@ -1,6 +1,8 @@
 //! The folded block.
-ghost use Rattle.std.specs.Prelude.{◌≡◌, ℕ, ◌<◌, ◌≤◌, ◌++◌, ◌↔◌, not, length, replicate, IfOk, OnOk, IsTrue};
+ghost use Rattle.std.specs.Prelude.{◌≡◌, ℕ, ◌+◌, ◌<◌, ◌≤◌, ◌++◌, ◌↔◌, not, length, replicate, IfOk, OnOk, IsTrue};
 ghost use Rattle.std.specs.FinSet as set;
+ghost use Rattle.std.specs.Option.{option_to_list};
+ghost use Rattle.ci_cut.specs.Gain.{further_words};
 ghost use Rattle.ci_unit.specs.Operands.{FitsSomeLimits};
 ghost use Rattle.ci_unit.specs.Uses.{AreRegisters, use_of};
 ghost use Rattle.ci_rewrite.specs.Blocks.{AllFieldsFit, IsBlock};
@@ -9,7 +11,7 @@ ghost use Rattle.ci_rewrite.specs.FoldedBlock.{IsGraphOf, IsFolded, LeadsToMembe
 ghost use Rattle.ci_rewrite.specs.Folds.{KeepsEffect, SavesGain};
 ghost use Rattle.ci_rewrite.specs.SameEffect.{KeepsShape};
 
-use ci_cut::{Graph, outputs};
+use ci_cut::{Graph, inputs, outputs};
 use ci_isa::{Insn, Reg};
 use ci_unit::encode_use;
 use ci_word::{Op, Row};
@@ -17,7 +19,7 @@ use std::alloc::{AllocError, Global};
 
 /// The block in which the unit of this number stands for the members of the cut.
 ///
-/// Before the unit word and its `cread` stand the instructions outside the cut from which a walk along arcs leads to a
+/// Before the words of the unit's use stand the instructions outside the cut from which a walk along arcs leads to a
 /// member, in their order; behind them a no-op for each place that is left over, and then the other instructions. So
 /// the block keeps its length, and an instruction that ends it stays last.
 ///
@@ -102,7 +104,7 @@ fn push_others(list: &mut Vec<Insn>, insns: &[Insn], numbers: &Row) -> Result<()
     Ok(())
 }
 
-/// Puts the unit word at the end, and the `cread` where there is a second output.
+/// Puts the words of the use at the end, in their order.
 fn push_use(
     list: &mut Vec<Insn>,
     insns: &[Insn],
@@ -118,10 +120,19 @@ fn push_use(
         ≡ list.old.items ++ use_of insns.now graph.now (set.contains cut.now) number) }
     ensures fit { OnOk result (AllFieldsFit (use_of insns.now graph.now (set.contains cut.now) number)) }
 {
-    let (unit, read) = encode_use(insns, graph, cut, number);
-    list.push(unit)?;
-    if let Some(read) = read {
-        list.push(read)?;
+    let used = encode_use(*list.allocator(), insns, graph, cut, number);
+    push_some(list, used.put)?;
+    list.push(used.unit)?;
+    list.extend_from_slice(used.reads.as_slice())?;
+    Ok(())
+}
+
+/// Puts the word at the end, if there is one.
+fn push_some(list: &mut Vec<Insn>, word: Option<Insn>) -> Result<(), AllocError>
+    ensures { OnOk result (list.new.items ≡ list.old.items ++ option_to_list word) }
+{
+    if let Some(word) = word {
+        list.push(word)?;
     }
     Ok(())
 }
@@ -132,13 +143,21 @@ fn push_no_ops(list: &mut Vec<Insn>, graph: &Graph, cut: &Row) -> Result<(), All
     ensures { OnOk result (list.new.items ≡ list.old.items
         ++ replicate (places_left graph.now (set.contains cut.now)) terms.no_op) }
 {
-    // The words of the use take as many places as there are outputs.
-    let taken = outputs(graph, cut);
+    let taken = words_of_use(graph, cut);
     let members = cut.count();
     for _ in taken..members {
         list.push(no_op())?;
     }
     Ok(())
+}
+
+/// How many words the use of the cut's unit takes: one for each output, and one that passes further inputs, where there
+/// are any.
+fn words_of_use(graph: &Graph, cut: &Row) -> u32
+    requires { FitsSomeLimits graph.now (set.contains cut.now) }
+    ensures { result ≡ 1 + further_words graph.now (set.contains cut.now) }
+{
+    outputs(graph, cut) + u32::from(inputs(graph, cut) > 3)
 }
 
 /// `addi x0, x0, 0`, the word 00000013.

@@ -43,7 +43,8 @@ use Rattle.ci_rewrite.specs.SameEffect.{Serve}
 use Rattle.ci_rewrite.specs.UnitModules.{IgnoreOperands}
 use Rattle.ci_rewrite.proofs.BareWordLaws.{of_bare}
 use Rattle.ci_rewrite.proofs.ModuleUnits.{modules_serve}
-use Rattle.ci_rewrite.proofs.PlainBlocks.{plain_bundled, plain_narrow, plain_numbers}
+use Rattle.ci_dfg.proofs.PlainLists.{plain_are_bundled}
+use Rattle.ci_rewrite.proofs.PlainBlocks.{plain_numbers}
 use Rattle.ci_runs.specs.WholeRuns.{Rewriting, Saving, is_among, text}
 use Rattle.ci_runs.specs.FoldedFiles.{IsFoldedBlock, IsFoldedFile, saved_at}
 use Rattle.ci_runs.specs.Crossings.{is_word}
@@ -193,8 +194,7 @@ module _ (rewriting : Rewriting) (table : Table) (savings : List Saving) (is : I
       actions = actions_of.1;
       few = at_leader_of.at_most;
       fit = fit;
-      bundled = plain_bundled insns word reads;
-      narrow = plain_narrow insns word reads;
+      bundled = plain_are_bundled word insns reads;
     }
 
     -- programs can name what is live behind it,

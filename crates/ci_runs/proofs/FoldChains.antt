@@ -115,7 +115,7 @@ module _ (modules : List Module) (live_out : finite.FinSet nat_cmp) (table : Tab
               (modules_compute modules meaning all is_extended number unit compute));
           can_stand = λ k.
               all_folded (folding_of insns n live_out table limits cut present fits is.early is.are_early) number folded is refl (CanStand modules)
-              had.can_stand (λ m member. there) (λ r member. tt) tt k Ebreak;
+              had.can_stand (record { put = tt; unit = there; reads = λ r index below few. tt }) tt k Ebreak;
         }
 
     -- ---- what is saved
