@@ -1,12 +1,11 @@
 -- The modules of a table of units.
-use Rattle.std.proofs.Common.{◌≡◌, ℕ, suc, ◌↔◌, List, [], ◌∷◌, All, map, Some, sym, ap, ◌∙◌, subst}
+use Rattle.std.proofs.Common.{◌≡◌, ℕ, suc, List, [], ◌∷◌, All, map, Some, ap, ◌∙◌}
 use Rattle.std.specs.Prelude.{option_map, slice_get, slice_index}
 use Rattle.std.proofs.lemmas.List.Elements.{All-cons, All-contains, All-head, All-nil, All-tail}
 use Rattle.std.proofs.lemmas.Option.{get_or_from_slice_get, slice_get-map}
 use Rattle.ci_verilog.specs.Modules.{IsModule, Module}
-use Rattle.ci_verilog.specs.Values.{IsValueOf}
 use Rattle.ci_unit.specs.Tables.{IsTable}
-use Rattle.ci_unit.specs.Units.{IsPairOf, IsUnit, Unit}
+use Rattle.ci_unit.specs.Units.{IsUnit, Unit}
 use Rattle.ci_vemit.specs.Templates.{module_of, modules_from, modules_of}
 use Rattle.ci_vemit.proofs.BuildingLaws.{modules_are_in_order}
 use Rattle.ci_vemit.proofs.UnitModules.{module_is}
@@ -25,17 +24,10 @@ modules_keep k (unit ∷ units) are =
 pub table_of_modules : {units : List Unit} → IsTable units → All IsModule (modules_of units)
 table_of_modules {units} keep = modules_keep 0 units keep.units_are
 
--- at all words the module of a unit has the unit's value, and 0
+-- at all words the module of a unit has the unit's value
 has_unit_value : (number : ℕ) (unit : Unit) → IsUnit unit → HasUnitValue (module_of number unit) unit
-has_unit_value number unit is a b c d e y z x word_a word_b word_c word_d word_e = (
-  λ value.
-      let zero : x ≡ 0 = ap (λ results. slice_index results 2) value.results_are in
-      (same.0 (subst (λ third. IsValueOf (module_of number unit) (a ∷ b ∷ c ∷ d ∷ e ∷ []) (y ∷ z ∷ third ∷ [])) zero value), zero),
-  λ both. subst (λ third. IsValueOf (module_of number unit) (a ∷ b ∷ c ∷ d ∷ e ∷ []) (y ∷ z ∷ third ∷ [])) (sym both.1) (same.1 both.0),
-)
-  where
-    same : IsValueOf (module_of number unit) (a ∷ b ∷ c ∷ d ∷ e ∷ []) (y ∷ z ∷ 0 ∷ []) ↔ IsPairOf unit (a ∷ b ∷ c ∷ []) y z
-    same = modules_compute number unit is a b c d e y z word_a word_b word_c
+has_unit_value number unit is a b c d e results words =
+    modules_compute number unit is a b c d e (words 0) (words 1) (words 2) (words 3) (words 4) results
 
 module _ (units : List Unit) (number : ℕ) (unit : Unit) (at : slice_get units number ≡ Some unit) where
   -- it is the module of its number

@@ -25,7 +25,7 @@ limits_text plan =
     number_after (codes "ports ") plan.limits.inputs ++ number_after (codes " ") plan.limits.outputs
     ++ number_after (codes " count ") plan.count ++ number_after (codes " budget ") plan.budget
 
--- the limits of the choice, and what no-ops and reads of the hidden register cost
+-- the limits of the choice, and what no-ops cost, and words that write or read hidden registers
 abbrev pub plan_line : Plan → Latencies → List ℕ
 plan_line plan table =
     line (limits_text plan ++ number_after (codes " pad ") table.pad ++ number_after (codes " read ") table.read)

@@ -133,7 +133,7 @@ fn taken(alloc: Global, rounds: &Rounds, leader: u32, unit: u8) -> Result<Taken,
         unreachable!()
     };
     let graph = rounds.graph(alloc)?;
-    let (word, _) = encode_use(rounds.insns(), &graph, &cut, unit);
+    let used = encode_use(alloc, rounds.insns(), &graph, &cut, unit);
     Ok(Taken {
         round: rounds.round(),
         leader,
@@ -141,7 +141,7 @@ fn taken(alloc: Global, rounds: &Rounds, leader: u32, unit: u8) -> Result<Taken,
         gain: gain(&graph, &cut) as u64,
         entries: rounds.entries(),
         cut,
-        word: encode(&word),
+        word: encode(&used.unit),
     })
 }
 

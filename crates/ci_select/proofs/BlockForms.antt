@@ -13,7 +13,7 @@ use Rattle.ci_machine.specs.Words.{AreBytes}
 use Rattle.ci_block.specs.declared.blocks.Block.{Block}
 use Rattle.ci_block.specs.Blocks.{IsBlockAt, size_of}
 use Rattle.ci_rewrite.specs.Blocks.{AllFieldsFit, AreActionsOf, IsBlock}
-use Rattle.ci_rewrite.proofs.PlainBlocks.{plain_bundled, plain_narrow}
+use Rattle.ci_dfg.proofs.PlainLists.{plain_are_bundled}
 
 -- what stands at a word is spelt by it
 pub word_of_insn : (word : ℕ) (insn : Insn) → word < 4294967296 → IsInsnAt word insn → IsWordOf word insn
@@ -83,7 +83,6 @@ module _ {image : Executable} {leaders : List ℕ} {block : Block} (bytes : AreB
       actions = actions_of.1;
       few = is.at_most;
       fit = fields_of_block;
-      bundled = plain_bundled block.insns.items word reads;
-      narrow = plain_narrow block.insns.items word reads;
+      bundled = plain_are_bundled word block.insns.items reads;
     },
   )

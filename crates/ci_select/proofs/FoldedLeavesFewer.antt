@@ -1,5 +1,5 @@
 -- A fold leaves fewer operations that may join a unit: those of the cut are gone.
-use Rattle.std.proofs.Common.{◌≡◌, ℕ, zero, suc, ◌+◌, ◌<◌, ◌⊎◌, Bool, true, false, not, ◌&&◌, List, [], ◌∷◌, ◌++◌, length, map, drop, replicate}
+use Rattle.std.proofs.Common.{◌≡◌, ℕ, zero, suc, ◌+◌, ◌<◌, ◌⊎◌, Bool, true, false, not, ◌&&◌, List, [], ◌∷◌, ◌++◌, length, drop, replicate}
 use Rattle.std.proofs.Common.{refl, sym, ap, ◌∙◌, inl, inr, arith}
 use Rattle.std.specs.Prelude.{filter, if◌then◌else◌}
 use Rattle.std.proofs.lemmas.Bool.{cases_Bool, false_from_ne_true}
@@ -8,12 +8,12 @@ use Rattle.std.proofs.lemmas.List.Elements.{filter-append}
 use Rattle.ci_word.specs.Numbers.{count_below}
 use Rattle.ci_word.proofs.NumberLaws.{count_below-zero, count_below-suc}
 use Rattle.ci_isa.specs.declared.instruction.Insn.{Insn}
-use Rattle.ci_isa.specs.declared.instruction.Insn.TheVariants.{Cread}
 use Rattle.ci_isa.specs.Effects.{may_join}
 use Rattle.ci_isa.specs.Sequences.{nth_insn}
 use Rattle.ci_cut.specs.FlowGraph.{FlowGraph}
 use Rattle.ci_unit.specs.Operands.{AreOperands, FitsSomeLimits}
-use Rattle.ci_unit.specs.Uses.{use_of, output_registers}
+use Rattle.ci_unit.specs.Uses.{passes, use_of, input_registers, output_registers}
+use Rattle.ci_unit.specs.UseWords.{reads_of, use_words}
 use Rattle.ci_rewrite.specs.FoldedBlock.{IsGraphOf, IsFolded, no_op, places_left}
 use Rattle.ci_rewrite.proofs.BlockGraphs.{has_operands}
 use Rattle.ci_rewrite.proofs.Lists.{whole_list}
@@ -29,12 +29,16 @@ pub joining-append : (xs ys : List Insn) → joining (xs ++ ys) ≡ joining xs +
 joining-append xs ys = ap length (filter-append may_join xs ys) ∙ length-append (filter may_join xs) (filter may_join ys)
 
 -- no word of a use may, and no no-op
-joining_reads : (rs : List ℕ) → joining (map (λ r. Cread r 0) rs) ≡ 0
-joining_reads [] = refl
-joining_reads (r ∷ rs) = joining_reads rs
+joining_reads : (index : ℕ) (rs : List ℕ) → joining (reads_of index rs) ≡ 0
+joining_reads index [] = refl
+joining_reads index (r ∷ rs) = joining_reads (suc index) rs
+
+joining_words : (passes : Bool) (number : ℕ) (ins outs : List ℕ) → joining (use_words passes number ins outs) ≡ 0
+joining_words true number ins outs = joining_reads 0 (drop 1 outs)
+joining_words false number ins outs = joining_reads 0 (drop 1 outs)
 
 joining_use : (insns : List Insn) (graph : FlowGraph) (cut : ℕ → Bool) (number : ℕ) → joining (use_of insns graph cut number) ≡ 0
-joining_use insns graph cut number = joining_reads (drop 1 (output_registers insns graph cut))
+joining_use insns graph cut number = joining_words (passes graph cut) number (input_registers insns graph cut) (output_registers insns graph cut)
 
 joining_no_ops : (n : ℕ) → joining (replicate n no_op) ≡ 0
 joining_no_ops zero = refl

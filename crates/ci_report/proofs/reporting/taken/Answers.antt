@@ -21,20 +21,20 @@ insns-requires c = due_block c.args.leader c.args.unit c.requires.1 c.requires.2
 pub entries-requires : goal.entries-requires
 entries-requires c = due_block c.args.leader c.args.unit c.requires.1 c.requires.2
 
-pub encode_use-word-requires-clause-operands : goal.encode_use-word-requires-clause-operands
-encode_use-word-requires-clause-operands c =
+pub encode_use-used-requires-clause-operands : goal.encode_use-used-requires-clause-operands
+encode_use-used-requires-clause-operands c =
     (taking c.requires c.in-Some.ensures c.insns.ensures c.in_ok-graph.ensures).operands
 
-pub encode_use-word-requires-clause-registers : goal.encode_use-word-requires-clause-registers
-encode_use-word-requires-clause-registers c =
+pub encode_use-used-requires-clause-registers : goal.encode_use-used-requires-clause-registers
+encode_use-used-requires-clause-registers c =
     (taking c.requires c.in-Some.ensures c.insns.ensures c.in_ok-graph.ensures).registers
 
-pub encode_use-word-requires-clause-fits : goal.encode_use-word-requires-clause-fits
-encode_use-word-requires-clause-fits c =
+pub encode_use-used-requires-clause-fits : goal.encode_use-used-requires-clause-fits
+encode_use-used-requires-clause-fits c =
     (taking c.requires c.in-Some.ensures c.insns.ensures c.in_ok-graph.ensures).fits
 
-pub encode_use-word-requires-clause-number : goal.encode_use-word-requires-clause-number
-encode_use-word-requires-clause-number c =
+pub encode_use-used-requires-clause-number : goal.encode_use-used-requires-clause-number
+encode_use-used-requires-clause-number c =
     (taking c.requires c.in-Some.ensures c.insns.ensures c.in_ok-graph.ensures).small
 
 pub gain-requires : goal.gain-requires
@@ -67,6 +67,6 @@ returns c = λ history follows is.
       entries_are = c.entries.ensures history leader follows block;
       gain_is = cast_is c.gain.result fits positive ∙ c.gain.ensures ∙ ap (λ g. gain g (finite.contains cut)) graph;
       word_is = subst (λ w. IsWordOf c.encode.result w)
-          (c.encode_use-word.ensures.unit ∙ ap (λ g. unit_word insns g (finite.contains cut) c.args.unit) graph)
+          (c.encode_use-used.ensures.unit ∙ ap (λ g. unit_word insns g (finite.contains cut) c.args.unit) graph)
           c.encode.ensures.reads_back;
     }

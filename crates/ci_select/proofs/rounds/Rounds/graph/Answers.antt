@@ -1,6 +1,7 @@
 use Rattle.std.proofs.Common.{◌≡◌, length, ap, sym, subst, ◌∙◌, arith}
 use Rattle.std.proofs.lemmas.Result.{IfOk-weaker}
-use Rattle.ci_dfg.specs.BlockGraph.{AreNarrow, graph_of}
+use Rattle.ci_dfg.specs.BlockGraph.{graph_of}
+use Rattle.ci_dfg.specs.Bundles.{AreBundled}
 use Rattle.ci_live.specs.Sets.{after_block}
 use Rattle.ci_select.specs.Followed.{IsDueGraph, instance_in}
 use Rattle.ci_select.proofs.DuePlaces.{block_of_file, order_of, present_at}
@@ -20,7 +21,7 @@ graph-requires c =
     let sound = present_is_sound follows.of_file follows.legal present in
     record {
       few = omega (arith, sound.can_be_folded.few, ap length same);
-      narrow = subst (λ i. AreNarrow i) (sym same) sound.can_be_folded.narrow;
+      bundled = subst (λ i. AreBundled i) (sym same) sound.can_be_folded.bundled;
     }
 
 pub returns : goal.returns
