@@ -9,8 +9,8 @@ use Rattle.ci_isa.specs.declared.instruction.Insn.TheVariants.{Ebreak}
 use Rattle.ci_elf.specs.Executables.{Executable, text_word}
 use Rattle.ci_block.specs.declared.blocks.Block.{Block}
 use Rattle.ci_block.specs.CustomWords.{HasNoCustomWord}
-use Rattle.ci_dfg.specs.BlockGraph.{AreNarrow}
-use Rattle.ci_dfg.proofs.NarrowLaws.{plain_are_narrow}
+use Rattle.ci_dfg.specs.Bundles.{AreBundled}
+use Rattle.ci_dfg.proofs.PlainLists.{plain_are_bundled}
 use Rattle.ci_live.specs.Sets.{Sets, after_block}
 use Rattle.ci_live.specs.Analyses.{IsAnalysis}
 use Rattle.ci_commands.specs.ListedBlocks.{IsListedBlock, IsNoListedBlock, no_leader}
@@ -55,9 +55,9 @@ module _ (file : Executable) (named : List ℕ) (address : ℕ) (blocks : List B
     short = (analysis.blocks_are.each block there).at_most
 
     -- all of the plain table
-    pub narrow : AreNarrow block.insns.items
-    narrow =
-        plain_are_narrow (λ k. text_word file (block.leader + 4 * k)) block.insns.items
+    pub bundled : AreBundled block.insns.items
+    bundled =
+        plain_are_bundled (λ k. text_word file (block.leader + 4 * k)) block.insns.items
         (λ k below. ((analysis.blocks_are.each block there).insns k Ebreak below).reads)
 
     -- the live sets know it

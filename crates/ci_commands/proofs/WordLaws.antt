@@ -10,8 +10,8 @@ use Rattle.ci_reading.proofs.ByteLaws.{length-words_of_bytes}
 use Rattle.ci_isa.specs.declared.instruction.Insn.{Insn}
 use Rattle.ci_isa.specs.declared.instruction.Insn.TheVariants.{Ebreak}
 use Rattle.ci_isa.specs.Table.{IsInsnAt}
-use Rattle.ci_dfg.specs.BlockGraph.{AreNarrow}
-use Rattle.ci_dfg.proofs.NarrowLaws.{plain_are_narrow}
+use Rattle.ci_dfg.specs.Bundles.{AreBundled}
+use Rattle.ci_dfg.proofs.PlainLists.{plain_are_bundled}
 use Rattle.ci_commands.specs.WordBlocks.{IsMisplaced, IsWordBlock, IsNoWordBlock}
 
 module _ (bytes : List ℕ) where
@@ -72,5 +72,5 @@ module _ (bytes : List ℕ) where
   }
 
   -- a block of words is of the plain table
-  pub words_are_narrow : (insns : List Insn) → IsWordBlock bytes insns → AreNarrow insns
-  words_are_narrow insns is = plain_are_narrow (λ k. get_or (words_of_bytes bytes) k 0) insns (λ k below. is.each k Ebreak below)
+  pub words_are_bundled : (insns : List Insn) → IsWordBlock bytes insns → AreBundled insns
+  words_are_bundled insns is = plain_are_bundled (λ k. get_or (words_of_bytes bytes) k 0) insns (λ k below. is.each k Ebreak below)

@@ -1,5 +1,5 @@
 -- For every reader: the command `eval`, what a module of a text computes.
-use Rattle.std.specs.Prelude.{◌≡◌, ℕ, ◌≤◌, List, [], ◌∷◌, ◌++◌, length, codes, slice_get, Some}
+use Rattle.std.specs.Prelude.{◌≡◌, ℕ, Bool, ◌≤◌, List, [], ◌∷◌, ◌++◌, length, codes, slice_get, Some, if◌then◌else◌}
 use Rattle.ci_reading.specs.Hex.{eight_hex_digits}
 use Rattle.ci_reading.specs.Lines.{line}
 use Rattle.ci_verilog.specs.Modules.{Module}
@@ -15,12 +15,16 @@ use Rattle.ci_calls.specs.Inputs.{Input}
 abbrev pub eval_inputs : List ℕ → List Input
 eval_inputs file = units_input file ∷ []
 
--- the line of the two results of a module
-abbrev pub results_line : ℕ → ℕ → List ℕ
-results_line y z = line (eight_hex_digits y ++ codes " " ++ eight_hex_digits z)
+-- a wide module's third result, behind the two that each has
+abbrev pub third_result : Bool → ℕ → List ℕ
+third_result wide x = if wide then codes " " ++ eight_hex_digits x else []
 
--- it puts the results y and z that the module of this number, counted from 0, has at these values of its inputs a, b
--- and c, where d and e are 0
+-- the line of the results of a module
+abbrev pub results_line : Bool → ℕ → ℕ → ℕ → List ℕ
+results_line wide y z x = line (eight_hex_digits y ++ codes " " ++ eight_hex_digits z ++ third_result wide x)
+
+-- it puts the results y and z, and of a wide module x too, that the module of this number, counted from 0, has at these
+-- values of its inputs a, b, c, d and e, of which a narrow one has the first three alone
 pub record IsEvalMade (number : ℕ) (arguments : List ℕ) (read : List (List ℕ)) (success : Success) : Type 0 where
   pub bytes : List ℕ
   pub read_is : read ≡ bytes ∷ []
@@ -31,8 +35,8 @@ pub record IsEvalMade (number : ℕ) (arguments : List ℕ) (read : List (List �
   pub y : ℕ
   pub z : ℕ
   pub x : ℕ
-  pub results : IsValueOf chosen (arguments ++ 0 ∷ 0 ∷ []) (y ∷ z ∷ x ∷ [])
-  pub text_is : success.text.items ≡ results_line y z
+  pub results : IsValueOf chosen arguments (y ∷ z ∷ x ∷ [])
+  pub text_is : success.text.items ≡ results_line chosen.wires.wide y z x
   pub writes_none : success.writes.items ≡ []
 
 -- the text has no module of the number, which is named, with 0 for a word

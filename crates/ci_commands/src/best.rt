@@ -3,7 +3,8 @@ ghost use Rattle.std.specs.Prelude.{ℕ, List, Option, ◌≤◌, IfOk, IfErr, l
 ghost use Rattle.std.specs.FinSet as set;
 ghost use Rattle.std.specs.Ordering.{nat_cmp};
 ghost use Rattle.std.specs.String.{string_bytes};
-ghost use Rattle.ci_dfg.specs.BlockGraph.{AreNarrow, graph_of};
+ghost use Rattle.ci_dfg.specs.BlockGraph.{graph_of};
+ghost use Rattle.ci_dfg.specs.Bundles.{AreBundled};
 ghost use Rattle.ci_isa.specs.declared.instruction.Insn.{Insn as Instruction};
 ghost use Rattle.ci_calls.specs.Reads.{IsSuccessOf, IsRefusalOf};
 ghost use Rattle.ci_calls.specs.Refused.{name_in};
@@ -118,7 +119,7 @@ fn best_line<'a>(
 fn block_in<'a>(alloc: Global, file: &BlockFile, named: &[u32]) -> Result<LiveBlock, Refusal<'a>>
     requires { IsWithinLimit file.now }
     ensures few { IfOk result (λ block. length block.insns.items ≤ 256) }
-    ensures narrow { IfOk result (λ block. AreNarrow block.insns.items) }
+    ensures bundled { IfOk result (λ block. AreBundled block.insns.items) }
     ensures held { IfOk result (λ block. (at : Option ℕ) (bytes : List ℕ) → IsFileOf at bytes file.now
         → HoldsBlock at named.now bytes block.insns.items block.live_out) }
     ensures cause { IfErr result (λ error. (at : Option ℕ) (bytes : List ℕ) → IsFileOf at bytes file.now

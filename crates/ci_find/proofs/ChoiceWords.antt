@@ -22,8 +22,8 @@ pub find_ranges : (reading : Reading) → KeepsRanges Find reading → KeepsChoi
 unfolding commands
 find_ranges reading keeps = record {
   steps = (keeps option.Steps 1 4294967296 refl).1;
-  inputs = keeps option.Inputs 1 3 refl;
-  outputs = keeps option.Outputs 1 2 refl;
+  inputs = keeps option.Inputs 1 5 refl;
+  outputs = keeps option.Outputs 1 3 refl;
   count = keeps option.Count 1 32 refl;
   budget = keeps option.Budget 1 4194304 refl;
 }
@@ -33,8 +33,8 @@ pub check_ranges : (reading : Reading) → KeepsRanges Check reading → KeepsCh
 unfolding commands
 check_ranges reading keeps = record {
   steps = (keeps option.Steps 1 4294967296 refl).1;
-  inputs = keeps option.Inputs 1 3 refl;
-  outputs = keeps option.Outputs 1 2 refl;
+  inputs = keeps option.Inputs 1 5 refl;
+  outputs = keeps option.Outputs 1 3 refl;
   count = keeps option.Count 1 32 refl;
   budget = keeps option.Budget 1 4194304 refl;
 }

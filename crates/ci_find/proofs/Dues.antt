@@ -1,8 +1,8 @@
 -- What is due to the words over the files that a shelf tells: one status.
-use Rattle.std.proofs.Common.{◌≡◌, ℕ, ◌⊎◌, inl, inr, List, [], ◌∷◌, Some, sym, subst, ◌∙◌}
+use Rattle.std.proofs.Common.{◌≡◌, ℕ, ◌⊎◌, inl, inr, List, Some, sym, subst, ◌∙◌}
 use Rattle.ci_io.specs.Outcomes.{Files}
 use Rattle.ci_select.specs.declared.plan.Plan.{Plan}
-use Rattle.ci_words.specs.Words.{Reading, ReadsAs, HasNoReading, number_at, word_at, name_set, number_set, word_set, words_set}
+use Rattle.ci_words.specs.Words.{Reading, ReadsAs, HasNoReading, number_at, name_set, number_set, word_set, words_set}
 use Rattle.ci_words.specs.declared.tables.CommandName.{CommandName}
 use Rattle.ci_words.specs.declared.tables.CommandName.TheVariants.{Best, Asm, Dis, Run, Blocks, Eval, Find, Check, Load}
 use Rattle.ci_words.specs.declared.tables.OptionName.TheVariants as option
@@ -20,7 +20,7 @@ use Rattle.ci_commands.proofs.OneBlock.{best_or_refused, blocks_or_refused}
 use Rattle.ci_commands.proofs.OneModule.{eval_or_refused}
 use Rattle.ci_find.specs.CheckCommand.{IsCheckRefused}
 use Rattle.ci_find.specs.ChoiceReading.{find_names, settings_of, IsPlanOf}
-use Rattle.ci_find.specs.Commands.{inputs_of, IsMade, IsRefusedOf, MakesBy, RefusesBy}
+use Rattle.ci_find.specs.Commands.{arguments_of, inputs_of, IsMade, IsRefusedOf, MakesBy, RefusesBy}
 use Rattle.ci_find.specs.Endings.{IsRefusal, usage, file, once_read, IsDue}
 use Rattle.ci_find.specs.FindCommand.{IsFindRefused}
 use Rattle.ci_find.proofs.OneChoice.{check_or_refused, check_refused_once, find_or_refused, find_refused_once, one_plan}
@@ -49,8 +49,7 @@ made_or_refused Run reading read success refusal made is = is
 made_or_refused Blocks reading read success refusal made is =
     blocks_or_refused read success refusal (words_set reading option.Leader) made is
 made_or_refused Eval reading read success refusal made is =
-    eval_or_refused read success refusal (number_at reading 1)
-    (word_at reading 2 ∷ word_at reading 3 ∷ word_at reading 4 ∷ []) made is
+    eval_or_refused read success refusal (number_at reading 1) (arguments_of reading) made is
 made_or_refused Find reading read success refusal made is =
     find_or_refused (find_names reading) (settings_of reading made.0) read success refusal made.2
     (found_by reading read refusal made.0 made.1 is)

@@ -41,8 +41,8 @@ plan_is_one {left} {right} inputs outputs count budget = λ i. record {
   limits = record {
     inputs = inputs i;
     outputs = outputs i;
-    inputs_in_range = range_over 1 3 inputs left.limits.inputs_in_range right.limits.inputs_in_range i;
-    outputs_in_range = range_over 1 2 outputs left.limits.outputs_in_range right.limits.outputs_in_range i;
+    inputs_in_range = range_over 1 5 inputs left.limits.inputs_in_range right.limits.inputs_in_range i;
+    outputs_in_range = range_over 1 3 outputs left.limits.outputs_in_range right.limits.outputs_in_range i;
   };
   count = count i;
   budget = budget i;

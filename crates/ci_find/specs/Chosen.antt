@@ -37,7 +37,7 @@ instance_from latencies run plan = instance_of run.profile run.analysis.blocks r
 -- the numbers of a reading are in the ranges of the options
 pub record KeepsChoiceRanges (reading : Reading) : Type 0 where
   pub steps : number_set reading option.Steps ≤ 4294967296
-  pub inputs : (1 ≤ number_set reading option.Inputs) × (number_set reading option.Inputs ≤ 3)
-  pub outputs : (1 ≤ number_set reading option.Outputs) × (number_set reading option.Outputs ≤ 2)
+  pub inputs : (1 ≤ number_set reading option.Inputs) × (number_set reading option.Inputs ≤ 5)
+  pub outputs : (1 ≤ number_set reading option.Outputs) × (number_set reading option.Outputs ≤ 3)
   pub count : (1 ≤ number_set reading option.Count) × (number_set reading option.Count ≤ 32)
   pub budget : (1 ≤ number_set reading option.Budget) × (number_set reading option.Budget ≤ 4194304)

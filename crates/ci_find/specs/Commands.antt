@@ -1,6 +1,6 @@
 -- For every reader: what each command reads, what it makes of that, and what it refuses once all its files are read, by
 -- its reading.
-use Rattle.std.specs.Prelude.{◌≡◌, ℕ, List, [], ◌∷◌}
+use Rattle.std.specs.Prelude.{◌≡◌, ℕ, List, [], ◌∷◌, unwrap_or}
 use Rattle.ci_cut.specs.declared.graph.Limits.{Limits}
 use Rattle.ci_words.specs.Words.{Reading, name_at, number_at, word_at, name_set, number_set, word_set, words_set}
 use Rattle.ci_words.specs.declared.tables.CommandName.{CommandName}
@@ -28,6 +28,12 @@ pub record CommandCall : Type 1 where
   pub inputs : List Input
   pub Makes : List (List ℕ) → Success → Type 0
   pub Refuses : List (List ℕ) → Refusal → Type 0
+
+-- the values of a, b, c, d and e, of which the last two are 0 where they are not given
+abbrev pub arguments_of : Reading → List ℕ
+arguments_of reading =
+    word_at reading 2 ∷ word_at reading 3 ∷ word_at reading 4 ∷ unwrap_or (word_set reading option.Fourth) 0
+    ∷ unwrap_or (word_set reading option.Fifth) 0 ∷ []
 
 -- ---- all commands
 
@@ -67,7 +73,7 @@ call_by Blocks reading = record {
 }
 call_by Eval reading = record {
   inputs = eval_inputs (name_at reading 0);
-  Makes = IsEvalMade (number_at reading 1) (word_at reading 2 ∷ word_at reading 3 ∷ word_at reading 4 ∷ []);
+  Makes = IsEvalMade (number_at reading 1) (arguments_of reading);
   Refuses = IsEvalRefused (number_at reading 1);
 }
 call_by Find reading = record {

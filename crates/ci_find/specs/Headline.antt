@@ -90,7 +90,7 @@ pub record AreFiles (reading : Reading) (bytes : FoundBytes) : Type 0 where
 -- and no cut that fits its remaining block gains more
 
 -- A take, behind these entries: its cut, of its block as that stands in the program before it. The module of its number
--- has at all words the values of the cut's unit, and 0 for x.
+-- has at all words the values of the cut's unit.
 pub record IsChosenCut (instance : Instance) (modules : List Module) (history : History) (leader number : ℕ) :
     Type 0 where
   pub insns : List Insn

@@ -139,7 +139,9 @@ fn evaluate_eval<'a, F: Shelf>(
         (inputs_by CommandName.Eval (reading_of words.now)) (RefusesBy CommandName.Eval (reading_of words.now))) }
 {
     let number = words.number_at(1) as u32;
-    let arguments = (words.word_at(2), words.word_at(3), words.word_at(4));
+    let d = words.word(OptionName::Fourth).unwrap_or(0);
+    let e = words.word(OptionName::Fifth).unwrap_or(0);
+    let arguments = (words.word_at(2), words.word_at(3), words.word_at(4), d, e);
     eval::evaluate(alloc, words.name_at(0), number, arguments, shelf)
 }
 

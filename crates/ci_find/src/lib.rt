@@ -42,7 +42,9 @@ mod load;
 ///   do what the modules of UNITS compute, and take their cycles.
 /// - `asm TEXT OUT`: writes the words that TEXT assembles to, the lowest byte of each first, to OUT. It puts nothing.
 /// - `dis FILE`: puts a line for each whole word of FILE.
-/// - `eval UNITS K A B C`: puts a line with the results y and z of module K of UNITS at the words A, B and C.
+/// - `eval UNITS K A B C`, with the options `--d D` and `--e E`: puts a line with the results y and z of module K of
+///   UNITS at the words A, B and C; of a wide module, with y, z and x at the words A, B, C, D and E. D and E are 0 if
+///   left out.
 /// - `find OLD NEW UNITS LOGS REPORT`, with the options `--in N`, `--out N`, `--count N`, `--budget N`, `--steps N`,
 ///   `--table FILE`, `--input FILE` and `--leader ADDR`: chooses cuts of the basic blocks of the executable OLD, by a
 ///   run of it. It writes the modules of their units to UNITS, the log book of the choice to LOGS, its report to REPORT

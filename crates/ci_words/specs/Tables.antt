@@ -9,7 +9,7 @@ use Rattle.ci_words.specs.declared.tables.Kind.{Kind}
 use Rattle.ci_words.specs.declared.tables.Kind.TheVariants.{File, Number, Word}
 use Rattle.ci_words.specs.declared.tables.OptionName.{OptionName}
 use Rattle.ci_words.specs.declared.tables.OptionName.TheVariants.{Inputs, Outputs, Count, Budget, Steps, Units, Table}
-use Rattle.ci_words.specs.declared.tables.OptionName.TheVariants.{Input, Leader, At}
+use Rattle.ci_words.specs.declared.tables.OptionName.TheVariants.{Input, Leader, At, Fourth, Fifth}
 
 -- An option of a command: its name without hyphens, which one it is, the kind of its values, whether it may stand more
 -- than once, and what it is set to where it is not given.
@@ -50,10 +50,10 @@ leader = repeated (codes "leader") Leader Word default.Nothing
 
 -- the limits of a cut, and of the search for one
 abbrev pub inputs : OptionRow
-inputs = single (codes "in") Inputs (Number 1 3) (default.Number 3)
+inputs = single (codes "in") Inputs (Number 1 5) (default.Number 3)
 
 abbrev pub outputs : OptionRow
-outputs = single (codes "out") Outputs (Number 1 2) (default.Number 2)
+outputs = single (codes "out") Outputs (Number 1 3) (default.Number 2)
 
 abbrev pub budget : OptionRow
 budget = single (codes "budget") Budget (Number 1 4194304) (default.Number 65536)
@@ -81,7 +81,8 @@ commands =
     ∷ command_of (codes "run") Run (File Reads ∷ [])
     (steps ∷ single (codes "units") Units (File Reads) default.Nothing ∷ table ∷ input ∷ [])
     ∷ command_of (codes "blocks") Blocks (File Reads ∷ []) (leader ∷ [])
-    ∷ command_of (codes "eval") Eval (File Reads ∷ Number 0 31 ∷ Word ∷ Word ∷ Word ∷ []) []
+    ∷ command_of (codes "eval") Eval (File Reads ∷ Number 0 31 ∷ Word ∷ Word ∷ Word ∷ [])
+    (single (codes "d") Fourth Word default.Nothing ∷ single (codes "e") Fifth Word default.Nothing ∷ [])
     ∷ command_of (codes "find") Find
     (File Reads ∷ File Writes ∷ File Writes ∷ File Writes ∷ File Writes ∷ []) choice
     ∷ command_of (codes "check") Check (File Reads ∷ File Reads ∷ File Reads ∷ File Reads ∷ []) choice

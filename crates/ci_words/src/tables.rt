@@ -46,6 +46,10 @@ pub enum OptionName {
     Leader,
     /// `--at`
     At,
+    /// `--d`
+    Fourth,
+    /// `--e`
+    Fifth,
 }
 
 /// What a command does with a file.
@@ -121,7 +125,7 @@ const IN: NamedOption<'static> = (
         option: OptionName::Inputs,
         kind: Kind::Number {
             minimum: 1,
-            maximum: 3,
+            maximum: 5,
         },
         repeatable: false,
     },
@@ -133,7 +137,7 @@ const OUT: NamedOption<'static> = (
         option: OptionName::Outputs,
         kind: Kind::Number {
             minimum: 1,
-            maximum: 2,
+            maximum: 3,
         },
         repeatable: false,
     },
@@ -220,6 +224,24 @@ const AT: NamedOption<'static> = (
     },
 );
 
+const FOURTH: NamedOption<'static> = (
+    "d",
+    OptionShape {
+        option: OptionName::Fourth,
+        kind: Kind::Word,
+        repeatable: false,
+    },
+);
+
+const FIFTH: NamedOption<'static> = (
+    "e",
+    OptionShape {
+        option: OptionName::Fifth,
+        kind: Kind::Word,
+        repeatable: false,
+    },
+);
+
 /// What a choice of cuts is bounded by and made from.
 const CHOICE: &[CommandOption<'static>] = &[
     (IN, DefaultValue::Number(3)),
@@ -270,7 +292,10 @@ pub const COMMANDS: &[CommandRow<'static>] = &[
         "eval",
         CommandName::Eval,
         &[READ, MODULE, Kind::Word, Kind::Word, Kind::Word],
-        &[],
+        &[
+            (FOURTH, DefaultValue::Nothing),
+            (FIFTH, DefaultValue::Nothing),
+        ],
     ),
     (
         "find",

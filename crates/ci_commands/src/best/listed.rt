@@ -2,7 +2,7 @@
 ghost use Rattle.std.specs.Prelude.{◌≡◌, ◌≢◌, ◌≤◌, IfOk, IfErr, MatchOption, length};
 ghost use Rattle.std.specs.List.{Contains};
 ghost use Rattle.ci_block.specs.declared.blocks.Block.{Block as BasicBlock};
-ghost use Rattle.ci_dfg.specs.BlockGraph.{AreNarrow};
+ghost use Rattle.ci_dfg.specs.Bundles.{AreBundled};
 ghost use Rattle.ci_commands.specs.Causes.{IsCause};
 ghost use Rattle.ci_commands.specs.ListedBlocks.{IsListedBlock, IsNoListedBlock};
 
@@ -22,7 +22,7 @@ pub fn listed_block<'a>(
     address: u32,
 ) -> Result<LiveBlock, Refusal<'a>>
     ensures few { IfOk result (λ block. length block.insns.items ≤ 256) }
-    ensures narrow { IfOk result (λ block. AreNarrow block.insns.items) }
+    ensures bundled { IfOk result (λ block. AreBundled block.insns.items) }
     ensures found { IfOk result (λ block.
         IsListedBlock image.now named.now address block.insns.items block.live_out) }
     ensures cause { IfErr result (IsCause (IsNoListedBlock image.now named.now address)) }

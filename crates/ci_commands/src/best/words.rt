@@ -2,7 +2,7 @@
 ghost use Rattle.std.specs.Prelude.{◌≡◌, ◌+◌, ◌<◌, ◌≤◌, ◌%◌, ◌↔◌, ◌⊎◌, IfOk, IfErr, IsTrue, length};
 ghost use Rattle.ci_commands.specs.Causes.{IsCause};
 ghost use Rattle.ci_isa.specs.Fields.{HasCustomOpcode};
-ghost use Rattle.ci_dfg.specs.BlockGraph.{AreNarrow};
+ghost use Rattle.ci_dfg.specs.Bundles.{AreBundled};
 ghost use Rattle.ci_commands.specs.WordBlocks.{IsWordBlock, IsNoWordBlock, IsTerminator, every_register};
 
 use super::LiveBlock;
@@ -19,7 +19,7 @@ const REGISTERS: u8 = 32;
 pub fn word_block<'a>(alloc: Global, bytes: &[u8]) -> Result<LiveBlock, Refusal<'a>>
     requires { length bytes.now ≤ 1024 }
     ensures few { IfOk result (λ block. length block.insns.items ≤ 256) }
-    ensures narrow { IfOk result (λ block. AreNarrow block.insns.items) }
+    ensures bundled { IfOk result (λ block. AreBundled block.insns.items) }
     ensures block { IfOk result (λ block. IsWordBlock bytes.now block.insns.items) }
     ensures live { IfOk result (λ block. block.live_out ≡ every_register) }
     ensures cause { IfErr result (IsCause (IsNoWordBlock bytes.now)) }

@@ -3,7 +3,8 @@ use Rattle.std.proofs.Common.{ℕ, List, Option, ap, sym, subst, ◌∙◌}
 use Rattle.std.specs.String.{string_bytes}
 use Rattle.std.proofs.lemmas.Result.{err_from_is_err_and}
 use Rattle.ci_cut.specs.FlowGraph.{FlowGraph}
-use Rattle.ci_dfg.specs.BlockGraph.{AreNarrow, graph_of}
+use Rattle.ci_dfg.specs.BlockGraph.{graph_of}
+use Rattle.ci_dfg.specs.Bundles.{AreBundled}
 use Rattle.ci_commands.specs.BlockFiles.{IsFileOf}
 use Rattle.ci_commands.specs.BestCommand.{IsBestLine}
 use Rattle.ci_commands.proofs.best.best_line.Goals as goal
@@ -13,9 +14,9 @@ returns-in_err-block-clause-cause c =
     let p = err_from_is_err_and c.from_residual.result c.from_residual.ensures.1 in
     rw (p.1, p.2) c.in_err-block.ensures.cause
 
-pub graph-requires-clause-narrow : goal.graph-requires-clause-narrow
-graph-requires-clause-narrow c =
-    subst (λ insns. AreNarrow insns) (sym c.as_slice.ensures.value) c.in_ok-block.ensures.narrow
+pub graph-requires-clause-bundled : goal.graph-requires-clause-bundled
+graph-requires-clause-bundled c =
+    subst (λ insns. AreBundled insns) (sym c.as_slice.ensures.value) c.in_ok-block.ensures.bundled
 
 pub returns-clause-done : goal.returns-clause-done
 returns-clause-done c = λ (at : Option ℕ) (bytes : List ℕ) (file : IsFileOf at bytes c.args.file.now).

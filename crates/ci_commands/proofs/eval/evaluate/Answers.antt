@@ -1,9 +1,10 @@
 -- The results of the module that the file holds, or why there are none.
-use Rattle.std.proofs.Common.{[], ◌∷◌, inl, inr, length, refl, arith}
+use Rattle.std.proofs.Common.{◌∙◌, [], ◌∷◌, ap, inl, inr, length, refl, arith}
 use Rattle.std.proofs.lemmas.Bool.Decides.{nat_tests}
 use Rattle.std.proofs.lemmas.Option.{slice_get_read}
 use Rattle.std.proofs.lemmas.Result.{err_from_is_err_and}
 use Rattle.ci_calls.proofs.InputLaws.{read_without_memory}
+use Rattle.ci_commands.specs.EvalCommand.{results_line}
 use Rattle.ci_commands.proofs.eval.evaluate.Goals as goal
 
 pub returns-in_err-modules-clause-refused : goal.returns-in_err-modules-clause-refused
@@ -50,7 +51,8 @@ returns-clause-made g c =
         z = c.eval-y.result.1;
         x = c.eval-y.result.2;
         results = c.eval-y.ensures;
-        text_is = rw c.into_bytes.ensures.value c.in_ok-text.ensures;
+        text_is = rw c.into_bytes.ensures.value (c.in_ok-text.ensures
+            ∙ ap (λ wide. results_line wide c.eval-y.result.0 c.eval-y.result.1 c.eval-y.result.2) c.is_wide.ensures);
         writes_none = c.new.ensures.items;
       };
     }

@@ -18,11 +18,11 @@ use Rattle.ci_find.proofs.commands.evaluate_best.Goals as goal
 
 pub overflow_cast-settings : goal.overflow_cast-settings
 unfolding commands
-overflow_cast-settings g c = omega (arith, c.requires Inputs 1 3 refl, c.number.ensures)
+overflow_cast-settings g c = omega (arith, c.requires Inputs 1 5 refl, c.number.ensures)
 
 pub overflow_cast-settings-2 : goal.overflow_cast-settings-2
 unfolding commands
-overflow_cast-settings-2 g c = omega (arith, c.requires Outputs 1 2 refl, c.number-2.ensures)
+overflow_cast-settings-2 g c = omega (arith, c.requires Outputs 1 3 refl, c.number-2.ensures)
 
 pub overflow_cast-settings-3 : goal.overflow_cast-settings-3
 unfolding commands
@@ -71,8 +71,8 @@ returns-in_err-leaders-clause-refused g c =
 pub invariant_of-settings : goal.invariant_of-settings
 unfolding commands
 invariant_of-settings g c =
-    let inputs = c.requires Inputs 1 3 refl in
-    let outputs = c.requires Outputs 1 2 refl in
+    let inputs = c.requires Inputs 1 5 refl in
+    let outputs = c.requires Outputs 1 3 refl in
     record {
       inputs_in_range = (omega (arith, inputs, c.number.ensures), omega (arith, inputs, c.number.ensures));
       outputs_in_range = (omega (arith, outputs, c.number-2.ensures), omega (arith, outputs, c.number-2.ensures));

@@ -4,10 +4,10 @@ use Rattle.std.specs.List.{Contains}
 use Rattle.std.proofs.lemmas.Result.{err_from_is_err_and}
 use Rattle.ci_block.specs.declared.blocks.Block.{Block}
 use Rattle.ci_block.specs.CustomWords.{IsFirstCustomWord}
-use Rattle.ci_dfg.specs.BlockGraph.{AreNarrow}
+use Rattle.ci_dfg.specs.Bundles.{AreBundled}
 use Rattle.ci_commands.specs.ListedBlocks.{IsNoListedBlock, custom_word}
 use Rattle.ci_commands.proofs.Causes.{IsCause-weaker}
-use Rattle.ci_commands.proofs.ListedLaws.{listed, narrow, short, unlisted}
+use Rattle.ci_commands.proofs.ListedLaws.{listed, bundled, short, unlisted}
 use Rattle.ci_commands.proofs.best.listed.listed_block.Goals as goal
 
 pub returns-in_err-analysis-clause-cause : goal.returns-in_err-analysis-clause-cause
@@ -26,13 +26,13 @@ returns-in-Some-clause-few c =
     c.in_ok-analysis.analysis.live c.in_ok-analysis.ensures.no_custom c.in_ok-analysis.ensures.done block there
     c.in-Some.ensures.1)
 
-pub returns-in-Some-clause-narrow : goal.returns-in-Some-clause-narrow
-returns-in-Some-clause-narrow c =
+pub returns-in-Some-clause-bundled : goal.returns-in-Some-clause-bundled
+returns-in-Some-clause-bundled c =
     let block : Block = c.in-Some.block.now in
     let there = subst (λ bs. Contains bs block) c.all.ensures.value c.in-Some.ensures.0 in
     let items = c.in_ok-from_slice-in-Some.ensures.items ∙ c.as_slice.ensures.value in
-    subst (λ insns. AreNarrow insns) (sym items)
-    (narrow c.args.image.now c.args.named.now c.args.address c.in_ok-analysis.analysis.blocks
+    subst (λ insns. AreBundled insns) (sym items)
+    (bundled c.args.image.now c.args.named.now c.args.address c.in_ok-analysis.analysis.blocks
     c.in_ok-analysis.analysis.live c.in_ok-analysis.ensures.no_custom c.in_ok-analysis.ensures.done block there
     c.in-Some.ensures.1)
 
