@@ -336,3 +336,75 @@ fn files_of_a_choice_that_are_not_read(rt: HostRuntime) -> Result<(), AllocError
     expect_read(&rt, "check F N U L", 3, "fault 2 read U\n")?;
     expect_read(&rt, "check F N U L", 4, "fault 2 read L\n")
 }
+
+/// Five constants, four operations of logic in a block of their own, each on the result of the one before and on one of
+/// them, and an exit with what the last makes; and the same with these words in the place of the four.
+fn exit_with_five(words: [u32; 4]) -> [u32; 14] {
+    let [first, second, third, fourth] = words;
+    [
+        0x00100513, 0x00200593, 0x00400613, 0x00800693, 0x01000713, 0x0FF0000F, first, second,
+        third, fourth, 0x0FF0000F, 0x00028513, 0x05D00893, 0x00000073,
+    ]
+}
+
+/// Three constants, five operations of logic in a block of their own, which make x5, x6 and x7 of them, stores of these
+/// below the stack pointer, their write, and an exit; and the same with these words in the place of the five. Before
+/// them x7 has another value.
+fn write_of_three(words: [u32; 5]) -> [u32; 21] {
+    let [first, second, third, fourth, fifth] = words;
+    [
+        0x00100513, 0x00200593, 0x00400613, 0x00000397, first, second, third, fourth, fifth,
+        0x0FF0000F, 0xFE512823, 0xFE612A23, 0xFE712C23, 0xFF010593, 0x00100513, 0x00C00613,
+        0x04000893, 0x00000073, 0x00000513, 0x05D00893, 0x00000073,
+    ]
+}
+
+/// Asserts that a choice with these options folds one cut of a gain of 2 and that `check` accepts it, and what the old
+/// and the new program put.
+fn expect_one_cut(
+    rt: &(impl Abort + AllocGlobal),
+    options: &str,
+    old: &[u32],
+    new: &[u32],
+    puts: (&[u8], &[u8]),
+) -> Result<(), AllocError> {
+    let alloc = rt.alloc();
+    let mut shelf = shelf_of(alloc, program(rt, old, &[], &[])?)?;
+    let (find, check) = (
+        format!(in alloc; "find F N U L R {options}")?,
+        format!(in alloc; "check F N U L {options}")?,
+    );
+    let summary = b"cuts 1 units 1 skipped 0 gain 2\n";
+    expect_call(rt, &mut shelf, find.as_str(), 0, summary);
+    let folded = program(rt, new, &[], &[])?;
+    expect_file(rt, shelf.files(), "N", folded.as_slice());
+    expect_call(rt, &mut shelf, check.as_str(), 0, b"accepted\n");
+    let (before, after) = puts;
+    expect_call(rt, &mut shelf, "run F", 0, before);
+    expect_call(rt, &mut shelf, "run N --units U", 0, after);
+    drop(shelf);
+    drop(folded);
+    drop(find);
+    drop(check);
+    Ok(())
+}
+
+// 1 ^ 2 ^ 4 ^ 8 ^ 16 is 31. The words of the use are `cput` and the unit word, which take a cycle each.
+#[test]
+fn a_unit_of_five_inputs(rt: HostRuntime) -> Result<(), AllocError> {
+    let old = exit_with_five([0x00B542B3, 0x00C2C2B3, 0x00D2C2B3, 0x00E2C2B3]);
+    let new = exit_with_five([0x00E6902B, 0x60B5028B, 0x00000013, 0x00000013]);
+    let before = b"end exit 0000001f steps 14 cost 14\n";
+    let after = b"end exit 0000001f steps 14 cost 12\n";
+    expect_one_cut(&rt, "--in 5 --out 1", &old, &new, (before, after))
+}
+
+// The three values are 1 ^ 2, 3 ^ 4 and 7 ^ 1 ^ 2 ^ 4. The words of the use are the unit word and two of `cread`.
+#[test]
+fn a_unit_of_three_outputs(rt: HostRuntime) -> Result<(), AllocError> {
+    let old = write_of_three([0x00B542B3, 0x00C2C333, 0x00A343B3, 0x00B3C3B3, 0x00C3C3B3]);
+    let new = write_of_three([0x60B5028B, 0x0000032B, 0x001003AB, 0x00000013, 0x00000013]);
+    let before = b"\x03\0\0\0\x07\0\0\0\0\0\0\0end exit 00000000 steps 21 cost 21\n";
+    let after = b"\x03\0\0\0\x07\0\0\0\0\0\0\0end exit 00000000 steps 21 cost 19\n";
+    expect_one_cut(&rt, "--in 3 --out 3", &old, &new, (before, after))
+}

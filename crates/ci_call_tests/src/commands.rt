@@ -44,6 +44,15 @@ fn expect_blocks(
 /// Half a word.
 const UNEVEN: [u8; 2] = [0x13, 0x05];
 
+/// xor x5, x10, x11; xor x5, x5, x12; xor x5, x5, x13; xor x5, x5, x14
+const CHAIN_OF_FIVE: &[u32] = &[0x00B542B3, 0x00C2C2B3, 0x00D2C2B3, 0x00E2C2B3];
+
+/// xor x5, x10, x11; xor x6, x5, x12; xor x7, x6, x10; xor x7, x7, x11; xor x7, x7, x12
+const FIVE_OF_LOGIC: &[u32] = &[0x00B542B3, 0x00C2C333, 0x00A343B3, 0x00B3C3B3, 0x00C3C3B3];
+
+/// xor x5, x10, x11; xor x6, x5, x12; xor x7, x5, x10; xor x5, x5, x11
+const THREE_RESULTS: &[u32] = &[0x00B542B3, 0x00C2C333, 0x00A2C3B3, 0x00B2C2B3];
+
 /// Blocks with a cut, and blocks with none.
 fn cuts() -> &'static [(&'static [u32], &'static str, &'static str)] {
     &[
@@ -83,6 +92,27 @@ fn cuts() -> &'static [(&'static [u32], &'static str, &'static str)] {
             "best F --in 3 --out 1",
             "no cut\n",
         ),
+        // Four operations of logic with five inputs, each but the first on the result before. The word that passes the
+        // fourth input takes a cycle, and passes the fifth one too.
+        (CHAIN_OF_FIVE, "best F --in 3 --out 1", "cut 2 3 gain 1\n"),
+        (CHAIN_OF_FIVE, "best F --in 4 --out 1", "cut 1 2 3 gain 1\n"),
+        (
+            CHAIN_OF_FIVE,
+            "best F --in 5 --out 1",
+            "cut 0 1 2 3 gain 2\n",
+        ),
+        // Two products, with four inputs and two results: their use takes three words.
+        (
+            &[0x02B502B3, 0x02D60333],
+            "best F --in 4 --out 2",
+            "no cut\n",
+        ),
+        // Five operations of logic of three inputs, with three results.
+        (FIVE_OF_LOGIC, "best F --out 2", "cut 3 4 gain 1\n"),
+        (FIVE_OF_LOGIC, "best F --out 3", "cut 0 1 2 3 4 gain 2\n"),
+        // Three operations of logic on the result of a first one, which the last one's register takes.
+        (THREE_RESULTS, "best F --out 2", "no cut\n"),
+        (THREE_RESULTS, "best F --out 3", "cut 0 1 2 3 gain 1\n"),
         // A constant in two parts.
         (
             &[0x123452B7, 0x67828293],
@@ -170,7 +200,8 @@ fn unreadable() -> &'static [&'static str] {
     &[
         "",
         "best",
-        "best F --in 4",
+        "best F --in 6",
+        "best F --out 4",
         "best F --in 2 --in 2",
         "best F --budget 0",
         "asm A A",

@@ -34,16 +34,18 @@ fn constant() -> &'static str {
     assign y = t1;\nassign z = 32'h00000000;\nendmodule\n"
 }
 
-/// A wide unit, of which each result takes another input, and a narrow one with wires of those names.
-fn wide_and_narrow() -> &'static str {
+/// A narrow unit of a sum, and a wide one whose results are a sum, a difference of the inputs d and e and all bits that
+/// any input has.
+fn narrow_and_wide() -> &'static str {
     "// cycles 1\n\
-    module ci_0(input [31:0] a, input [31:0] b, input [31:0] c, input [31:0] d, input [31:0] e, \
-    output [31:0] y, output [31:0] z, output [31:0] x);\n\
-    assign y = a ^ d;\nassign z = e - b;\nassign x = c;\nendmodule\n\
+    module ci_0(input [31:0] a, input [31:0] b, input [31:0] c, output [31:0] y, output [31:0] z);\n\
+    assign y = a + b;\nassign z = c;\nendmodule\n\
     // cycles 1\n\
-    module ci_1(input [31:0] a, input [31:0] b, input [31:0] c, output [31:0] y, output [31:0] z);\n\
-    wire [31:0] d;\nassign d = b;\nwire [31:0] e;\nassign e = c;\nwire [31:0] x;\nassign x = d + e;\n\
-    assign y = x;\nassign z = d;\nendmodule\n"
+    module ci_1(input [31:0] a, input [31:0] b, input [31:0] c, input [31:0] d, input [31:0] e, \
+    output [31:0] y, output [31:0] z, output [31:0] x);\n\
+    wire [31:0] f;\nassign f = a | b;\nwire [31:0] g;\nassign g = f | c;\n\
+    wire [31:0] h;\nassign h = g | d;\n\
+    assign y = a + d;\nassign z = d - e;\nassign x = h | e;\nendmodule\n"
 }
 
 /// Texts that spell no modules, and the line of their fault.
@@ -93,13 +95,40 @@ fn modules_evaluated(rt: HostRuntime) -> Result<(), AllocError> {
     expect_of_units(&rt, constant(), text, 0, "12345678 00000000\n")
 }
 
-// The further inputs of a wide unit are 0, and its third result isn't told.
+/// Calls on a narrow and a wide module, and their lines. d and e are 0 where they are not given.
+fn narrow_and_wide_calls() -> &'static [(&'static str, &'static str)] {
+    &[
+        ("eval F 0 0x1 0x2 0x4", "00000003 00000004\n"),
+        (
+            "eval F 0 0x1 0x2 0x4 --d 0x8 --e 0x10",
+            "00000003 00000004\n",
+        ),
+        (
+            "eval F 1 0x1 0x2 0x4 --d 0x8 --e 0x10",
+            "00000009 fffffff8 0000001f\n",
+        ),
+        (
+            "eval --e=0x10 F 1 0x1 --d=0x8 0x2 0x4",
+            "00000009 fffffff8 0000001f\n",
+        ),
+        (
+            "eval F 1 0x1 0x2 0x4 --e 0x10",
+            "00000001 fffffff0 00000017\n",
+        ),
+        (
+            "eval F 1 0xffffffff 0x2 0x4 --d 0x8",
+            "00000007 00000008 ffffffff\n",
+        ),
+        ("eval F 1 0x1 0x2 0x4", "00000001 00000000 00000007\n"),
+    ]
+}
+
 #[test]
 fn wide_modules_evaluated(rt: HostRuntime) -> Result<(), AllocError> {
-    let text = "eval F 0 0x7 0x8 0x9";
-    expect_of_units(&rt, wide_and_narrow(), text, 0, "00000007 fffffff8\n")?;
-    let text = "eval F 1 0x7 0x8 0x9";
-    expect_of_units(&rt, wide_and_narrow(), text, 0, "00000011 00000008\n")
+    for (text, line) in narrow_and_wide_calls() {
+        expect_of_units(&rt, narrow_and_wide(), text, 0, line)?;
+    }
+    Ok(())
 }
 
 /// Calls with words that have no reading.
@@ -108,6 +137,9 @@ fn unreadable() -> &'static [&'static str] {
         "eval F 32 0x0 0x0 0x0",
         "eval F 0 0x0 0x0",
         "eval F 0 0x0 0x0 1",
+        "eval F 0 0x0 0x0 0x0 0x0",
+        "eval F 0 0x0 0x0 0x0 --d 1",
+        "eval F 0 0x0 0x0 0x0 --e 0x1 --e 0x1",
     ]
 }
 

@@ -353,3 +353,162 @@ fn gain_under_charges(rt: HostRuntime) -> Result<(), AllocError> {
     expect_values(&rt, rt.alloc(), dear, &three_sums(true), &[(all, (2, -2))])?;
     expect_values(&rt, rt.alloc(), dear, &three_sums(false), &[(all, (2, -1))])
 }
+
+/// xor x5, x10, x11; xor x5, x5, x12; xor x5, x5, x13; xor x5, x5, x14: five inputs.
+fn five_inputs() -> &'static [Part<'static>] {
+    &[
+        Part { delay: 100, ..SUM },
+        Part {
+            operands: &[Made(0), Entry(12)],
+            delay: 100,
+            ..SUM
+        },
+        Part {
+            operands: &[Made(1), Entry(13)],
+            delay: 100,
+            ..SUM
+        },
+        Part {
+            operands: &[Made(2), Entry(14)],
+            delay: 100,
+            live: true,
+            ..SUM
+        },
+    ]
+}
+
+// A further word takes what a read does, and leaves a place less.
+#[test]
+fn gain_of_five_inputs(rt: HostRuntime) -> Result<(), AllocError> {
+    let (parts, dear) = (five_inputs(), Charges { read: 2, pad: 1 });
+    let (three, four, five): (&[u8], &[u8], &[u8]) = (&[2, 3], &[1, 2, 3], &[0, 1, 2, 3]);
+    let terms = [
+        (three, (true, 3, 1)),
+        (four, (true, 4, 1)),
+        (five, (true, 5, 1)),
+    ];
+    expect_terms(&rt, rt.alloc(), parts, &terms)?;
+    let values = [(three, (1, 1)), (four, (1, 1)), (five, (1, 2))];
+    expect_values(&rt, rt.alloc(), DEFAULT, parts, &values)?;
+    let values = [(three, (1, 0)), (four, (1, -1)), (five, (1, -1))];
+    expect_values(&rt, rt.alloc(), dear, parts, &values)
+}
+
+/// xor x5, x10, x11; xor x6, x5, x12; xor x7, x6, x10; xor x7, x7, x11; xor x7, x7, x12: three outputs.
+fn three_outputs() -> &'static [Part<'static>] {
+    &[
+        Part {
+            delay: 100,
+            live: true,
+            ..SUM
+        },
+        Part {
+            operands: &[Made(0), Entry(12)],
+            delay: 100,
+            live: true,
+            ..SUM
+        },
+        Part {
+            operands: &[Made(1), Entry(10)],
+            delay: 100,
+            ..SUM
+        },
+        Part {
+            operands: &[Made(2), Entry(11)],
+            delay: 100,
+            ..SUM
+        },
+        Part {
+            operands: &[Made(3), Entry(12)],
+            delay: 100,
+            live: true,
+            ..SUM
+        },
+    ]
+}
+
+#[test]
+fn gain_of_three_outputs(rt: HostRuntime) -> Result<(), AllocError> {
+    let (parts, dear) = (three_outputs(), Charges { read: 2, pad: 1 });
+    let all: &[u8] = &[0, 1, 2, 3, 4];
+    expect_terms(&rt, rt.alloc(), parts, &[(all, (true, 3, 3))])?;
+    expect_values(&rt, rt.alloc(), DEFAULT, parts, &[(all, (1, 2))])?;
+    expect_values(&rt, rt.alloc(), dear, parts, &[(all, (1, -2))])
+}
+
+/// Asserts the best cut of a graph under these limits.
+fn expect_best_within(
+    rt: &impl Abort,
+    alloc: Global,
+    parts: &[Part<'_>],
+    limits: &Limits,
+    members: &[u8],
+) -> Result<(), AllocError> {
+    let graph = graph_of(rt, alloc, parts)?;
+    let due = Some(row_below(rt, parts.len(), members));
+    assert_eq!(rt; best_in(rt, &graph, limits), due);
+    drop(graph);
+    Ok(())
+}
+
+const FIVE_INPUTS: Limits = Limits {
+    inputs: 5,
+    outputs: 1,
+};
+
+const FOUR_INPUTS: Limits = Limits {
+    inputs: 4,
+    outputs: 1,
+};
+
+const THREE_OUTPUTS: Limits = Limits {
+    inputs: 3,
+    outputs: 3,
+};
+
+const TWO_OUTPUTS: Limits = Limits {
+    inputs: 3,
+    outputs: 2,
+};
+
+const GREATEST: Limits = Limits {
+    inputs: 5,
+    outputs: 3,
+};
+
+#[test]
+fn best_by_limits(rt: HostRuntime) -> Result<(), AllocError> {
+    let alloc = rt.alloc();
+    expect_best_within(&rt, alloc, five_inputs(), &FIVE_INPUTS, &[0, 1, 2, 3])?;
+    expect_best_within(&rt, alloc, five_inputs(), &FOUR_INPUTS, &[1, 2, 3])?;
+    expect_best_within(&rt, alloc, five_inputs(), &ONE_OUTPUT, &[2, 3])?;
+    expect_best_within(
+        &rt,
+        alloc,
+        three_outputs(),
+        &THREE_OUTPUTS,
+        &[0, 1, 2, 3, 4],
+    )?;
+    expect_best_within(&rt, alloc, three_outputs(), &TWO_OUTPUTS, &[3, 4])
+}
+
+/// add x5, x10, x11; add x6, x12, x13, of which both are live: four inputs and two outputs take three words.
+fn two_apart() -> &'static [Part<'static>] {
+    &[
+        Part { live: true, ..SUM },
+        Part {
+            operands: &[Entry(12), Entry(13)],
+            live: true,
+            ..SUM
+        },
+    ]
+}
+
+#[test]
+fn a_place_for_each_word(rt: HostRuntime) -> Result<(), AllocError> {
+    let graph = graph_of(&rt, rt.alloc(), two_apart())?;
+    let both = row_below(&rt, graph.nodes().len(), &[0, 1]);
+    assert!(rt; !fits(&graph, &GREATEST, &both));
+    drop(graph);
+    Ok(())
+}

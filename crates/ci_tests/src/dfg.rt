@@ -2,7 +2,7 @@
 use crate::common::{all_registers, insns_of, set_of};
 use ci_cut::Source::{Entry, Made};
 use ci_cut::{Graph, Source};
-use ci_dfg::{are_narrow, graph, sources};
+use ci_dfg::{are_bundled, graph, sources};
 use ci_isa::insn_at;
 use ci_lat::Table;
 use ci_word::Row;
@@ -24,7 +24,7 @@ fn graph_before(
 ) -> Result<Graph, AllocError> {
     let insns = insns_of(alloc, words)?;
     assert!(rt; insns.len() <= 256);
-    assert!(rt; are_narrow(&insns));
+    assert!(rt; are_bundled(&insns));
     let graph = graph(alloc, &insns, live, &Table::usual());
     drop(insns);
     graph
@@ -107,29 +107,40 @@ fn two_values(rt: HostRuntime) -> Result<(), AllocError> {
     )
 }
 
-/// Asserts whether a block of these words has none of the use of a wide unit.
-fn expect_narrow(
+/// Asserts whether the bundles of a block of these words are whole.
+fn expect_bundled(
     rt: &impl Abort,
     alloc: Global,
     words: &[u32],
     due: bool,
 ) -> Result<(), AllocError> {
     let insns = insns_of(alloc, words)?;
-    let narrow = are_narrow(&insns);
+    let bundled = are_bundled(&insns);
     drop(insns);
-    assert_eq!(rt; narrow, due);
+    assert_eq!(rt; bundled, due);
     Ok(())
 }
 
-/// ci 0, x10, x0, x0, x0; cread x6; addi x0, x0, 0
-/// cput x13, x14; ci 0, x10, x0, x0, x0
-/// ci 0, x10, x0, x0, x0; cread x6; cread x7, 1
+/// The words are cput x13, x14; ci 0, x10, x0, x0, x0; cread x6; cread x7, 1; and addi x0, x0, 0.
 #[test]
-fn tells_words_of_wide_units(rt: HostRuntime) -> Result<(), AllocError> {
+fn tells_whole_bundles(rt: HostRuntime) -> Result<(), AllocError> {
     let alloc = rt.alloc();
-    expect_narrow(&rt, alloc, &[0x0000_050B, 0x0000_032B, 0x0000_0013], true)?;
-    expect_narrow(&rt, alloc, &[0x00E6_902B, 0x0000_050B], false)?;
-    expect_narrow(&rt, alloc, &[0x0000_050B, 0x0000_032B, 0x0010_03AB], false)
+    expect_bundled(&rt, alloc, &[], true)?;
+    expect_bundled(&rt, alloc, &[0x0000_050B], true)?;
+    expect_bundled(
+        &rt,
+        alloc,
+        &[0x00E6_902B, 0x0000_050B, 0x0000_032B, 0x0010_03AB],
+        true,
+    )?;
+    expect_bundled(&rt, alloc, &[0x0000_050B, 0x0000_032B, 0x0000_0013], true)?;
+    expect_bundled(&rt, alloc, &[0x0000_0013, 0x00E6_902B], false)?;
+    expect_bundled(&rt, alloc, &[0x00E6_902B, 0x0000_0013, 0x0000_050B], false)?;
+    expect_bundled(&rt, alloc, &[0x0000_032B], false)?;
+    expect_bundled(&rt, alloc, &[0x0000_050B, 0x0000_0013, 0x0000_032B], false)?;
+    expect_bundled(&rt, alloc, &[0x0010_03AB], false)?;
+    expect_bundled(&rt, alloc, &[0x0000_050B, 0x0010_03AB], false)?;
+    expect_bundled(&rt, alloc, &[0x0000_050B, 0x0000_032B, 0x0000_032B], false)
 }
 
 /// add x5, x10, x11; add x5, x5, x12
@@ -270,6 +281,36 @@ fn a_unit_and_its_cread(rt: HostRuntime) -> Result<(), Fail> {
     check_costs(&rt, &graph, &costs);
     drop(graph);
     Ok(())
+}
+
+/// add x12, x10, x11; cput x13, x14; unit 0 x5, x10, x11, x12; cread x6; cread x7, 1; add x8, x5, x6; add x10, x14, x14
+///
+/// The sum before makes the third operand of the unit word. The sums behind read two of the results, and write the
+/// register of its first operand.
+#[test]
+fn a_bundle_of_four_words(rt: HostRuntime) -> Result<(), AllocError> {
+    expect_nodes(
+        &rt,
+        rt.alloc(),
+        &[
+            0x00B5_0633,
+            0x00E6_902B,
+            0x60B5_028B,
+            0x0000_032B,
+            0x0010_03AB,
+            0x0062_8433,
+            0x00E7_0533,
+        ],
+        &[
+            (&[Entry(10), Entry(11)], &[], true),
+            (&[Entry(13), Entry(14)], &[0], false),
+            (&[Entry(10), Entry(11), Made(0)], &[0, 1], true),
+            (&[], &[2], true),
+            (&[], &[3], true),
+            (&[Made(2), Made(3)], &[2, 3, 4], true),
+            (&[Entry(14), Entry(14)], &[0, 2, 4], true),
+        ],
+    )
 }
 
 /// add x5, x10, x11; lw x6, 0(x0); add x10, x5, x12; addi x17, x0, 93; ecall

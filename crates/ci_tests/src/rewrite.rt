@@ -4,7 +4,7 @@ ghost use Rattle.std.specs.FinSet as set;
 
 use crate::common::{all_registers, insns_of};
 use ci_cut::{Limits, fits};
-use ci_dfg::{are_narrow, graph};
+use ci_dfg::{are_bundled, graph};
 use ci_isa::encode;
 use ci_lat::Table;
 use ci_rewrite::fold;
@@ -37,12 +37,12 @@ fn check(
     let block = insns_of(alloc, words)?;
     let insns = block.as_slice();
     assert!(rt; insns.len() <= 256);
-    assert!(rt; are_narrow(insns));
+    assert!(rt; are_bundled(insns));
     let graph = graph(alloc, insns, live, &Table::usual())?;
     let cut = row(rt, members, insns.len());
     let limits = Limits {
-        inputs: 3,
-        outputs: 2,
+        inputs: 5,
+        outputs: 3,
     };
     assert!(rt; fits(&graph, &limits, &cut));
     let new_block = fold(alloc, insns, &graph, &cut, 0)?;
@@ -140,4 +140,128 @@ fn bundles_and_loads_stay_before(rt: HostRuntime) -> Result<(), Fail> {
         0x0092_A023,
     ];
     check(&rt, rt.alloc(), &words, all_registers(), &[3, 4], &folded)
+}
+
+// xor x5, x10, x11; xor x5, x5, x12; xor x5, x5, x13; xor x5, x5, x14
+#[test]
+fn one_output_of_five_inputs(rt: HostRuntime) -> Result<(), Fail> {
+    let words = [0x00B5_42B3, 0x00C2_C2B3, 0x00D2_C2B3, 0x00E2_C2B3];
+    let folded = [0x00E6_902B, 0x60B5_028B, 0x0000_0013, 0x0000_0013];
+    check(
+        &rt,
+        rt.alloc(),
+        &words,
+        all_registers(),
+        &[0, 1, 2, 3],
+        &folded,
+    )
+}
+
+// The last three of them alone have four inputs, of which the second operand that is passed is x0.
+#[test]
+fn one_output_of_four_inputs(rt: HostRuntime) -> Result<(), Fail> {
+    let words = [0x00B5_42B3, 0x00C2_C2B3, 0x00D2_C2B3, 0x00E2_C2B3];
+    let folded = [0x00B5_42B3, 0x0007_102B, 0x68C2_828B, 0x0000_0013];
+    check(
+        &rt,
+        rt.alloc(),
+        &words,
+        all_registers(),
+        &[1, 2, 3],
+        &folded,
+    )
+}
+
+// xor x5, x10, x11; xor x6, x5, x12; xor x7, x6, x10; xor x7, x7, x11; xor x7, x7, x12
+#[test]
+fn three_outputs_of_three_inputs(rt: HostRuntime) -> Result<(), Fail> {
+    let words = [
+        0x00B5_42B3,
+        0x00C2_C333,
+        0x00A3_43B3,
+        0x00B3_C3B3,
+        0x00C3_C3B3,
+    ];
+    let folded = [
+        0x60B5_028B,
+        0x0000_032B,
+        0x0010_03AB,
+        0x0000_0013,
+        0x0000_0013,
+    ];
+    check(
+        &rt,
+        rt.alloc(),
+        &words,
+        all_registers(),
+        &[0, 1, 2, 3, 4],
+        &folded,
+    )
+}
+
+// xor x5, x10, x11; add x5, x5, x12; sub x6, x13, x14; xor x7, x5, x6
+// The words of five inputs and three outputs take all four places.
+#[test]
+fn three_outputs_of_five_inputs(rt: HostRuntime) -> Result<(), Fail> {
+    let words = [0x00B5_42B3, 0x00C2_82B3, 0x40E6_8333, 0x0062_C3B3];
+    let folded = [0x00E6_902B, 0x60B5_028B, 0x0000_032B, 0x0010_03AB];
+    check(
+        &rt,
+        rt.alloc(),
+        &words,
+        all_registers(),
+        &[0, 1, 2, 3],
+        &folded,
+    )
+}
+
+// cput x13, x14; unit 1 (x5 from x10); cread x6; cread x7, 1; lw x9, 0(x7); add x8, x9, x5; add x8, x8, x6;
+// sw x9, 0(x5)
+// The bundle and the load stay before the unit word, the store behind it.
+#[test]
+fn bundles_of_four_words_stay_before(rt: HostRuntime) -> Result<(), Fail> {
+    let words = [
+        0x00E6_902B,
+        0x0005_128B,
+        0x0000_032B,
+        0x0010_03AB,
+        0x0003_A483,
+        0x0054_8433,
+        0x0064_0433,
+        0x0092_A023,
+    ];
+    let folded = [
+        0x00E6_902B,
+        0x0005_128B,
+        0x0000_032B,
+        0x0010_03AB,
+        0x0003_A483,
+        0x3054_840B,
+        0x0000_0013,
+        0x0092_A023,
+    ];
+    check(&rt, rt.alloc(), &words, all_registers(), &[5, 6], &folded)
+}
+
+// add x5, x10, x11; cput x13, x14; unit 1 (x6 from x10); cread x7; cread x8, 1; add x5, x5, x12
+// The bundle stands behind the unit word, as it was.
+#[test]
+fn bundles_of_four_words_stand_behind(rt: HostRuntime) -> Result<(), Fail> {
+    let words = [
+        0x00B5_02B3,
+        0x00E6_902B,
+        0x0005_130B,
+        0x0000_03AB,
+        0x0010_042B,
+        0x00C2_82B3,
+    ];
+    let folded = [
+        0x60B5_028B,
+        0x0000_0013,
+        0x00E6_902B,
+        0x0005_130B,
+        0x0000_03AB,
+        0x0010_042B,
+    ];
+    check(&rt, rt.alloc(), &words, all_registers(), &[0, 5], &folded)
 }

@@ -1,9 +1,10 @@
 //! The units of small blocks, whose graphs are built by hand.
-ghost use Rattle.std.specs.Prelude.{◌≡◌, ℕ, ◌<◌, ◌≤◌, IsTrue, IfOk, length};
+ghost use Rattle.std.specs.Prelude.{◌≡◌, ℕ, ◌<◌, ◌≤◌, IsTrue, IfOk, IfSome, All, length};
 ghost use Rattle.std.specs.FinSet as set;
 ghost use Rattle.std.specs.List.{list_any};
 ghost use Rattle.ci_isa.specs.Effects as effects;
 ghost use Rattle.ci_isa.specs.Effects.{without_x0};
+ghost use Rattle.ci_isa.specs.Table.{IsWellFormed};
 ghost use Rattle.ci_cut.specs.declared.graph.Source.TheVariants as sources;
 ghost use Rattle.ci_cut.specs.FlowGraph.{is_source};
 ghost use Rattle.ci_unit.specs.Operands.{AreOperands};
@@ -113,8 +114,8 @@ fn unit_of_all(
     let graph = graph_of(rt, alloc, insns, parts)?;
     let cut = all_below(graph.nodes().len());
     let limits = Limits {
-        inputs: 3,
-        outputs: 2,
+        inputs: 5,
+        outputs: 3,
     };
     assert!(rt; fits(&graph, &limits, &cut));
     let unit = unit_of(alloc, insns, &graph, &cut);
@@ -122,27 +123,52 @@ fn unit_of_all(
     Ok(unit?)
 }
 
+/// The `cput`, the unit word, and the `cread` of the second and of the third output.
+type Words = (Option<u32>, u32, Option<u32>, Option<u32>);
+
 /// The words by which a block of the instructions uses the unit of all of them, as unit 0.
 fn words_of_use(
     rt: &impl Abort,
     alloc: Global,
     insns: &[Insn],
     parts: &[Part<'_>],
-) -> Result<(u32, Option<u32>), Fail> {
+) -> Result<Words, Fail> {
     let graph = graph_of(rt, alloc, insns, parts)?;
     let cut = all_below(graph.nodes().len());
     let limits = Limits {
-        inputs: 3,
-        outputs: 2,
+        inputs: 5,
+        outputs: 3,
     };
     assert!(rt; fits(&graph, &limits, &cut));
-    let (unit, read) = encode_use(insns, &graph, &cut, 0);
+    let words = encode_use(alloc, insns, &graph, &cut, 0);
     drop(graph);
-    let read = match read {
-        Some(read) => Some(encode(&read)),
+    let reads = words.reads.as_slice();
+    Ok((
+        word(words.put),
+        encode(&words.unit),
+        word_at(reads, 0),
+        word_at(reads, 1),
+    ))
+}
+
+/// The word of an instruction, if there is one.
+fn word(insn: Option<Insn>) -> Option<u32>
+    requires { IfSome insn IsWellFormed }
+{
+    match insn {
+        Some(insn) => Some(encode(&insn)),
         None => None,
-    };
-    Ok((encode(&unit), read))
+    }
+}
+
+/// The word of the instruction at this place, if there is one.
+fn word_at(insns: &[Insn], place: usize) -> Option<u32>
+    requires { All IsWellFormed insns.now }
+{
+    match insns.get(place) {
+        Some(insn) => Some(encode(insn)),
+        None => None,
+    }
 }
 
 /// The unit's number, after the unit was put into the table where it was not there.
@@ -185,9 +211,9 @@ fn constant_of_two_instructions(rt: HostRuntime) -> Result<(), Fail> {
     ];
     let parts = [(&[][..], false), (&[Made(0)][..], true)];
     let words = words_of_use(&rt, rt.alloc(), &insns, &parts)?;
-    assert_eq!(rt; words, (0x0000_028b, None));
+    assert_eq!(rt; words, (None, 0x0000_028b, None, None));
     let unit = unit_of_all(&rt, rt.alloc(), &insns, &parts)?;
-    assert_eq!(rt; apply(&unit, 1, 2, 3), (0x1234_5678, 0));
+    assert_eq!(rt; apply(&unit, 1, 2, 3, 4, 5), (0x1234_5678, 0, 0));
     assert_eq!(rt; unit.cycles(), 2);
     drop(unit);
     Ok(())
@@ -221,7 +247,7 @@ fn words_for_sums(
     alloc: Global,
     rd: u8,
     operands: (u8, u8, u8),
-) -> Result<(u32, Option<u32>), Fail> {
+) -> Result<Words, Fail> {
     let (first, second, third) = operands;
     let earlier = [Entry(first), Entry(second)];
     let later = [Made(0), Entry(third)];
@@ -242,10 +268,10 @@ fn unit_of_both(rt: &impl Abort, alloc: Global) -> Result<Unit, Fail> {
 /// Puts units into an empty table, and asserts their numbers and some of their values.
 fn expect_numbers(rt: &impl Abort, alloc: Global, table: &mut UnitTable) -> Result<(), Fail> {
     let unit = unit_of_sums(rt, alloc, 5, (10, 11, 12))?;
-    assert_eq!(rt; apply(&unit, 1, 20, 300), (321, 0));
+    assert_eq!(rt; apply(&unit, 1, 20, 300, 4, 5), (321, 0, 0));
     assert_eq!(rt; number(rt, table, unit)?, 0);
     let unit = unit_of_both(rt, alloc)?;
-    assert_eq!(rt; apply(&unit, 9, 4, 0), (5, 4));
+    assert_eq!(rt; apply(&unit, 9, 4, 0, 0, 0), (5, 4, 0));
     assert_eq!(rt; number(rt, table, unit)?, 1);
     let unit = unit_of_sums(rt, alloc, 8, (20, 21, 22))?;
     assert_eq!(rt; number(rt, table, unit)?, 0);
@@ -307,9 +333,9 @@ fn units_of_other_classes_are_others(rt: HostRuntime) -> Result<(), Fail> {
 fn words_of_sums(rt: HostRuntime) -> Result<(), Fail> {
     let alloc = rt.alloc();
     let words = words_for_sums(&rt, alloc, 5, (10, 11, 12))?;
-    assert_eq!(rt; words, (0x60b5_028b, None));
+    assert_eq!(rt; words, (None, 0x60b5_028b, None, None));
     let words = words_for_sums(&rt, alloc, 8, (20, 21, 22))?;
-    assert_eq!(rt; words, (0xb15a_040b, None));
+    assert_eq!(rt; words, (None, 0xb15a_040b, None, None));
     Ok(())
 }
 
@@ -320,7 +346,7 @@ fn words_of_two_outputs(
     alloc: Global,
     first: u8,
     second: u8,
-) -> Result<(u32, Option<u32>), Fail> {
+) -> Result<Words, Fail> {
     let insns = [
         alu(rt, Op::Xor, first, 10, 11),
         alu(rt, Op::Xor, second, first, 12),
@@ -339,8 +365,58 @@ fn words_of_two_outputs(
 #[test]
 fn outputs_in_the_order_of_the_block(rt: HostRuntime) -> Result<(), Fail> {
     let words = words_of_two_outputs(&rt, rt.alloc(), 5, 6)?;
-    assert_eq!(rt; words, (0x60b5_028b, Some(0x0000_032b)));
+    assert_eq!(rt; words, (None, 0x60b5_028b, Some(0x0000_032b), None));
     let words = words_of_two_outputs(&rt, rt.alloc(), 6, 5)?;
-    assert_eq!(rt; words, (0x60b5_030b, Some(0x0000_02ab)));
+    assert_eq!(rt; words, (None, 0x60b5_030b, Some(0x0000_02ab), None));
+    Ok(())
+}
+
+/// The sums add x5, x10, x11; add x5, x5, x12; add x5, x5, x13; add x5, x5, x14, of which the last is live.
+fn five_sums(rt: &impl Abort) -> [Insn; 4] {
+    [
+        alu(rt, Op::Add, 5, 10, 11),
+        alu(rt, Op::Add, 5, 5, 12),
+        alu(rt, Op::Add, 5, 5, 13),
+        alu(rt, Op::Add, 5, 5, 14),
+    ]
+}
+
+#[test]
+fn five_inputs(rt: HostRuntime) -> Result<(), Fail> {
+    let insns = five_sums(&rt);
+    let parts = [
+        (&[Entry(10), Entry(11)][..], false),
+        (&[Made(0), Entry(12)][..], false),
+        (&[Made(1), Entry(13)][..], false),
+        (&[Made(2), Entry(14)][..], true),
+    ];
+    let words = words_of_use(&rt, rt.alloc(), &insns, &parts)?;
+    assert_eq!(rt; words, (Some(0x00e6_902b), 0x60b5_028b, None, None));
+    let unit = unit_of_all(&rt, rt.alloc(), &insns, &parts)?;
+    assert_eq!(rt; apply(&unit, 1, 20, 300, 4000, 50000), (54321, 0, 0));
+    drop(unit);
+    Ok(())
+}
+
+#[test]
+fn three_outputs(rt: HostRuntime) -> Result<(), Fail> {
+    let insns = [
+        alu(&rt, Op::Sub, 5, 11, 10),
+        alu(&rt, Op::Xor, 6, 0, 10),
+        alu(&rt, Op::Add, 7, 10, 11),
+    ];
+    let parts = [
+        (&[Entry(11), Entry(10)][..], true),
+        (&[Entry(10)][..], true),
+        (&[Entry(10), Entry(11)][..], true),
+    ];
+    let words = words_of_use(&rt, rt.alloc(), &insns, &parts)?;
+    assert_eq!(rt;
+        words,
+        (None, 0x00a5_828b, Some(0x0000_032b), Some(0x0010_03ab))
+    );
+    let unit = unit_of_all(&rt, rt.alloc(), &insns, &parts)?;
+    assert_eq!(rt; apply(&unit, 9, 4, 0, 0, 0), (5, 4, 13));
+    drop(unit);
     Ok(())
 }

@@ -74,6 +74,11 @@ fn eval_shown(alloc: Global, said: &Words) -> Result<String, AllocError> {
         let word = said.word_at(place);
         write!(text, " {word}")?;
     }
+    for (name, option) in [("d", OptionName::Fourth), ("e", OptionName::Fifth)] {
+        if let Some(word) = said.word(option) {
+            push_word(alloc, &mut text, name, word)?;
+        }
+    }
     Ok(text)
 }
 
@@ -174,6 +179,7 @@ fn anywhere() -> &'static [Told] {
     &[
         ("best F", "best F 3 2 -"),
         ("best F --in=3", "best F 3 2 -"),
+        ("best --in 5 F --out 3", "best F 5 3 -"),
         ("best --in 2 F", "best F 2 2 -"),
         ("best F --out 1 --in 3", "best F 3 1 -"),
         ("best --out=1 F --in 03", "best F 3 1 -"),
@@ -258,8 +264,8 @@ fn unreadable_options() -> &'static [Told] {
         ("best F --in -1", "none"),
         ("best F --in=-1", "none"),
         ("best F --in 0", "none"),
-        ("best F --in 4", "none"),
-        ("best F --out 3", "none"),
+        ("best F --in 6", "none"),
+        ("best F --out 4", "none"),
         ("best F --in +3", "none"),
         ("best F --in 00000000003", "none"),
         ("best F --in 4294967299", "none"),
@@ -407,6 +413,16 @@ fn numbers() -> &'static [Told] {
             "eval U 3 0 4294967295 16",
         ),
         ("eval U 031 0x0 0x0 0x0", "eval U 31 0 0 0"),
+        (
+            "eval --e=0xffffffff U 1 0x2 --d 0x10 0x3 0x4",
+            "eval U 1 2 3 4 d 10 e ffffffff",
+        ),
+        ("eval U 1 0x2 0x3 0x4 --e 0x5", "eval U 1 2 3 4 e 5"),
+        ("eval U 1 0x2 0x3 0x4 0x5", "none"),
+        ("eval U 1 0x2 0x3 0x4 --d 5", "none"),
+        ("eval U 1 0x2 0x3 0x4 --d 0x5 --d 0x5", "none"),
+        ("eval U 1 0x2 0x3 0x4 --a 0x5", "none"),
+        ("best F --d 0x5", "none"),
         ("eval U 32 0x0 0x0 0x0", "none"),
         ("eval U 0x1 0x0 0x0 0x0", "none"),
         ("eval U 1 0x0 0x0 0", "none"),

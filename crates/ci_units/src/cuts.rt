@@ -21,8 +21,8 @@ pub fn is_cut(graph: &Graph, cut: &Row) -> bool
     ensures { IsTrue result → FitsSomeLimits graph.now (set.contains cut.now) }
 {
     let limits = Limits {
-        inputs: 3,
-        outputs: 2,
+        inputs: 5,
+        outputs: 3,
     };
     fits(graph, &limits, cut)
 }

@@ -2,7 +2,7 @@
 ghost use Rattle.std.specs.Prelude.{◌≤◌, IfOk, IfSome, length};
 ghost use Rattle.std.specs.FinSet as set;
 ghost use Rattle.ci_cut.specs.GraphRules.{AreNodes};
-ghost use Rattle.ci_dfg.specs.BlockGraph.{AreNarrow};
+ghost use Rattle.ci_dfg.specs.Bundles.{AreBundled};
 ghost use Rattle.ci_rewrite.specs.Blocks.{AllFieldsFit};
 ghost use Rattle.ci_unit.specs.Operands.{FitsSomeLimits};
 
@@ -13,7 +13,7 @@ use crate::made;
 use crate::random::Random;
 use crate::runs::{Tally, compare_runs};
 use ci_cut::Graph;
-use ci_dfg::{are_narrow, graph};
+use ci_dfg::{are_bundled, graph};
 use ci_isa::Insn;
 use ci_lat::Table;
 use ci_rewrite::fold;
@@ -28,8 +28,13 @@ const FOLDS: usize = 10;
 /// How many sets of nodes are tried for a fold.
 const TRIES: usize = 24;
 
-/// The line of unit 0: xor x5, x10, x11 and add x6, x5, x12.
-const FIRST_UNIT: &str = "00b542b3 00c28333 | 0 1";
+/// The lines of the units 0, 1 and 2: xor x5, x10, x11 and add x6, x5, x12; the same and sub x7, x5, x12; and xor x5,
+/// x10, x11, add x5, x5, x12, sub x6, x13, x14 and xor x7, x5, x6.
+const FIRST_UNITS: [&str; 3] = [
+    "00b542b3 00c28333 | 0 1",
+    "00b542b3 00c28333 40c283b3 | 0 1 2",
+    "00b542b3 00c282b3 40e68333 0062c3b3 | 0 1 2 3",
+];
 
 /// Makes blocks of the numbers of a seed, folds each by some cuts, and some of the folded blocks again, and compares
 /// the runs of each block and its folded block.
@@ -44,7 +49,7 @@ pub fn compare_blocks(alloc: Global, seed: u32, count: u32) -> Result<Tally, All
 
 /// The same of one block.
 fn compare_block(alloc: Global, random: &mut Random, tally: &mut Tally) -> Result<(), AllocError> {
-    let mut units = first_unit(alloc)?;
+    let mut units = first_units(alloc)?;
     compare_folds(alloc, random, &mut units, tally)
 }
 
@@ -76,12 +81,13 @@ fn made_insns(alloc: Global, random: &mut Random) -> Result<Vec<Insn>, AllocErro
     insns_of(alloc, words.as_slice())
 }
 
-/// A table with the unit that unit words of blocks name.
-fn first_unit(alloc: Global) -> Result<UnitTable, AllocError> {
-    let unit = unit_of_line(alloc, FIRST_UNIT)?;
+/// A table with the units that unit words of blocks name.
+fn first_units(alloc: Global) -> Result<UnitTable, AllocError> {
     let mut units = UnitTable::new(alloc);
-    if let Some(unit) = unit {
-        number_of(&mut units, unit)?;
+    for line in FIRST_UNITS {
+        if let Some(unit) = unit_of_line(alloc, line)? {
+            number_of(&mut units, unit)?;
+        }
     }
     Ok(units)
 }
@@ -98,7 +104,7 @@ fn compare_fold(
     requires { AllFieldsFit insns.now }
     ensures { IfOk result (λ found. IfSome found (λ folded. AllFieldsFit folded.items)) }
 {
-    if insns.len() > MOST_WORDS || !are_narrow(insns) {
+    if insns.len() > MOST_WORDS || !are_bundled(insns) {
         return Ok(None);
     }
     let Some(folded) = folded_by_some_cut(alloc, random, insns, live, units)? else {
@@ -126,8 +132,8 @@ fn folded_by_some_cut(
     units: &mut UnitTable,
 ) -> Result<Option<Vec<Insn>>, AllocError>
     requires few { length insns.now ≤ 256 }
+    requires bundled { AreBundled insns.now }
     requires fit { AllFieldsFit insns.now }
-    requires narrow { AreNarrow insns.now }
     ensures { IfOk result (λ found. IfSome found (λ folded. AllFieldsFit folded.items)) }
 {
     let graph = graph(alloc, insns, live, &Table::usual())?;

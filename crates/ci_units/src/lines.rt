@@ -2,14 +2,14 @@
 ghost use Rattle.std.specs.Prelude.{◌<◌, ◌≤◌, IfOk, IfSome, length};
 ghost use Rattle.std.specs.FinSet as set;
 ghost use Rattle.ci_cut.specs.GraphRules.{AreNodes};
-ghost use Rattle.ci_dfg.specs.BlockGraph.{AreNarrow};
+ghost use Rattle.ci_dfg.specs.Bundles.{AreBundled};
 ghost use Rattle.ci_rewrite.specs.Blocks.{AllFieldsFit};
 ghost use Rattle.ci_unit.specs.Operands.{FitsSomeLimits};
 
 use crate::cuts::{MOST_UNITS, MOST_WORDS, is_cut};
 use crate::instructions::insns_of;
 use ci_cut::Graph;
-use ci_dfg::{are_narrow, graph};
+use ci_dfg::{are_bundled, graph};
 use ci_isa::Insn;
 use ci_lat::Table;
 use ci_reading::number_of_digits;
@@ -36,7 +36,7 @@ pub fn unit_of_line(alloc: Global, line: &str) -> Result<Option<Unit>, AllocErro
 /// The unit of the cut of these members, if it fits.
 fn unit_in_block(alloc: Global, insns: &[Insn], members: &str) -> Result<Option<Unit>, AllocError>
     requires few { length insns.now ≤ 256 }
-    requires narrow { AreNarrow insns.now }
+    requires bundled { AreBundled insns.now }
 {
     let graph = graph(alloc, insns, every_register(), &Table::usual())?;
     let Some(cut) = cut_of(&graph, members) else {
@@ -62,8 +62,8 @@ pub fn folded_of_line(alloc: Global, line: &str) -> Result<Option<Vec<Insn>>, Al
 /// The block that is folded by the cut, if the text has the cut's members, a number, and registers.
 fn folded_block(alloc: Global, insns: &[Insn], text: &str) -> Result<Option<Vec<Insn>>, AllocError>
     requires few { length insns.now ≤ 256 }
+    requires bundled { AreBundled insns.now }
     requires fit { AllFieldsFit insns.now }
-    requires narrow { AreNarrow insns.now }
     ensures { IfOk result (λ found. IfSome found (λ folded. AllFieldsFit folded.items)) }
 {
     let Some((members, number, live)) = parts_of(text) else {
@@ -100,11 +100,11 @@ fn parts_of(text: &str) -> Option<(&str, u8, Row)>
     Some((members, number as u8, registers_of(registers)?))
 }
 
-/// The instructions of up to 256 words of hex digits, none of which is of the use of a wide unit.
+/// The instructions of up to 256 words of hex digits, whose bundles are whole.
 fn block_of(alloc: Global, text: &str) -> Result<Option<Vec<Insn>>, AllocError>
     ensures few { IfOk result (λ found. IfSome found (λ insns. length insns.items ≤ 256)) }
+    ensures bundled { IfOk result (λ found. IfSome found (λ insns. AreBundled insns.items)) }
     ensures fit { IfOk result (λ found. IfSome found (λ insns. AllFieldsFit insns.items)) }
-    ensures narrow { IfOk result (λ found. IfSome found (λ insns. AreNarrow insns.items)) }
 {
     let mut words = Vec::new(alloc);
     for digits in text.split_whitespace() {
@@ -114,7 +114,7 @@ fn block_of(alloc: Global, text: &str) -> Result<Option<Vec<Insn>>, AllocError>
         words.push(word as u32)?;
     }
     let insns = insns_of(alloc, words.as_slice())?;
-    if insns.len() > MOST_WORDS || !are_narrow(insns.as_slice()) {
+    if insns.len() > MOST_WORDS || !are_bundled(insns.as_slice()) {
         return Ok(None);
     }
     Ok(Some(insns))

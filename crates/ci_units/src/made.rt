@@ -66,11 +66,17 @@ const ENDS: [u32; 10] = [
     0x0FF0_000F,
 ];
 
-/// The word of unit 0.
-const UNIT: u32 = 0x0000_000B;
+/// The words of the units 0 and 1, which take three inputs.
+const UNITS: [u32; 2] = [0x0000_000B, 0x0000_100B];
 
-/// The word of `cread`.
-const CREAD: u32 = 0x0000_002B;
+/// The word of unit 2, which takes five inputs.
+const WIDE_UNIT: u32 = 0x0000_200B;
+
+/// The words of `cread`, of the indices 0 and 1.
+const CREADS: [u32; 2] = [0x0000_002B, 0x0010_002B];
+
+/// The word of `cput`.
+const CPUT: u32 = 0x0000_102B;
 
 /// The word of LUI.
 const LUI: u32 = 0x0000_0037;
@@ -85,7 +91,7 @@ const FIRST: u32 = 10;
 const BASES: [u32; 4] = [2, 8, 8, 9];
 
 /// The words of a block, most of which read and write a few registers, so that most depend on each other. Unit words
-/// are those of unit 0.
+/// are those of the units 0, 1 and 2, and stand in whole bundles.
 pub fn block(alloc: Global, random: &mut Random) -> Result<Vec<u32>, AllocError> {
     let mut words = Vec::new(alloc);
     let registers = 3 + random.below(6);
@@ -130,14 +136,26 @@ fn register(random: &mut Random, registers: u8) -> u32
     FIRST + u32::from(random.below(registers))
 }
 
-/// Puts a unit word at the end, and mostly a `cread`.
+/// Puts a unit word at the end, with a `cput` before it where the unit takes five inputs, and now and then where it
+/// doesn't, and mostly with a `cread` behind it, or two.
 fn push_bundle(words: &mut Vec<u32>, random: &mut Random, registers: u8) -> Result<(), AllocError>
     requires { 0 < registers }
 {
+    let is_wide = random.below(2) == 0;
+    if is_wide || random.below(4) == 0 {
+        let sources = register(random, registers) << 15 | register(random, registers) << 20;
+        words.push(CPUT | sources)?;
+    }
+    let unit = if is_wide {
+        WIDE_UNIT
+    } else {
+        random.one_of(&UNITS)
+    };
     let third = register(random, registers) << 27;
-    words.push(with_registers(random, registers, UNIT) | third)?;
-    if random.below(4) > 0 {
-        words.push(CREAD | register(random, registers) << 7)?;
+    words.push(with_registers(random, registers, unit) | third)?;
+    let reads = usize::from(random.below(4)).min(CREADS.len());
+    for read in &CREADS[..reads] {
+        words.push(*read | register(random, registers) << 7)?;
     }
     Ok(())
 }

@@ -8,7 +8,8 @@
 //! - These two, the number of a unit, and the registers that are live after the block: the words of the folded block.
 //! - `made`, a seed and a count: how many runs of folded blocks pass as those of the blocks do, and how many don't.
 //!
-//! A line that isn't so, whose cut doesn't fit, or whose unit is the 33rd, ends the program with the status 1.
+//! A line that isn't so, whose bundles aren't whole, whose cut doesn't fit, or whose unit is the 33rd, ends the program
+//! with the status 1.
 #![tactic(auto)]
 
 ghost use Rattle.ci_rewrite.specs.Blocks.{AllFieldsFit};
