@@ -11,7 +11,7 @@ from collections import namedtuple
 import executable
 from blocks import Text, live_sets
 from cuts import KEYS
-from folds import Block, unit_word, writes
+from folds import Block, is_unit
 from instructions import mnemonic
 from made_units import unit_text
 from operations import unit_of
@@ -88,9 +88,17 @@ class Graph:
         """The number of sources of members that can't become members any more."""
         return count(prefix.read & ~prefix.cut & ~self.undecided[prefix.decided])
 
+    def further_words(self, prefix):
+        """How many words the use has beside the unit word."""
+        return max(prefix.outputs - 1, 0) + (self.inputs(prefix) > 3)
+
+    def has_room(self, prefix):
+        """Whether the members have a place for each word of the use."""
+        return prefix.size >= 1 + self.further_words(prefix)
+
     def bound(self, prefix):
         """What no set with these first choices gains more than. Where all nodes are decided, the gain."""
-        more = max(prefix.outputs - 1, 0) + (self.inputs(prefix) > 3)
+        more = self.further_words(prefix)
         size = prefix.size + len(self.order) - prefix.decided
         return (prefix.latency + self.left[prefix.decided] - max(1, -(-prefix.delay // 1000))
                 - more * self.table.read - (size - 1 - more) * self.table.pad)
@@ -101,7 +109,8 @@ class Graph:
 
     def fits(self, prefix):
         """Whether the members fit, where all nodes are decided."""
-        return prefix.decided == len(self.order) and prefix.outputs >= 1 and self.may_fit(prefix)
+        return (prefix.decided == len(self.order) and prefix.outputs >= 1 and self.may_fit(prefix)
+                and self.has_room(prefix))
 
     def all_decided(self, cut):
         """The choices that make this set, or None where some node isn't eligible."""
@@ -130,7 +139,7 @@ def best_cut(graph):
         if not graph.may_fit(prefix) or graph.bound(prefix) <= gain:
             continue
         if prefix.decided == len(graph.order):
-            if prefix.outputs:
+            if graph.fits(prefix):
                 best, gain = set(members(prefix.cut)), graph.bound(prefix)
             continue
         branches += 1
@@ -255,8 +264,7 @@ class Choice:
     def take(self, leader, number):
         found, entries = self.found[leader], self.profile.entries[leader]
         block = self.graphs[leader].block
-        target = writes(self.words[leader][block.outputs(found.cut)[0]])
-        word = unit_word(number, *target, block.inputs(found.cut))
+        word = next(word for word in block.use(found.cut, number) if is_unit(word))
         self.report_lines.append(
             f"cut {self.takes} block {leader:08x} unit {number} gain {found.gain} entries {entries} nodes "
             f"{' '.join(map(str, sorted(found.cut)))} word {word:08x}")

@@ -11,8 +11,9 @@ of loads, stores and registers that are written again. Of each, blocks are taken
 a cut, so that all sets of them can be tried. For each block, with limits on inputs and outputs and often with a latency
 table of its own, `best` has to print the best cut, or that there is none, where the budget is just what the search
 takes, and that it is skipped where the budget is one less. An address that begins no block has to be refused, as has a
-text with a word of a custom opcode. And of a block of 256 words all of them have to be found to be the best cut, in
-half a second. It ends with status 0 where all agree, and with 1 too where a line of one of these kinds was never due.
+text with a word of a custom opcode. Of two small blocks the lines are worked ones. And of a block of 256 words all of
+them have to be found to be the best cut, in half a second. It ends with status 0 where all agree, and with 1 too where
+a line of one of these kinds was never due.
 """
 import collections
 import os
@@ -26,7 +27,7 @@ import tempfile
 import shared  # noqa: F401  (it lets the modules of views/ be imported)
 import executable
 from blocks import Text, live_sets
-from cuts import Graph, Search, may_join
+from cuts import Graph, Search, Table, may_join
 from instructions import with_offset
 from made import executables
 from made_blocks import LIMITS, some_registers, some_table, some_word
@@ -45,6 +46,16 @@ SYSTEM_CALL, BREAK, FENCE = 0x73, 0x00100073, 0x0FF0000F
 # What `best` prints of it by the greatest budget, and in less than how many seconds of a processor.
 CHAIN = struct.pack("<I", 0x00A2C2B3) * 256
 OPTIONS, WHOLE, SOON = ("--out", "1", "--budget", "4194304"), f"cut {' '.join(map(str, range(256)))} gain 230\n", 0.5
+
+# Blocks, limits on inputs and outputs, and what `best` prints. xor x5, x10, x11; xor x5, x5, x12; xor x5, x5, x13; xor
+# x5, x5, x14 has five inputs, of which the last two take one word more. xor x5, x10, x11; xor x6, x5, x12; xor x7, x6,
+# x10; xor x7, x7, x11; xor x7, x7, x12 has three outputs, of which the last two take a word more each.
+FIVE_INPUTS = 0x00B542B3, 0x00C2C2B3, 0x00D2C2B3, 0x00E2C2B3
+THREE_OUTPUTS = 0x00B542B3, 0x00C2C333, 0x00A343B3, 0x00B3C3B3, 0x00C3C3B3
+ROWS = ((FIVE_INPUTS, (5, 1), "cut 0 1 2 3 gain 2\n"), (FIVE_INPUTS, (4, 1), "cut 1 2 3 gain 1\n"),
+        (FIVE_INPUTS, (3, 1), "cut 2 3 gain 1\n"), (THREE_OUTPUTS, (3, 3), "cut 0 1 2 3 4 gain 2\n"),
+        (THREE_OUTPUTS, (3, 2), "cut 3 4 gain 1\n"))
+ALL_REGISTERS = set(range(1, 32))
 
 
 def dense_block(source, registers):
@@ -115,6 +126,16 @@ class Comparison:
             self.faults.append(f"{name}, {' '.join(words)}: status {done.returncode} against {status}, "
                                f"{ours!r} against {wanted!r}")
 
+    def rows(self):
+        """Compares the lines of small blocks, by the program and by the naive reading, with worked ones."""
+        for words, (inputs, outputs), wanted in ROWS:
+            self.write(struct.pack(f"<{len(words)}I", *words))
+            name, options = f"the block {words}", ("--in", f"{inputs}", "--out", f"{outputs}")
+            self.call(name, options, wanted)
+            naive = Search(Graph(words, ALL_REGISTERS, Table()), inputs, outputs).best()
+            if naive != wanted:
+                self.faults.append(f"{name}, {' '.join(options)}: the naive reading has {naive!r}")
+
     def chain(self):
         """Compares the line of a block of the greatest length, and the time that it takes."""
         self.write(CHAIN)
@@ -175,6 +196,7 @@ def main():
         comparison = Comparison(folder, source)
         for name, data in found:
             comparison.executable(name, data)
+        comparison.rows()
         comparison.chain()
     counts, faults = comparison.counts, comparison.faults
     for fault in faults[:20]:

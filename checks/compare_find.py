@@ -5,12 +5,13 @@
 
 Each C program of checks/programs is compiled for RV32IM with -O2 and with -Os, and linked with picolibc; the
 executables of samples/ are taken as they are. `find` chooses cuts of each by the profile of its run on an input, with
-the default options and with others. The steps of that run are those that qemu-riscv32 says it made. The summary, UNITS,
-REPORT, NEW and all of LOGS but the trees have to be those of the plain reading, the trees have to be accepted by it,
-and `check` has to accept all. NEW has to run as the executable does, on the profiled input and on others, with as many
-steps where no access ends it, and on the profiled input at a cost that is less by the gain of the summary. The units
-have to be the cuts' operations by Icarus Verilog too. And where one byte of LOGS, UNITS or NEW is changed, `check` has
-to print what the plain reading says. An executable with words of the custom opcodes has to be refused.
+the default options, with the greatest limits on inputs and outputs, and with others. The steps of that run are those
+that qemu-riscv32 says it made. The summary, UNITS, REPORT, NEW and all of LOGS but the trees have to be those of the
+plain reading, the trees have to be accepted by it, and `check` has to accept all. NEW has to run as the executable
+does, on the profiled input and on others, with as many steps where no access ends it, and on the profiled input at a
+cost that is less by the gain of the summary. The units have to be the cuts' operations by Icarus Verilog too. And where
+one byte of LOGS, UNITS or NEW is changed, `check` has to print what the plain reading says. An executable with words of
+the custom opcodes has to be refused.
 
 It ends with status 0 where all agree, and where the tools are missing, with a line that says so.
 """
@@ -54,7 +55,10 @@ def costly():
 USUAL = Plan(3, 2, 32, 65536), Table(), None, False
 SETTINGS = ((Plan(2, 1, 3, 300), Table(), None, False), (Plan(3, 2, 32, 40), costly(), None, False),
             (Plan(1, 2, 32, 5000), Table(), 3000, False), (Plan(3, 1, 5, 2000), Table(), None, True),
-            (Plan(3, 2, 1, 700), costly(), None, True), (Plan(2, 2, 8, 1), Table(), None, False))
+            (Plan(3, 2, 1, 700), costly(), None, True), (Plan(2, 2, 8, 1), Table(), None, False),
+            (Plan(5, 1, 32, 3000), costly(), None, False), (Plan(4, 3, 32, 1000), Table(), None, False))
+# The greatest limits on inputs and outputs.
+GREATEST = Plan(5, 3, 32, 3000), Table(), None, False
 
 
 class Finds:
@@ -216,14 +220,14 @@ def main():
         finds, programs = Finds(os.path.abspath(sys.argv[1]), folder), compiled.executables(folder)
         for number, (name, path) in enumerate(programs):
             steps = trace(path, PROFILED)
-            for settings in (USUAL, SETTINGS[number % len(SETTINGS)]):
+            for settings in (USUAL, GREATEST, SETTINGS[number % len(SETTINGS)]):
                 compare(finds, name, path, steps, settings)
         finds.texts.write()
         finds.texts.simulate()
     faults = finds.faults + finds.texts.faults
     for fault in faults[:20]:
         print(fault)
-    print(f"{2 * len(programs)} choices for {len(programs)} executables compared, {finds.choices} with cuts, "
+    print(f"{3 * len(programs)} choices for {len(programs)} executables compared, {finds.choices} with cuts, "
           f"{len(finds.texts.wanted)} units, and {finds.changes} changed bytes: {len(faults)} faults")
     return 1 if faults or finds.choices < LEAST else 0
 

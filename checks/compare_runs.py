@@ -34,7 +34,7 @@ from blocks import Text, live_sets
 from choices import Plan, text_places
 from cuts import Table
 from emulator import Machine, Program
-from folds import NO_OPERATION, is_cread, is_unit, writes
+from folds import NO_OPERATION, cput_word, is_cput, is_cread, is_unit, writes
 from instructions import STORES, mnemonic
 from made_programs import TEXT, program
 from operations import IMMEDIATE
@@ -42,7 +42,7 @@ from runs import Both
 
 LIMIT = 60
 # How many programs are made up, how many of them get wrong words, and for how many steps they run at most.
-MADE, WRONG, MOST = 212, 60, 2500
+MADE, WRONG, MOST = 212, 90, 2500
 # For how many steps what GCC compiled is profiled and compared.
 PART = 15000
 INPUTS = [os.path.join(compiled.PROGRAMS, name) for name in ("count.c", "print.c")] + [os.devnull]
@@ -50,7 +50,9 @@ INTERPRETER, HOST_GCC = os.path.join(compiled.HERE, "..", "benchmarks", "interpr
 CUT = re.compile("^cut [0-9]+ block ([0-9a-f]{8}) unit [0-9]+ gain ([0-9]+) ", re.M)
 END = re.compile(rb"end (.*) steps ([0-9]+) cost ([0-9]+)\n\Z")
 PLANS = (Plan(3, 2, 32, 3000), Plan(3, 2, 32, 3000), Plan(3, 1, 32, 3000), Plan(2, 2, 6, 3000), Plan(1, 2, 32, 3000),
-         Plan(3, 2, 32, 40))
+         Plan(3, 2, 32, 40), Plan(5, 3, 32, 3000), Plan(5, 3, 32, 3000), Plan(4, 3, 6, 3000))
+# The options by which cuts of what GCC compiled are chosen.
+COMPILED = (), ("--in", "5", "--out", "3")
 # How many wrong words and units of each kind have to be found.
 LEAST = 15
 
@@ -184,7 +186,7 @@ class Runs:
                     self.found[kind] += 1
                     break
 
-    def compiled(self, name, path, interpreter):
+    def compiled(self, name, path, interpreter, options):
         """Compares the runs of a program that GCC compiled, by a profile of its first steps."""
         with open(path, "rb") as file:
             data = file.read()
@@ -194,7 +196,7 @@ class Runs:
                 inputs.append(file.read())
         if Text(executable.Image(data), ()).custom() is not None:
             return
-        rewriting = Rewriting(self, data, inputs[0], [], Table(), PART)
+        rewriting = Rewriting(self, data, inputs[0], options, Table(), PART)
         if not self.has_choice(name, rewriting):
             return
         self.counts["compiled"] += 1
@@ -247,6 +249,7 @@ def wrong_programs(source, rewriting):
 
     uses = [address for address in rewriting.folded if is_unit(words[address])]
     reads = [address for address in rewriting.folded if is_cread(words[address])]
+    puts = [address for address in rewriting.folded if is_cput(words[address])]
     makers = [address for address in rewriting.makers if mnemonic(words[address]) in IMMEDIATE]
     stores = [address for address in rewriting.folded if mnemonic(words[address]) in STORES.values()]
     moves = [address for address in uses if address + 4 not in rewriting.live and is_cread(words[address + 4])
@@ -260,6 +263,13 @@ def wrong_programs(source, rewriting):
             module._replace(cycles=module.cycles + (module.number == number)) for module in rewriting.modules])
     if reads:
         yield "a no-op for a cread", changed({source.choice(reads): NO_OPERATION})
+        address = source.choice(reads)
+        yield "another index of a cread", changed({address: words[address] ^ 1 << 20})
+    if puts:
+        yield "a no-op for a cput", changed({source.choice(puts): NO_OPERATION})
+        address = source.choice(puts)
+        yield "exchanged registers of a cput", changed(
+            {address: cput_word(words[address] >> 20 & 31, words[address] >> 15 & 31)})
     if makers:
         address = source.choice(makers)
         yield "another constant", changed({address: words[address] ^ 1 << 20})
@@ -290,7 +300,8 @@ def main():
         for number in range(MADE):
             runs.made_up(number)
         for name, path in compiled.samples() if missing else compiled.executables(folder):
-            runs.compiled(name, path, interpreter)
+            for options in COMPILED:
+                runs.compiled(" ".join((name, *options)), path, interpreter, options)
     for kind, count in runs.planted.items():
         if runs.found[kind] < LEAST:
             runs.faults.append(f"{kind}: only {runs.found[kind]} of {count} that are planted are found")

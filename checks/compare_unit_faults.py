@@ -152,7 +152,7 @@ def answer(fault, modules, number, operands):
         return "fault 9 units {} {}\n".format(*fault), 9
     if number >= len(modules):
         return f"fault 7 unsupported {number:08x} 00000000\n", 7
-    return "{:08x} {:08x}\n".format(*units.evaluate(modules[number], *operands)[:2]), 0
+    return units.results_line(modules[number], *operands), 0
 
 
 class Comparison:
@@ -172,11 +172,11 @@ class Comparison:
         return fault
 
     def call(self, data, fault, modules):
-        operands = [self.source.choice((0, 1, 2 ** 31, 2 ** 32 - 1, self.source.getrandbits(32))) for _ in "abc"]
+        operands = [self.source.choice((0, 1, 2 ** 31, 2 ** 32 - 1, self.source.getrandbits(32))) for _ in "abcde"]
         number = self.source.choice((0, max(0, len(modules) - 1), len(modules) % 32))
         with open(self.path, "wb") as file:
             file.write(data)
-        words = [str(number), *(f"0x{operand:x}" for operand in operands)]
+        words = [str(number), *units.operand_words(operands, self.source)]
         done = subprocess.run([self.program, "eval", self.path, *words], stdout=subprocess.PIPE, timeout=LIMIT,
                               check=False)
         ours, wanted = (done.stdout.decode(errors="replace"), done.returncode), answer(fault, modules, number, operands)

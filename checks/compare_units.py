@@ -21,7 +21,7 @@ import sys
 import tempfile
 
 import shared  # noqa: F401  (it lets the modules of views/ be imported)
-from cuts import Graph, Table, may_join
+from cuts import Graph, Table, further_words, may_join
 from made_units import Maker, spell, unit_text
 from operations import ALU, IMMEDIATE, SHIFTS, WORDS, unit_of, with_registers
 from simulation import ICARUS, LIMIT, VERILATOR, YOSYS, Texts, vectors
@@ -83,7 +83,8 @@ def cuts_of(source, block, count):
     for _ in range(count):
         cut = set(source.sample(joining, source.randrange(1, len(joining) + 1)))
         facts = graph.facts(cut)
-        if facts.convex and len(facts.inputs) <= 3 and 1 <= facts.outputs <= 2:
+        if (facts.convex and len(facts.inputs) <= 5 and 1 <= facts.outputs <= 3
+                and len(cut) >= 1 + further_words(len(facts.inputs), facts.outputs)):
             yield block, cut, unit_of(graph, block, cut)
 
 

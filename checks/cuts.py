@@ -9,7 +9,7 @@ from latencies import KEYS, MEMORY, ROWS, may_join
 
 
 class Table:
-    """Latencies and delays by the keys of the latency table, the latency of `cread` and `cput`, and the cost of a no-op in a
+    """Latencies and delays by the keys of the latency table, the latency of `cread`, and the cost of a no-op in a
     folded block."""
 
     def __init__(self):
@@ -81,9 +81,8 @@ class Graph:
         return max(1, -(-max(walks.values(), default=0) // 1000))
 
     def gain(self, nodes, cycles, inputs, outputs):
-        """The formula of the gain. The latencies are those of the nodes; each output but the first takes an instruction
-        of its own, and so do more than three inputs, which no set has that fits."""
-        more = max(outputs - 1, 0) + (inputs > 3)
+        """The formula of the gain. The latencies are those of the nodes."""
+        more = further_words(inputs, outputs)
         return (sum(self.table.latencies[self.key[node]] for node in nodes) - cycles - more * self.table.read
                 - (len(nodes) - 1 - more) * self.table.pad)
 
@@ -95,6 +94,12 @@ class Graph:
         inputs = set().union(*(self.sources[node] for node in cut)) - cut
         outputs, cycles = self.outputs(cut), self.cycles(cut)
         return Facts(self.is_convex(cut), inputs, outputs, cycles, self.gain(cut, cycles, len(inputs), outputs))
+
+
+def further_words(inputs, outputs):
+    """How many words a use has beside the unit word: each output but the first takes one, and so do the fourth and the
+    fifth input together."""
+    return max(outputs - 1, 0) + (inputs > 3)
 
 
 def choices(count):
@@ -110,7 +115,8 @@ class Search:
         self.graph, self.inputs, self.outputs = graph, inputs, outputs
         self.facts = {choice: graph.facts(graph.taken(choice)) for choice in choices(len(graph.order))}
         self.gains = {choice: facts.gain for choice, facts in self.facts.items()
-                      if facts.convex and len(facts.inputs) <= inputs and 1 <= facts.outputs <= outputs}
+                      if facts.convex and len(facts.inputs) <= inputs and 1 <= facts.outputs <= outputs
+                      and sum(choice) >= 1 + further_words(len(facts.inputs), facts.outputs)}
 
     def best(self):
         """The line that tells the best cut: among those that fit and gain most, the one that comes first."""

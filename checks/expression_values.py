@@ -40,9 +40,9 @@ FUNCTIONS = {
 
 
 def values(lines, inputs):
-    """The values of y and z, by lines `name = expression` and words for a, b and c."""
-    names = {**{letter: Word(word) for letter, word in zip("abc", inputs)}, "z": Word(0)}
+    """The values of y, z and x, by lines `name = expression` and words for a, b, c, d and e."""
+    names = {**{letter: Word(word) for letter, word in zip("abcde", inputs)}, "z": Word(0), "x": Word(0)}
     for line in lines:
         name, expression = line.split(" = ", 1)
         names[name] = Word(int(eval(expression, {"__builtins__": {}, **FUNCTIONS}, names)))
-    return int(names["y"]), int(names["z"])
+    return int(names["y"]), int(names["z"]), int(names["x"])

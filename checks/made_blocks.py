@@ -10,7 +10,7 @@ LOADS = [funct3 << 12 | 0x03 for funct3 in (0, 1, 2, 4, 5)]
 STORES = [funct3 << 12 | 0x23 for funct3 in (0, 1, 2)]
 NO_OPERATION = 0x13
 # Limits on inputs and outputs.
-LIMITS = [(inputs, outputs) for outputs in (1, 2) for inputs in (1, 2, 3)]
+LIMITS = [(inputs, outputs) for outputs in (1, 2, 3) for inputs in (1, 2, 3, 4, 5)]
 
 
 def some_registers(source):

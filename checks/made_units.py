@@ -1,21 +1,17 @@
 """Texts of units that are made up, and modules of all forms that the grammar has."""
-from templates import HEADER, LINES, unit_text
+from templates import HEADER, LINES, WIDE_HEADER, unit_text
 from units import FURTHER, INPUTS, OPERATORS, SHIFTS, WIDE_WORDS, WIDEST
-
-# The header of a wide module.
-WIDE_HEADER = HEADER.replace("output [31:0] y", "input [31:0] d, input [31:0] e, output [31:0] y").replace(
-    "z)", "z, output [31:0] x)")
 
 
 def some_unit(source, size):
     """A unit of so many operations, of all kinds."""
-    operations = []
+    operations, inputs = [], source.choice((3, 5))
     for place in range(size):
         earlier = [("earlier", source.randrange(place)) for _ in range(2 if place else 0)]
-        arguments = [source.choice((("input", source.randrange(3)), ("constant", source.getrandbits(32)), *earlier))
-                     for _ in "pq"]
+        arguments = [source.choice((("input", source.randrange(inputs)), ("constant", source.getrandbits(32)),
+                                    *earlier)) for _ in "pq"]
         operations.append((source.choice(sorted(LINES)), *arguments))
-    outputs = sorted(source.sample(range(size), min(size, source.choice((1, 2)))))
+    outputs = sorted(source.sample(range(size), min(size, source.choice((1, 2, 3)))))
     return operations, outputs, source.choice((1, 2, 9_999_999))
 
 

@@ -75,13 +75,13 @@ def unit_of(graph, words, cut):
 
 
 def outputs(unit, inputs):
-    """What a unit makes of three words: its first output, and its second or 0."""
+    """What a unit makes of five words: its first output, and its second and its third or 0."""
     results = []
     for name, *arguments in unit.operations:
         values = [number if kind == "constant" else (inputs if kind == "input" else results)[number]
                   for kind, number in arguments]
         results.append(ALU[name](*values) % WORD)
-    return tuple([results[place] for place in unit.outputs] + [0])[:2]
+    return tuple([results[place] for place in unit.outputs] + [0, 0])[:3]
 
 
 assert all(reads(word) == set() for word in WORDS.values())

@@ -24,8 +24,8 @@ class Texts:
 
     def __init__(self, folder, name, values):
         self.folder, self.name = folder, name
-        # Behind a, b and c stand d and e, which only wide modules have.
-        self.vectors = [(*vector, *other[:2]) for vector, other in zip(values, reversed(values))]
+        # Words for a, b and c, and for d and e, which only wide modules have.
+        self.vectors = values
         self.texts, self.wanted, self.faults = [], [], []
         self.path = os.path.join(folder, f"{name}.v")
 
@@ -36,8 +36,7 @@ class Texts:
             read = [units.evaluate(module, *vector) for vector in self.vectors]
             if known is not None:
                 unit = known[module.number]
-                self.compare(f"the text of {unit}", [found[:2] for found in read],
-                             [outputs(unit, vector[:3]) for vector in self.vectors])
+                self.compare(f"the text of {unit}", read, [outputs(unit, vector) for vector in self.vectors])
             self.wanted.append((len(self.texts) - 1, module, read))
 
     def compare(self, name, ours, due):
@@ -88,7 +87,7 @@ class Texts:
             self.compare(f"module {module.number} of text {text}, by Icarus,", ours, due)
 
     def call(self, program, source):
-        """The program evaluates each module on a few of the vectors, but for d and e. Gives the number of the calls."""
+        """The program evaluates each module on a few of the vectors. Gives the number of the calls."""
         path, held, calls = os.path.join(self.folder, "units"), None, 0
         for text, module, _ in self.wanted:
             if held != text:
@@ -96,10 +95,9 @@ class Texts:
                 with open(path, "w", encoding="ascii") as file:
                     file.write(self.texts[text])
             for place in source.sample(range(len(self.vectors)), CALLS):
-                given = self.vectors[place][:3]
-                words = [str(module.number), *(f"0x{operand:x}" for operand in given)]
+                words = [str(module.number), *units.operand_words(self.vectors[place], source)]
                 done = told([program, "eval", path, *words])
-                wanted = "{:08x} {:08x}\n".format(*units.evaluate(module, *given)[:2])
+                wanted = units.results_line(module, *self.vectors[place])
                 calls += 1
                 if (done.returncode, done.stdout) != (0, wanted):
                     self.faults.append(f"{self.name}: eval {' '.join(words)} of text {text}: status "

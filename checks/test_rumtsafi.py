@@ -227,7 +227,9 @@ class Built(Repository):
                            (["best", "a", "-o", "3"], "best has no option '-o'"),
                            (["best", "a", "--in", "-1"], "--in can't be '-1': no name or value begins with -"),
                            (["best", "a", "--steps", "3"], "best has no option '--steps'"),
-                           (["best", "a", "--in", "4"], "--in takes a number from 1 to 3, which '4' is not"),
+                           (["best", "a", "--in", "6"], "--in takes a number from 1 to 5, which '6' is not"),
+                           (["eval", "a", "0", "0x1", "0x2", "0x3", "--d", "4"],
+                            "--d takes 0x and one to eight hex digits, which '4' is not"),
                            (["best"], "best takes FILE, and FILE is missing"),
                            (["asm", "a", "b", "c d"], "asm takes TEXT OUT, and 'c d' is a word too many"),
                            (["asm", "a", "a"], "asm can't write 'a', which it names twice")):
@@ -704,6 +706,8 @@ class Made(unittest.TestCase):
         self.assertEqual(self.complete("best", "--in", ""), "")
         self.assertEqual(self.complete("eval", "crc32.e"), "crc32.elf")
         self.assertEqual(self.complete("eval", "crc32.elf", "c"), "")
+        self.assertEqual(self.complete("eval", "crc32.elf", "0", "-"), "--d --e")
+        self.assertEqual(self.complete("eval", "crc32.elf", "0", "--d", ""), "")
 
     @unittest.skipUnless(shutil.which("groff"), "there is no groff")
     def test_the_man_page_has_no_fault(self):

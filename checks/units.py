@@ -317,3 +317,20 @@ def evaluate(module, a, b, c, d=0, e=0):
     for wire in module.wires:
         values[wire.name] = value(wire.value, values), wire.width
     return value(module.y, values), value(module.z, values), value(module.x, values)
+
+
+def results_line(module, *operands):
+    """The line of the results: y and z, and x too where the module is wide."""
+    results = evaluate(module, *operands)
+    return " ".join(f"{result:08x}" for result in (results if module.wide else results[:2])) + "\n"
+
+
+def operand_words(operands, source):
+    """The words by which `eval` is given a, b, c, d and e: those of d and e stand anywhere, and may be left out where
+    they are 0."""
+    words = [[f"0x{operand:x}"] for operand in operands[:3]]
+    for name, operand in zip(FURTHER, operands[3:]):
+        if operand or source.randrange(2):
+            words.insert(source.randrange(4), source.choice(([f"--{name}", f"0x{operand:x}"],
+                                                             [f"--{name}=0x{operand:x}"])))
+    return [word for part in words for word in part]

@@ -132,7 +132,9 @@ def completions(commands, calls, options, words):
     """The completions for bash: of the command, of its options, and of files where a name is due."""
     def end_of_files(command):
         files = sum(words[name].kind == FILE for name in command.words)
-        return "" if files == len(command.words) else f'; [ "$COMP_CWORD" -le {files + 1} ] || return'
+        if files == len(command.words):
+            return ""
+        return f'; [ "$COMP_CWORD" -le {files + 1} ] || [[ $word = -* ]] || return'
 
     names = " ".join([command.name for command in commands] + [call for call, _ in calls])
     texts = " | ".join(f"--{option.name}" for option in options if option.kind != FILE)

@@ -23,7 +23,7 @@ AXES = 'index_1 ("0.01, 1"); index_2 ("0.01, 1");'
 TABLES = " ".join(f'{name} (delays) {{ {AXES} values ("0.02, 0.1", "0.1, 0.2"); }}'
                   for name in ("cell_rise", "cell_fall", "rise_transition", "fall_transition"))
 UNIT = 3
-# What stands behind the header of a wide unit: of d and e as 0, y is a, and z is -b.
+# What stands behind the header of a wide unit.
 WIDE_REST = "assign y = a ^ d;\nassign z = e - b;\nassign x = c;\nendmodule\n"
 
 
@@ -53,9 +53,10 @@ def look(views):
     views.told("find", SAMPLE, "new", "units.v", "logs", "report")
     with open(views.path("units.v"), encoding="ascii") as file:
         text = file.read()
+    wide = text + WIDE_HEADER.format(cycles=1, number=text.count("endmodule")) + WIDE_REST
     for name, part in (("CELLS.lib", library()), ("changed.v", text.replace(" t3 = p3 | q3;", " t3 = p3 & q3;")),
                        ("none.v", ""), ("fault.v", "module"),
-                       ("wide.v", text + WIDE_HEADER.format(cycles=1, number=text.count("endmodule")) + WIDE_REST)):
+                       ("wide.v", wide), ("third.v", wide.replace("assign x = c;", "assign x = d;"))):
         with open(views.path(name), "w", encoding="ascii") as file:
             file.write(part)
     before = views.hashes("units.v", "CELLS.lib")
@@ -72,6 +73,10 @@ def look(views):
     views.need(status == 0, f"Verilator says {printed[:600]}")
     views.need(views.works("bench", "units.v", "--run", "icarus").endswith(" vectors, 0 wrong\n"), "the view's own run")
     views.need(views.works("bench", "wide.v", "--run", "icarus").endswith(" vectors, 0 wrong\n"), "a wide unit")
+    views.told("find", SAMPLE, "new", "greatest.v", "logs", "report", *viewing.GREATEST)
+    views.need(views.works("bench", "greatest.v", "--run", "icarus").endswith(" vectors, 0 wrong\n"), "wide units")
+    status, printed = shell(views, lines["Icarus"].replace("units_bench.v units.v", "wide_bench.v third.v"))
+    views.need(status != 0 and re.search(r"^\d+ vectors, [1-9]\d* wrong$", printed, re.M), f"third: {printed[-300:]}")
     views.need(views.works("bench", "none.v", "--run", "icarus") == "0 vectors, 0 wrong\n", "no units")
     status, printed = shell(views, lines["Icarus"].replace(" units.v", " changed.v"))
     views.need(status != 0 and re.search(r"^\d+ vectors, [1-9]\d* wrong$", printed, re.M), f"changed: {printed[-300:]}")

@@ -3,10 +3,11 @@
 
     view_block.py PROGRAM
 
-The hottest blocks of samples and of programs that GCC compiled are shown: the marked instructions have to be the
-members of the cut that `best` prints, the sum of the gain has to be right, no line may have more than 80 columns, and
-the graph has to be one for Graphviz, with the members in its cluster. One is shown in tmux, in a window of 80 columns.
-The picture in docs/ has to be the one that the view makes. Wrong calls end with the usage and status 2.
+The hottest blocks of samples and of programs that GCC compiled are shown, by the usual limits on inputs and outputs and
+by the greatest ones: the marked instructions have to be the members of the cut that `best` prints, the sum of the gain
+has to be right, no line may have more than 80 columns, and the graph has to be one for Graphviz, with the members in
+its cluster. One is shown in tmux, in a window of 80 columns. The picture in docs/ has to be the one that the view
+makes. Wrong calls end with the usage and status 2.
 
 It ends with status 0 where all agree, and where tools are missing, with a line that says so.
 """
@@ -25,11 +26,11 @@ GRAPHVIZ = "2.43.0"
 SUM = re.compile(r"^gain +(\d+) = (\d+) software - (\d+) hardware \([\d.]+\) - (\d+) read - (\d+) pad$", re.M)
 
 
-def compare_block(views, path, leader):
-    """Compares what is shown of a block."""
-    told = views.told("best", path, "--at", leader).split()
+def compare_block(views, path, leader, *options):
+    """Compares what is shown of a block, with these limits."""
+    told = views.told("best", path, "--at", leader, *options).split()
     members = told[1:-2] if told[0] == "cut" else []
-    shown = views.works("block", path, leader)
+    shown = views.works("block", path, leader, *options)
     views.need(re.findall(r"^\* +(\d+) ", shown, re.M) == members, f"{path} {leader}: {shown} and not {told}")
     views.need(all(len(line) <= COLUMNS for line in shown.splitlines()), f"{path} {leader}: {shown} is too wide")
     if members:
@@ -38,11 +39,11 @@ def compare_block(views, path, leader):
             gain, software, hardware, read, pad = map(int, found.groups())
             views.need(gain == software - hardware - read - pad == int(told[-1]), f"{path} {leader}: {found[0]}")
     for more in ((), ("--near",)):
-        dot = views.works("block", path, leader, "--dot", *more)
+        dot = views.works("block", path, leader, "--dot", *more, *options)
         cluster = re.search(r"subgraph cluster_cut \{(.*?)\n  \}", dot, re.S)
         views.need(re.findall(r"^ +n(\d+) ", cluster[1], re.M) == members, f"{path} {leader}: {dot}")
         subprocess.run(["dot", "-Tcanon"], input=dot, text=True, stdout=subprocess.DEVNULL, check=True)
-    xml.etree.ElementTree.fromstring(views.works("block", path, leader, "--svg"))
+    xml.etree.ElementTree.fromstring(views.works("block", path, leader, "--svg", *options))
 
 
 def compare_terminal(views):
@@ -73,6 +74,7 @@ def look(views):
         blocks.sort(key=lambda block: -int(block[1]) * int(block[2]))
         for leader, _, _ in blocks[:BLOCKS]:
             compare_block(views, path, f"0x{leader}")
+            compare_block(views, path, f"0x{leader}", *viewing.GREATEST)
         views.need(views.hashes(path) == before, f"{path} was changed")
     compare_terminal(views)
     version = subprocess.run(["dot", "-V"], stderr=subprocess.PIPE, text=True, check=True).stderr
@@ -85,7 +87,7 @@ def look(views):
     views.refuses("block", os.path.join(viewing.TOP, "README.md"), SHOWN[1])
     views.refuses("block", sample, "0x10")
     views.refuses("block", sample, SHOWN[1], "--table", sample)
-    views.wrong("block", (), (sample,), (sample, "102b0"), (sample, SHOWN[1], "--in", "4"), (sample, SHOWN[1], "--no"))
+    views.wrong("block", (), (sample,), (sample, "102b0"), (sample, SHOWN[1], "--in", "6"), (sample, SHOWN[1], "--no"))
 
 
 viewing.check(look, "views/block", {"dot": "graphviz", "tmux": "tmux"})

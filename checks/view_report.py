@@ -3,8 +3,8 @@
 
     view_report.py PROGRAM
 
-Pages are made of choices for samples and for programs that GCC compiled, one without a cut and one with a skipped
-block. The numbers on top, of blocks, of cuts and of units have to be those of REPORT, with the units by what they save,
+Pages are made of choices for samples and for programs that GCC compiled, by the usual limits on inputs and outputs and
+by the greatest ones, one without a cut and one with a skipped block. The numbers on top, of blocks, of cuts and of units have to be those of REPORT, with the units by what they save,
 which sums up to its total, and what a unit's expressions give has to be what `eval` prints. A page may ask for nothing
 from outside and have no script; its parts have to be well nested, named and described. Chromium opens two pages at two
 widths, where nothing may stand out on the right side. Files that are no choice are refused; wrong calls end with the
@@ -139,8 +139,10 @@ def compare_expressions(views, name, source):
     for number, lines in found.items():
         lines = html.unescape(lines).strip().splitlines()
         for vector in source.sample(vectors(source), VECTORS):
-            due = views.told("eval", os.path.join(name, "units.v"), number, *(f"0x{word:x}" for word in vector))
-            found = "{:08x} {:08x}\n".format(*values(lines, vector))
+            a, b, c, d, e = (f"0x{word:x}" for word in vector)
+            due = views.told("eval", os.path.join(name, "units.v"), number, a, b, c, "--d", d, "--e", e)
+            # A narrow unit has two results.
+            found = " ".join(f"{word:08x}" for word in values(lines, vector)[:len(due.split())]) + "\n"
             views.need(found == due, f"{name}: unit {number} of {vector} gives {found} and not {due}: {lines}")
 
 
@@ -162,8 +164,10 @@ def compare_widths(views, name):
 def look(views):
     """Looks at the pages of all programs."""
     source = random.Random(1)
-    for name, (path, given) in views.programs().items():
-        views.choose(name, path, "--input", given)
+    choices = [(name + tail, path, given, options) for name, (path, given) in views.programs().items()
+               for tail, options in (("", ()), ("-greatest", viewing.GREATEST))]
+    for name, path, given, options in choices:
+        views.choose(name, path, "--input", given, *options)
         before = views.hashes(*(os.path.join(name, file) for file in viewing.FILES))
         views.works("report", name, "--input", given)
         compare_page(views, name)
@@ -185,7 +189,7 @@ def look(views):
     with open(views.path("no_table"), "w", encoding="ascii") as file:
         file.write("read = [")
     views.refuses("report", "sha256", "--table", "no_table")
-    views.wrong("report", (), ("a", "b"), ("sha256", "--out", "3"), ("sha256", "--page", "sha256/new.elf"))
+    views.wrong("report", (), ("a", "b"), ("sha256", "--out", "4"), ("sha256", "--page", "sha256/new.elf"))
 
 
 viewing.check(look, "views/report", {"dot": "graphviz", CHROMIUM: CHROMIUM}, ("jinja2",))

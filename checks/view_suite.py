@@ -100,7 +100,7 @@ def look(views):
     compare_stop(views, files, given)
     status, _, said = views.call("suite", refused[1])
     views.need(status == 1 and said.count("\n") == 1, f"a missing file: {status} {said}")
-    views.wrong("suite", (), (files[0], "--out", "3"), (files[0], "--rows", files[0]))
+    views.wrong("suite", (), (files[0], "--out", "4"), (files[0], "--rows", files[0]))
 
 
 viewing.check(look, "views/suite", {"parallel": "parallel"})

@@ -31,7 +31,7 @@ def read_rows(views):
 
 def compare_rows(views, rows):
     """Compares rows with `find`."""
-    views.need(len(rows) == 60, f"{len(rows)} rows")
+    views.need(len(rows) == 150, f"{len(rows)} rows")
     for row in rows[::TAKEN]:
         table = ["--table", row["table"]] if row["table"] != "usual" else []
         ports = ["--in", row["inputs"], "--out", row["outputs"]]
@@ -72,9 +72,9 @@ def look(views):
     compare_rows(views, rows)
     compare_plot(views, rows)
     for count in ("1", "2", "4", "8", "32"):
-        due = [[row["saved"] for row in rows if (row["count"], row["table"]) == (count, table)]
-               for table in ("usual", "slow.toml")]
-        found = [line.split()[1:] for line in shown.splitlines() if line.split()[0] == count]
+        due = [[row["saved"] for row in rows if (row["count"], row["table"], row["outputs"]) == (count, table, outputs)]
+               for table in ("usual", "slow.toml") for outputs in ("1", "2", "3")]
+        found = [line.replace("*", "").split()[1:] for line in shown.splitlines() if line.split()[0] == count]
         views.need(found == due, f"with {count} units {found} is shown, and {due} is due")
     views.need(all(len(line) <= COLUMNS for line in shown.splitlines()), f"too wide: {shown}")
     views.need(views.hashes(*before) == before, "an input was changed")

@@ -15,6 +15,8 @@ PROGRAMS = "cipher", "matrix", "sort"
 INPUT = os.path.join(compiled.PROGRAMS, "count.c")
 NO_CUT = '#include "start.h"\nvoid run(void) { leave(0); }\n'
 FILES = "old.elf", "new.elf", "units.v", "logs.txt", "report.txt"
+# The greatest limits on inputs and outputs, as options.
+GREATEST = "--in", "5", "--out", "3"
 
 
 def missing(tools, libraries=()):

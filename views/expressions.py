@@ -4,7 +4,7 @@ import re
 from templates import LINES
 
 WIRE = re.compile(r"^wire \[(\d+):0\] ([a-z])(\d+);\nassign \2\3 = (.*);$", re.M)
-TERM = re.compile(r"([abc])|t(\d+)|32'h([0-9a-f]{8})")
+TERM = re.compile(r"([a-e])|t(\d+)|32'h([0-9a-f]{8})")
 NAMES = {tuple((letter, width - 1, value) for letter, width, value in lines): name for name, lines in LINES.items()}
 # The operations with an operator, and those operators that may follow one another without brackets.
 SIGNS = {"mul": "*", "add": "+", "sub": "-", "sll": "<<", "srl": ">>", "sltu": "<", "and": "&", "xor": "^", "or": "|"}
@@ -14,7 +14,7 @@ WORD = 2 ** 32
 
 def operations(module):
     """The operations of a module, each a name and two arguments: ('input', letter), ('earlier', operation) or
-    ('constant', word); and the numbers of the operations whose results are y and z."""
+    ('constant', word); and the numbers of the operations whose results are y, z and x."""
     lines = {}
     for width, letter, number, value in WIRE.findall(module):
         lines.setdefault(int(number), []).append((letter, int(width), value))
@@ -24,7 +24,7 @@ def operations(module):
         name = NAMES[tuple((letter, width, re.sub(rf"\b([pqtuvw]){number}\b", r"\1#", value))
                            for letter, width, value in others)]
         found.append((name, argument(first), argument(second)))
-    return found, [int(number) for number in re.findall(r"^assign [yz] = t(\d+);$", module, re.M)]
+    return found, [int(number) for number in re.findall(r"^assign [yzx] = t(\d+);$", module, re.M)]
 
 
 def argument(text):
@@ -118,8 +118,9 @@ class Unit:
         if name == "slt":
             return f"signed({self.spelt(first)}) < signed({self.spelt(second)})", "<"
         if name.startswith("mulh"):
-            left = self.spelt(first, "*") if name == "mulhu" else f"signed({self.spelt(first)})"
-            right = f"signed({self.spelt(second)})" if name == "mulh" else self.spelt(second, "*")
+            # A product of 64 bits is no part of one of 32, so each operand with an operator stands in brackets.
+            left = self.spelt(first, "high") if name == "mulhu" else f"signed({self.spelt(first)})"
+            right = f"signed({self.spelt(second)})" if name == "mulh" else self.spelt(second, "high")
             return f"high({left} * {right})", None
         sign = SIGNS[name]
         right = self.amount(second) if name in ("sll", "srl") else self.spelt(second, sign)
@@ -134,8 +135,8 @@ class Unit:
         return f"{text}[4:0]" if text.isalnum() else f"({text})[4:0]"
 
     def lines(self):
-        """Each expression with its name, in the order in which they are computed; y and z last."""
+        """Each expression with its name, in the order in which they are computed; y, z and x last."""
         found = [(f"t{place}", self.expression(place)[0]) for place in self.named]
-        for letter, place in zip("yz", self.outputs):
+        for letter, place in zip("yzx", self.outputs):
             found.append((letter, self.spelt(("earlier", place))))
         return found

@@ -1,5 +1,6 @@
 """A naive reading of what a folded block is, by sets of nodes and all walks along the arcs of its graph, where words
-may be units, `cread` and `cput`. It shares nothing with the program, so that the checks can compare the two."""
+may be units with their `cput` and `cread`. It shares nothing with the program, so that the checks can compare the
+two."""
 import instructions
 from instructions import mnemonic
 from latencies import MEMORY, NO_OPERATION, may_join
@@ -57,6 +58,11 @@ def writes(word):
     return {word >> 7 & 31} - {0} if is_unit(word) or is_cread(word) else instructions.writes(word)
 
 
+def stay_together(first, second):
+    """Whether a word directly behind another belongs to the same use of a unit."""
+    return is_cput(first) and is_unit(second) or (is_unit(first) or is_cread(first)) and is_cread(second)
+
+
 class Block:
     """A block of words, after which some registers are live. Nodes are numbers from 0. A source is a node, or the name
     of a register at entry."""
@@ -81,15 +87,25 @@ class Block:
         return {later for later in self.nodes[node + 1:] if node in self.sources[later] or named & self.writes[later]
                 or self.accesses[node] and self.accesses[later]}
 
+    def uses(self):
+        """The nodes of each use of a unit, in their order."""
+        found = []
+        for node in self.nodes:
+            if node and stay_together(self.words[node - 1], self.words[node]):
+                found[-1].append(node)
+            elif is_unit(self.words[node]) or is_cput(self.words[node]):
+                found.append([node])
+        return found
+
     def all_arcs(self):
-        """Those of each node, and those by which each unit word and the `cread` behind it move together: what leaves
-        the unit word leaves the `cread` too. Arcs into the `cread` enter the unit word too, but are left out here,
-        since they add no walk between other nodes."""
+        """Those of each node, and those by which the words of each use of a unit move together: what leaves one of them
+        leaves each. Arcs into one enter the first too, but are left out here, since they add no walk between other
+        nodes."""
         arcs = [self.own_arcs(node) for node in self.nodes]
-        for unit, read in zip(self.nodes, self.nodes[1:]):
-            if is_unit(self.words[unit]) and is_cread(self.words[read]):
-                arcs[unit].add(read)
-                arcs[read] |= arcs[unit] - {read}
+        for use in self.uses():
+            leaving = set().union(*(arcs[node] for node in use)) - set(use)
+            for place, node in enumerate(use):
+                arcs[node] = leaving.union(use[place + 1:])
         return arcs
 
     def all_behind(self):
@@ -120,17 +136,28 @@ class Block:
                 or any(node in self.sources[other] for other in self.nodes if other not in cut)]
 
     def fits(self, cut):
-        return (all(self.joins(node) for node in cut) and self.is_convex(cut) and len(self.inputs(cut)) <= 3
-                and 1 <= len(self.outputs(cut)) <= 2 and len(cut) >= len(self.outputs(cut)))
+        return (all(self.joins(node) for node in cut) and self.is_convex(cut) and len(self.inputs(cut)) <= 5
+                and 1 <= len(self.outputs(cut)) <= 3 and len(cut) >= self.use_length(cut))
 
     def joins(self, node):
         return self.words[node] & 0x7F not in (UNIT, HIDDEN) and may_join(self.words[node])
 
+    def use_length(self, cut):
+        """The number of the words by which the unit of a cut is used."""
+        return (len(self.inputs(cut)) > 3) + max(len(self.outputs(cut)), 1)
+
+    def use(self, cut, number):
+        """These words: a `cput` where there are more than three inputs, the unit word of this number, and a `cread` for
+        each output behind the first."""
+        inputs, outputs = self.inputs(cut), [next(iter(self.writes[node])) for node in self.outputs(cut)]
+        passed = [cput_word(*[*inputs[3:], 0][:2])] if len(inputs) > 3 else []
+        return [*passed, unit_word(number, outputs[0], inputs),
+                *(cread_word(register, index) for index, register in enumerate(outputs[1:]))]
+
     def folded(self, cut, number):
         """The words of the folded block, where the unit of this number stands for the members."""
-        outputs = [next(iter(self.writes[node])) for node in self.outputs(cut)]
         early = [node for node in self.nodes if node not in cut and self.behind[node] & cut]
         late = [node for node in self.nodes if node not in cut and node not in early]
-        use = [unit_word(number, outputs[0], self.inputs(cut)), *map(cread_word, outputs[1:])]
+        use = self.use(cut, number)
         return [*(self.words[node] for node in early), *use, *[NO_OPERATION] * (len(cut) - len(use)),
                 *(self.words[node] for node in late)]

@@ -124,15 +124,16 @@ def critical_path(block, cut, latencies):
     return path, total
 
 
+# `reads` is what the words cost that stand for further inputs and outputs.
 Gain = namedtuple("Gain", "software hardware thousandths path reads pads total")
 
 
 def gain(block, cut, latencies):
-    """A cut's gain by its parts: software, hardware, what further outputs and what no-ops cost."""
+    """A cut's gain by its parts: software, hardware, what a `cput` and each `cread` cost and what no-ops cost."""
     path, thousandths = critical_path(block, cut, latencies)
-    software, outputs = sum(latencies.latency(block.words[node]) for node in cut), len(block.outputs(cut))
+    software, words = sum(latencies.latency(block.words[node]) for node in cut), block.use_length(cut)
     hardware = max(1, -(-thousandths // 1000))
-    reads, pads = (outputs - 1) * latencies.read, (len(cut) - outputs) * latencies.pad
+    reads, pads = (words - 1) * latencies.read, (len(cut) - words) * latencies.pad
     return Gain(software, hardware, thousandths, path, reads, pads, software - hardware - reads - pads)
 
 
