@@ -5,9 +5,9 @@
 
 PROGRAM is the built program; with none the script at the top of the repository builds it, if need be. The blocks are
 chains of one `xor`, each of which reads the one before it, and those of LEAST to LONGEST instructions in what GCC makes
-of ciphers.c, each at the default budget. A line for each has the seconds of the faster of two runs, the greatest
-resident memory (which is this script's own where the program takes less), the beginning of the answer, and what misses
-its limit.
+of ciphers.c, each at the default budget, with each of PORTS. A line for each has the seconds of the faster of two runs,
+the greatest resident memory (which is this script's own where the program takes less), the beginning of the answer, and
+what misses its limit.
 
 The largest budget has to be there within 128 MiB of memory. The last lines tell the need of a chain, the least budget
 that isn't spent, and how many nodes of the log a second the program writes with a budget that is spent by one branch,
@@ -22,7 +22,7 @@ import struct
 import sys
 import tempfile
 
-from common import CROSS, bare_executable, build, faster, measure, missing, program
+from common import CROSS, bare_executable, build, faster, measure, missing, port_name, port_words, program
 
 XOR = 0x00A2C2B3
 LEAST, LONGEST, SMALL = 100, 256, 64
@@ -30,9 +30,9 @@ SECONDS, SMALL_SECONDS, MEBIBYTES = 5.0, 0.1, 60
 # The slots of the largest budget are reserved at once, so the limit is on what the program may ask for.
 LARGEST_BUDGET, RESERVED_BYTES = 4_194_304, 128 * 2 ** 20
 LEVELS = ("-O2", "-O3")
-ONE_OUTPUT = ("--out", "1")
-# As many outputs as a unit may have, which is usual, and one.
-PORTS = (("--out", "2"), ONE_OUTPUT)
+ONE_OUTPUT = (3, 1)
+# The inputs and outputs that hold if left out, one output, and as many of both as a unit may have.
+PORTS = ((3, 2), ONE_OUTPUT, (5, 3))
 
 
 def write_chain(folder, length):
@@ -51,11 +51,11 @@ def beginning(answer):
 
 def report(name, length, limit, ports, *words, wanted=None):
     """Whether the answer for a block comes within its limits, and is the wanted one; prints its line."""
-    output, seconds, memory = faster("best", *words, *ports)
+    output, seconds, memory = faster("best", *words, *port_words(ports))
     answer = output.decode()
     marks = "  WRONG" * (wanted not in (None, answer)) + "  TOO SLOW" * (seconds > limit)
     marks += "  TOO MUCH MEMORY" * (memory > MEBIBYTES)
-    print(f"{name:18} {length:4} {' '.join(ports)} {seconds:7.3f} s {memory:6.1f} MiB  {beginning(answer)}{marks}",
+    print(f"{name:18} {length:4} {port_name(ports)} {seconds:7.3f} s {memory:6.1f} MiB  {beginning(answer)}{marks}",
           flush=True)
     return not marks
 
@@ -138,9 +138,9 @@ def main():
             print(absent)
         else:
             passed += ciphers(folder)
-        passed.append(reserves_little(write_chain(folder, LONGEST), *ONE_OUTPUT))
+        passed.append(reserves_little(write_chain(folder, LONGEST), *port_words(ONE_OUTPUT)))
         print(f"{sum(passed)} of {len(passed)} within their limits")
-        rates(write_chain(folder, LONGEST), *ONE_OUTPUT)
+        rates(write_chain(folder, LONGEST), *port_words(ONE_OUTPUT))
     return 0 if all(passed) else 1
 
 

@@ -98,6 +98,16 @@ def faster(*words):
     return output, seconds, memory
 
 
+def port_words(ports):
+    """The options of a call for ports, which are so many inputs and so many outputs."""
+    return "--in", str(ports[0]), "--out", str(ports[1])
+
+
+def port_name(ports):
+    """Ports as tables have them."""
+    return f"{ports[0]}/{ports[1]}"
+
+
 def missing(*compilers):
     """A line that says which of the compilers are not there; None where none is missing."""
     absent = [compiler for compiler in compilers if not shutil.which(compiler)]

@@ -1,24 +1,27 @@
 #!/usr/bin/env python3
 """Tries `rumtsafi find`, `check` and `run` on programs that others wrote: what is saved, and how long it takes.
 
-    packages.py SOURCES [PROGRAM]
+    packages.py SOURCES [PROGRAM] [--ports IN/OUT,..] [--count N,..] [--budget N,..]
 
 SOURCES is a folder in which `apt-get source bzip2 libgsm lua5.4 mujs zlib` unpacked the sources of these packages of
 Debian: two compressors, the speech coder of GSM, and the interpreters of Lua and of JavaScript. GCC compiles each with
 -O2, with picolibc and with its main function in packages/, which reads up to 256 KiB of input. PROGRAM is the built
-program; with none the script at the top of the repository builds it, if need be.
+program; with none the script at the top of the repository builds it, if need be. The options are those of `find` and
+`check`, --ports its --in and --out; of each option several can be told, and all are combined.
 
 `find` runs each program on one input, and `check` has to accept what it writes. Then the old program and the new one
 run on this input and on another, and have to print the same in as many steps; on the first, the new one has to cost
-less by the gain that `find` printed. A line for each program has the instructions of its blocks, the millions of steps
-of the first run, the cuts, the units and the searches that were given up; how much less the new program costs, in
-percent, on the first input and on the other; and the seconds of processor time of the first run, of `find` and of
-`check`, the least of ROUNDS.
+less by the gain that `find` printed. A line for each program and choice of options has these; the instructions of the
+blocks, the millions of steps and of cycles of the first run, the cuts, the units and the searches that were given up;
+how much less the new program costs, in percent, on the first input and on the other; and the seconds of processor time
+of the first run, of `find` and of `check`, the least of ROUNDS.
 
 It ends with status 0 where all of that holds, and where the tools are missing, with a line that says so; else with
 status 1, also where sources are missing.
 """
+import argparse
 import glob
+import itertools
 import os
 import re
 import subprocess
@@ -26,7 +29,7 @@ import sys
 import tempfile
 from collections import namedtuple
 
-from common import HERE, build, least_times, processor_time, program
+from common import HERE, build, least_times, port_name, port_words, processor_time, program
 import compiled
 
 ROUNDS = 3
@@ -103,14 +106,15 @@ def instructions_of(file):
     return sum(int(length) for length in re.findall(r" length (\d+)", output.decode()))
 
 
-def try_out(package, sources, out):
-    """Prints the line of a package."""
-    old, new, units, logs, report = (os.path.join(out, name) for name in ("old", "new", "units", "logs", "report"))
-    compile_to(old, package, sources)
-    first, other = (input_of(name, sources) for name in package.inputs)
-    words = "--input", first, *STEPS
-    (_, running), (found, finding), (verdict, checking) = least_times(
-        ROUNDS, (program(), "run", old, *words), (program(), "find", old, new, units, logs, report, *words),
+def choose(package, old, inputs, out, options):
+    """Prints the line of a package by some options, which are ports, a count and a budget."""
+    new, units, logs, report = (os.path.join(out, name) for name in ("new", "units", "logs", "report"))
+    first, other = inputs
+    ports, count, budget = options
+    running = "--input", first, *STEPS
+    words = *running, *port_words(ports), "--count", str(count), "--budget", str(budget)
+    (_, run_seconds), (found, find_seconds), (verdict, check_seconds) = least_times(
+        ROUNDS, (program(), "run", old, *running), (program(), "find", old, new, units, logs, report, *words),
         (program(), "check", old, new, units, logs, *words))
     cuts, kinds, skipped, gain = map(int, FOUND.fullmatch(found.decode()).groups())
     steps, cost, less = costs(package, old, new, units, first)
@@ -118,25 +122,51 @@ def try_out(package, sources, out):
     if verdict != b"accepted\n" or cost - less != gain:
         sys.exit(f"{package.name}: {verdict!r}, and {cost} - {less} isn't {gain}")
     saved, others_saved = 100 * (1 - less / cost), 100 * (1 - others_less / others_cost)
-    print(f"{package.name:8} {instructions_of(old):>12} {steps / 1e6:>7.1f} {cuts:>5} {kinds:>6} {skipped:>8} "
-          f"{saved:>6.1f} {others_saved:>6.1f} {running:>6.2f} {finding:>6.2f} {checking:>6.2f}", flush=True)
+    print(f"{package.name:8} {port_name(ports):>5} {count:>5} {budget:>7} {instructions_of(old):>12} "
+          f"{steps / 1e6:>7.1f} {cost / 1e6:>8.1f} {cuts:>5} {kinds:>6} {skipped:>8} {saved:>6.1f} "
+          f"{others_saved:>6.1f} {run_seconds:>6.2f} {find_seconds:>6.2f} {check_seconds:>6.2f}", flush=True)
+
+
+def try_out(package, sources, out, choices):
+    """Prints the lines of a package by each choice of options."""
+    old = os.path.join(out, "old")
+    compile_to(old, package, sources)
+    inputs = [input_of(name, sources) for name in package.inputs]
+    for options in choices:
+        choose(package, old, inputs, out, options)
+
+
+def numbers_in(separator):
+    """What reads numbers with this between them."""
+    return lambda text: tuple(map(int, text.split(separator)))
+
+
+def read_words():
+    """The folder of the sources, and all choices of options; the words that are left are those of common.py."""
+    reader = argparse.ArgumentParser(description=__doc__.split("\n\n", maxsplit=1)[0])
+    reader.add_argument("sources")
+    reader.add_argument("program", nargs="?")
+    reader.add_argument("--ports", default=((3, 2),), type=lambda text: tuple(map(numbers_in("/"), text.split(","))))
+    reader.add_argument("--count", default=(32,), type=numbers_in(","))
+    reader.add_argument("--budget", default=(65536,), type=numbers_in(","))
+    read = reader.parse_args()
+    sys.argv[1:] = [read.program] if read.program else []
+    return read.sources, list(itertools.product(read.ports, read.count, read.budget))
 
 
 def main():
-    if len(sys.argv) < 2:
-        sys.exit(__doc__.split("\n\n")[1].strip())
-    folder = sys.argv.pop(1)
+    folder, choices = read_words()
     absent = compiled.missing({})
     if absent:
         print(absent)
         return 0
     sources = [sources_of(package, folder) for package in PACKAGES]
     build()
-    print(f"{'program':8} {'instructions':>12} {'Msteps':>7} {'cuts':>5} {'units':>6} {'given up':>8} {'saved':>6} "
-          f"{'other':>6} {'run':>6} {'find':>6} {'check':>6}")
+    print(f"{'program':8} {'ports':>5} {'count':>5} {'budget':>7} {'instructions':>12} {'Msteps':>7} {'Mcycles':>8} "
+          f"{'cuts':>5} {'units':>6} {'given up':>8} {'saved':>6} {'other':>6} {'run':>6} {'find':>6} {'check':>6}")
     with tempfile.TemporaryDirectory() as out:
         for package, path in zip(PACKAGES, sources):
-            try_out(package, path, out)
+            try_out(package, path, out, choices)
     return 0
 
 

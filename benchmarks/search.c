@@ -10,7 +10,7 @@
    GRAPH is what graphs.py writes: the number of nodes, the read latency and the pad; then for each node whether it is
    eligible, its latency, its delay, whether its value is live after the block, the number of its sources, the sources,
    which are nodes or 256 and the number of a register at entry, the number of nodes from which a walk leads to it, and
-   those. It takes at most three inputs, and the graph as it is told: a wrong one may do anything here. */
+   those. It takes the graph as it is told: a wrong one may do anything here. */
 #include <setjmp.h>
 #include <stdbool.h>
 #include <stdint.h>
@@ -20,6 +20,8 @@
 #include <time.h>
 
 enum { WORDS = 4, NODES = 256, REGISTERS = 32, NOTHING = NODES + REGISTERS, PLACES, SOURCES = 2, CYCLE = 1000 };
+/* The operands of a unit's own word; more of them take a further word. */
+enum { OPERANDS = 3 };
 
 struct row {
     uint64_t words[WORDS];
@@ -78,10 +80,16 @@ static inline void insert(struct row *row, int number)
 
 /* Sets of members. */
 
-/* What the gain loses by the cycles and by a second output. The pad of each member is in its weight. */
+/* What the gain loses by the cycles and by the outputs after the first. The pad of each member is in its weight. */
 static inline int charge(int outputs, int cycles)
 {
     return cycles - pad + (outputs > 1 ? outputs - 1 : 0) * (read_latency - pad);
+}
+
+/* What more it loses where there are more inputs than operands. */
+static inline int for_inputs(int settled)
+{
+    return settled > OPERANDS ? read_latency - pad : 0;
 }
 
 static inline int outputs_with(const struct set *set, const struct node *node)
@@ -122,10 +130,11 @@ static inline void extend(struct set *next, const struct set *set, const struct 
     next->charge = charge(outputs, cycles);
 }
 
-/* Whether a set keeps the limits of a cut that a prefix doesn't have to keep. */
-static inline bool is_a_cut(const struct set *set)
+/* Whether a set with so many inputs keeps the limits of a cut that a prefix doesn't have to keep: it has an output, and
+   a member for each word. */
+static inline bool is_a_cut(const struct set *set, int inputs)
 {
-    return set->outputs >= 1 && set->size >= set->outputs;
+    return set->outputs >= 1 && set->size >= set->outputs + (inputs > OPERANDS);
 }
 
 /* The search. */
@@ -136,11 +145,11 @@ static int reached;
 static struct row best;
 static jmp_buf spent;
 
-static void complete(const struct set *set, int weight)
+static void complete(const struct set *set, int inputs, int weight)
 {
     *log_end++ = 'F';
-    if (is_a_cut(set)) {
-        reached = weight - set->charge;
+    if (is_a_cut(set, inputs)) {
+        reached = weight - set->charge - for_inputs(inputs);
         best = set->members;
     }
 }
@@ -163,14 +172,14 @@ static void visit(int number, const struct set *set, int settled, int weight)
                 *log_end++ = 'O';
             } else if (inputs > most_inputs) {
                 *log_end++ = 'I';
-            } else if (weight - charge(outputs, cycles) <= reached) {
+            } else if (weight - charge(outputs, cycles) - for_inputs(inputs) <= reached) {
                 *log_end++ = 'G';
             } else {
                 int first = longest[node->sources[0]], second = longest[node->sources[1]];
                 struct set next;
                 extend(&next, set, node, outputs, cycles);
                 if (number + 1 == level_count) {
-                    complete(&next, weight);
+                    complete(&next, inputs, weight);
                 } else {
                     longest[node->sources[0]] = first > path ? first : path;
                     longest[node->sources[1]] = second > path ? second : path;
@@ -185,12 +194,12 @@ static void visit(int number, const struct set *set, int settled, int weight)
             *log_end++ = 'I';
             return;
         }
-        if (weight - set->charge <= reached) {
+        if (weight - set->charge - for_inputs(settled) <= reached) {
             *log_end++ = 'G';
             return;
         }
         if (++number == level_count) {
-            complete(set, weight);
+            complete(set, settled, weight);
             return;
         }
     }
@@ -216,7 +225,7 @@ static bool search(void)
     if (all_weights - set->charge <= 0)
         *log_end++ = 'G';
     else if (level_count == 0)
-        complete(set, 0);
+        complete(set, 0, 0);
     else
         visit(0, set, 0, all_weights);
     return true;
@@ -244,12 +253,6 @@ static inline enum place next_place(enum place place, const struct node *node, b
     return place != SAME || due == taken ? place : due ? AFTER : BEFORE;
 }
 
-/* What more the formula takes off where there are more than three inputs. */
-static inline int for_inputs(int settled)
-{
-    return settled > 3 ? read_latency - pad : 0;
-}
-
 static inline void bound(int value, enum place place)
 {
     need(value < best_gain || (value == best_gain && place == AFTER));
@@ -258,7 +261,7 @@ static inline void bound(int value, enum place place)
 static void choice(const struct set *set, bool convex, int settled, int weight, enum place place)
 {
     int gain = weight - set->charge - for_inputs(settled);
-    bool fits = convex && settled <= most_inputs && set->outputs <= most_outputs && is_a_cut(set);
+    bool fits = convex && settled <= most_inputs && set->outputs <= most_outputs && is_a_cut(set, settled);
     need(!fits || gain < best_gain || (gain == best_gain && place != BEFORE));
 }
 
