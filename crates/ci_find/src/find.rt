@@ -7,9 +7,9 @@ ghost use Rattle.ci_vemit.specs.Templates.{modules_of};
 ghost use Rattle.ci_vemit.specs.Texts.{text_of};
 ghost use Rattle.ci_report.specs.Reports.{IsReport};
 ghost use Rattle.ci_select.specs.Histories.{is_take};
-ghost use Rattle.ci_select.specs.Instances.{AreOfSomeFile};
-ghost use Rattle.ci_select.specs.LegalBooks.{IsLegal};
 ghost use Rattle.ci_select.specs.UnitNumbers.{AreUnits};
+ghost use Rattle.ci_select.specs.Savings.{IsSaved};
+ghost use Rattle.ci_select.specs.Takes.{AreTaken};
 ghost use Rattle.ci_calls.specs.Reads.{IsSuccessOf, IsRefusalOf};
 ghost use Rattle.ci_calls.specs.Refused.{name_in};
 ghost use Rattle.ci_find.specs.Profiled.{IsProfiled};
@@ -125,10 +125,12 @@ fn texts_of(
     plan: &Plan,
     chosen: &Chosen,
 ) -> Result<Texts, AllocError>
-    requires blocks { AreOfSomeFile profiled.now.analysis.blocks profiled.now.analysis.live }
-    requires legal { IsLegal (instance_from table.now profiled.now plan.now) chosen.now.book }
+    requires takes { AreTaken (instance_from table.now profiled.now plan.now)
+        (reverse chosen.now.book.entries) (reverse chosen.now.takes.items) }
     requires units { AreUnits (instance_from table.now profiled.now plan.now)
         (reverse chosen.now.book.entries) chosen.now.units }
+    requires saved { IsSaved (instance_from table.now profiled.now plan.now)
+        (reverse chosen.now.book.entries) chosen.now.saved }
     ensures units { IfOk result (λ texts. texts.units.items ≡ text_of (modules_of chosen.now.units)) }
     ensures logs { IfOk result (λ texts. Spells texts.logs.items chosen.now.book) }
     ensures report { IfOk result (λ texts. IsReport (instance_from table.now profiled.now plan.now)
@@ -137,8 +139,7 @@ fn texts_of(
         ≡ summary_line chosen.now.book.entries chosen.now.units chosen.now.saved) }
 {
     let (profile, analysis) = (&profiled.profile, &profiled.analysis);
-    let (blocks, live) = (&analysis.blocks, &analysis.live);
-    let report = report(alloc, profile, blocks, live, table, plan, chosen)?;
+    let report = report(alloc, profile, analysis, table, plan, chosen)?;
     let units = emit(alloc, &chosen.units)?;
     let logs = ci_log::write(alloc, &chosen.book)?;
     let mut line = summary(alloc, chosen)?;

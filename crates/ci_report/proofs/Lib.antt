@@ -1,4 +1,3 @@
 mod LineLaws
 mod ReportLaws
 mod Rows
-mod TakenLaws

@@ -8,7 +8,7 @@ ghost use Rattle.ci_report.specs.Lines as lines;
 use ci_block::Block;
 use ci_emu::{Profile, end_text};
 use ci_lat::Table;
-use ci_select::Plan;
+use ci_select::{Plan, Taken};
 use ci_unit::Unit;
 use ci_word::{Row, push_members};
 use std::alloc::{AllocError, Global};
@@ -74,23 +74,6 @@ pub fn push_block(text: &mut String, block: &Block, entries: u64) -> Result<(), 
     text.push('\n')
 }
 
-/// A cut that was taken.
-#[derive(Drop)]
-pub struct Taken {
-    /// How many cuts were taken before.
-    pub round: u32,
-    pub leader: u32,
-    pub unit: u8,
-    /// The cycles that it saves at each run of its block.
-    pub gain: u64,
-    /// How often its block was entered.
-    pub entries: u64,
-    /// Its members, by their numbers in the block as that was in its round.
-    pub cut: Row,
-    /// The word of its unit.
-    pub word: u32,
-}
-
 /// Appends the line of a cut that was taken.
 pub fn push_cut(text: &mut String, taken: &Taken) -> Result<(), AllocError>
     ensures { OnOk result (string_bytes text.new ≡ string_bytes text.old
@@ -125,10 +108,15 @@ fn push_members_after(text: &mut String, name: &str, numbers: &Row) -> Result<()
 }
 
 /// Appends the line of a block that is skipped.
-pub fn push_skip(text: &mut String, round: u32, leader: u32, budget: u32) -> Result<(), AllocError>
+pub fn push_skip(
+    text: &mut String,
+    round: usize,
+    leader: u32,
+    budget: u32,
+) -> Result<(), AllocError>
     ensures { OnOk result (string_bytes text.new ≡ string_bytes text.old ++ lines.skip_line round leader budget) }
 {
-    push_number(text, "skip ", u64::from(round))?;
+    push_number(text, "skip ", round as u64)?;
     push_word(text, " block ", leader)?;
     push_number(text, " budget ", u64::from(budget))?;
     text.push('\n')

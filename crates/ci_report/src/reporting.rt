@@ -1,36 +1,32 @@
 //! The report of a choice of cuts.
-ghost use Rattle.std.specs.Prelude.{◌≡◌, [], ◌++◌, reverse, IfOk, OnOk};
+ghost use Rattle.std.specs.Prelude.{◌≡◌, ◌++◌, length, reverse, IfOk, OnOk};
 ghost use Rattle.std.specs.String.{string_bytes};
 ghost use Rattle.ci_emu.specs.Profiles.{entries_in};
-ghost use Rattle.ci_select.specs.Histories.{History};
-ghost use Rattle.ci_select.specs.Instances.{instance_of, AreOfSomeFile};
+ghost use Rattle.ci_select.specs.Histories.{round};
+ghost use Rattle.ci_select.specs.Instances.{Instance, instance_of};
 ghost use Rattle.ci_select.specs.UnitNumbers.{AreUnits};
-ghost use Rattle.ci_select.specs.declared.rounds.Due.TheVariants as due;
-ghost use Rattle.ci_select.specs.Dues.{IsDue};
-ghost use Rattle.ci_select.specs.LegalBooks.{IsLegal, IsLegalHistory, IsRight};
-ghost use Rattle.ci_select.specs.Followed.{Follows, instance_in};
+ghost use Rattle.ci_select.specs.Savings.{IsSaved};
+ghost use Rattle.ci_select.specs.Takes.{AreTaken};
 ghost use Rattle.ci_report.specs.Reports.{IsReport, block_lines, unit_lines, is_take_as, uses_of};
-ghost use Rattle.ci_report.specs.Takes.{IsTaken, AddsLine, AddsLines};
+ghost use Rattle.ci_report.specs.Added.{AddsLines};
 
 use crate::lines::{
-    Taken, push_block, push_cut, push_plan, push_profile, push_skip, push_total, push_unit,
+    push_block, push_cut, push_plan, push_profile, push_skip, push_total, push_unit,
 };
-use ci_block::{Block, Blocks};
-use ci_cut::gain;
+use ci_block::Block;
 use ci_emu::Profile;
-use ci_isa::encode;
 use ci_lat::Table;
-use ci_live::LiveSets;
+use ci_live::Analysis;
 use ci_log::Entry;
-use ci_select::{Chosen, Plan, Rounds};
-use ci_unit::{Unit, encode_use};
+use ci_select::{Chosen, Plan, Taken};
+use ci_unit::Unit;
 use std::alloc::{AllocError, Global};
 
 /// The report of a choice: a line for the limits, the run, each block that was entered, each cut that was taken and
 /// each block that was skipped, in the order of the log book, each unit, and what all cuts save.
 ///
-/// The blocks and the live sets have to be those of one file, and the book of the choice legal for them, for the
-/// entries of the profile, the table and the plan, with its units.
+/// The cuts, the units and the cycles of the choice have to be those of its book, for the blocks with their live sets,
+/// the entries of the profile, the table and the plan.
 ///
 /// # Errors
 ///
@@ -38,28 +34,29 @@ use std::alloc::{AllocError, Global};
 pub fn report(
     alloc: Global,
     profile: &Profile,
-    blocks: &Blocks,
-    live: &LiveSets,
+    analysis: &Analysis,
     table: &Table,
     plan: &Plan,
     chosen: &Chosen,
 ) -> Result<Vec<u8>, AllocError>
-    requires blocks { AreOfSomeFile blocks.now live.now }
-    requires legal { IsLegal (instance_of profile.now blocks.now live.now table.now plan.now) chosen.now.book }
-    requires units { AreUnits (instance_of profile.now blocks.now live.now table.now plan.now)
+    requires takes { AreTaken (instance_of profile.now analysis.now.blocks analysis.now.live table.now plan.now)
+        (reverse chosen.now.book.entries) (reverse chosen.now.takes.items) }
+    requires units { AreUnits (instance_of profile.now analysis.now.blocks analysis.now.live table.now plan.now)
         (reverse chosen.now.book.entries) chosen.now.units }
-    ensures { IfOk result (λ text. IsReport (instance_of profile.now blocks.now live.now table.now plan.now)
+    requires saved { IsSaved (instance_of profile.now analysis.now.blocks analysis.now.live table.now plan.now)
+        (reverse chosen.now.book.entries) chosen.now.saved }
+    ensures { IfOk result (λ text.
+        IsReport (instance_of profile.now analysis.now.blocks analysis.now.live table.now plan.now)
         profile.now chosen.now.book text.items) }
 {
     let mut text = String::from_str(alloc, "ci-report 1\n")?;
     push_plan(&mut text, plan, table)?;
     push_profile(alloc, &mut text, profile)?;
-    push_blocks(&mut text, blocks.all(), profile)?;
-    let mut rounds = Rounds::new(alloc, profile, blocks, live, table, plan)?;
+    push_blocks(&mut text, analysis.blocks.all(), profile)?;
     let entries = chosen.book.entries();
-    push_entries(alloc, &mut text, &mut rounds, entries)?;
+    push_entries(&mut text, entries, &chosen.takes)?;
     push_units(&mut text, entries, chosen.units.as_slice())?;
-    push_total(&mut text, rounds.saved())?;
+    push_total(&mut text, chosen.saved)?;
     Ok(text.into_bytes())
 }
 
@@ -77,72 +74,25 @@ fn push_blocks(text: &mut String, blocks: &[Block], profile: &Profile) -> Result
     Ok(())
 }
 
-/// Follows the entries, and appends the lines of the cuts that were taken and of the blocks that were skipped.
-fn push_entries(
-    alloc: Global,
-    text: &mut String,
-    rounds: &mut Rounds,
-    entries: &[Entry],
-) -> Result<(), AllocError>
-    requires first { Follows [] rounds.old }
-    requires legal { IsLegalHistory (instance_in rounds.old) (reverse entries.now) }
-    ensures lines { OnOk result (AddsLines (instance_in rounds.old) (reverse entries.now)
-        (string_bytes text.old) (string_bytes text.new)) }
-    ensures followed { OnOk result (Follows (reverse entries.now) rounds.new) }
-    ensures instance { instance_in rounds.new ≡ instance_in rounds.old }
+/// Appends the lines of the cuts that were taken and of the blocks that were skipped.
+fn push_entries(text: &mut String, entries: &[Entry], takes: &[Taken]) -> Result<(), AllocError>
+    requires { length takes.now ≡ round (reverse entries.now) }
+    ensures { OnOk result ((instance : Instance) → AreTaken instance (reverse entries.now) (reverse takes.now)
+        → AddsLines instance (reverse entries.now) (string_bytes text.old) (string_bytes text.new)) }
 {
+    let mut round = 0;
     for entry in entries {
-        push_entry(alloc, text, rounds, entry)?;
-        rounds.follow(alloc, entry)?;
+        match entry {
+            Entry::Take { .. } => {
+                push_cut(text, &takes[round])?;
+                round += 1;
+            }
+            Entry::Spent { leader, budget } => push_skip(text, round, *leader, *budget)?,
+            Entry::Best { .. } => {}
+            Entry::Without { .. } => {}
+        }
     }
     Ok(())
-}
-
-/// Appends the line of the entry, if it has one.
-fn push_entry(
-    alloc: Global,
-    text: &mut String,
-    rounds: &Rounds,
-    entry: &Entry,
-) -> Result<(), AllocError>
-    requires { (history : History) × Follows history rounds.now × IsRight (instance_in rounds.now) history entry.now }
-    ensures { OnOk result ((history : History) → Follows history rounds.now
-        → IsRight (instance_in rounds.now) history entry.now
-        → AddsLine (instance_in rounds.now) history entry.now (string_bytes text.old) (string_bytes text.new)) }
-{
-    match entry {
-        Entry::Take { leader, unit } => {
-            let taken = taken(alloc, rounds, *leader, *unit)?;
-            push_cut(text, &taken)
-        }
-        Entry::Spent { leader, budget } => push_skip(text, rounds.round(), *leader, *budget),
-        Entry::Best { .. } => Ok(()),
-        Entry::Without { .. } => Ok(()),
-    }
-}
-
-/// The cut whose take is due, in the block of this leader and as the unit of this number.
-fn taken(alloc: Global, rounds: &Rounds, leader: u32, unit: u8) -> Result<Taken, AllocError>
-    requires { (history : History) × Follows history rounds.now
-        × IsDue (instance_in rounds.now) history (due.Take leader unit) }
-    ensures { IfOk result (λ taken. (history : History) → Follows history rounds.now
-        → IsDue (instance_in rounds.now) history (due.Take leader unit)
-        → IsTaken (instance_in rounds.now) history leader unit taken) }
-{
-    let Some(cut) = rounds.cut() else {
-        unreachable!()
-    };
-    let graph = rounds.graph(alloc)?;
-    let used = encode_use(alloc, rounds.insns(), &graph, &cut, unit);
-    Ok(Taken {
-        round: rounds.round(),
-        leader,
-        unit,
-        gain: gain(&graph, &cut) as u64,
-        entries: rounds.entries(),
-        cut,
-        word: encode(&used.unit),
-    })
 }
 
 /// Appends the lines of the units.

@@ -1,5 +1,5 @@
 -- The block whose search is due is one of the file's, and an entry that tells of its search is right.
-use Rattle.std.proofs.Common.{◌≡◌, ◌↔◌, ℕ, nat_lt, false, List, length, map, slice_index_or, refl, sym, ap, ◌∙◌, subst, inl}
+use Rattle.std.proofs.Common.{◌≡◌, ◌↔◌, ℕ, nat_lt, false, List, length, map, slice_index_or, refl, sym, ap, ◌∙◌, subst}
 use Rattle.std.proofs.lemmas.List.Elements.{All-contains, All-contains_itself, All-filter, All-map, All-weaker}
 use Rattle.std.proofs.lemmas.Option.{slice_get_within, get_or_from_slice_get}
 use Rattle.std.specs.List.{All, Contains}
@@ -82,7 +82,7 @@ module _ {history : History} {rounds : Rounds} (follows : Follows history rounds
       let present = present_of_search (due_search here) in
       searched here present.1
       (subst (λ graph. IsSearched graph (instance_in rounds).plan entry)
-      (of_block history (leader_of entry) present.0 follows (inl here) present.1)
+      (of_block history (leader_of entry) present.0 follows here present.1)
       (subst (λ plan. IsSearched graph plan entry) same_plan is))
 
   -- and one that is given up exactly by the need of its graph is so by that of its block
@@ -96,7 +96,7 @@ module _ {history : History} {rounds : Rounds} (follows : Follows history rounds
       let here = search_here entry same what in
       let bounds = (instance_in rounds).plan in
       subst (λ (graph : FlowGraph). IsGivenUp entry ↔ NeedExceeds graph bounds.limits bounds.budget)
-      (of_block history (leader_of entry) insns follows (inl here) present)
+      (of_block history (leader_of entry) insns follows here present)
       (subst (λ (plan : Plan). IsGivenUp entry ↔ NeedExceeds graph plan.limits plan.budget) same_plan is)
 
 -- and it is no take

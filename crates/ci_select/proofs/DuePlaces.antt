@@ -1,10 +1,13 @@
 -- What the rounds hold tells what is due behind the entries that they follow.
-use Rattle.std.proofs.Common.{◌≡◌, ℕ, suc, ◌-◌, ◌<◌, pos, inl, inr, List, [], ◌∷◌, length, map, reverse, get_or, Some, None, refl, sym, ap, subst, ◌∙◌, arith}
+use Rattle.std.proofs.Common.{◌≡◌, ℕ, suc, ◌-◌, ◌<◌, pos, inl, inr, List, [], ◌∷◌, ◌++◌, length, map, reverse, get_or, Some, None, refl, sym, ap, subst, ◌∙◌, arith}
 use Rattle.std.specs.Prelude.{slice_get}
 use Rattle.std.specs.List.{Contains}
 use Rattle.std.proofs.lemmas.Bool.{cases_lt}
 use Rattle.std.proofs.lemmas.Int.{ints}
-use Rattle.std.proofs.lemmas.List.{get_or-reverse, get_or_past, length-map, length-reverse}
+use Rattle.std.proofs.lemmas.List.{get_or-reverse, get_or_past, length-append, length-map, length-reverse}
+use Rattle.std.proofs.Math.ListN.{get_or-map}
+use Rattle.std.proofs.Math.Seq.{get_or-append_seam}
+use Rattle.std.proofs.lemmas.List.Elements.{Contains-get_or}
 use Rattle.std.proofs.lemmas.Option.{get_or_from_slice_get, none-some, slice_get-get_or, slice_get_within}
 use Rattle.ci_block.specs.declared.blocks.Block.{Block}
 use Rattle.ci_block.specs.Blocks.{AreInOrder}
@@ -12,18 +15,18 @@ use Rattle.ci_block.specs.Leaders.{entry}
 use Rattle.ci_live.specs.Sets.{Sets}
 use Rattle.ci_log.specs.declared.book.Entry.TheVariants.{Spent}
 use Rattle.ci_select.specs.declared.rounds.Candidate.{Candidate}
+use Rattle.ci_select.specs.declared.rounds.Due.TheVariants as due
 use Rattle.ci_select.specs.declared.rounds.Rank.{Rank}
 use Rattle.ci_select.specs.declared.rounds.Rounds.{Rounds}
 use Rattle.ci_select.specs.Histories.{History}
-use Rattle.ci_select.specs.Instances.{AreOfSomeFile, Instance}
+use Rattle.ci_select.specs.Instances.{AreOfSomeFile}
 use Rattle.ci_select.specs.PresentBlocks.{IsPresent}
 use Rattle.ci_select.specs.Candidates.{HasNoCandidate, IsCandidate, IsDueCandidate}
-use Rattle.ci_select.specs.Dues.{HasNoSearchDue, IsNextTake, IsSearchDue}
-use Rattle.ci_select.specs.Followed.{Follows, IsDueBlock, IsFirst, instance_in}
+use Rattle.ci_select.specs.Dues.{HasNoSearchDue, IsDue, IsNextTake, IsSearchDue}
+use Rattle.ci_select.specs.Followed.{Follows, IsFirst, instance_in}
 use Rattle.ci_select.proofs.CandidateLaws.{due_candidate_is_one, saved_is_one}
 use Rattle.ci_select.proofs.DueLaws.{next_of_take, search_due_is_one}
 use Rattle.ci_select.proofs.PresentIsOne.{blocks_in_order}
-use Rattle.ci_select.proofs.PresentLaws.{due_search}
 use Rattle.ci_select.proofs.SearchesDue.{due_of_list, list_of_due}
 
 -- the blocks of the rounds are in order
@@ -86,31 +89,13 @@ next_of_first rank candidate follows no_search first =
           record { insns = ranked.insns; cut = candidate.cut; has_cut = ranked.has_cut; unit_is = ranked.unit };
     }
 
--- where no search is due, the take of the block is
-candidate_of_due :
-    {instance : Instance} {history : History} {leader : ℕ} → HasNoSearchDue instance history
-    → IsDueBlock instance history leader → IsDueCandidate instance history leader
-candidate_of_due {leader = leader} no_search (inl search) = absurd (no_search leader (due_search search))
-candidate_of_due no_search (inr take) = (next_of_take take.1).2.candidate
-
--- so there is a candidate,
+-- where a take is due, there is one
 pub some_candidate :
-    {history : History} {rounds : Rounds} {leader : ℕ} → Follows history rounds
-    → HasNoSearchDue (instance_in rounds) history → IsDueBlock (instance_in rounds) history leader
-    → rounds.candidates.entries ≡ [] → ⊥
-some_candidate {leader = leader} follows no_search is none =
-    let candidate = candidate_of_due no_search is in
-    none_is_candidate follows none no_search leader candidate.saved candidate.candidate
-
--- and the first one is of this block
-pub first_is_at :
-    {history : History} {rounds : Rounds} {leader : ℕ} (rank : Rank) (candidate : Candidate) (block : Block)
-    → Follows history rounds → HasNoSearchDue (instance_in rounds) history
-    → IsFirst rounds.candidates.entries (rank, candidate) → IsDueBlock (instance_in rounds) history leader
-    → (get_or rounds.blocks.now candidate.place block).leader ≡ leader
-first_is_at rank candidate block follows no_search first is =
-    (follows.ranked rank candidate first.there).leader block
-    ∙ first_leads rank candidate follows no_search first (candidate_of_due no_search is)
+    {history : History} {rounds : Rounds} {leader number : ℕ} → Follows history rounds
+    → IsDue (instance_in rounds) history (due.Take leader number) → rounds.candidates.entries ≡ [] → ⊥
+some_candidate {leader = leader} follows is none =
+    let next = (next_of_take is).2 in
+    none_is_candidate follows none next.no_search leader next.candidate.saved next.candidate.candidate
 
 -- ---- searches
 
@@ -173,11 +158,26 @@ module _ {history : History} {rounds : Rounds} (place : ℕ) (follows : Follows 
         ))
   ]
 
-  -- it is the block whose search or take is due
-  pub last_is_at :
-      {leader : ℕ} (block : Block) → IsDueBlock (instance_in rounds) history leader → leader_at block ≡ leader
-  last_is_at block (inl search) = search_due_is_one (search_at_last block) (due_search search)
-  last_is_at block (inr take) = absurd ((next_of_take take.1).2.no_search (leader_at block) (search_at_last block))
+  -- so that the live sets have the block,
+  pub last_is_live : (block : Block) → Contains rounds.live.now.leaders (leader_at block)
+  last_is_live block =
+      let blocks = rounds.blocks.now in
+      let lead : Block → ℕ = λ b. b.leader in
+      subst (λ leaders. Contains leaders (leader_at block)) follows.of_file.1.2.live.leaders
+      (subst (Contains (map lead blocks)) (get_or-map lead blocks place block)
+      (Contains-get_or (map lead blocks) place (lead block) (omega (arith, last_within, length-map blocks lead))))
+
+  -- and it is the one whose search is due
+  pub last_is_at : {leader : ℕ} (block : Block) → IsSearchDue (instance_in rounds) history leader → leader_at block ≡ leader
+  last_is_at block is = search_due_is_one (search_at_last block) is
+
+-- what was put last into a list is its last element
+pub last_of_pushed : (xs : List ℕ) (x : ℕ) → slice_get (xs ++ x ∷ []) (length (xs ++ x ∷ []) - 1) ≡ Some x
+last_of_pushed xs x =
+    let place : length (xs ++ x ∷ []) - 1 ≡ length xs = omega (arith, length-append xs (x ∷ [])) in
+    ap (slice_get (xs ++ x ∷ [])) place
+    ∙ slice_get-get_or (xs ++ x ∷ []) (length xs) x (omega (arith, length-append xs (x ∷ [])))
+    ∙ ap Some (get_or-append_seam xs x [] x)
 
 -- a list with no last element is empty
 nothing_last : (xs : List ℕ) → slice_get xs (length xs - 1) ≡ None → length xs ≡ 0

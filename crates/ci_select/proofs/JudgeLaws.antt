@@ -82,7 +82,7 @@ module _ {history : History} {rounds : Rounds} {leader : ℕ} {graph : FlowGraph
       wrong_search is_due present entry wrong
       (subst (λ p. IsSearchJudged (graph_at (instance_in rounds) leader insns) p leader entry (Some wrong)) plan_is
       (subst (λ g. IsSearchJudged g plan leader entry (Some wrong))
-      (graph_is history leader insns follows (inl is_due) present) judged))
+      (graph_is history leader insns follows is_due present) judged))
 
 -- ---- whole books
 

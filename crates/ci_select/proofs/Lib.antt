@@ -28,6 +28,7 @@ mod EntryLaws
 mod GainBounds
 mod RankTies
 mod SearchFollowed
+mod TakenLaws
 mod TakeFollowed
 pub mod TruthLaws
 mod EntryLists

@@ -1,13 +1,12 @@
 -- Behind the entry of a search the rounds hold what the entries say: the block is searched, and a cut that was found is a
 -- candidate more.
-use Rattle.std.proofs.Common.{◌≡◌, ℕ, ◌^◌, ◌<◌, inl, inr, ◌↔◌, false, true≢false, refl, sym, ap, ◌∙◌, subst, List, []}
-use Rattle.std.proofs.Common.{◌∷◌, ◌++◌, length, map, reverse, Option, Some, None, ℤ, pos, ◌*ℤ◌, ◌<ℤ◌, arith}
-use Rattle.std.specs.Prelude.{IsSome, slice_index_or}
+use Rattle.std.proofs.Common.{◌≡◌, ℕ, ◌-◌, ◌^◌, ◌<◌, inl, inr, false, true≢false, refl, sym, ap, ◌∙◌, subst, List, []}
+use Rattle.std.proofs.Common.{◌∷◌, ◌++◌, length, map, reverse, Some, ℤ, pos, ◌*ℤ◌, ◌<ℤ◌, arith}
+use Rattle.std.specs.Prelude.{slice_get, slice_index_or}
 use Rattle.std.specs.FinSet as finite
 use Rattle.std.specs.Global.{Vec}
 use Rattle.std.specs.BTreeMap.{BTreeMap, insert_entry}
 use Rattle.std.specs.List.{Contains}
-use Rattle.std.specs.Option.{option_to_list}
 use Rattle.std.specs.Ordering.{nat_cmp}
 use Rattle.std.proofs.lemmas.Bool.{cases_eq}
 use Rattle.std.proofs.lemmas.List.{get_or_default, length-append, length-map, length-reverse, reverse-append}
@@ -16,7 +15,7 @@ use Rattle.ci_block.specs.declared.blocks.Block.{Block}
 use Rattle.ci_cut.specs.FlowGraph.{FlowGraph}
 use Rattle.ci_cut.specs.Gain.{gain}
 use Rattle.ci_log.specs.declared.book.Entry.{Entry}
-use Rattle.ci_log.specs.declared.book.Entry.TheVariants.{Best, Without, Spent, Take}
+use Rattle.ci_log.specs.declared.book.Entry.TheVariants.{Best}
 use Rattle.ci_log.specs.declared.log.Item.{Item}
 use Rattle.ci_unit.specs.Operands.{AreOperands, FitsSomeLimits}
 use Rattle.ci_unit.specs.Units.{Unit, unit_of}
@@ -30,9 +29,9 @@ use Rattle.ci_select.specs.UnitNumbers.{of_search as units_of_search}
 use Rattle.ci_select.specs.Candidates.{IsCandidate}
 use Rattle.ci_select.specs.Savings.{of_search as saved_of_search}
 use Rattle.ci_select.specs.Dues.{searches}
-use Rattle.ci_select.specs.Followed.{Follows, HasDueBlock, IsDueBlock, IsDueGraph, IsRanked, instance_in, searches_due, steps_left}
+use Rattle.ci_select.specs.Followed.{Follows, IsDueGraph, IsRanked, instance_in, searches_due, steps_left}
 use Rattle.ci_select.specs.LegalBooks.{IsRight}
-use Rattle.ci_select.proofs.DuePlaces.{order_of, present_at}
+use Rattle.ci_select.proofs.DuePlaces.{last_is_at, last_of_pushed, last_within, order_of, present_at}
 use Rattle.ci_select.proofs.EntryLaws.{entry_cases, first_there, later_there, new_is_there, others_stay}
 use Rattle.ci_select.proofs.HistoryLaws.{kept_cut, keeps_cut, last_search_is, new_cut, round_stays}
 use Rattle.ci_select.proofs.PresentIsOne.{block_of_present, present_before, present_is_one, search_takes_none}
@@ -50,20 +49,6 @@ searched_at entry right search = elim (right_cases right) [
   | inl is ↦ is
   | inr (l, unit, same, is) ↦ absurd (true≢false (sym (ap is_take same) ∙ search))
 ]
-
--- so the search of some block is due
-pub search_is_due :
-    {history : History} {before : Rounds} (entry : Entry) → Follows history before
-    → IsRight (instance_in before) history entry → is_take entry ≡ false → HasDueBlock before
-search_is_due {history} entry follows right search =
-    (history, leader_of entry, follows, inl (searches (searched_at entry right search).is_due))
-
--- an entry that is no take is one of a search
-pub no_take_is_search : (entry : Entry) → ((leader unit : ℕ) → ¬ (entry ≡ Take leader unit)) → is_take entry ≡ false
-no_take_is_search (Best l cut log) other = refl
-no_take_is_search (Without l log) other = refl
-no_take_is_search (Spent l budget) other = refl
-no_take_is_search (Take l unit) other = absurd (other l unit refl)
 
 pub follows_entry :
     {history : History} {after : Rounds} {left right : Entry} → left ≡ right → Follows (left ∷ history) after
@@ -86,11 +71,10 @@ present_here {history} {before} {leader} {insns} place held follows within leads
     (slice_index_or before.present.items place block.insns).items insns (order_of follows)
     (present_at place block follows within (leads block)) present
 
--- the vector had a last place
-popped_list : (old new : List ℕ) (popped : Option ℕ) (n : ℕ) → n ≡ length old → 0 < length old
-    → old ≡ new ++ option_to_list popped → (IsSome popped ↔ (0 < n)) → (place : ℕ) × (old ≡ new ++ place ∷ [])
-popped_list old new None n long some is variant = absurd (true≢false (sym (variant.1 (omega arith))))
-popped_list old new (Some place) n long some is variant = (place, is)
+-- the block at the place has this leader
+pub record IsPlaceOf (blocks : List Block) (leader place : ℕ) : Type 0 where
+  pub within : place < length blocks
+  pub leads : (block : Block) → (slice_index_or blocks place block).leader ≡ leader
 
 -- equal lists have equal rests
 same_rest : (a b : ℕ) (xs ys : List ℕ) → a ∷ xs ≡ b ∷ ys → xs ≡ ys
@@ -166,6 +150,7 @@ module _ {history : History} {before : Rounds} (entry : Entry) (follows : Follow
         within = is.within;
         leader = is.leader;
         has_cut = cut_stays other is.has_cut;
+        graph = is.graph;
         unit = is.unit;
         saved = candidate_stays rank.leader (pos rank.saved.0) other is.saved;
         small = is.small;
@@ -196,39 +181,47 @@ module _ {history : History} {before : Rounds} (entry : Entry) (follows : Follow
 
   -- ---- the rounds behind it
 
-  module _ (unsearched : Vec ℕ) (popped : Option ℕ)
-      (is_popped : before.unsearched.items ≡ unsearched.items ++ option_to_list popped)
-      (variant : IsSome popped ↔ (0 < before.unsearched.len)) where
-    -- a place was left,
-    some_left : (block : Block) → 0 < length before.unsearched.items
-    some_left block =
-        let long = ap length (follows.unsearched block ∙ listed) in
-        omega (
-          arith,
-          long,
-          length-map (reverse before.unsearched.items) (λ place. (slice_index_or before.blocks.now place block).leader),
-          length-reverse before.unsearched.items,
-        )
+  -- so that a place is left,
+  pub some_left : 0 < length before.unsearched.items
+  some_left =
+      let block = (block_of_present at.present).0 in
+      let long = ap length (follows.unsearched block ∙ listed) in
+      omega (
+        arith,
+        long,
+        length-map (reverse before.unsearched.items) (λ place. (slice_index_or before.blocks.now place block).leader),
+        length-reverse before.unsearched.items,
+      )
+
+  module _ (unsearched : Vec ℕ) (place : ℕ)
+      (is_popped : before.unsearched.items ≡ unsearched.items ++ place ∷ []) where
+    -- the last of them,
+    last_left : slice_get before.unsearched.items (length before.unsearched.items - 1) ≡ Some place
+    last_left =
+        subst (λ xs. slice_get xs (length xs - 1) ≡ Some place) (sym is_popped) (last_of_pushed unsearched.items place)
+
+    -- which is that of the block that is searched,
+    pub place_is : IsPlaceOf before.blocks.now (leader_of entry) place
+    place_is = record {
+      within = last_within place follows last_left;
+      leads = λ block. last_is_at place follows last_left block at.is_due;
+    }
 
     -- and behind it the places of the other searches that are due
     rest_left : (block : Block)
         → map (λ place. (slice_index_or before.blocks.now place block).leader) (reverse unsearched.items)
         ≡ searches_due (instance_in before) (entry ∷ history)
     rest_left block =
-        let last = popped_list before.unsearched.items unsearched.items popped before.unsearched.len before.unsearched.ok.0 (some_left block) is_popped variant in
         let lead = λ (place : ℕ). (slice_index_or before.blocks.now place block).leader in
-        let turned : map lead (reverse before.unsearched.items) ≡ lead last.0 ∷ map lead (reverse unsearched.items) =
-        ap (λ xs. map lead (reverse xs)) last.1 ∙ ap (map lead) (reverse-append unsearched.items (last.0 ∷ [])) in
-        same_rest (lead last.0) (leader_of entry) (map lead (reverse unsearched.items)) (searches_due (instance_in before) (entry ∷ history))
+        let turned : map lead (reverse before.unsearched.items) ≡ lead place ∷ map lead (reverse unsearched.items) =
+        ap (λ xs. map lead (reverse xs)) is_popped ∙ ap (map lead) (reverse-append unsearched.items (place ∷ [])) in
+        same_rest (lead place) (leader_of entry) (map lead (reverse unsearched.items)) (searches_due (instance_in before) (entry ∷ history))
         (sym turned ∙ follows.unsearched block ∙ listed)
 
     -- so that one search fewer is due
     pub search_leaves_fewer : (candidates : BTreeMap Rank Candidate)
         → steps_left (record before { unsearched = unsearched; candidates = candidates }) < steps_left before
-    search_leaves_fewer candidates =
-        let block = (block_of_present at.present).0 in
-        let last = popped_list before.unsearched.items unsearched.items popped before.unsearched.len before.unsearched.ok.0 (some_left block) is_popped variant in
-        omega (arith, ap length last.1, length-append unsearched.items (last.0 ∷ []))
+    search_leaves_fewer candidates = omega (arith, ap length is_popped, length-append unsearched.items (place ∷ []))
 
     -- the rounds by their candidates
     follows_by : (candidates : BTreeMap Rank Candidate)
@@ -305,20 +298,15 @@ module _ {history : History} {before : Rounds} (rank : Rank) (cut : finite.FinSe
     (graph : FlowGraph) (place : ℕ) (held : Vec Insn) (follows : Follows history before)
     (right : IsRight (instance_in before) history (Best rank.leader cut log)) (graphs : IsDueGraph before graph)
     (within : place < length before.blocks.now)
-    (places : (h : History) (leader : ℕ) (block : Block) → Follows h before → IsDueBlock (instance_in before) h leader
-    → (slice_index_or before.blocks.now place block).leader ≡ leader)
+    (leads : (block : Block) → (slice_index_or before.blocks.now place block).leader ≡ rank.leader)
     (is : held ≡ slice_index_or before.present.items place held) where
   -- the search that is due found the cut
   found : IsSearchedAt (instance_in before) history (Best rank.leader cut log)
   found = searched_at (Best rank.leader cut log) right refl
 
-  -- the place is that of its block,
-  leads : (block : Block) → (slice_index_or before.blocks.now place block).leader ≡ rank.leader
-  leads block = places history rank.leader block follows (inl (searches found.is_due))
-
   -- the graph is that of its present instructions,
   graph_is : graph ≡ graph_at (instance_in before) rank.leader found.insns
-  graph_is = graphs history rank.leader found.insns follows (inl (searches found.is_due)) found.present
+  graph_is = graphs history rank.leader found.insns follows (searches found.is_due) found.present
 
   -- and these are those at the place,
   insns_are : held.items ≡ found.insns
@@ -348,13 +336,14 @@ module _ {history : History} {before : Rounds} (rank : Rank) (cut : finite.FinSe
       → pos rank.saved.0 ≡ gain graph (finite.contains cut) *ℤ pos ((instance_in before).entries rank.leader)
       → rank.saved.0 < 2 ^ 82
       → IsRanked (instance_in before) (Best rank.leader cut log ∷ history) before.blocks.now rank
-      (record { place = place; cut = cut; unit = unit })
+      (record { place = place; graph = graph; cut = cut; unit = unit })
   new_is_ranked unit unit_is saved_is small = record {
     insns = found.insns;
     waits = waits_no_more;
     within = within;
     leader = leads;
     has_cut = has_new_cut;
+    graph = graph_is;
     unit = unit_is ∙ (λ i. unit_of (insns_are i) (graph_is i) (finite.contains cut));
     saved = record {
       insns = found.insns;

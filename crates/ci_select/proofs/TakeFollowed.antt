@@ -19,11 +19,8 @@ use Rattle.std.proofs.lemmas.Option.{slice_get_within}
 use Rattle.ci_isa.specs.declared.instruction.Insn.{Insn}
 use Rattle.ci_isa.specs.Effects.{may_join}
 use Rattle.ci_block.specs.declared.blocks.Block.{Block}
-use Rattle.ci_cut.specs.FlowGraph.{FlowGraph}
 use Rattle.ci_log.specs.declared.book.Entry.TheVariants.{Take}
-use Rattle.ci_rewrite.specs.Blocks.{AllFieldsFit}
-use Rattle.ci_rewrite.specs.FoldedBlock.{IsFolded, IsGraphOf}
-use Rattle.ci_unit.specs.Operands.{FitsSomeLimits}
+use Rattle.ci_rewrite.specs.FoldedBlock.{IsFolded}
 use Rattle.ci_unit.specs.Units.{Unit}
 use Rattle.ci_select.specs.declared.rounds.Candidate.{Candidate}
 use Rattle.ci_select.specs.declared.rounds.Due.TheVariants as due
@@ -31,24 +28,24 @@ use Rattle.ci_select.specs.declared.rounds.Rank.{Rank}
 use Rattle.ci_select.specs.declared.rounds.Rounds.{Rounds}
 use Rattle.ci_select.specs.Histories.{History}
 use Rattle.ci_select.specs.Instances.{Instance}
-use Rattle.ci_select.specs.PresentBlocks.{HasPresentCut, IsPresent, folded, unchanged, graph_at}
+use Rattle.ci_select.specs.PresentBlocks.{HasPresentCut, IsPresent, folded, unchanged}
 use Rattle.ci_select.specs.UnitNumbers.{AreUnits, IsUnitAt, known as known_unit, new as new_unit}
 use Rattle.ci_select.specs.Candidates.{IsCandidate}
 use Rattle.ci_select.specs.Savings.{of_take}
 use Rattle.ci_select.specs.Dues.{HasNoSearchDue, IsDue, IsSearchDue, after_take, takes_known, takes_new}
-use Rattle.ci_select.specs.Followed.{Follows, IsDueGraph, IsRanked, instance_in, operations_left, steps_left}
+use Rattle.ci_select.specs.Followed.{Follows, IsRanked, instance_in, operations_left, steps_left}
 use Rattle.ci_select.specs.LegalBooks.{taken}
 use Rattle.ci_select.proofs.CandidateLaws.{saved_is_one}
-use Rattle.ci_select.proofs.DuePlaces.{first_leads, order_of}
+use Rattle.ci_select.proofs.DuePlaces.{order_of}
 use Rattle.ci_select.proofs.EntryLaws.{later_there, there_cases}
 use Rattle.ci_select.proofs.FoldedLeavesFewer.{folded_leaves_fewer}
 use Rattle.ci_select.proofs.HistoryLaws.{kept_cut, keeps_cut}
 use Rattle.ci_select.proofs.PresentIsOne.{block_of_present, present_before}
-use Rattle.ci_select.proofs.PresentLaws.{cut_fits, due_take, present_is_sound, take_is_small}
+use Rattle.ci_select.proofs.PresentLaws.{due_take, take_is_small}
 use Rattle.ci_select.proofs.RankLaws.{rank_order}
 use Rattle.ci_select.proofs.RankTies.{before_is_other, before_rest, first_taken}
-use Rattle.ci_select.proofs.SearchFollowed.{present_here}
 use Rattle.ci_select.proofs.SearchesDue.{none_listed}
+use Rattle.ci_select.proofs.TakenLaws.{CanBeTaken, can_be_taken, first_is_due_at, insns_are}
 use Rattle.ci_select.proofs.UnitLaws.{numbered_is_there, unit_is_one, units_are_one}
 
 -- ---- the number of the unit
@@ -86,7 +83,7 @@ follows_take_of {history} {after} {number = number} same follows =
 -- ---- the candidate that is taken
 
 -- The candidate was taken out of the map first, and its take is due.
-pub record IsTaken (history : History) (before : Rounds) (rank : Rank) (candidate : Candidate)
+pub record IsTakenOut (history : History) (before : Rounds) (rank : Rank) (candidate : Candidate)
     (rest : List (Rank × Candidate)) (number : ℕ) : Type 0 where
   pub follows : Follows history before
   pub removed : before.candidates.entries ≡ (rank, candidate) ∷ rest
@@ -99,11 +96,10 @@ pub first_is_taken :
     (rest : List (Rank × Candidate)) → Follows history before
     → before.candidates.entries ≡ (rank, candidate) ∷ rest → All (λ r. rank_order rank r ≡ Less) (keys_of rest)
     → IsDue (instance_in before) history (due.Take leader number)
-    → IsTaken history before rank candidate rest number × (rank.leader ≡ leader)
+    → IsTakenOut history before rank candidate rest number × (rank.leader ≡ leader)
 first_is_taken {history} {before} {leader} {number} rank candidate rest follows removed above is =
     let first = first_taken before.candidates.entries rest rank candidate removed above in
-    let leads : rank.leader ≡ leader =
-    first_leads rank candidate follows (due_take is).next.no_search first (due_take is).next.candidate in (
+    let leads : rank.leader ≡ leader = first_is_due_at follows first is in (
       record {
         follows = follows;
         removed = removed;
@@ -114,7 +110,7 @@ first_is_taken {history} {before} {leader} {number} rank candidate rest follows 
     )
 
 module _ {history : History} {before : Rounds} {rank : Rank} {candidate : Candidate}
-    {rest : List (Rank × Candidate)} {number : ℕ} (known : IsTaken history before rank candidate rest number) where
+    {rest : List (Rank × Candidate)} {number : ℕ} (known : IsTakenOut history before rank candidate rest number) where
   open known use {follows, removed, above, is_due}
 
   -- the candidate is ranked,
@@ -149,42 +145,19 @@ module _ {history : History} {before : Rounds} {rank : Rank} {candidate : Candid
 
   -- ---- what is asked of the fold
 
-  module _ (graph : FlowGraph) (block : Vec Insn) (graphs : IsDueGraph before graph)
-      (here : block ≡ slice_index_or before.present.items candidate.place block) where
-    -- the graph is that of the present instructions,
-    graph_is : graph ≡ graph_at (instance_in before) rank.leader held.insns
-    graph_is = graphs history rank.leader held.insns follows (inr (number, is_due)) held.has_cut.present
-
-    -- and these are those at the place
-    insns_are : block.items ≡ held.insns
-    insns_are = present_here candidate.place block follows held.within held.leader here held.has_cut.present
-
-    -- so the graph is that of the block,
-    pub graph_of_taken : IsGraphOf block.items graph
-    graph_of_taken =
-        subst (λ g. IsGraphOf block.items g) (sym graph_is)
-        (subst (λ i. IsGraphOf i (graph_at (instance_in before) rank.leader held.insns)) (sym insns_are)
-        (present_is_sound follows.of_file follows.legal held.has_cut.present).graph)
-
-    -- the fields of the block fit,
-    pub fields_fit : AllFieldsFit block.items
-    fields_fit =
-        subst (λ i. AllFieldsFit i) (sym insns_are)
-        (present_is_sound follows.of_file follows.legal held.has_cut.present).can_be_folded.fit
-
-    -- and so does the cut
-    pub taken_fits : FitsSomeLimits graph (finite.contains candidate.cut)
-    taken_fits =
-        subst (λ g. FitsSomeLimits g (finite.contains candidate.cut)) (sym graph_is)
-        (cut_fits (order_of follows) follows.legal (no_search rank.leader) held.has_cut)
+  module _ (block : Vec Insn) (here : block ≡ slice_index_or before.present.items candidate.place block) where
+    -- the cut can be taken
+    pub taken_can_be_taken : CanBeTaken block.items candidate.graph candidate.cut number
+    taken_can_be_taken = can_be_taken follows held is_due block here
 
     -- ---- the rounds behind it
 
-    module _ (new_block : Vec Insn) (is_folded : IsFolded block.items graph (finite.contains candidate.cut) number new_block.items) where
+    module _ (new_block : Vec Insn)
+        (is_folded : IsFolded block.items candidate.graph (finite.contains candidate.cut) number new_block.items) where
       fewer_here : length (filter may_join new_block.items) < length (filter may_join block.items)
       fewer_here =
-          folded_leaves_fewer block.items graph (finite.contains candidate.cut) number new_block.items graph_of_taken
-          taken_fits is_folded
+          folded_leaves_fewer block.items candidate.graph (finite.contains candidate.cut) number new_block.items
+          taken_can_be_taken.of_block taken_can_be_taken.fits is_folded
 
       fewer_operations :
           sum_by (λ (insns : Vec Insn). length (filter may_join insns.items)) (with_item before.present candidate.place new_block).items
@@ -196,8 +169,9 @@ module _ {history : History} {before : Rounds} {rank : Rank} {candidate : Candid
 
       folded_now : IsPresent (instance_in before) (Take rank.leader number ∷ history) rank.leader new_block.items
       folded_now = folded candidate.cut held.has_cut.present held.has_cut.has_cut
-          (subst (λ g. IsFolded held.insns g (finite.contains candidate.cut) number new_block.items) graph_is
-          (subst (λ i. IsFolded i graph (finite.contains candidate.cut) number new_block.items) insns_are is_folded))
+          (subst (λ g. IsFolded held.insns g (finite.contains candidate.cut) number new_block.items) held.graph
+          (subst (λ i. IsFolded i candidate.graph (finite.contains candidate.cut) number new_block.items)
+          (insns_are follows held is_due block here) is_folded))
 
       -- the block is folded, and the others are as they were
       present_now : (k : ℕ) (b : Block) → k < length before.blocks.now
@@ -292,6 +266,7 @@ module _ {history : History} {before : Rounds} {rank : Rank} {candidate : Candid
         within = has.within;
         leader = has.leader;
         has_cut = cut_stays other has.has_cut;
+        graph = has.graph;
         unit = has.unit;
         saved = candidate_stays r.leader (pos r.saved.0) other has.saved;
         small = has.small;
@@ -345,9 +320,8 @@ module _ {history : History} {before : Rounds} {rank : Rank} {candidate : Candid
 
   -- ---- the rounds behind it
 
-  module _ (graph : FlowGraph) (block new_block : Vec Insn) (graphs : IsDueGraph before graph)
-      (here : block ≡ slice_index_or before.present.items candidate.place block)
-      (is_folded : IsFolded block.items graph (finite.contains candidate.cut) number new_block.items)
+  module _ (block new_block : Vec Insn) (here : block ≡ slice_index_or before.present.items candidate.place block)
+      (is_folded : IsFolded block.items candidate.graph (finite.contains candidate.cut) number new_block.items)
       (unsearched : Vec ℕ) (pushed : unsearched.items ≡ before.unsearched.items ++ candidate.place ∷ [])
       (candidates : BTreeMap Rank Candidate) (left : candidates.entries ≡ rest) (units : List Unit)
       (added : number ≡ length before.units → units ≡ before.units ++ candidate.unit ∷ [])
@@ -369,14 +343,14 @@ module _ {history : History} {before : Rounds} {rank : Rank} {candidate : Candid
 
     -- and fewer operations are left
     fewer_left : operations_left after_take_of < operations_left before
-    fewer_left = fewer_operations graph block graphs here new_block is_folded
+    fewer_left = fewer_operations block here new_block is_folded
 
     pub follows_take : Follows (Take rank.leader number ∷ history) after_take_of
     follows_take = record {
       of_file = follows.of_file;
       legal = (taken is_due, follows.legal);
       many = length-set before.present.items candidate.place new_block ∙ follows.many;
-      present = present_now graph block graphs here new_block is_folded;
+      present = present_now block here new_block is_folded;
       unsearched = λ b.
           ap (λ places. map (λ place. (slice_index_or before.blocks.now place b).leader) (reverse places)) one_left
           ∙ ap (λ l. l ∷ []) (held.leader b);

@@ -42,8 +42,8 @@ searches_due instance (Take leader unit ∷ history) = leader ∷ []
 searches_due instance (entry ∷ history) =
     if round history == 0 then drop (length (entry ∷ history)) (entered instance) else []
 
--- The candidate at the rank: its block, its cut and the unit of that, and what the cut saves. The search of its block
--- is not due, and won't be before its take.
+-- The candidate at the rank: its block with its graph, its cut and the unit of that, and what the cut saves. The search
+-- of its block is not due, and won't be before its take.
 pub record IsRanked (instance : Instance) (history : History) (blocks : List Block) (rank : Rank)
     (candidate : Candidate) : Type 0 where
   pub insns : List Insn
@@ -51,6 +51,7 @@ pub record IsRanked (instance : Instance) (history : History) (blocks : List Blo
   pub within : candidate.place < length blocks
   pub leader : (d : Block) → (slice_index_or blocks candidate.place d).leader ≡ rank.leader
   pub has_cut : HasPresentCut instance history rank.leader insns candidate.cut
+  pub graph : candidate.graph ≡ graph_at instance rank.leader insns
   pub unit : candidate.unit ≡ unit_of insns (graph_at instance rank.leader insns) (finite.contains candidate.cut)
   pub saved : IsCandidate instance history rank.leader (pos rank.saved.0)
   pub small : rank.saved.0 < 2 ^ 82
@@ -103,21 +104,17 @@ pub record Follows (history : History) (rounds : Rounds) : Type 0 where
 abbrev pub FollowsSome : Rounds → Type 0
 FollowsSome rounds = (history : History) × Follows history rounds
 
--- the search or the take of the block is due
-abbrev pub IsDueBlock : Instance → History → ℕ → Type 0
-IsDueBlock instance history leader =
-    IsDue instance history (due.Search leader) ⊎ ((unit : ℕ) × IsDue instance history (due.Take leader unit))
+-- the search of some block is due
+abbrev pub HasDueSearch : Rounds → Type 0
+HasDueSearch rounds =
+    (history : History) × (leader : ℕ) × Follows history rounds
+    × IsDue (instance_in rounds) history (due.Search leader)
 
--- the search or the take of some block is due
-abbrev pub HasDueBlock : Rounds → Type 0
-HasDueBlock rounds =
-    (history : History) × (leader : ℕ) × Follows history rounds × IsDueBlock (instance_in rounds) history leader
-
--- the graph is that of the block that is due, in the present program
+-- the graph is that of the block whose search is due, in the present program
 abbrev pub IsDueGraph : Rounds → FlowGraph → Type 0
 IsDueGraph rounds graph =
     (history : History) (leader : ℕ) (insns : List Insn)
-    → Follows history rounds → IsDueBlock (instance_in rounds) history leader
+    → Follows history rounds → IsDue (instance_in rounds) history (due.Search leader)
     → IsPresent (instance_in rounds) history leader insns → graph ≡ graph_at (instance_in rounds) leader insns
 
 -- the number of the equal unit, or the next one where there is none and there may be one more

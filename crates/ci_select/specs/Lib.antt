@@ -5,6 +5,7 @@ pub mod PresentBlocks
 pub mod UnitNumbers
 pub mod Candidates
 pub mod Savings
+pub mod Takes
 pub mod Dues
 pub mod LegalBooks
 pub mod GivenUp

@@ -235,7 +235,7 @@ fn follow_search(
     if let Some(wrong) = wrong_search(&graph, rounds.plan(), leader, entry) {
         return Ok(Some(wrong));
     }
-    rounds.follow_search(alloc, &graph, entry)?;
+    rounds.follow_search(alloc, graph, entry)?;
     Ok(None)
 }
 

@@ -1,20 +1,22 @@
 //! The choice of cuts.
-ghost use Rattle.std.specs.Prelude.{◌≡◌, ◌↔◌, ◌∷◌, ◌<◌, [], reverse, Ok, IfOk};
+ghost use Rattle.std.specs.Prelude.{◌≡◌, ◌↔◌, ◌∷◌, ◌<◌, false, [], reverse, Ok, IfOk};
 ghost use Rattle.ci_cut.specs.Need.{NeedExceeds};
 ghost use Rattle.ci_elf.specs.Rules.{IsReadAs};
 ghost use Rattle.ci_machine.specs.Words.{AreBytes};
-ghost use Rattle.ci_select.specs.Histories.{History, leader_of};
+ghost use Rattle.ci_select.specs.Histories.{History, is_take, leader_of};
 ghost use Rattle.ci_select.specs.Instances.{instance_of, AreBlocksOf};
 ghost use Rattle.ci_select.specs.UnitNumbers.{AreUnits};
 ghost use Rattle.ci_select.specs.Dues.{IsDue};
 ghost use Rattle.ci_select.specs.LegalBooks.{HasShortLog, IsLegal, IsSearched};
 ghost use Rattle.ci_select.specs.GivenUp.{IsGivenUp, IsGivenUpByNeed, GivesUpByNeed};
 ghost use Rattle.ci_select.specs.Savings.{IsSaved};
+ghost use Rattle.ci_select.specs.Takes.{AreTaken};
 ghost use Rattle.ci_select.specs.NewFiles.{IsNewFile, with_bytes};
 ghost use Rattle.ci_select.specs.Followed.{Follows, instance_in, steps_left};
 
 use crate::plan::Plan;
 use crate::rounds::{Due, Rounds};
+use crate::taken::Taken;
 use ci_block::Blocks;
 use ci_cut::Graph;
 use ci_elf::Image;
@@ -32,6 +34,8 @@ use std::alloc::{AllocError, Global};
 pub struct Chosen {
     /// Its log book.
     pub book: LogBook,
+    /// The cuts that were taken, in their order.
+    pub takes: Vec<Taken>,
     /// The units of the cuts that were taken, each once.
     pub units: UnitTable,
     /// The file with the folded blocks in place.
@@ -65,6 +69,8 @@ pub fn choose(
     requires blocks { AreBlocksOf image.now blocks.now live.now }
     ensures book { IfOk result (λ chosen.
         IsLegal (instance_of profile.now blocks.now live.now table.now plan.now) chosen.book) }
+    ensures takes { IfOk result (λ chosen. AreTaken (instance_of profile.now blocks.now live.now table.now plan.now)
+        (reverse chosen.book.entries) (reverse chosen.takes.items)) }
     ensures units { IfOk result (λ chosen. AreUnits (instance_of profile.now blocks.now live.now table.now plan.now)
         (reverse chosen.book.entries) chosen.units) }
     ensures bytes { IfOk result (λ chosen. IsNewFile (instance_of profile.now blocks.now live.now table.now plan.now)
@@ -77,10 +83,11 @@ pub fn choose(
 {
     bytes_are_small(image.bytes());
     let mut rounds = Rounds::new(alloc, profile, blocks, live, table, plan)?;
-    let book = book_of(alloc, &mut rounds)?;
+    let (book, takes) = book_of(alloc, &mut rounds)?;
     let image = rounds.new_image(alloc, image)?;
     Ok(Chosen {
         book,
+        takes,
         saved: rounds.saved(),
         units: rounds.units,
         image,
@@ -92,26 +99,30 @@ pub(crate) fn bytes_are_small(bytes: &[u8])
     ensures { AreBytes bytes.now }
 {}
 
-/// Makes each entry that is due, up to the end.
-fn book_of(alloc: Global, rounds: &mut Rounds) -> Result<LogBook, AllocError>
+/// Makes each entry that is due, up to the end, and keeps the cuts that are taken.
+fn book_of(alloc: Global, rounds: &mut Rounds) -> Result<(LogBook, Vec<Taken>), AllocError>
     requires { Follows [] rounds.old }
-    ensures legal { IfOk result (IsLegal (instance_in rounds.old)) }
-    ensures followed { IfOk result (λ book. Follows (reverse book.entries) rounds.new) }
-    ensures given_up { IfOk result (λ book. GivesUpByNeed (instance_in rounds.old) (reverse book.entries)) }
+    ensures legal { IfOk result (λ made. IsLegal (instance_in rounds.old) made.0) }
+    ensures takes { IfOk result (λ made.
+        AreTaken (instance_in rounds.old) (reverse made.0.entries) (reverse made.1.items)) }
+    ensures followed { IfOk result (λ made. Follows (reverse made.0.entries) rounds.new) }
+    ensures given_up { IfOk result (λ made. GivesUpByNeed (instance_in rounds.old) (reverse made.0.entries)) }
     ensures instance { instance_in rounds.new ≡ instance_in rounds.old }
 {
     let mut region = Region::with_capacity(alloc, rounds.plan().budget)?;
     let mut entries = Vec::new(alloc);
+    let mut takes = Vec::new(alloc);
     loop {
         match rounds.due() {
             Due::Search(leader) => {
                 entries.push(search_block(alloc, rounds, &mut region, leader)?)?;
             }
             Due::Take { leader, unit } => {
+                takes.push(rounds.taken(alloc, unit))?;
                 rounds.follow_take(alloc, unit)?;
                 entries.push(Entry::Take { leader, unit })?;
             }
-            Due::End(finish) => return Ok(LogBook::new(entries, finish)),
+            Due::End(finish) => return Ok((LogBook::new(entries, finish), takes)),
         }
     }
 }
@@ -132,6 +143,7 @@ fn search_block(
     ensures given_up { IfOk result (λ entry. (history : History) → Follows history rounds.old
         → IsDue (instance_in rounds.old) history (Due.Search leader)
         → IsGivenUpByNeed (instance_in rounds.old) history entry) }
+    ensures search { IfOk result (λ entry. is_take entry ≡ false) }
     ensures short { IfOk result HasShortLog }
     ensures fewer { IfOk result (λ _. steps_left rounds.new < steps_left rounds.old) }
     ensures instance { instance_in rounds.new ≡ instance_in rounds.old }
@@ -139,7 +151,7 @@ fn search_block(
 {
     let graph = rounds.graph(alloc)?;
     let entry = search_graph(alloc, &graph, rounds.plan(), region, leader)?;
-    rounds.follow_search(alloc, &graph, &entry)?;
+    rounds.follow_search(alloc, graph, &entry)?;
     Ok(entry)
 }
 

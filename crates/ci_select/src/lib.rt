@@ -14,7 +14,7 @@ pub use laws::{
     legal_books_are_in_order, like_instances_have_the_same_books, takes_name_their_units,
 };
 pub use plan::Plan;
-pub use rounds::{Due, Rounds};
+pub use taken::Taken;
 
 mod acceptance;
 mod choosing;
@@ -22,3 +22,4 @@ mod laws;
 mod new_file;
 mod plan;
 mod rounds;
+mod taken;

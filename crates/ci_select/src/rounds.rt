@@ -8,30 +8,31 @@ ghost use Rattle.ci_unit.specs.Operands.{FitsSomeLimits};
 ghost use Rattle.ci_elf.specs.Rules.{IsReadAs};
 ghost use Rattle.ci_block.specs.declared.blocks.Block.{Block as BasicBlock};
 ghost use Rattle.ci_log.specs.declared.book.Entry.TheVariants.{Take};
-ghost use Rattle.ci_select.specs.Histories.{History, HasCut, is_take, round};
+ghost use Rattle.ci_select.specs.Histories.{History, is_take, round};
 ghost use Rattle.ci_select.specs.Instances.{instance_of, AreBlocksOf, AreOfSomeFile};
-ghost use Rattle.ci_select.specs.PresentBlocks.{IsPresent};
 ghost use Rattle.ci_select.specs.UnitNumbers.{AreUnits};
 ghost use Rattle.ci_select.specs.Dues.{IsDue};
 ghost use Rattle.ci_select.specs.Savings.{IsSaved};
+ghost use Rattle.ci_select.specs.Takes.{IsTaken};
 ghost use Rattle.ci_select.specs.LegalBooks.{IsRight};
 ghost use Rattle.ci_select.specs.NewFiles.{IsNewFile, with_bytes};
-ghost use Rattle.ci_select.specs.Followed.{Follows, FollowsSome, HasDueBlock, IsDueBlock, IsDueGraph, IsNumberFor};
+ghost use Rattle.ci_select.specs.Followed.{Follows, FollowsSome, HasDueSearch, IsDueGraph, IsNumberFor};
 ghost use Rattle.ci_select.specs.Followed.{IsFirst, entered_from, instance_in, steps_left};
 
 use crate::new_file::patch_block;
 use crate::plan::Plan;
+use crate::taken::Taken;
 use ci_block::{Block, Blocks};
 use ci_cut::{Graph, gain};
 use ci_dfg::graph;
 use ci_elf::Image;
 use ci_emu::Profile;
-use ci_isa::Insn;
+use ci_isa::{Insn, encode};
 use ci_lat::Table;
 use ci_live::LiveSets;
 use ci_log::{Entry, Finish};
 use ci_rewrite::fold;
-use ci_unit::{Unit, UnitTable, unit_of};
+use ci_unit::{Unit, UnitTable, encode_use, unit_of};
 use ci_word::Row;
 use std::alloc::{AllocError, Global};
 use std::cmp::Reverse;
@@ -53,7 +54,9 @@ pub enum Due {
 struct Candidate {
     /// The place of the block among all of them.
     place: usize,
-    /// The cut that was found last in the block.
+    /// The graph of the block, as that was searched last.
+    graph: Graph,
+    /// The cut that was found then.
     cut: Row,
     /// The unit of the cut.
     unit: Unit,
@@ -162,65 +165,49 @@ impl<'a> Rounds<'a> {
         }
     }
 
-    /// The place of the block whose search or take is due.
-    fn place(&self) -> usize
-        requires { HasDueBlock self.now }
-        ensures within { result < length self.now.blocks.now }
-        ensures block { (history : History) (leader : ℕ) (block : BasicBlock) → Follows history self.now
-            → IsDueBlock (instance_in self.now) history leader
-            → (slice_index_or self.now.blocks.now result block).leader ≡ leader }
-    {
-        if let Some(place) = self.unsearched.last() {
-            return *place;
-        }
-        match self.first_candidate() {
-            Some((_, candidate)) => candidate.place,
-            None => unreachable!(),
-        }
-    }
-
-    /// The instructions of the block whose search or take is due, in the present program.
-    pub fn insns(&self) -> &[Insn]
-        requires { HasDueBlock self.now }
-        ensures { (history : History) (leader : ℕ) → Follows history self.now
-            → IsDueBlock (instance_in self.now) history leader
-            → IsPresent (instance_in self.now) history leader result.now }
-    {
-        &self.present[self.place()]
-    }
-
-    /// The graph of these instructions. What is live after the block stays that of the file.
+    /// The graph of the block whose search is due, in the present program. What is live after it stays that of the file.
     ///
     /// # Errors
     ///
     /// Out of memory.
     pub fn graph(&self, alloc: Global) -> Result<Graph, AllocError>
-        requires { HasDueBlock self.now }
+        requires { HasDueSearch self.now }
         ensures { IfOk result (IsDueGraph self.now) }
     {
-        let place = self.place();
-        let live_out = self.live.after(self.blocks[place].leader);
-        graph(alloc, &self.present[place], live_out, self.table)
+        let Some(place) = self.unsearched.last() else {
+            unreachable!()
+        };
+        let live_out = self.live.after(self.blocks[*place].leader);
+        graph(alloc, &self.present[*place], live_out, self.table)
     }
 
-    /// How often the block whose search or take is due was entered.
-    pub fn entries(&self) -> u64
-        requires { HasDueBlock self.now }
+    /// What is told of the take that is due, as the unit of this number.
+    pub fn taken(&self, alloc: Global, unit: u8) -> Taken
+        requires { (history : History) × (leader : ℕ) × Follows history self.now
+            × IsDue (instance_in self.now) history (Due.Take leader unit) }
         ensures { (history : History) (leader : ℕ) → Follows history self.now
-            → IsDueBlock (instance_in self.now) history leader → result ≡ (instance_in self.now).entries leader }
-    {
-        self.profile.entries(self.blocks[self.place()].leader)
-    }
-
-    /// The cut of the candidate that goes first, if there is one: the cut whose take is due, where a take is due. There
-    /// may be one too where a search is due, or the end since there are as many units as the plan allows.
-    pub fn cut(&self) -> Option<Row>
-        ensures { (history : History) (leader unit : ℕ) → Follows history self.now
             → IsDue (instance_in self.now) history (Due.Take leader unit)
-            → MatchOption result ⊥ (HasCut history leader) }
+            → IsTaken (instance_in self.now) history leader unit result }
     {
-        let (_, candidate) = self.first_candidate()?;
-        Some(candidate.cut)
+        let Some((rank, candidate)) = self.first_candidate() else {
+            unreachable!()
+        };
+        let Candidate {
+            place,
+            graph,
+            cut,
+            ..
+        } = candidate;
+        let used = encode_use(alloc, &self.present[*place], graph, cut, unit);
+        Taken {
+            round: self.round,
+            leader: rank.leader,
+            unit,
+            gain: gain(graph, cut) as u64,
+            entries: self.profile.entries(rank.leader),
+            cut: *cut,
+            word: encode(&used.unit),
+        }
     }
 
     /// What bounds the choice.
@@ -253,27 +240,6 @@ impl<'a> Rounds<'a> {
         self.saved
     }
 
-    /// Follows the entry, which is right.
-    ///
-    /// # Errors
-    ///
-    /// Out of memory. The rounds serve nothing then.
-    pub fn follow(&mut self, alloc: Global, entry: &Entry) -> Result<(), AllocError>
-        requires { (history : History) × Follows history self.old
-            × IsRight (instance_in self.old) history entry.now }
-        ensures followed { OnOk result ((history : History) → Follows history self.old
-            → IsRight (instance_in self.old) history entry.now → Follows (entry.now ∷ history) self.new) }
-        ensures instance { instance_in self.new ≡ instance_in self.old }
-    {
-        match entry {
-            Entry::Take { unit, .. } => self.follow_take(alloc, *unit),
-            _ => {
-                let graph = self.graph(alloc)?;
-                self.follow_search(alloc, &graph, entry)
-            }
-        }
-    }
-
     /// Follows the entry of the search that is due, which is right. The graph is that of the block.
     ///
     /// # Errors
@@ -282,31 +248,36 @@ impl<'a> Rounds<'a> {
     pub fn follow_search(
         &mut self,
         alloc: Global,
-        graph: &Graph,
+        graph: Graph,
         entry: &Entry,
     ) -> Result<(), AllocError>
         requires right { (history : History) × Follows history self.old
             × IsRight (instance_in self.old) history entry.now × (is_take entry.now ≡ false) }
-        requires graph { IsDueGraph self.old graph.now }
+        requires graph { IsDueGraph self.old graph }
         ensures followed { OnOk result ((history : History) → Follows history self.old
             → IsRight (instance_in self.old) history entry.now → Follows (entry.now ∷ history) self.new) }
         ensures fewer { OnOk result (steps_left self.new < steps_left self.old) }
         ensures instance { instance_in self.new ≡ instance_in self.old }
     {
-        let place = self.place();
-        self.unsearched.pop();
+        let Some(place) = self.unsearched.pop() else {
+            unreachable!()
+        };
         match entry {
             Entry::Best { leader, cut, .. } => {
                 let insns = self.present[place].as_slice();
-                let unit = unit_of(alloc, insns, graph, cut)?;
-                let saved = saved_in_run(graph, cut, self.profile.entries(*leader));
+                let unit = unit_of(alloc, insns, &graph, cut)?;
+                let saved = saved_in_run(&graph, cut, self.profile.entries(*leader));
                 let rank = Rank {
                     saved: Reverse(saved),
                     leader: *leader,
                 };
-                let cut = *cut;
-                self.candidates
-                    .insert(rank, Candidate { place, cut, unit })?;
+                let candidate = Candidate {
+                    place,
+                    graph,
+                    cut: *cut,
+                    unit,
+                };
+                self.candidates.insert(rank, candidate)?;
                 Ok(())
             }
             _ => Ok(()),
@@ -328,15 +299,18 @@ impl<'a> Rounds<'a> {
         ensures fewer { OnOk result (steps_left self.new < steps_left self.old) }
         ensures instance { instance_in self.new ≡ instance_in self.old }
     {
-        let graph = self.graph(alloc)?;
         let Some((rank, candidate)) = self.candidates.pop_first() else {
             unreachable!()
         };
-        let place = candidate.place;
-        let cut = &candidate.cut;
-        self.present[place] = fold(alloc, &self.present[place], &graph, cut, number)?;
+        let Candidate {
+            place,
+            graph,
+            cut,
+            unit,
+        } = candidate;
+        self.present[place] = fold(alloc, &self.present[place], &graph, &cut, number)?;
         self.unsearched.push(place)?;
-        add_new(&mut self.units, number, candidate.unit)?;
+        add_new(&mut self.units, number, unit)?;
         self.round += 1;
         self.saved += rank.saved.0;
         Ok(())

@@ -1,7 +1,5 @@
 //! The report of a program of two functions.
 ghost use Rattle.std.specs.Prelude.{◌≤◌, length, Ok};
-ghost use Rattle.ci_machine.specs.Words.{AreBytes};
-ghost use Rattle.ci_elf.specs.Executables.{IsWellFormed};
 ghost use Rattle.ci_elf.specs.Rules.{IsReadAs};
 ghost use Rattle.ci_select.specs.Instances.{AreBlocksOf};
 
@@ -56,8 +54,6 @@ fn report_by(
     analysis: &Analysis,
 ) -> Result<Vec<u8>, AllocError>
     requires image { IsReadAs image.now.bytes (Ok image.now) }
-    requires formed { IsWellFormed image.now }
-    requires bytes { AreBytes image.now.bytes }
     requires blocks { AreBlocksOf image.now analysis.now.blocks analysis.now.live }
 {
     let Analysis { blocks, live } = analysis;
@@ -71,7 +67,7 @@ fn report_by(
         budget: 65536,
     };
     let chosen = choose(alloc, image, profile, blocks, live, &table, &plan)?;
-    let text = report(alloc, profile, blocks, live, &table, &plan, &chosen);
+    let text = report(alloc, profile, analysis, &table, &plan, &chosen);
     drop(chosen);
     text
 }
@@ -79,8 +75,6 @@ fn report_by(
 /// The same by its profile.
 fn report_after(alloc: Global, image: &Image, profile: &Profile) -> Result<Vec<u8>, AllocError>
     requires image { IsReadAs image.now.bytes (Ok image.now) }
-    requires formed { IsWellFormed image.now }
-    requires bytes { AreBytes image.now.bytes }
 {
     let analysis = analysis_of(alloc, image, profile.targets(), &[])?;
     let text = report_by(alloc, image, profile, &analysis);
@@ -91,8 +85,6 @@ fn report_after(alloc: Global, image: &Image, profile: &Profile) -> Result<Vec<u
 /// The same for an executable.
 fn report_on(alloc: Global, image: &Image) -> Result<Vec<u8>, AllocError>
     requires image { IsReadAs image.now.bytes (Ok image.now) }
-    requires formed { IsWellFormed image.now }
-    requires bytes { AreBytes image.now.bytes }
 {
     let profile = profile_of(alloc, image)?;
     let text = report_after(alloc, image, &profile);

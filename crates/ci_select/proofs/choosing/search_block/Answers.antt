@@ -23,3 +23,7 @@ pub returns-clause-given_up : goal.returns-clause-given_up
 returns-clause-given_up c history follows what =
     let is = c.in_ok-entry.ensures in
     gives_up_by_need follows c.in_ok-graph.graph c.plan.result.now c.in_ok-entry.entry c.in_ok-graph.ensures c.plan.ensures is.leader what is.given_up
+
+pub returns-clause-search : goal.returns-clause-search
+returns-clause-search c =
+    search_is_no_take c.in_ok-graph.graph c.plan.result.now c.in_ok-entry.entry c.in_ok-entry.ensures.searched

@@ -4,10 +4,9 @@ use Rattle.std.proofs.lemmas.List.{nil_from_length}
 use Rattle.ci_rewrite.specs.Blocks.{AllFieldsFit}
 use Rattle.ci_rewrite.specs.FoldedBlock.{IsFolded, IsGraphOf}
 use Rattle.ci_select.proofs.DuePlaces.{some_candidate}
-use Rattle.ci_select.proofs.PresentLaws.{due_take}
-use Rattle.ci_select.proofs.TakeFollowed.{IsTaken, fields_fit, first_is_taken, follows_take, follows_take_of}
-use Rattle.ci_select.proofs.TakeFollowed.{graph_of_taken, number_is, number_is_small, saved_fits, take_leaves_fewer}
-use Rattle.ci_select.proofs.TakeFollowed.{taken_fits, taken_within}
+use Rattle.ci_select.proofs.TakeFollowed.{IsTakenOut, first_is_taken, follows_take, follows_take_of, number_is}
+use Rattle.ci_select.proofs.TakeFollowed.{number_is_small, saved_fits, take_leaves_fewer, taken_can_be_taken}
+use Rattle.ci_select.proofs.TakeFollowed.{taken_within}
 use Rattle.ci_select.proofs.rounds.Rounds.follow_take.Goals as goal
 use Rattle.ci_select.proofs.rounds.Rounds.follow_take.Goals.{In-Some}
 
@@ -21,12 +20,12 @@ unreachable-requires c =
       ap length c.in_default.ensures.unchanged,
       λ (some : 0 < length c.args.self.now.candidates.entries). true≢false (sym (c.in_default.ensures.variant.1 some)),
     )) in
-    some_candidate c.requires.2 (due_take c.requires.3).next.no_search (inr (c.args.number, c.requires.3)) none
+    some_candidate c.requires.2 c.requires.3 none
 
 -- the candidate that was taken out is the one that is due
 taken :
     (c : In-Some)
-    → IsTaken c.requires.0 c.args.self.now c.in-Some.rank c.in-Some.candidate c.pop_first.new.self.entries c.args.number
+    → IsTakenOut c.requires.0 c.args.self.now c.in-Some.rank c.in-Some.candidate c.pop_first.new.self.entries c.args.number
 taken c =
     (first_is_taken c.in-Some.rank c.in-Some.candidate c.pop_first.new.self.entries c.requires.2
     c.in-Some.ensures.removal c.in-Some.ensures.all_above c.requires.3).0
@@ -37,20 +36,17 @@ index-requires c =
 
 pub fold-requires-clause-graph : goal.fold-requires-clause-graph
 fold-requires-clause-graph c =
-    subst (λ i. IsGraphOf i c.in_ok-graph.graph) (sym c.deref.ensures.value)
-    (graph_of_taken (taken (goal.at.fold-requires-clause-graph c).In-Some) c.in_ok-graph.graph c.index.result.now
-    c.in_ok-graph.ensures c.index.ensures)
+    subst (λ i. IsGraphOf i c.in-Some.candidate.graph) (sym c.deref.ensures.value)
+    (taken_can_be_taken (taken (goal.at.fold-requires-clause-graph c).In-Some) c.index.result.now c.index.ensures).of_block
 
 pub fold-requires-clause-fit : goal.fold-requires-clause-fit
 fold-requires-clause-fit c =
     subst (λ i. AllFieldsFit i) (sym c.deref.ensures.value)
-    (fields_fit (taken (goal.at.fold-requires-clause-fit c).In-Some) c.in_ok-graph.graph c.index.result.now
-    c.in_ok-graph.ensures c.index.ensures)
+    (taken_can_be_taken (taken (goal.at.fold-requires-clause-fit c).In-Some) c.index.result.now c.index.ensures).fields
 
 pub fold-requires-clause-fits : goal.fold-requires-clause-fits
 fold-requires-clause-fits c =
-    taken_fits (taken (goal.at.fold-requires-clause-fits c).In-Some) c.in_ok-graph.graph c.index.result.now
-    c.in_ok-graph.ensures c.index.ensures
+    (taken_can_be_taken (taken (goal.at.fold-requires-clause-fits c).In-Some) c.index.result.now c.index.ensures).fits
 
 pub fold-requires-clause-number : goal.fold-requires-clause-number
 fold-requires-clause-number c = number_is_small (taken (goal.at.fold-requires-clause-number c).In-Some)
@@ -78,18 +74,17 @@ returns-clause-followed c = λ history leader follows due.
     first_is_taken c.in-Some.rank c.in-Some.candidate c.pop_first.new.self.entries follows c.in-Some.ensures.removal
     c.in-Some.ensures.all_above due in
     let is_folded =
-    subst (λ i. IsFolded i c.in_ok-graph.graph (finite.contains c.in-Some.candidate.cut) c.args.number c.in_ok-self.field-0.items)
+    subst (λ i. IsFolded i c.in-Some.candidate.graph (finite.contains c.in-Some.candidate.cut) c.args.number c.in_ok-self.field-0.items)
     c.deref.ensures.value c.in_ok-self.ensures.folded in
     follows_take_of is.1
-    (follows_take is.0 c.in_ok-graph.graph c.index.result.now c.in_ok-self.field-0 c.in_ok-graph.ensures
-    c.index.ensures is_folded c.push.new.self c.in_ok-push.ensures.items c.pop_first.new.self refl c.add_new.new.units
+    (follows_take is.0 c.index.result.now c.in_ok-self.field-0 c.index.ensures is_folded c.push.new.self c.in_ok-push.ensures.items c.pop_first.new.self refl c.add_new.new.units
     c.in_ok-add_new.ensures.added c.in_ok-add_new.ensures.known)
 
 pub returns-clause-fewer : goal.returns-clause-fewer
 returns-clause-fewer c =
     let is_folded =
-    subst (λ i. IsFolded i c.in_ok-graph.graph (finite.contains c.in-Some.candidate.cut) c.args.number c.in_ok-self.field-0.items)
+    subst (λ i. IsFolded i c.in-Some.candidate.graph (finite.contains c.in-Some.candidate.cut) c.args.number c.in_ok-self.field-0.items)
     c.deref.ensures.value c.in_ok-self.ensures.folded in
-    take_leaves_fewer (taken (goal.at.returns-clause-fewer c).In-Some) c.in_ok-graph.graph c.index.result.now
-    c.in_ok-self.field-0 c.in_ok-graph.ensures c.index.ensures is_folded c.push.new.self c.in_ok-push.ensures.items
+    take_leaves_fewer (taken (goal.at.returns-clause-fewer c).In-Some) c.index.result.now c.in_ok-self.field-0
+    c.index.ensures is_folded c.push.new.self c.in_ok-push.ensures.items
     c.pop_first.new.self refl c.add_new.new.units c.in_ok-add_new.ensures.added c.in_ok-add_new.ensures.known
