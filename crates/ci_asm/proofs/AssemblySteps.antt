@@ -16,15 +16,15 @@ use Rattle.ci_asm.specs.declared.statements.Statement.{Statement}
 use Rattle.ci_asm.specs.declared.labels.Definition.{Definition}
 use Rattle.ci_asm.specs.declared.lines.Line.{Line}
 use Rattle.std.specs.Prelude.{IfSome}
-use Rattle.ci_asm.specs.Tokens.{text_of}
-use Rattle.ci_asm.specs.Shapes.{fits, field_of}
+use Rattle.ci_asm.specs.private.Tokens.{text_of}
+use Rattle.ci_asm.specs.private.Shapes.{fits, field_of}
 use Rattle.ci_asm.specs.declared.statements.Operands.{Operands}
 use Rattle.ci_asm.specs.declared.numbers.Number.{Number}
 use Rattle.ci_asm.proofs.SoundStatements.{same_ok}
-use Rattle.ci_asm.specs.Statements.{◌>>=◌, HasRegisters}
-use Rattle.ci_asm.specs.LabelMap.{earlier}
-use Rattle.ci_asm.specs.Programs.{Position, position, on_line, option_words, words_in, words_behind, line_at, all_read, definition_on, definition_of}
-use Rattle.ci_asm.specs.Programs.{Definitions, line_insn, insns_of, option_length, offset_between, reaching, resolved, AreWordsOf, IsFaultIn, assembled}
+use Rattle.ci_asm.specs.private.Statements.{◌>>=◌, HasRegisters}
+use Rattle.ci_asm.specs.private.LabelMap.{earlier}
+use Rattle.ci_asm.specs.private.Programs.{Position, position, on_line, option_words, words_in, words_behind, line_at, all_read, definition_on, definition_of}
+use Rattle.ci_asm.specs.private.Programs.{Definitions, line_insn, insns_of, option_length, offset_between, reaching, resolved, AreWordsOf, IsFaultIn, assembled}
 use Rattle.ci_asm.specs.Lines.{lines_of}
 
 -- ---- lines that can be read

@@ -13,10 +13,10 @@ use Rattle.ci_asm.specs.declared.slots.Slot.TheVariants.{Rd, Rs1, Rs2, Rs3, Valu
 use Rattle.ci_asm.specs.declared.faults.Rule.{Rule}
 use Rattle.ci_asm.specs.declared.faults.Rule.TheVariants.{NoToken, NoOperand, OutOfField, Surplus}
 use Rattle.ci_asm.specs.declared.statements.Operands.{Operands}
-use Rattle.ci_asm.specs.Tokens.{kind_of, next_token, text_of, number_of, register_of}
-use Rattle.ci_asm.specs.Shapes.{is_offset, fits, is_one}
-use Rattle.ci_asm.specs.Statements.{◌>>=◌, found, fault, at_place, register_in, mark_in, number_in, value_in, further_in, one_in, second_in, filled, ends_before}
-use Rattle.ci_asm.specs.Statements.{ended, read_slots, signed_value}
+use Rattle.ci_asm.specs.private.Tokens.{kind_of, next_token, text_of, number_of, register_of}
+use Rattle.ci_asm.specs.private.Shapes.{is_offset, fits, is_one}
+use Rattle.ci_asm.specs.private.Statements.{◌>>=◌, found, fault, at_place, register_in, mark_in, number_in, value_in, further_in, one_in, second_in, filled, ends_before}
+use Rattle.ci_asm.specs.private.Statements.{ended, read_slots, signed_value}
 use Rattle.ci_asm.specs.Lexicon as lex
 use Rattle.ci_reading.specs.Tokens.{text_end, stray_byte}
 use Rattle.ci_asm.specs.Lexicon.{name, decimal_number, hex_number, word, comma, open_bracket, close_bracket, colon, spelling, IsToken}

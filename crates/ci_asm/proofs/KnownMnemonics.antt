@@ -8,8 +8,8 @@ use Rattle.ci_isa.specs.declared.instruction.Width.TheVariants as width_of
 use Rattle.ci_asm.specs.declared.scanner.ByteClass.TheVariants.{NameByte}
 use Rattle.ci_asm.specs.declared.mnemonics.Mnemonic.{Mnemonic}
 use Rattle.ci_asm.specs.declared.mnemonics.Mnemonic.TheVariants.{RegisterRegister, RegisterImmediate, Branch, Load, Store, Data}
-use Rattle.ci_asm.specs.Tokens.{belongs, is_letter}
-use Rattle.ci_asm.specs.Shapes.{is_statement, name_of, mnemonic_of}
+use Rattle.ci_asm.specs.private.Tokens.{belongs, is_letter}
+use Rattle.ci_asm.specs.private.Shapes.{is_statement, name_of, mnemonic_of}
 
 -- a letter, and then letters and digits
 abbrev pub is_word : List ℕ → Bool

@@ -22,11 +22,11 @@ use Rattle.ci_asm.specs.declared.faults.Rule.TheVariants.{NoToken, NoMnemonic, N
 use Rattle.ci_asm.specs.declared.faults.Fault.{Fault}
 use Rattle.ci_asm.specs.declared.statements.Operands.{Operands}
 use Rattle.ci_asm.specs.declared.statements.Statement as code
-use Rattle.ci_asm.specs.Tokens.{next_token, register_of}
-use Rattle.ci_asm.specs.Shapes.{mnemonic_of, is_statement, is_offset, fits, is_one, slots_of}
-use Rattle.ci_asm.specs.Statements.{◌>>=◌, found, fault, at_place, no_operands, number_in, one_in, filled, ends_before, ended, read_slots, mnemonic_in, read_statement}
-use Rattle.ci_asm.specs.Statements.{with_statement, read_line}
-use Rattle.ci_asm.specs.Programs.{kind_of}
+use Rattle.ci_asm.specs.private.Tokens.{next_token, register_of}
+use Rattle.ci_asm.specs.private.Shapes.{mnemonic_of, is_statement, is_offset, fits, is_one, slots_of}
+use Rattle.ci_asm.specs.private.Statements.{◌>>=◌, found, fault, at_place, no_operands, number_in, one_in, filled, ends_before, ended, read_slots, mnemonic_in, read_statement}
+use Rattle.ci_asm.specs.private.Statements.{with_statement, read_line}
+use Rattle.ci_asm.specs.private.Programs.{kind_of}
 use Rattle.ci_asm.specs.Lexicon as lex
 use Rattle.ci_reading.specs.Tokens.{text_end, stray_byte}
 use Rattle.ci_asm.specs.Lexicon.{name, decimal_number, hex_number, word, comma, open_bracket, close_bracket, colon}
@@ -34,7 +34,7 @@ use Rattle.ci_asm.specs.Forms.{IsIn, IsRegister, IsNumber, Writes, HasNumber, St
 use Rattle.ci_asm.specs.Assembly.{IsGoodFront, IsGoodNext, IsWhole, IsNumberDue, IsKind, no_token, no_statement, no_operand, too_short, out_of_field, surplus}
 use Rattle.ci_asm.specs.Assembly.{too_many, IsFaultOfLine}
 use Rattle.ci_asm.proofs.SoundStatements.{mnemonic_in-statement, at_place_ok}
-use Rattle.ci_asm.specs.Tokens.{kind_of as kind_of_token}
+use Rattle.ci_asm.specs.private.Tokens.{kind_of as kind_of_token}
 use Rattle.ci_asm.proofs.SymbolsMet.{IsShown, Shows, Meets, next_symbol}
 use Rattle.ci_asm.proofs.TestLaws.{by_test}
 use Rattle.ci_asm.proofs.ReadOperands.{number_result, field_form, writes_is_number}

@@ -6,8 +6,8 @@ use Rattle.std.proofs.lemmas.List.Sums.{prefix_len-le-length}
 use Rattle.std.proofs.lemmas.List.Folds.{length-prefix_len}
 use Rattle.ci_asm.specs.declared.scanner.ByteClass.TheVariants.{InLine}
 use Rattle.ci_asm.proofs.TestLaws.{and_both, not_true}
-use Rattle.ci_asm.specs.Tokens.{belongs}
-use Rattle.ci_asm.specs.Programs.{first_line}
+use Rattle.ci_asm.specs.private.Tokens.{belongs}
+use Rattle.ci_asm.specs.private.Programs.{first_line}
 use Rattle.ci_asm.specs.Lines.{lines_of, with_byte}
 
 -- the text behind its first line

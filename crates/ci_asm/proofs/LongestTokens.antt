@@ -10,7 +10,7 @@ use Rattle.std.proofs.lemmas.List.{take-append-drop, length-take-le}
 use Rattle.ci_reading.specs.Tokens.{BeginsWith}
 use Rattle.ci_reading.specs.Lexers.{Lexer, IsClear, IsLexer}
 use Rattle.ci_asm.specs.declared.scanner.ByteClass.TheVariants.{Blank, NameByte, Digit, HexDigit}
-use Rattle.ci_asm.specs.Tokens.{belongs, byte_at, run, is_letter, is_digit, is_hex_start, is_negative_start, is_directive, hex_behind, scan}
+use Rattle.ci_asm.specs.private.Tokens.{belongs, byte_at, run, is_letter, is_digit, is_hex_start, is_negative_start, is_directive, hex_behind, scan}
 use Rattle.ci_asm.specs.Lexicon.{IsLetter, IsDigit, IsHexDigit, IsBlank, Token, name, decimal_number, hex_number, word, comma, open_bracket, close_bracket}
 use Rattle.ci_asm.specs.Lexicon.{colon, spelling, StartsWith, IsToken, Spells, line_format}
 use Rattle.ci_asm.proofs.TestLaws.{and_both, true_is_not_false, pick_true}

@@ -14,11 +14,11 @@ use Rattle.ci_asm.specs.declared.faults.Fault.{Fault}
 use Rattle.ci_asm.specs.declared.labels.Definition.{Definition}
 use Rattle.ci_asm.specs.declared.statements.Statement as code
 use Rattle.ci_asm.specs.declared.lines.Line as code_lines
-use Rattle.ci_asm.specs.Tokens.{next_token, text_of}
-use Rattle.ci_asm.specs.Shapes.{fits, field_of}
-use Rattle.ci_asm.specs.Statements.{◌>>=◌, fault, read_line, insn_of, signed_value}
-use Rattle.ci_asm.specs.Programs.{position, kind_of, on_line, line_at, option_words, all_read, Definitions, once_at, defined_once, offset_between, reaching}
-use Rattle.ci_asm.specs.Programs.{resolved, statement_insn, line_insn, option_length, insns_of, assembled}
+use Rattle.ci_asm.specs.private.Tokens.{next_token, text_of}
+use Rattle.ci_asm.specs.private.Shapes.{fits, field_of}
+use Rattle.ci_asm.specs.private.Statements.{◌>>=◌, fault, read_line, insn_of, signed_value}
+use Rattle.ci_asm.specs.private.Programs.{position, kind_of, on_line, line_at, option_words, all_read, Definitions, once_at, defined_once, offset_between, reaching}
+use Rattle.ci_asm.specs.private.Programs.{resolved, statement_insn, line_insn, option_length, insns_of, assembled}
 use Rattle.ci_asm.specs.Lines.{lines_of}
 use Rattle.ci_asm.specs.Lexicon as lex
 use Rattle.ci_reading.specs.Tokens.{text_end}

@@ -15,11 +15,11 @@ use Rattle.ci_asm.specs.declared.labels.Definition.{Definition}
 use Rattle.ci_asm.specs.declared.statements.Operands.{Operands}
 use Rattle.ci_asm.specs.declared.statements.Statement as code
 use Rattle.ci_asm.specs.declared.lines.Line as code_lines
-use Rattle.ci_asm.specs.Tokens.{text_of}
-use Rattle.ci_asm.specs.Shapes.{fits, field_of}
-use Rattle.ci_asm.specs.Statements.{◌>>=◌, fault, signed_value}
-use Rattle.ci_asm.specs.Programs.{Position, position, kind_of, on_line, line_at, option_words, words_behind, all_read, Definitions, once_at, defined_once}
-use Rattle.ci_asm.specs.Programs.{offset_between, reaching, resolved, statement_insn, line_insn, option_length, insns_of, assembled}
+use Rattle.ci_asm.specs.private.Tokens.{text_of}
+use Rattle.ci_asm.specs.private.Shapes.{fits, field_of}
+use Rattle.ci_asm.specs.private.Statements.{◌>>=◌, fault, signed_value}
+use Rattle.ci_asm.specs.private.Programs.{Position, position, kind_of, on_line, line_at, option_words, words_behind, all_read, Definitions, once_at, defined_once}
+use Rattle.ci_asm.specs.private.Programs.{offset_between, reaching, resolved, statement_insn, line_insn, option_length, insns_of, assembled}
 use Rattle.ci_asm.specs.Lines.{lines_of}
 use Rattle.ci_asm.specs.Lexicon.{name}
 use Rattle.ci_asm.specs.Forms as forms

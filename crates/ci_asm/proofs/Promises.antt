@@ -4,7 +4,7 @@ use Rattle.std.specs.Prelude.{IfOk, IfErr}
 use Rattle.ci_isa.specs.declared.instruction.Insn.{Insn}
 use Rattle.ci_asm.specs.declared.faults.AsmFault.{AsmFault}
 use Rattle.ci_asm.specs.declared.faults.AsmFault.TheVariants.{Bad, NoMemory}
-use Rattle.ci_asm.specs.Programs.{Position, assembled, AreWordsOf, AreWordsIn, IsFaultIn}
+use Rattle.ci_asm.specs.private.Programs.{Position, assembled, AreWordsOf, AreWordsIn, IsFaultIn}
 use Rattle.ci_asm.specs.Assembly.{IsAssembly, HasFault}
 use Rattle.ci_asm.specs.Promised.{IsOnlyAssembly, IsFaultOf}
 use Rattle.ci_asm.proofs.ReadPrograms.{assembled_is, is_assembled}

@@ -16,9 +16,9 @@ use Rattle.ci_asm.specs.declared.faults.Fault.{Fault}
 use Rattle.ci_asm.specs.declared.statements.Operands.{Operands}
 use Rattle.ci_asm.specs.declared.statements.Statement as code
 use Rattle.ci_asm.specs.declared.lines.Line as code_lines
-use Rattle.ci_asm.specs.Tokens.{next_token, text_of}
-use Rattle.ci_asm.specs.Shapes.{name_of, mnemonics, mnemonic_of, is_named, is_statement, slots_of}
-use Rattle.ci_asm.specs.Statements.{◌>>=◌, found, fault, at_place, no_operands, read_slots, mnemonic_in, read_statement, is_label, with_statement, read_line}
+use Rattle.ci_asm.specs.private.Tokens.{next_token, text_of}
+use Rattle.ci_asm.specs.private.Shapes.{name_of, mnemonics, mnemonic_of, is_named, is_statement, slots_of}
+use Rattle.ci_asm.specs.private.Statements.{◌>>=◌, found, fault, at_place, no_operands, read_slots, mnemonic_in, read_statement, is_label, with_statement, read_line}
 use Rattle.ci_asm.specs.Lexicon as lex
 use Rattle.ci_reading.specs.Tokens.{text_end, stray_byte}
 use Rattle.ci_asm.specs.Lexicon.{name, word, comma, open_bracket, close_bracket, colon, spelling, IsToken, Stands}
@@ -26,7 +26,7 @@ use Rattle.ci_asm.specs.Forms.{Statement, IsStatement}
 use Rattle.ci_asm.specs.Assembly.{Line, HasLabel, label_tokens, StandsInLine, HasStatement, IsLine}
 use Rattle.ci_asm.proofs.SoundStatements.{bind_ok, same_ok, at_place_ok, found_ok, unless_full, mnemonic_in-statement}
 use Rattle.ci_asm.proofs.KnownMnemonics.{known_mnemonic}
-use Rattle.ci_asm.specs.Tokens.{kind_of}
+use Rattle.ci_asm.specs.private.Tokens.{kind_of}
 use Rattle.ci_asm.proofs.TestLaws.{true_is_not_false}
 use Rattle.ci_asm.proofs.SymbolsMet.{IsShown, Shows, Meets, next_symbol, same_symbol, line_meets, line_stands, kind_no_end}
 use Rattle.ci_asm.proofs.TestLaws.{by_test}

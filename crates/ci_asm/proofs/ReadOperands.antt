@@ -10,9 +10,9 @@ use Rattle.std.proofs.lemmas.Bool.Decides.{nat_tests}
 use Rattle.ci_asm.specs.declared.numbers.Number.{Number}
 use Rattle.ci_asm.specs.declared.slots.Field.{Field}
 use Rattle.ci_asm.specs.declared.slots.Field.TheVariants.{Immediate, Amount, Upper, BranchOffset, JumpOffset, FenceBits, UnitNumber, Whole}
-use Rattle.ci_asm.specs.Tokens.{byte_at, is_digit, is_between, number, number_of, two_digits, register_at, has_one_digit, has_two_digits, register_of}
-use Rattle.ci_asm.specs.Shapes.{lowest, highest, is_offset, fits, field_from}
-use Rattle.ci_asm.specs.Statements.{signed_value}
+use Rattle.ci_asm.specs.private.Tokens.{byte_at, is_digit, is_between, number, number_of, two_digits, register_at, has_one_digit, has_two_digits, register_of}
+use Rattle.ci_asm.specs.private.Shapes.{lowest, highest, is_offset, fits, field_from}
+use Rattle.ci_asm.specs.private.Statements.{signed_value}
 use Rattle.ci_asm.specs.Shown.{register_name}
 use Rattle.ci_asm.specs.Lexicon as lex
 use Rattle.ci_asm.specs.Lexicon.{decimal_number, hex_number, spelling, IsToken}

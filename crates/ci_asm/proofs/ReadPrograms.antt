@@ -17,13 +17,13 @@ use Rattle.ci_asm.specs.declared.labels.Definition.{Definition}
 use Rattle.ci_asm.specs.declared.statements.Operands.{Operands}
 use Rattle.ci_asm.specs.declared.statements.Statement as code
 use Rattle.ci_asm.specs.declared.lines.Line as code_lines
-use Rattle.ci_asm.specs.Tokens.{text_of}
-use Rattle.ci_asm.specs.Shapes.{fits, field_of}
-use Rattle.ci_asm.specs.Statements.{◌>>=◌, insn_of, signed_value}
-use Rattle.ci_asm.specs.LabelMap.{earlier}
-use Rattle.ci_asm.specs.Programs.{Position, position, on_line, line_at, option_words, words_in, label_in, words_behind, all_read, is_labelled, definition_on}
-use Rattle.ci_asm.specs.Programs.{definition_of, Definitions, once_at, defined_once, offset_between, reaching, resolved, statement_insn, line_insn}
-use Rattle.ci_asm.specs.Programs.{option_length, insns_of, assembled, AreWordsOf, AreWordsIn}
+use Rattle.ci_asm.specs.private.Tokens.{text_of}
+use Rattle.ci_asm.specs.private.Shapes.{fits, field_of}
+use Rattle.ci_asm.specs.private.Statements.{◌>>=◌, insn_of, signed_value}
+use Rattle.ci_asm.specs.private.LabelMap.{earlier}
+use Rattle.ci_asm.specs.private.Programs.{Position, position, on_line, line_at, option_words, words_in, label_in, words_behind, all_read, is_labelled, definition_on}
+use Rattle.ci_asm.specs.private.Programs.{definition_of, Definitions, once_at, defined_once, offset_between, reaching, resolved, statement_insn, line_insn}
+use Rattle.ci_asm.specs.private.Programs.{option_length, insns_of, assembled, AreWordsOf, AreWordsIn}
 use Rattle.ci_asm.specs.Lines.{lines_of}
 use Rattle.ci_asm.specs.Forms.{Statement, IsIn}
 use Rattle.ci_asm.specs.Assembly as asm

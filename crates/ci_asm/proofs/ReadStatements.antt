@@ -13,8 +13,8 @@ use Rattle.ci_asm.specs.declared.mnemonics.Mnemonic.TheVariants.{RegisterRegiste
 use Rattle.ci_asm.specs.declared.mnemonics.Mnemonic.TheVariants.{Ebreak, Custom, Cput, Cread, Data}
 use Rattle.ci_asm.specs.declared.slots.Slot.{Slot}
 use Rattle.ci_asm.specs.declared.slots.Slot.TheVariants.{Value}
-use Rattle.ci_asm.specs.Shapes.{name_of, is_statement, is_offset, form_name, form_field, immediate_name, immediate_field, slots_of}
-use Rattle.ci_asm.specs.Statements.{result_index, insn_of}
+use Rattle.ci_asm.specs.private.Shapes.{name_of, is_statement, is_offset, form_name, form_field, immediate_name, immediate_field, slots_of}
+use Rattle.ci_asm.specs.private.Statements.{result_index, insn_of}
 use Rattle.ci_asm.specs.Lexicon as lex
 use Rattle.ci_asm.specs.Lexicon.{name, word, comma}
 use Rattle.ci_asm.specs.Forms as forms

@@ -11,7 +11,7 @@ use Rattle.ci_isa.specs.declared.instruction.Insn.{Insn}
 use Rattle.ci_isa.specs.Table.{IsWellFormed, IsWordOf}
 use Rattle.ci_isa.proofs.WellFormed.{fields_fit}
 use Rattle.ci_asm.specs.declared.scanner.ByteClass.TheVariants.{InLine}
-use Rattle.ci_asm.specs.Tokens.{belongs, scan}
+use Rattle.ci_asm.specs.private.Tokens.{belongs, scan}
 use Rattle.ci_asm.specs.Lexicon.{IsBlank, Token, name, colon, Spells, line_format}
 use Rattle.ci_asm.specs.Forms.{Statement, plain}
 use Rattle.ci_asm.specs.Lines.{lines_of}

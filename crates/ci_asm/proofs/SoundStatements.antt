@@ -24,11 +24,11 @@ use Rattle.ci_asm.specs.declared.statements.Operands.{Operands}
 use Rattle.ci_asm.specs.declared.statements.Statement.{Statement}
 use Rattle.ci_asm.specs.declared.lines.Line.{Line}
 use Rattle.ci_asm.specs.Lexicon as lex
-use Rattle.ci_asm.specs.Tokens.{token, run_end, scan, token_by, token_at, next_token, text_of, number_of, register_at, has_one_digit, has_two_digits}
-use Rattle.ci_asm.specs.Tokens.{register_of}
-use Rattle.ci_asm.specs.Shapes.{mnemonics, mnemonic_of, is_named, is_statement, fits, is_one, is_offset, field_of, slots_of}
-use Rattle.ci_asm.specs.Statements.{◌>>=◌, found, fault, at_place, zero_number, no_operands, register_in, mark_in, number_in, value_in, filled, ended}
-use Rattle.ci_asm.specs.Statements.{further_in, one_in, second_in, ends_before, read_slots, mnemonic_in, read_statement, with_statement, HasRegisters, IsRead, IsLineOf}
+use Rattle.ci_asm.specs.private.Tokens.{token, run_end, scan, token_by, token_at, next_token, text_of, number_of, register_at, has_one_digit, has_two_digits}
+use Rattle.ci_asm.specs.private.Tokens.{register_of}
+use Rattle.ci_asm.specs.private.Shapes.{mnemonics, mnemonic_of, is_named, is_statement, fits, is_one, is_offset, field_of, slots_of}
+use Rattle.ci_asm.specs.private.Statements.{◌>>=◌, found, fault, at_place, zero_number, no_operands, register_in, mark_in, number_in, value_in, filled, ended}
+use Rattle.ci_asm.specs.private.Statements.{further_in, one_in, second_in, ends_before, read_slots, mnemonic_in, read_statement, with_statement, HasRegisters, IsRead, IsLineOf}
 
 -- ---- steps that may fail
 

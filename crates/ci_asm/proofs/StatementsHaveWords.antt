@@ -15,8 +15,8 @@ use Rattle.ci_asm.specs.declared.mnemonics.Mnemonic.TheVariants.{Ebreak, Custom,
 use Rattle.ci_asm.specs.declared.slots.Field.{Field}
 use Rattle.ci_asm.specs.declared.slots.Field.TheVariants.{Immediate, Amount, Upper, BranchOffset, JumpOffset, FenceBits, UnitNumber, Whole}
 use Rattle.ci_asm.specs.declared.statements.Operands.{Operands}
-use Rattle.ci_asm.specs.Shapes.{is_statement, lowest, highest, is_offset, fits, field_of}
-use Rattle.ci_asm.specs.Statements.{HasRegisters, signed_value, result_index, insn_of}
+use Rattle.ci_asm.specs.private.Shapes.{is_statement, lowest, highest, is_offset, fits, field_of}
+use Rattle.ci_asm.specs.private.Statements.{HasRegisters, signed_value, result_index, insn_of}
 
 -- ---- numbers in their fields
 

@@ -11,7 +11,7 @@ use Rattle.ci_reading.proofs.TokenLaws.{found_first, only_symbols, are_symbols}
 use Rattle.ci_asm.specs.declared.scanner.ByteClass.TheVariants.{Blank}
 use Rattle.ci_asm.specs.declared.scanner.Kind.TheVariants.{End, Bad}
 use Rattle.ci_asm.specs.declared.scanner.Token.{Token}
-use Rattle.ci_asm.specs.Tokens.{belongs, run_end, scan, kind_of, token, token_at, next_token, text_of}
+use Rattle.ci_asm.specs.private.Tokens.{belongs, run_end, scan, kind_of, token, token_at, next_token, text_of}
 use Rattle.ci_asm.specs.Lexicon as lex
 use Rattle.ci_asm.specs.Lexicon.{name, spelling, IsToken, Stands, line_format}
 use Rattle.ci_asm.proofs.TestLaws.{by_test}

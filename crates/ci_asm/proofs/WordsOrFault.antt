@@ -12,11 +12,11 @@ use Rattle.ci_asm.specs.declared.labels.Definition.{Definition}
 use Rattle.ci_asm.specs.declared.statements.Operands.{Operands}
 use Rattle.ci_asm.specs.declared.statements.Statement as code
 use Rattle.ci_asm.specs.declared.lines.Line as code_lines
-use Rattle.ci_asm.specs.Tokens.{next_token}
-use Rattle.ci_asm.specs.Shapes.{fits, field_of}
-use Rattle.ci_asm.specs.Statements.{is_label, with_statement, read_line, IsRead, IsLineOf}
-use Rattle.ci_asm.specs.Programs.{Position, on_line, line_at, Definitions, defined_once, offset_between, reaching, resolved, statement_insn, line_insn}
-use Rattle.ci_asm.specs.Programs.{option_length, insns_of, all_read, assembled, AreWordsOf}
+use Rattle.ci_asm.specs.private.Tokens.{next_token}
+use Rattle.ci_asm.specs.private.Shapes.{fits, field_of}
+use Rattle.ci_asm.specs.private.Statements.{is_label, with_statement, read_line, IsRead, IsLineOf}
+use Rattle.ci_asm.specs.private.Programs.{Position, on_line, line_at, Definitions, defined_once, offset_between, reaching, resolved, statement_insn, line_insn}
+use Rattle.ci_asm.specs.private.Programs.{option_length, insns_of, all_read, assembled, AreWordsOf}
 use Rattle.ci_asm.specs.Lines.{lines_of}
 use Rattle.ci_asm.specs.Assembly.{IsAssembly, HasFault}
 use Rattle.ci_asm.proofs.SoundStatements.{bind_ok, same_ok, cond_ok, next_token-start, line_by_statement}

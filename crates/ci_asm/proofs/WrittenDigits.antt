@@ -10,7 +10,7 @@ use Rattle.std.proofs.lemmas.Bool.{cases_lt}
 use Rattle.std.proofs.lemmas.Bool.Decides.{nat_tests}
 use Rattle.ci_reading.specs.Hex.{eight_hex_digits}
 use Rattle.ci_reading.proofs.DigitLaws.{eight_hex_digits_value, eight_hex_digits_all, length_hex}
-use Rattle.ci_asm.specs.Tokens.{is_digit, is_between, two_digits, register_at, has_one_digit, has_two_digits, register_of}
+use Rattle.ci_asm.specs.private.Tokens.{is_digit, is_between, two_digits, register_at, has_one_digit, has_two_digits, register_of}
 use Rattle.ci_asm.specs.Lexicon.{IsDigit, IsHexDigit, StartsWith}
 use Rattle.ci_asm.specs.Shown.{register_name}
 use Rattle.ci_asm.proofs.TestLaws.{pick_true}

@@ -16,7 +16,7 @@ use Rattle.ci_isa.specs.Table.{constant_form}
 use Rattle.ci_isa.specs.FieldBounds.{IsOfWidth, IsEven, ConstantFits, FieldsFit}
 use Rattle.ci_asm.specs.declared.scanner.ByteClass.TheVariants.{NameByte}
 use Rattle.ci_asm.specs.declared.mnemonics.Mnemonic.TheVariants.{RegisterRegister, Branch, Load, Store}
-use Rattle.ci_asm.specs.Tokens.{belongs, is_letter, scan}
+use Rattle.ci_asm.specs.private.Tokens.{belongs, is_letter, scan}
 use Rattle.ci_asm.specs.Lexicon.{IsDigit, IsHexDigit, Token, name, decimal_number, hex_number, word, comma, open_bracket, close_bracket, colon, spelling}
 use Rattle.ci_asm.specs.Lexicon.{StartsWith, IsToken, Spells, line_format}
 use Rattle.ci_asm.specs.Forms.{Field, immediate, shift_amount, upper_bits, branch_offset, jump_offset, IsIn, operation_name, register_immediate, branch_name}

@@ -4,8 +4,4 @@ pub mod Lines
 pub mod Assembly
 pub mod Promised
 pub mod Shown
-pub mod Tokens
-pub mod Shapes
-pub mod Statements
-pub mod LabelMap
-pub mod Programs
+pub mod private

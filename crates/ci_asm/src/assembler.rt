@@ -3,13 +3,13 @@ ghost use Rattle.std.specs.Prelude.{◌≡◌, ℕ, ◌+◌, ◌++◌, ◌≤◌
 ghost use Rattle.std.specs.Prelude.{true, vec_len};
 ghost use Rattle.std.specs.Option.{ForSome, option_to_list};
 ghost use Rattle.ci_isa.specs.Table.{IsWellFormed};
-ghost use Rattle.ci_asm.specs.Shapes.{fits, field_of};
-ghost use Rattle.ci_asm.specs.LabelMap.{found_in, earlier};
+ghost use Rattle.ci_asm.specs.private.Shapes.{fits, field_of};
+ghost use Rattle.ci_asm.specs.private.LabelMap.{found_in, earlier};
 ghost use Rattle.ci_asm.specs.Assembly.{IsAssembly};
 ghost use Rattle.ci_asm.specs.Promised.{IsOnlyAssembly, IsFaultOf};
-ghost use Rattle.ci_asm.specs.Programs.{kind_of, defined_once, offset_between, resolved, line_insn, insns_of};
-ghost use Rattle.ci_asm.specs.Programs.{first_line, all_read, definition_of, definition_on, words_behind, IsFaultIn};
-ghost use Rattle.ci_asm.specs.Programs.{AreWordsOf, AreWordsIn, option_length};
+ghost use Rattle.ci_asm.specs.private.Programs.{kind_of, defined_once, offset_between, resolved, line_insn, insns_of};
+ghost use Rattle.ci_asm.specs.private.Programs.{first_line, all_read, definition_of, definition_on, words_behind, IsFaultIn};
+ghost use Rattle.ci_asm.specs.private.Programs.{AreWordsOf, AreWordsIn, option_length};
 ghost use Rattle.ci_asm.specs.Lines.{lines_of};
 ghost use Rattle.ci_isa.specs.declared.instruction.Insn.{Insn};
 
@@ -156,7 +156,7 @@ fn words_of<'a>(
 }
 
 /// The instruction of the line of this number, before which `words` words stand.
-#[tactic(auto, unfolding(crate::specs::Programs::line_insn))]
+#[tactic(auto, unfolding(crate::specs::private::Programs::line_insn))]
 fn line_insn<'a>(
     definitions: &Definitions<'a>,
     number: u32,

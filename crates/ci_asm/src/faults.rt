@@ -1,6 +1,6 @@
 //! What may be wrong with a text.
 ghost use Rattle.std.specs.Prelude.{◌≡◌};
-ghost use Rattle.ci_asm.specs.Programs.{kind_of};
+ghost use Rattle.ci_asm.specs.private.Programs.{kind_of};
 
 use std::alloc::{AllocError, AllocFailed};
 

@@ -1,7 +1,7 @@
 //! From a statement to its instruction.
 ghost use Rattle.std.specs.Prelude.{◌≡◌, ◌*◌, ◌^◌, ◌<◌, true};
-ghost use Rattle.ci_asm.specs.Shapes.{fits, field_of};
-ghost use Rattle.ci_asm.specs.Statements.{insn_of};
+ghost use Rattle.ci_asm.specs.private.Shapes.{fits, field_of};
+ghost use Rattle.ci_asm.specs.private.Statements.{insn_of};
 
 use crate::mnemonics::Mnemonic;
 use crate::numbers::{Number, signed_value};

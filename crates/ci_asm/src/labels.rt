@@ -1,7 +1,7 @@
 //! The labels of a text.
 ghost use Rattle.std.specs.Prelude.{◌≡◌, ℕ, List, OnOk, if◌then◌else◌, Some, None};
 ghost use Rattle.std.specs.Str.{bytes_eq};
-ghost use Rattle.ci_asm.specs.LabelMap.{found_in, earlier};
+ghost use Rattle.ci_asm.specs.private.LabelMap.{found_in, earlier};
 
 use std::alloc::AllocError;
 use std::collections::BTreeMap;

@@ -1,6 +1,6 @@
 //! One line of a text.
 ghost use Rattle.std.specs.Prelude.{◌≡◌, ◌≤◌, length, IfOk, IfErr};
-ghost use Rattle.ci_asm.specs.Statements.{is_label, with_statement, read_line, IsLineOf};
+ghost use Rattle.ci_asm.specs.private.Statements.{is_label, with_statement, read_line, IsLineOf};
 
 use crate::faults::Fault;
 use crate::scanner::{Kind, Token, next_token};
@@ -49,7 +49,7 @@ fn with_statement(
 }
 
 /// What the line has. Where the program is full, no more statements may come.
-#[tactic(auto, unfolding(crate::specs::Statements::read_line))]
+#[tactic(auto, unfolding(crate::specs::private::Statements::read_line))]
 pub(crate) fn read_line(line: &[u8], full: bool) -> Result<Line, Fault>
     ensures value { result ≡ read_line line.now full }
     ensures line { IfOk result (IsLineOf (length line.now)) }

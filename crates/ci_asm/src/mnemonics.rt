@@ -1,6 +1,6 @@
 //! The names of statements.
 ghost use Rattle.std.specs.Prelude.{◌≡◌, find};
-ghost use Rattle.ci_asm.specs.Shapes.{immediate_name, name_of, mnemonics, is_named, mnemonic_of};
+ghost use Rattle.ci_asm.specs.private.Shapes.{immediate_name, name_of, mnemonics, is_named, mnemonic_of};
 ghost use Rattle.ci_asm.specs.Forms.{operation_name, branch_name, load_name, store_name};
 
 use ci_isa::{Cond, LoadKind, Width};
@@ -114,7 +114,7 @@ impl Mnemonic {
 }
 
 /// The mnemonic with this name.
-#[tactic(auto, unfolding(crate::specs::Shapes::mnemonic_of))]
+#[tactic(auto, unfolding(crate::specs::private::Shapes::mnemonic_of))]
 pub(crate) fn mnemonic_of(text: &[u8]) -> Option<Mnemonic>
     ensures { result ≡ mnemonic_of text.now }
 {

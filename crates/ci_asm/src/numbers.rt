@@ -1,8 +1,8 @@
 //! Numbers in the text.
 ghost use Rattle.std.specs.Prelude.{◌≡◌, ◌^◌, ◌<◌, ◌≤◌};
-ghost use Rattle.ci_asm.specs.Tokens.{number, number_of};
-ghost use Rattle.ci_asm.specs.Shapes.{is_one};
-ghost use Rattle.ci_asm.specs.Statements.{signed_value};
+ghost use Rattle.ci_asm.specs.private.Tokens.{number, number_of};
+ghost use Rattle.ci_asm.specs.private.Shapes.{is_one};
+ghost use Rattle.ci_asm.specs.private.Statements.{signed_value};
 
 use crate::scanner::{behind, byte_at};
 use ci_reading::digit_value;
@@ -24,7 +24,7 @@ impl Number {
 }
 
 /// The number that a numeral writes, if it has at most ten digits.
-#[tactic(auto, unfolding(crate::specs::Tokens::number_of))]
+#[tactic(auto, unfolding(crate::specs::private::Tokens::number_of))]
 pub(crate) fn number_of(text: &[u8]) -> Option<Number>
     ensures { result ≡ number_of text.now }
 {

@@ -1,12 +1,12 @@
 //! The names of registers.
 ghost use Rattle.std.specs.Prelude.{◌≡◌};
-ghost use Rattle.ci_asm.specs.Tokens.{register_of, register_at, has_one_digit, has_two_digits, two_digits};
+ghost use Rattle.ci_asm.specs.private.Tokens.{register_of, register_at, has_one_digit, has_two_digits, two_digits};
 
 use crate::scanner::{byte_at, is_between, is_digit};
 use ci_isa::Reg;
 
 /// The register that a name names: `x` and a number below 32 without a leading zero.
-#[tactic(auto, unfolding(crate::specs::Tokens::register_of))]
+#[tactic(auto, unfolding(crate::specs::private::Tokens::register_of))]
 pub(crate) fn register_of(text: &[u8]) -> Option<Reg>
     ensures { result ≡ register_of text.now }
 {

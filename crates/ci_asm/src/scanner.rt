@@ -1,8 +1,8 @@
 //! The tokens of a line.
 ghost use Rattle.std.specs.Prelude.{◌≡◌, ◌≤◌, length, drop, IfSome};
-ghost use Rattle.ci_asm.specs.Tokens.{is_between, is_letter, is_digit, belongs, byte_at, run_end, run, is_hex_start};
-ghost use Rattle.ci_asm.specs.Tokens.{is_negative_start, is_directive, kind_and_size, mark_of, scan, token_at};
-ghost use Rattle.ci_asm.specs.Tokens.{next_token, text_of};
+ghost use Rattle.ci_asm.specs.private.Tokens.{is_between, is_letter, is_digit, belongs, byte_at, run_end, run, is_hex_start};
+ghost use Rattle.ci_asm.specs.private.Tokens.{is_negative_start, is_directive, kind_and_size, mark_of, scan, token_at};
+ghost use Rattle.ci_asm.specs.private.Tokens.{next_token, text_of};
 
 /// A class of bytes.
 #[derive(Clone, Copy)]
@@ -140,7 +140,7 @@ fn mark_of(first: u8) -> Option<(Kind, usize)>
 
 /// The longest token that begins with a byte and stands before a text: its kind, and how many
 /// bytes of the text it has.
-#[tactic(auto, unfolding(crate::specs::Tokens::scan))]
+#[tactic(auto, unfolding(crate::specs::private::Tokens::scan))]
 fn scan(first: u8, text: &[u8]) -> Option<(Kind, usize)>
     ensures token { result ≡ kind_and_size (scan first text.now) }
     ensures bound { IfSome result (λ found. found.1 ≤ length text.now) }
@@ -159,7 +159,7 @@ fn scan(first: u8, text: &[u8]) -> Option<(Kind, usize)>
 }
 
 /// The token that begins at a place of the line, where no blank stands.
-#[tactic(auto, unfolding(crate::specs::Tokens::token_at))]
+#[tactic(auto, unfolding(crate::specs::private::Tokens::token_at))]
 fn token_at(line: &[u8], i: usize) -> Token
     ensures token { result ≡ token_at (length line.now) i (drop i line.now) }
     ensures bound { result.start ≤ length line.now }

@@ -1,7 +1,7 @@
 //! The shapes of statements.
 ghost use Rattle.std.specs.Prelude.{◌≡◌};
-ghost use Rattle.ci_asm.specs.Shapes.{lowest, highest, is_offset, fits, immediate_field, slots_of, field_of};
-ghost use Rattle.ci_asm.specs.Statements.{ends_before};
+ghost use Rattle.ci_asm.specs.private.Shapes.{lowest, highest, is_offset, fits, immediate_field, slots_of, field_of};
+ghost use Rattle.ci_asm.specs.private.Statements.{ends_before};
 
 use crate::mnemonics::Mnemonic;
 use crate::numbers::Number;

@@ -1,7 +1,7 @@
 //! The statement of a line.
 ghost use Rattle.std.specs.Prelude.{◌≡◌, ◌≤◌, length, IfErr};
-ghost use Rattle.ci_asm.specs.Statements.{no_operands, not_due, register_in, mark_in, number_in, value_in, filled};
-ghost use Rattle.ci_asm.specs.Statements.{further_in, one_in, second_in, ended, read_slots, mnemonic_in, read_statement};
+ghost use Rattle.ci_asm.specs.private.Statements.{no_operands, not_due, register_in, mark_in, number_in, value_in, filled};
+ghost use Rattle.ci_asm.specs.private.Statements.{further_in, one_in, second_in, ended, read_slots, mnemonic_in, read_statement};
 
 use crate::faults::{Fault, Rule};
 use crate::mnemonics::{Mnemonic, mnemonic_of};
@@ -135,7 +135,7 @@ fn second_in(line: &[u8], token: Token, operands: Operands) -> Result<Operands, 
 }
 
 /// The operands with the token in the slot's place.
-#[tactic(auto, unfolding(crate::specs::Statements::filled))]
+#[tactic(auto, unfolding(crate::specs::private::Statements::filled))]
 fn filled(line: &[u8], slot: Slot, token: Token, operands: Operands) -> Result<Operands, Rule>
     ensures { result ≡ filled line.now slot token operands }
 {
@@ -182,7 +182,7 @@ fn ended(operands: Operands, token: Token) -> Result<Operands, Fault>
 }
 
 /// The operands with what stands in the slots' places, from a place of the line on.
-#[tactic(auto, unfolding(crate::specs::Statements::read_slots))]
+#[tactic(auto, unfolding(crate::specs::private::Statements::read_slots))]
 fn read_slots(
     line: &[u8],
     slots: &[Slot],
@@ -226,7 +226,7 @@ fn mnemonic_in(line: &[u8], token: Token) -> Result<Mnemonic, Rule>
 
 /// The statement that begins with the token. Where the program is full, no more statements may
 /// come.
-#[tactic(auto, unfolding(crate::specs::Statements::read_statement))]
+#[tactic(auto, unfolding(crate::specs::private::Statements::read_statement))]
 pub(crate) fn read_statement(line: &[u8], token: Token, full: bool) -> Result<Statement, Fault>
     requires { token.start ≤ length line.now }
     ensures value { result ≡ read_statement line.now token full }

@@ -11,8 +11,8 @@ use Rattle.ci_elf.specs.Executables.{Executable, IsTextWord}
 use Rattle.ci_block.specs.declared.blocks.Block.{Block}
 use Rattle.ci_block.specs.Blocks.{IsBlockAt, at_end_of_range, at_leader, end_of_block, size_of, AreBlocks, AreInOrder}
 use Rattle.ci_block.specs.Leaders.{AreLeaders, behind_terminator}
-use Rattle.ci_block.specs.Marking.{range_at}
-use Rattle.ci_block.specs.Stretches.{AreBlocksOf, AreInsns, EndsStretch, IsBlockOf, IsRangeEnd, IsStretch}
+use Rattle.ci_block.specs.private.Marking.{range_at}
+use Rattle.ci_block.specs.private.Stretches.{AreBlocksOf, AreInsns, EndsStretch, IsBlockOf, IsRangeEnd, IsStretch}
 use Rattle.ci_block.specs.Text.{EndsAt, StandsAt}
 use Rattle.ci_elf.proofs.WordPlaceLaws.{nowhere}
 use Rattle.ci_block.proofs.RangeLaws.{held_below, range_there, text_at}

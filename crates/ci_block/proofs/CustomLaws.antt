@@ -4,10 +4,10 @@ use Rattle.std.proofs.lemmas.Bool.{cases_lt}
 use Rattle.ci_isa.specs.Fields.{HasCustomOpcode}
 use Rattle.ci_elf.specs.declared.ranges.Range.{Range}
 use Rattle.ci_elf.specs.Executables.{Executable, IsTextWord, IsWellFormed, text_word}
-use Rattle.ci_block.specs.Marking.{range_at}
+use Rattle.ci_block.specs.private.Marking.{range_at}
 use Rattle.ci_elf.proofs.WordPlaceLaws.{nowhere}
 use Rattle.ci_block.proofs.RangeLaws.{apart, holder, text_below_top, text_ranges, word_of_range}
-use Rattle.ci_block.specs.CustomSearch.{HasNoCustomWordBefore, IsFirstCustomWordIn}
+use Rattle.ci_block.specs.private.CustomSearch.{HasNoCustomWordBefore, IsFirstCustomWordIn}
 use Rattle.ci_block.specs.CustomWords.{HasNoCustomWord, IsFirstCustomWord}
 
 module _ (image : Executable) (formed : IsWellFormed image) where

@@ -7,10 +7,10 @@ use Rattle.ci_elf.specs.Executables.{Executable, IsTextWord}
 use Rattle.ci_block.specs.declared.marks.Marks.{Marks}
 use Rattle.ci_block.specs.Leaders.{IsBehindFullBlock, IsListing, IsMark, entry, target_of_jump, behind_terminator}
 use Rattle.ci_block.specs.Leaders.{where_ranges_meet, symbol, data_word, target_of_jalr, named_by_user}
-use Rattle.ci_block.specs.Listing.{IsFull, IsListedBelow}
-use Rattle.ci_block.specs.Marking.{range_at, AreTextRanges}
-use Rattle.ci_block.specs.Marks.{Adds, AreMarksOf, IsMarked}
-use Rattle.ci_block.specs.Sources.{IsFromData, IsFromMeeting, IsFromText}
+use Rattle.ci_block.specs.private.Listing.{IsFull, IsListedBelow}
+use Rattle.ci_block.specs.private.Marking.{range_at, AreTextRanges}
+use Rattle.ci_block.specs.private.Marks.{Adds, AreMarksOf, IsMarked}
+use Rattle.ci_block.specs.private.Sources.{IsFromData, IsFromMeeting, IsFromText}
 use Rattle.ci_block.specs.Text.{EndsAt}
 use Rattle.ci_block.proofs.RangeLaws.{held_below, number_of, range_there, text_at, text_below_top}
 use Rattle.ci_block.proofs.SourceLaws.{meeting_from, meeting_met}

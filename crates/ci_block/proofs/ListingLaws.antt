@@ -7,8 +7,8 @@ use Rattle.std.proofs.lemmas.List.Elements.{Contains-append_left, Contains-get_o
 use Rattle.std.proofs.lemmas.List.Quantifiers.{all_pairs_push}
 use Rattle.ci_elf.specs.declared.ranges.Range.{Range}
 use Rattle.ci_elf.specs.Executables.{IsTextWord, end_of}
-use Rattle.ci_block.specs.Marking.{range_at, AreTextRanges}
-use Rattle.ci_block.specs.Listing.{IsFull, IsFullBefore, IsLastFrom, IsListedBelow}
+use Rattle.ci_block.specs.private.Marking.{range_at, AreTextRanges}
+use Rattle.ci_block.specs.private.Listing.{IsFull, IsFullBefore, IsLastFrom, IsListedBelow}
 use Rattle.ci_block.proofs.RangeLaws.{apart, before_first, between, held_at, one_range, word_of_range}
 
 module _ (ranges : List Range) (leaders : List ℕ) (limit : ℕ) where

@@ -10,9 +10,9 @@ use Rattle.ci_elf.specs.declared.segments.Segment.{Segment}
 use Rattle.ci_elf.specs.Executables.{Executable, InText, IsLoaded, IsWellFormed}
 use Rattle.ci_elf.specs.Fields.{field}
 use Rattle.ci_elf.proofs.ImageLaws.{loaded_from, loaded_to}
-use Rattle.ci_block.specs.Loading.{IsFromDataWords, IsFromSegments, end_word, first_word, segment_at}
-use Rattle.ci_block.specs.Marking.{AreTextRanges}
-use Rattle.ci_block.specs.Sources.{IsFromData}
+use Rattle.ci_block.specs.private.Loading.{IsFromDataWords, IsFromSegments, end_word, first_word, segment_at}
+use Rattle.ci_block.specs.private.Marking.{AreTextRanges}
+use Rattle.ci_block.specs.private.Sources.{IsFromData}
 use Rattle.ci_block.specs.Text.{IsDataWord, IsLoadedWord}
 use Rattle.ci_elf.proofs.WordPlaceLaws.{nowhere}
 use Rattle.ci_block.proofs.RangeLaws.{holder, text_at}

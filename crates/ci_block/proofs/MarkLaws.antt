@@ -10,7 +10,7 @@ use Rattle.ci_elf.specs.Executables.{IsTextWord}
 use Rattle.ci_elf.specs.WordPlaces.{word_place}
 use Rattle.ci_elf.proofs.WordPlaceLaws.{no_text_word, one_word, word_below}
 use Rattle.ci_block.specs.declared.marks.Marks.{Marks}
-use Rattle.ci_block.specs.Marks.{Adds, IsMarked}
+use Rattle.ci_block.specs.private.Marks.{Adds, IsMarked}
 
 same_number : (a b : ℕ) → Some a ≡ Some b → a ≡ b
 same_number a b is = cc

@@ -7,7 +7,7 @@ use Rattle.ci_elf.specs.declared.ranges.Range.{Range}
 use Rattle.ci_elf.specs.Executables.{Executable, HoldsAddress, InText, IsTextWord, IsWellFormed, end_of}
 use Rattle.ci_elf.proofs.WordPlaceLaws.{nowhere}
 use Rattle.ci_elf.proofs.RangeLaws.{range_holding, text_held}
-use Rattle.ci_block.specs.Marking.{range_at, AreTextRanges}
+use Rattle.ci_block.specs.private.Marking.{range_at, AreTextRanges}
 
 -- a range that has an address is one of the list
 pub held_below : (ranges : List Range) (address i : ℕ) → address < end_of (range_at ranges i) → i < length ranges

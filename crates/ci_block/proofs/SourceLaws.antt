@@ -5,8 +5,8 @@ use Rattle.std.proofs.lemmas.Bool.{cases_lt}
 use Rattle.ci_isa.specs.declared.instruction.Insn.{Insn}
 use Rattle.ci_elf.specs.declared.ranges.Range.{Range}
 use Rattle.ci_elf.specs.Executables.{Executable, end_of}
-use Rattle.ci_block.specs.Marking.{range_at, AreTextRanges}
-use Rattle.ci_block.specs.Sources.{IsFromMeeting, IsFromRanges, IsFromText, IsFromWords, Leads, Meets}
+use Rattle.ci_block.specs.private.Marking.{range_at, AreTextRanges}
+use Rattle.ci_block.specs.private.Sources.{IsFromMeeting, IsFromRanges, IsFromText, IsFromWords, Leads, Meets}
 use Rattle.ci_block.specs.Text.{StandsAt}
 use Rattle.ci_block.proofs.InsnLaws.{stands_alone}
 use Rattle.ci_elf.proofs.WordPlaceLaws.{nowhere}

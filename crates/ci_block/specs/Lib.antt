@@ -2,11 +2,5 @@ pub mod Text
 pub mod CustomWords
 pub mod Leaders
 pub mod Blocks
-pub mod Marking
-pub mod Marks
-pub mod Sources
-pub mod Loading
-pub mod Listing
-pub mod CustomSearch
-pub mod Stretches
 pub mod Laws
+pub mod private

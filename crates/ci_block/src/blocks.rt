@@ -3,7 +3,7 @@ ghost use Rattle.std.specs.Prelude.{◌+◌, ◌*◌, ◌<◌, ◌↔◌, [], �
 ghost use Rattle.ci_elf.specs.Executables.{IsTextWord};
 ghost use Rattle.ci_block.specs.Blocks.{AreBlocks, AreSuccessors, IsNext};
 ghost use Rattle.ci_block.specs.Leaders.{AreLeaders};
-ghost use Rattle.ci_block.specs.Stretches.{AreInsns, EndsStretch, IsBlockOf, IsRangeEnd, IsStretch};
+ghost use Rattle.ci_block.specs.private.Stretches.{AreInsns, EndsStretch, IsBlockOf, IsRangeEnd, IsStretch};
 
 use crate::Leaders;
 use crate::text::{address_behind, insn_in};

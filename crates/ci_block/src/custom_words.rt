@@ -1,8 +1,8 @@
 //! Words of the custom opcodes, found range by range.
 ghost use Rattle.std.specs.Prelude.{◌<◌, MatchOption, length};
-ghost use Rattle.ci_block.specs.CustomSearch.{HasNoCustomWordIn, IsFirstCustomWordIn};
+ghost use Rattle.ci_block.specs.private.CustomSearch.{HasNoCustomWordIn, IsFirstCustomWordIn};
 ghost use Rattle.ci_block.specs.CustomWords.{HasNoCustomWord, IsFirstCustomWord};
-ghost use Rattle.ci_block.specs.Marking.{range_at};
+ghost use Rattle.ci_block.specs.private.Marking.{range_at};
 
 use ci_elf::Image;
 use ci_isa::has_custom_opcode;

@@ -2,9 +2,9 @@
 ghost use Rattle.std.specs.Prelude.{◌≡◌, ℕ, ◌+◌, ◌%◌, ◌^◌, ◌≤◌, Some, IfSome};
 ghost use Rattle.std.specs.List.{Contains};
 ghost use Rattle.ci_elf.specs.Executables.{IsWellFormed};
-ghost use Rattle.ci_block.specs.Loading.{IsFromDataWords, end_word, first_word};
-ghost use Rattle.ci_block.specs.Marks.{Adds};
-ghost use Rattle.ci_block.specs.Sources.{IsFromData};
+ghost use Rattle.ci_block.specs.private.Loading.{IsFromDataWords, end_word, first_word};
+ghost use Rattle.ci_block.specs.private.Marks.{Adds};
+ghost use Rattle.ci_block.specs.private.Sources.{IsFromData};
 ghost use Rattle.ci_block.specs.Text.{IsDataWord, IsLoadedWord};
 
 use crate::marks::Marks;

@@ -2,9 +2,9 @@
 ghost use Rattle.std.specs.Prelude.{◌+◌, ◌*◌, ◌<◌, ◌↔◌, length, IfOk, IfSome, IsTrue, OnOk};
 ghost use Rattle.ci_elf.specs.Executables.{end_of};
 ghost use Rattle.ci_block.specs.Leaders.{IsListing};
-ghost use Rattle.ci_block.specs.Listing.{IsFullBefore, IsLeaderTest, IsListedBelow};
-ghost use Rattle.ci_block.specs.Marking.{range_at};
-ghost use Rattle.ci_block.specs.Marks.{AreMarksOf, IsMarked};
+ghost use Rattle.ci_block.specs.private.Listing.{IsFullBefore, IsLeaderTest, IsListedBelow};
+ghost use Rattle.ci_block.specs.private.Marking.{range_at};
+ghost use Rattle.ci_block.specs.private.Marks.{AreMarksOf, IsMarked};
 
 use crate::Leaders;
 use crate::data::mark_from_data;

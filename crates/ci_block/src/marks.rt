@@ -1,7 +1,7 @@
 //! Marks on words of the text.
 ghost use Rattle.std.specs.Prelude.{◌≡◌, length};
 ghost use Rattle.ci_elf.specs.WordPlaces.{word_count};
-ghost use Rattle.ci_block.specs.Marking.{AreTextRanges};
+ghost use Rattle.ci_block.specs.private.Marking.{AreTextRanges};
 
 use ci_elf::{Places, Range};
 use std::alloc::{AllocError, Global};
@@ -20,8 +20,8 @@ impl Marks {
     ghost use Rattle.std.specs.Prelude.{◌≡◌, ℕ, ◌+◌, ◌*◌, ◌<◌, ◌⊎◌, ◌↔◌, Some, IfOk, IsTrue};
     ghost use Rattle.std.specs.List.{Contains};
     ghost use Rattle.ci_elf.specs.Executables.{IsTextWord};
-    ghost use Rattle.ci_block.specs.Marking.{AreTextRanges, range_at};
-    ghost use Rattle.ci_block.specs.Marks.{IsMarked, Adds};
+    ghost use Rattle.ci_block.specs.private.Marking.{AreTextRanges, range_at};
+    ghost use Rattle.ci_block.specs.private.Marks.{IsMarked, Adds};
 
     /// No marks yet on the words of these ranges.
     pub(crate) fn new(alloc: Global, text: &[Range]) -> Result<Marks, AllocError>

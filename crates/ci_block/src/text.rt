@@ -6,9 +6,9 @@ ghost use Rattle.ci_word.specs.Arithmetic.{operation, word_of};
 ghost use Rattle.ci_isa.specs.declared.instruction.Insn.{Insn as Instruction};
 ghost use Rattle.ci_isa.specs.Effects.{ends_block};
 ghost use Rattle.ci_elf.specs.Executables.{IsTextWord, end_of};
-ghost use Rattle.ci_block.specs.Marking.{AreTextRanges};
-ghost use Rattle.ci_block.specs.Marks.{Adds};
-ghost use Rattle.ci_block.specs.Sources.{IsFromMeeting, IsFromText, IsFromWords, Leads, Meets};
+ghost use Rattle.ci_block.specs.private.Marking.{AreTextRanges};
+ghost use Rattle.ci_block.specs.private.Marks.{Adds};
+ghost use Rattle.ci_block.specs.private.Sources.{IsFromMeeting, IsFromText, IsFromWords, Leads, Meets};
 ghost use Rattle.ci_block.specs.Text.{StandsAt, target_of as target_at};
 
 use crate::marks::Marks;

@@ -11,7 +11,7 @@ use Rattle.ci_calls.specs.declared.refusals.Refusal.TheVariants.{NoMemory}
 use Rattle.ci_calls.specs.declared.success.Success.{Success}
 use Rattle.ci_calls.specs.declared.success.Written.{Written}
 use Rattle.ci_calls.specs.Called.{writes_of, IsBytesPut, IsLinePut, FinishesBy, write_failed, no_memory}
-use Rattle.ci_calls.specs.Finish.{AreNotWritten}
+use Rattle.ci_calls.specs.private.Finish.{AreNotWritten}
 use Rattle.ci_calls.specs.Refusals.{status_of, line_of}
 
 pub writes_of-append : (front others : List Written) → writes_of (front ++ others) ≡ writes_of front ++ writes_of others

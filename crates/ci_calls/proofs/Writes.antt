@@ -12,7 +12,7 @@ use Rattle.ci_calls.specs.declared.success.Success.{Success}
 use Rattle.ci_calls.specs.declared.success.Written.{Written}
 use Rattle.ci_calls.specs.declared.finishing.WriteErr.TheVariants.{Fault, NoMemory}
 use Rattle.ci_calls.specs.Finishing.{Change, IsPut, AreWritten, HasWritten, Finishes, done, write_fault, put_fault, no_memory_in_write, no_memory_in_put}
-use Rattle.ci_calls.specs.Finish.{AreUnwritten, IsTextPut, taken, fault, no_memory}
+use Rattle.ci_calls.specs.private.Finish.{AreUnwritten, IsTextPut, taken, fault, no_memory}
 use Rattle.ci_calls.specs.Refusals.{status_of, line_of}
 use Rattle.ci_calls.specs.Finishing.{with_files}
 use Rattle.ci_calls.proofs.Counts.{Rises-later}

@@ -5,7 +5,7 @@ pub mod Files
 pub mod Evaluations
 pub mod Finishing
 pub mod Refused
-pub mod Finish
 pub mod RefusedCalls
 pub mod Called
 pub mod Reads
+pub mod private

@@ -4,7 +4,7 @@ ghost use Rattle.ci_io.specs.CallLists.{Call};
 ghost use Rattle.ci_io.specs.MadeCalls.{AreMade, ArePut};
 ghost use Rattle.ci_calls.specs.Called.{FinishesBy, PutsText, writes_of};
 ghost use Rattle.ci_calls.specs.Finishing.{AreWritten, Finishes, changed};
-ghost use Rattle.ci_calls.specs.Finish.{AreNotWritten, AreUnwritten, IsNotWritten, IsUnwrittenFile, IsTextPut};
+ghost use Rattle.ci_calls.specs.private.Finish.{AreNotWritten, AreUnwritten, IsNotWritten, IsUnwrittenFile, IsTextPut};
 
 use crate::refusals::{Refusal, put_fault, refuse_memory, refuse_put};
 use crate::success::{Success, Written};

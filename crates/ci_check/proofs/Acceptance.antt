@@ -15,7 +15,7 @@ use Rattle.ci_log.specs.declared.log.Item.TheVariants.{B, O, C, I, G, F}
 use Rattle.ci_log.specs.Trees.{IsLeaf, IsTree, leaf, branch}
 use Rattle.ci_cut.specs.Prefixes.{Prefix, taken, IsBefore}
 use Rattle.ci_check.specs.Rules.{Given, best_gain, IsGood, IsAfterBest, IsBeforeBest, IsBetter, IsRight, stations, IsRightAt, IsAccepted}
-use Rattle.ci_cut.specs.Reached.{Completes}
+use Rattle.ci_cut.specs.private.Reached.{Completes}
 use Rattle.ci_cut.proofs.PrefixLaws.{same_test, eligible_below, next_exists, decided_above, possible_parts, completes_none, completes_more, whole_choice}
 use Rattle.ci_cut.proofs.BoundLaws.{completion_bound, completion_bounded}
 use Rattle.ci_check.proofs.SetOrder.{compare_sets}

@@ -6,11 +6,11 @@ use Rattle.ci_cut.specs.GraphRules.{IsFlowGraph}
 use Rattle.ci_cut.specs.ListCounts.{AtLeast, none, counted}
 use Rattle.ci_cut.specs.Prefixes.{Prefix, is_next}
 use Rattle.ci_cut.specs.Need.{IsOpen, continuations}
-use Rattle.ci_cut.specs.Reached.{IsReachedBefore, IsReachedBehind}
+use Rattle.ci_cut.specs.private.Reached.{IsReachedBefore, IsReachedBehind}
 use Rattle.ci_cut.proofs.ListCountLaws.{AtLeast-nil, AtLeast-cases, AtLeast-left, AtLeast-both, AtLeast-split}
 use Rattle.ci_cut.proofs.NeedLaws.{none_open, continuations-more, reached_closed, reached_behind}
 use Rattle.ci_check.specs.declared.need.Walked.{Walked}
-use Rattle.ci_check.specs.Walked.{IsWalked}
+use Rattle.ci_check.specs.private.Walked.{IsWalked}
 
 module _ (graph : FlowGraph) (flows : IsFlowGraph graph) (limits : Limits) (budget : ℕ) (prefix : Prefix) where
   -- all nodes are decided

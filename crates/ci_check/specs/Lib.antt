@@ -1,3 +1,3 @@
 pub mod Rules
 pub mod Representation
-pub mod Walked
+pub mod private

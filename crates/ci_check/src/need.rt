@@ -5,8 +5,8 @@ ghost use Rattle.ci_cut.specs.FlowGraph.{FlowGraph};
 ghost use Rattle.ci_cut.specs.Prefixes.{Prefix, eligible_nodes};
 ghost use Rattle.ci_cut.specs.Need.{IsOpen, NeedExceeds};
 ghost use Rattle.ci_cut.specs.Representation.{AreRowsOf, Represents, RepresentsSome, RepresentsWhole, AreKeptFrom};
-ghost use Rattle.ci_cut.specs.Reached.{IsBounded, IsReachedBefore, IsReachedWith};
-ghost use Rattle.ci_check.specs.Walked.{IsWalked};
+ghost use Rattle.ci_cut.specs.private.Reached.{IsBounded, IsReachedBefore, IsReachedWith};
+ghost use Rattle.ci_check.specs.private.Walked.{IsWalked};
 
 use ci_cut::{Delays, Graph, GraphRows, Limits, PrefixTerms};
 

@@ -14,7 +14,7 @@ use Rattle.ci_calls.specs.Refused.{asm_refusal}
 use Rattle.ci_calls.specs.Refusals.{status_of}
 use Rattle.ci_calls.proofs.InputLaws.{first_unread, read_without_memory}
 use Rattle.ci_commands.specs.AsmCommand.{asm_inputs, text_input}
-use Rattle.ci_commands.specs.Causes.{IsCause, IsTextFault}
+use Rattle.ci_commands.specs.private.Causes.{IsCause, IsTextFault}
 
 -- what follows from a cause is a cause
 pub IsCause-weaker : (P Q : ℕ → ℕ → Type 0) → ((position word : ℕ) → P position word → Q position word)

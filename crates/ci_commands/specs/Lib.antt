@@ -6,5 +6,4 @@ pub mod AsmCommand
 pub mod DisCommand
 pub mod EvalCommand
 pub mod RunCommand
-pub mod Causes
-pub mod BlockFiles
+pub mod private

@@ -2,7 +2,7 @@
 ghost use Rattle.std.specs.Prelude.{[], IfOk, IfErr};
 ghost use Rattle.ci_block.specs.CustomWords.{HasNoCustomWord, IsFirstCustomWord};
 ghost use Rattle.ci_live.specs.Analyses.{IsAnalysis};
-ghost use Rattle.ci_commands.specs.Causes.{IsCause};
+ghost use Rattle.ci_commands.specs.private.Causes.{IsCause};
 
 use ci_block::{CustomWord, first_custom_word};
 use ci_calls::Refusal;

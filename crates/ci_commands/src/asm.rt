@@ -5,7 +5,7 @@ ghost use Rattle.ci_calls.specs.Evaluations.{RefusesNothing};
 ghost use Rattle.ci_calls.specs.Forms.{IsText};
 ghost use Rattle.ci_calls.specs.Reads.{IsSuccessOf, IsRefusalOf};
 ghost use Rattle.ci_commands.specs.AsmCommand.{asm_inputs, IsAsmMade};
-ghost use Rattle.ci_commands.specs.Causes.{IsTextFault};
+ghost use Rattle.ci_commands.specs.private.Causes.{IsTextFault};
 
 use ci_asm::{AsmFault, assemble};
 use ci_calls::{Refusal, Success, Written, read_file};

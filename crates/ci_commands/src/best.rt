@@ -9,8 +9,8 @@ ghost use Rattle.ci_isa.specs.declared.instruction.Insn.{Insn as Instruction};
 ghost use Rattle.ci_calls.specs.Reads.{IsSuccessOf, IsRefusalOf};
 ghost use Rattle.ci_calls.specs.Refused.{name_in};
 ghost use Rattle.ci_commands.specs.BestCommand.{best_inputs, IsBestMade, IsBestRefused, HoldsBlock, HoldsNoBlock};
-ghost use Rattle.ci_commands.specs.BlockFiles.{IsFileOf, IsWithinLimit};
-ghost use Rattle.ci_commands.specs.Causes.{IsCause};
+ghost use Rattle.ci_commands.specs.private.BlockFiles.{IsFileOf, IsWithinLimit};
+ghost use Rattle.ci_commands.specs.private.Causes.{IsCause};
 ghost use Rattle.ci_commands.specs.BestCommand.{IsBestLine};
 
 use ci_calls::{Refusal, Success, read_table};

@@ -7,7 +7,7 @@ ghost use Rattle.ci_block.specs.CustomWords.{IsFirstCustomWord};
 ghost use Rattle.ci_calls.specs.Reads.{IsSuccessOf, IsRefusalOf};
 ghost use Rattle.ci_commands.specs.BlocksCommand.{blocks_inputs, IsBlocksMade, IsBlocksRefused, IsBlocksText};
 ghost use Rattle.ci_commands.specs.BlocksCommand.{block_line};
-ghost use Rattle.ci_commands.specs.Causes.{IsCause};
+ghost use Rattle.ci_commands.specs.private.Causes.{IsCause};
 
 use crate::analysis::plain_analysis_of;
 use ci_block::Block;

@@ -13,7 +13,7 @@ use Rattle.ci_cut.specs.FlowGraph.{FlowGraph, node_at}
 use Rattle.ci_cut.specs.Gain.{Fits, gain}
 use Rattle.ci_cut.specs.Best.{ComesBefore, IsBest, HasNoCut}
 use Rattle.ci_cut.specs.Incumbents.{IsImproved}
-use Rattle.ci_cut.specs.Tried.{Agrees, IsBetterFrom}
+use Rattle.ci_cut.specs.private.Tried.{Agrees, IsBetterFrom}
 use Rattle.ci_cut.proofs.NodeLaws.{node_in-within, node_in-past}
 
 -- sets that agree from 0 on are one

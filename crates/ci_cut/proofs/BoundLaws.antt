@@ -7,7 +7,7 @@ use Rattle.ci_cut.specs.GraphRules.{IsFlowGraph}
 use Rattle.ci_cut.specs.Gain.{Fits, gain}
 use Rattle.ci_cut.specs.Prefixes.{Prefix, is_eligible, is_next, taken, left_out, possible, bound, IsBefore}
 use Rattle.ci_cut.specs.Need.{IsOpen}
-use Rattle.ci_cut.specs.Reached.{Completes, IsBounded}
+use Rattle.ci_cut.specs.private.Reached.{Completes, IsBounded}
 use Rattle.ci_cut.proofs.PrefixLaws.{same_test, eligible_below, possible_parts, possible_from, possible_earlier}
 use Rattle.ci_cut.proofs.PrefixLaws.{decided_cases, decided_newest, decided_earlier, next_unique, next_below}
 use Rattle.ci_cut.proofs.PrefixLaws.{above_next, not_both, completes_earlier, taken_completes, completion_extends}

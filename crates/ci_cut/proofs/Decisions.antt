@@ -13,7 +13,7 @@ use Rattle.ci_cut.specs.Walks.{Walk, arc, IsConvex}
 use Rattle.ci_cut.specs.declared.ports.SourceSet.{SourceSet}
 use Rattle.ci_cut.specs.Ports.{is_read_by, is_outside, is_output, outputs, size}
 use Rattle.ci_cut.specs.Gain.{software}
-use Rattle.ci_cut.specs.SourceSets.{holds, AreSettledBy, count_held}
+use Rattle.ci_cut.specs.private.SourceSets.{holds, AreSettledBy, count_held}
 use Rattle.ci_cut.specs.Prefixes.{Prefix, is_eligible, is_next, is_decided, taken, left_out, possible, settled_inputs}
 use Rattle.ci_cut.specs.Representation.{Reaches, HasWayBack, HasReaderOutside}
 use Rattle.ci_cut.proofs.PrefixLaws.{same_test, Extends, eligible_below, next_parts, next_unique, next_below, next_not_decided, is_decided-more}

@@ -8,7 +8,7 @@ use Rattle.std.specs.Ordering.{nat_cmp}
 use Rattle.std.specs.FinSet as set
 use Rattle.ci_word.proofs.NumberLaws.{contains-insert_nat, contains-remove_nat}
 use Rattle.ci_cut.specs.Representation.{row_at}
-use Rattle.ci_cut.specs.AddedRows.{AreAdded}
+use Rattle.ci_cut.specs.private.AddedRows.{AreAdded}
 use Rattle.ci_cut.proofs.PrefixLaws.{same_test}
 
 module _ (test : ℕ → Bool) where

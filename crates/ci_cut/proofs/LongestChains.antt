@@ -10,7 +10,7 @@ use Rattle.ci_cut.specs.declared.graph.Node.{Node}
 use Rattle.ci_cut.specs.FlowGraph.{FlowGraph, node_at}
 use Rattle.ci_cut.specs.GraphRules.{IsFlowGraph}
 use Rattle.ci_cut.specs.Hardware.{is_chain, delay_along, critical_path_delay}
-use Rattle.ci_cut.specs.ChainDelays.{IsMaximumAt}
+use Rattle.ci_cut.specs.private.ChainDelays.{IsMaximumAt}
 use Rattle.ci_cut.proofs.CriticalPath.{chain_onward, chain_parts, chain_first, delay_along-le, critical_path_delay-reached}
 
 -- the delay of a chain's first node, and of the rest

@@ -6,7 +6,7 @@ use Rattle.std.specs.List.{list_any}
 use Rattle.ci_cut.specs.declared.graph.Source.{Source}
 use Rattle.ci_cut.specs.declared.graph.Source.TheVariants.{Entry, Made}
 use Rattle.ci_cut.specs.FlowGraph.{is_source}
-use Rattle.ci_cut.specs.ChainDelays.{HasMaker, IsMaximumAt}
+use Rattle.ci_cut.specs.private.ChainDelays.{HasMaker, IsMaximumAt}
 
 module _ (sources : List Source) (i : ℕ) (d : Source) (below : i < length sources) where
   -- the nodes among one source more

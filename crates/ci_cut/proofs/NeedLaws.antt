@@ -10,7 +10,7 @@ use Rattle.ci_cut.specs.Gain.{Fits, gain}
 use Rattle.ci_cut.specs.ListCounts.{AtLeast}
 use Rattle.ci_cut.specs.Prefixes.{Prefix, eligible_nodes, is_next, taken, bound}
 use Rattle.ci_cut.specs.Need.{IsOpen, continuations}
-use Rattle.ci_cut.specs.Reached.{IsBounded, IsReached, IsReachedBefore, IsReachedBehind, IsReachedWith}
+use Rattle.ci_cut.specs.private.Reached.{IsBounded, IsReached, IsReachedBefore, IsReachedBehind, IsReachedWith}
 use Rattle.ci_cut.proofs.ListCountLaws.{AtLeast-nil, AtLeast-cases, AtLeast-split}
 use Rattle.ci_cut.proofs.PrefixLaws.{is_decided-none, completes_more, completes_earlier, whole_choice, taken_completes}
 use Rattle.ci_cut.proofs.BoundLaws.{completion_bound, completion_bounded, open_earlier, before_more, before_in, before_out, before_by_next}

@@ -13,7 +13,7 @@ use Rattle.ci_cut.specs.declared.graph.Source.TheVariants.{Entry, Made}
 use Rattle.ci_cut.specs.declared.graph.Node.{Node}
 use Rattle.ci_cut.specs.FlowGraph.{FlowGraph, node_at, is_source, reads}
 use Rattle.ci_cut.specs.GraphRules.{IsFlowGraph}
-use Rattle.ci_cut.specs.SourceSets.{is_reader, is_read_below}
+use Rattle.ci_cut.specs.private.SourceSets.{is_reader, is_read_below}
 use Rattle.ci_cut.specs.Ports.{is_read_by, inputs_from, is_outside, is_output}
 
 -- one number more

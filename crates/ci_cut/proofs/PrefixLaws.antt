@@ -6,7 +6,7 @@ use Rattle.ci_word.specs.Numbers.{count_below}
 use Rattle.ci_cut.specs.FlowGraph.{FlowGraph}
 use Rattle.ci_cut.proofs.NodeLaws.{node_in-past}
 use Rattle.ci_cut.specs.Prefixes.{Prefix, is_eligible, eligible_nodes, is_next, is_decided, taken, left_out, possible}
-use Rattle.ci_cut.specs.Reached.{Completes}
+use Rattle.ci_cut.specs.private.Reached.{Completes}
 use Rattle.ci_cut.proofs.RisingCounts.{count_below-rises, count_below-more, nth_below}
 
 -- tests that imply each other are equal

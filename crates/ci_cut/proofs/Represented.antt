@@ -14,7 +14,7 @@ use Rattle.ci_cut.specs.FlowGraph.{FlowGraph, node_at, reads}
 use Rattle.ci_cut.specs.GraphRules.{IsFlowGraph}
 use Rattle.ci_cut.specs.Ports.{is_read_by, is_outside, is_output, inputs, inputs_from, size}
 use Rattle.ci_cut.specs.Gain.{Fits, gain, saved_by, software}
-use Rattle.ci_cut.specs.SourceSets.{holds}
+use Rattle.ci_cut.specs.private.SourceSets.{holds}
 use Rattle.ci_cut.specs.Hardware.{hardware}
 use Rattle.ci_cut.specs.Prefixes.{Prefix, is_eligible, eligible_nodes, is_next, is_decided, taken, left_out, possible, settled_inputs, bound}
 use Rattle.ci_cut.specs.Representation.{IsNextBelow, bound_by, Represents, AreKeptFrom}

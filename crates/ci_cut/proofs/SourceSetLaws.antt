@@ -13,7 +13,7 @@ use Rattle.ci_cut.specs.declared.ports.SourceSet.{SourceSet}
 use Rattle.ci_cut.specs.FlowGraph.{FlowGraph, is_source}
 use Rattle.ci_cut.specs.Ports.{is_outside}
 use Rattle.ci_cut.specs.Prefixes.{is_eligible}
-use Rattle.ci_cut.specs.SourceSets.{holds, count_held, AreSettledBy}
+use Rattle.ci_cut.specs.private.SourceSets.{holds, count_held, AreSettledBy}
 use Rattle.ci_cut.proofs.OneMore.{IsCounted, sources_one_more, sources_same, count_sources-few}
 
 -- a set without registers and nodes holds no source

@@ -1,6 +1,5 @@
 pub mod FlowGraph
 pub mod GraphRules
-pub mod Stored
 pub mod Walks
 pub mod Ports
 pub mod Hardware
@@ -9,10 +8,6 @@ pub mod Best
 pub mod ListCounts
 pub mod Prefixes
 pub mod Need
-pub mod SourceSets
-pub mod ChainDelays
 pub mod Incumbents
-pub mod Tried
-pub mod Reached
 pub mod Representation
-pub mod AddedRows
+pub mod private

@@ -13,7 +13,7 @@ use Rattle.ci_cut.specs.GraphRules.{IsFlowGraph}
 use Rattle.ci_cut.specs.Walks.{Walk, IsConvex}
 use Rattle.ci_cut.specs.Ports.{is_read_by, outputs, size}
 use Rattle.ci_cut.specs.Gain.{software, further_words_of, saved_cycles}
-use Rattle.ci_cut.specs.SourceSets.{holds}
+use Rattle.ci_cut.specs.private.SourceSets.{holds}
 use Rattle.ci_cut.specs.Prefixes.{Prefix, is_eligible, eligible_nodes, taken, possible, settled_inputs}
 
 -- ---- the rows of a graph

@@ -5,7 +5,7 @@ ghost use Rattle.ci_word.specs.Numbers.{count_below};
 ghost use Rattle.ci_cut.specs.FlowGraph.{node_at};
 ghost use Rattle.ci_cut.specs.Gain as terms;
 ghost use Rattle.ci_cut.specs.Best.{IsBest, HasNoCut};
-ghost use Rattle.ci_cut.specs.Tried.{IsBetterFrom};
+ghost use Rattle.ci_cut.specs.private.Tried.{IsBetterFrom};
 
 use crate::graph::{Graph, Limits};
 use crate::incumbent::Incumbent;

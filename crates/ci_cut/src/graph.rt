@@ -104,7 +104,7 @@ pub struct Graph {
 impl Model for Graph {
     ghost use Rattle.ci_cut.specs.FlowGraph.{FlowGraph};
     ghost use Rattle.ci_cut.specs.GraphRules.{IsFlowGraph};
-    ghost use Rattle.ci_cut.specs.Stored.{coded_graph};
+    ghost use Rattle.ci_cut.specs.private.Stored.{coded_graph};
 
     ghost Value = { FlowGraph };
 

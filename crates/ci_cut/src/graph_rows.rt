@@ -7,7 +7,7 @@ ghost use Rattle.ci_cut.specs.FlowGraph.{is_source};
 ghost use Rattle.ci_cut.specs.Walks.{Walk};
 ghost use Rattle.ci_cut.specs.Prefixes.{is_eligible};
 ghost use Rattle.ci_cut.specs.Representation.{row_at, IsLastBelow, AreRowsOf};
-ghost use Rattle.ci_cut.specs.AddedRows.{AreAdded};
+ghost use Rattle.ci_cut.specs.private.AddedRows.{AreAdded};
 
 use crate::graph::{Graph, Source};
 use ci_word::Row;

@@ -9,7 +9,7 @@ ghost use Rattle.ci_cut.specs.FlowGraph.{is_source};
 ghost use Rattle.ci_cut.specs.GraphRules.{AreNodes};
 ghost use Rattle.ci_cut.specs.Gain.{further_words_of};
 ghost use Rattle.ci_cut.specs.Prefixes.{is_eligible};
-ghost use Rattle.ci_cut.specs.SourceSets.{holds, is_reader, is_read_below, AreSettledBy, count_held};
+ghost use Rattle.ci_cut.specs.private.SourceSets.{holds, is_reader, is_read_below, AreSettledBy, count_held};
 
 use crate::graph::{Graph, Limits, Source};
 use ci_word::Row;

@@ -1,7 +1,7 @@
 //! The hardware time of a set of nodes.
 ghost use Rattle.std.specs.Prelude.{◌≡◌, ℕ, ◌+◌, ◌/◌, max, ◌<◌, ◌≤◌, Bool, List, IsTrue, length};
 ghost use Rattle.std.specs.FinSet as set;
-ghost use Rattle.ci_cut.specs.ChainDelays.{IsMaximumAt};
+ghost use Rattle.ci_cut.specs.private.ChainDelays.{IsMaximumAt};
 ghost use Rattle.ci_cut.specs.Hardware as terms;
 ghost use Rattle.ci_cut.specs.FlowGraph.{FlowGraph};
 ghost use Rattle.ci_cut.specs.GraphRules.{IsFlowGraph, AreNodes};

@@ -4,7 +4,7 @@ use Rattle.std.proofs.lemmas.Result.{err_from_is_err_and}
 use Rattle.ci_elf.specs.declared.faults.ElfFault.{ElfFault}
 use Rattle.ci_elf.specs.declared.faults.ElfFault.TheVariants.{NoMemory}
 use Rattle.ci_elf.specs.Rules.{Rule, Holds, fault_of, KeepsRules, BreaksFirst}
-use Rattle.ci_elf.specs.Checks.{IsTestOf}
+use Rattle.ci_elf.specs.private.Checks.{IsTestOf}
 use Rattle.ci_reading.proofs.BrokenLaws.{kept_append, broken_here, broken_in_front, broken_behind, broken_each}
 use Rattle.ci_reading.specs.Broken.{each_below}
 

@@ -9,7 +9,7 @@ use Rattle.std.proofs.Math.ListN.{get_or-eq_default}
 use Rattle.std.proofs.lemmas.List.Sorted.{IsNonDecreasingBy-push, IsNonDecreasingBy-short, Contains-permutation, IsPermutation-sym}
 use Rattle.std.proofs.lemmas.List.Elements.{Contains-get_or}
 use Rattle.ci_elf.specs.declared.parts.Part.{Part}
-use Rattle.ci_elf.specs.Parts.{part_at, Covers, IsRising, IsCoverage, IsNext}
+use Rattle.ci_elf.specs.private.Parts.{part_at, Covers, IsRising, IsCoverage, IsNext}
 
 -- a part that has a place is one of the list
 pub covers_within : (parts : List Part) (k place : ℕ) → place < (part_at parts k).end → k < length parts

@@ -9,7 +9,7 @@ use Rattle.ci_reading.specs.Broken.{those_below}
 use Rattle.ci_reading.proofs.BrokenLaws.{each_below_more, each_below_none}
 use Rattle.ci_elf.specs.declared.taken.TakenPlaces.{TakenPlaces}
 use Rattle.ci_elf.specs.Executables.{begins_entry}
-use Rattle.ci_elf.specs.SymbolChecks.{IsRun, TakesToo, is_taken}
+use Rattle.ci_elf.specs.private.SymbolChecks.{IsRun, TakesToo, is_taken}
 
 -- ---- where entries begin
 

@@ -14,11 +14,11 @@ use Rattle.std.proofs.lemmas.List.{get_or_default, get_or_read}
 use Rattle.std.proofs.Math.Seq.{take-length}
 use Rattle.std.proofs.lemmas.List.Sorted.{Contains-permutation, IsPermutation-sym}
 use Rattle.ci_elf.specs.declared.segments.Segment.{Segment}
-use Rattle.ci_elf.specs.Checks.{IsLastBefore}
-use Rattle.ci_elf.specs.SectionChecks.{AreLaidOut}
+use Rattle.ci_elf.specs.private.Checks.{IsLastBefore}
+use Rattle.ci_elf.specs.private.SectionChecks.{AreLaidOut}
 use Rattle.ci_elf.specs.Executables.{Executable, IsLoaded, IsTextWord, IsWellFormed, ShareNoMemory, has_in_file, place_of}
 use Rattle.ci_elf.specs.TextChanges.{with_word}
-use Rattle.ci_elf.specs.LoadedPlaces.{IsSound, IsLoadedFrom}
+use Rattle.ci_elf.specs.private.LoadedPlaces.{IsSound, IsLoadedFrom}
 use Rattle.ci_elf.proofs.RangeLaws.{range_holding}
 use Rattle.ci_elf.proofs.SegmentLaws.{both}
 use Rattle.ci_elf.proofs.RangeLaws.{left_of}

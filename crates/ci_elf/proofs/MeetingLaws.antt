@@ -2,7 +2,7 @@
 use Rattle.std.proofs.Common.{◌≡◌, ℕ, ◌<◌, ◌≤◌, min, max, List, arith}
 use Rattle.ci_elf.specs.declared.parts.Part.{Part}
 use Rattle.ci_elf.specs.Fields.{e_shnum}
-use Rattle.ci_elf.specs.Parts.{AreApart, AreApartAt, IsFirstOverlap, IsFirstMeeting, parts_below, text_of}
+use Rattle.ci_elf.specs.private.Parts.{AreApart, AreApartAt, IsFirstOverlap, IsFirstMeeting, parts_below, text_of}
 use Rattle.ci_elf.proofs.PairRuleLaws.{parts_count, part_is}
 use Rattle.ci_elf.proofs.PartLaws.{no_part}
 

@@ -2,7 +2,7 @@
 use Rattle.std.proofs.Common.{◌≡◌, ℕ, ◌+◌, ◌<◌, ◌≤◌, min, max, Bool, true, false, cond, List, refl, arith}
 use Rattle.ci_elf.specs.declared.parts.Part.{Part}
 use Rattle.ci_elf.specs.Fields.{is_loadable, p_vaddr, p_memsz}
-use Rattle.ci_elf.specs.Parts.{Overlap, part, nothing, memory_of}
+use Rattle.ci_elf.specs.private.Parts.{Overlap, part, nothing, memory_of}
 use Rattle.ci_elf.specs.Rules.{MemoryIsApart, Holds, Apart}
 
 -- parts that share no place

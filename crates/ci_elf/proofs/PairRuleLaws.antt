@@ -3,7 +3,7 @@ use Rattle.std.proofs.Common.{◌≡◌, ◌≢◌, ℕ, ◌+◌, ◌<◌, ◌�
 use Rattle.ci_elf.specs.declared.parts.Part.{Part}
 use Rattle.ci_elf.specs.declared.faults.ElfFault.{ElfFault}
 use Rattle.ci_elf.specs.declared.faults.ElfFault.TheVariants.{NoMemory}
-use Rattle.ci_elf.specs.Parts.{Overlap, AreApart, AreApartAt, IsFirstOverlap, parts_below}
+use Rattle.ci_elf.specs.private.Parts.{Overlap, AreApart, AreApartAt, IsFirstOverlap, parts_below}
 use Rattle.ci_reading.specs.Broken.{each_below}
 use Rattle.ci_elf.specs.Rules.{Rule, Holds, fault_of, KeepsRules, BreaksFirst}
 use Rattle.ci_reading.proofs.BrokenLaws.{kept_each, each_below_more, length_singles, singles_at}

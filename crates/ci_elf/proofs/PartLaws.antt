@@ -6,7 +6,7 @@ use Rattle.std.proofs.lemmas.List.{get_or_default}
 use Rattle.std.proofs.Math.Seq.{take-length}
 use Rattle.ci_elf.proofs.PairLaws.{pairs_permuted}
 use Rattle.ci_elf.specs.declared.parts.Part.{Part}
-use Rattle.ci_elf.specs.Parts.{AreApart, AreApartAt, Overlap, OverlapAt, IsFirstOverlap}
+use Rattle.ci_elf.specs.private.Parts.{AreApart, AreApartAt, Overlap, OverlapAt, IsFirstOverlap}
 
 abbrev pub no_part : Part
 no_part = record { start = 0; end = 0 }

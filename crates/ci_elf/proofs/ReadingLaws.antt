@@ -11,7 +11,7 @@ use Rattle.ci_elf.specs.declared.segments.Segment.{Segment}
 use Rattle.ci_elf.specs.Fields.{e_entry, e_phnum, e_shnum, is_loadable, p_offset, p_vaddr, p_filesz, p_memsz}
 use Rattle.ci_elf.specs.Executables.{Executable, IsImageOf, IsWellFormed, ShareNoMemory, IsAscending, IsTextWord}
 use Rattle.ci_elf.specs.Executables.{LoadsRange, range_of, has_words, ranges_of, segment_of, segments_of, symbols_of}
-use Rattle.ci_elf.specs.Checks.{SegmentFits}
+use Rattle.ci_elf.specs.private.Checks.{SegmentFits}
 use Rattle.ci_elf.specs.Rules.{Rule, NamesNoInterpreter, HasFilePart, IsPlaced, MemoryIsBounded, TextIsBounded}
 use Rattle.ci_elf.specs.Rules.{EntryIsText, Holds, LiesIn, KeepsRules, BreaksFirst, IsReadAs, rules, file_header_rules}
 use Rattle.ci_elf.specs.Rules.{kind_rules, table_rules, segment_rules, memory_rules, section_rules, sharing_rules}

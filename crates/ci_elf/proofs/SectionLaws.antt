@@ -15,9 +15,9 @@ use Rattle.ci_elf.specs.Fields.{p_memsz, p_filesz, sh_offset, sh_size, sh_type, 
 use Rattle.ci_elf.specs.Executables.{segment_of, segments_of}
 use Rattle.ci_reading.specs.Broken.{each_below}
 use Rattle.ci_elf.specs.Rules.{NamesNoInterpreter, HasFilePart, IsPlaced, MemoryIsApart, Holds, IsLoadedBy, IsAlone, KeepsRules, segment_rules, memory_rules}
-use Rattle.ci_elf.specs.Checks.{IsLastBefore}
-use Rattle.ci_elf.specs.Parts.{Covers, IsCoverage, IsNext, IsFirstMeeting, part, part_at, parts_below, text_of, symbols_at, tables_of}
-use Rattle.ci_elf.specs.SectionChecks.{HoldsSection, AreLaidOut, section_of}
+use Rattle.ci_elf.specs.private.Checks.{IsLastBefore}
+use Rattle.ci_elf.specs.private.Parts.{Covers, IsCoverage, IsNext, IsFirstMeeting, part, part_at, parts_below, text_of, symbols_at, tables_of}
+use Rattle.ci_elf.specs.private.SectionChecks.{HoldsSection, AreLaidOut, section_of}
 use Rattle.ci_reading.proofs.BrokenLaws.{kept_at, contained_those, those_contain, singles_at, length_singles}
 use Rattle.ci_elf.proofs.SegmentLaws.{has_memory, both}
 use Rattle.ci_elf.proofs.CoverageLaws.{covers_within}

@@ -7,7 +7,7 @@ use Rattle.ci_elf.specs.declared.segments.Segment.{Segment}
 use Rattle.ci_elf.specs.Fields.{is_loadable, p_type, p_vaddr, p_memsz}
 use Rattle.ci_elf.specs.Executables.{segment_of}
 use Rattle.ci_elf.specs.Rules.{FitsMemory, Apart}
-use Rattle.ci_elf.specs.Checks.{SegmentFits, loadable_at}
+use Rattle.ci_elf.specs.private.Checks.{SegmentFits, loadable_at}
 
 pub chosen : {A : Type 0} (b : Bool) (s t : A) → Some s ≡ cond b (Some t) None → (b ≡ true) × (s ≡ t)
 chosen true s t h = (refl, cc)

@@ -6,7 +6,7 @@ use Rattle.std.proofs.lemmas.Bool.{cases_lt}
 use Rattle.std.proofs.lemmas.List.{get_or_default}
 use Rattle.std.proofs.lemmas.List.Elements.{Contains-get_or}
 use Rattle.ci_elf.specs.declared.segments.Segment.{Segment}
-use Rattle.ci_elf.specs.Checks.{IsLastBefore}
+use Rattle.ci_elf.specs.private.Checks.{IsLastBefore}
 
 module _ (segments : List Segment) (address after : ℕ)
     (behind : (k : ℕ) (d : Segment) → after ≤ k → k < length segments → address < (get_or segments k d).address) where

@@ -7,7 +7,7 @@ use Rattle.std.proofs.lemmas.List.{get_or_append_left}
 use Rattle.std.proofs.Math.Seq.{get_or-append_seam}
 use Rattle.ci_elf.specs.declared.parts.Part.{Part}
 use Rattle.ci_elf.specs.Fields.{e_shnum, is_loadable, is_text, p_offset, p_filesz, sh_offset, sh_size}
-use Rattle.ci_elf.specs.Parts.{Overlap, Covers, IsCoverage, IsPartFromText, ArePartsFromText, part, part_at, parts_below, text_of}
+use Rattle.ci_elf.specs.private.Parts.{Overlap, Covers, IsCoverage, IsPartFromText, ArePartsFromText, part, part_at, parts_below, text_of}
 use Rattle.ci_elf.specs.Rules.{TextIsUnshared, Holds}
 use Rattle.ci_elf.proofs.CoverageLaws.{covers_within}
 use Rattle.ci_elf.proofs.FieldLaws.{p_offset_small, p_filesz_small}

@@ -9,8 +9,8 @@ use Rattle.ci_elf.specs.declared.taken.TakenPlaces.{TakenPlaces}
 use Rattle.ci_elf.specs.Fields.{e_shnum, is_symbol_table, sh_offset, sh_size, st_value}
 use Rattle.ci_elf.specs.Executables.{begins_entry, has_entry, has_entry_below}
 use Rattle.ci_elf.specs.Rules.{Holds, HasSymbols, TextIsLoaded, TextIsAlone, IsSymbolTable, KeepsRules, section_rules}
-use Rattle.ci_elf.specs.Parts.{IsWidened, nothing, part, symbols_at}
-use Rattle.ci_elf.specs.SymbolChecks.{AreTakenBelow, IsSpan, IsTableAmong, TakesToo, free_values, is_taken, symbols_here, value_at}
+use Rattle.ci_elf.specs.private.Parts.{IsWidened, nothing, part, symbols_at}
+use Rattle.ci_elf.specs.private.SymbolChecks.{AreTakenBelow, IsSpan, IsTableAmong, TakesToo, free_values, is_taken, symbols_here, value_at}
 use Rattle.ci_reading.proofs.BrokenLaws.{each_below_none, kept_at}
 use Rattle.ci_elf.proofs.SameFields.{each_same}
 

@@ -11,7 +11,7 @@ use Rattle.std.proofs.lemmas.List.Sums.{sum_by-cons, sum_by_more}
 use Rattle.std.proofs.Math.Seq.{get_or-append_seam}
 use Rattle.ci_elf.specs.declared.ranges.Range.{Range}
 use Rattle.ci_elf.specs.Executables.{HoldsAddress, InText, IsAscending, IsTextWord, end_of, has_byte, in_text}
-use Rattle.ci_elf.specs.RangeChecks.{AreFirstPlaces}
+use Rattle.ci_elf.specs.private.RangeChecks.{AreFirstPlaces}
 use Rattle.ci_elf.specs.WordPlaces.{place_in, word_count, word_place}
 use Rattle.ci_elf.proofs.RangeLaws.{has_bounds, text_held}
 

@@ -2,7 +2,7 @@
 ghost use Rattle.std.specs.Prelude.{◌≡◌, ◌+◌, ◌*◌, ◌<◌, ◌≤◌, length};
 ghost use Rattle.ci_elf.specs.Fields.{field, e_entry, e_phoff, e_phnum, e_shoff, e_shnum, p_type, program_header};
 ghost use Rattle.ci_elf.specs.Fields.{section_header, sh_type};
-ghost use Rattle.ci_elf.specs.Checks.{HasTables};
+ghost use Rattle.ci_elf.specs.private.Checks.{HasTables};
 
 use byteorder::{ByteOrder, LittleEndian};
 

@@ -3,7 +3,7 @@ ghost use Rattle.std.specs.Prelude.{◌≡◌, ◌≢◌, ◌+◌, ◌<◌, ◌�
 ghost use Rattle.ci_elf.specs.Fields.{field};
 ghost use Rattle.ci_elf.specs.Rules.{LiesIn, FieldIs, HasNoCompressedCode, HasProgramEntrySize, HasSectionEntrySize};
 ghost use Rattle.ci_elf.specs.Rules.{HasProgramTable, HasSectionTable, file_header_rules, kind_rules, table_rules};
-ghost use Rattle.ci_elf.specs.Checks.{IsTestOf};
+ghost use Rattle.ci_elf.specs.private.Checks.{IsTestOf};
 
 use crate::ElfFault;
 use crate::fields::{

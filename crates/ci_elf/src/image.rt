@@ -4,8 +4,8 @@ ghost use Rattle.std.specs.List.{Contains};
 ghost use Rattle.std.specs.List.Sorted.{IsNonDecreasingBy};
 ghost use Rattle.ci_elf.specs.Executables.{has_in_file};
 ghost use Rattle.ci_elf.specs.TextChanges.{with_word};
-ghost use Rattle.ci_elf.specs.SectionChecks.{AreLaidOut};
-ghost use Rattle.ci_elf.specs.LoadedPlaces.{IsLoadedFrom};
+ghost use Rattle.ci_elf.specs.private.SectionChecks.{AreLaidOut};
+ghost use Rattle.ci_elf.specs.private.LoadedPlaces.{IsLoadedFrom};
 
 use crate::fields::word_at;
 use crate::memory::{by_address, segment_before};
@@ -29,7 +29,7 @@ pub struct Image {
 
 impl Model for Image {
     ghost use Rattle.ci_elf.specs.Executables.{Executable, executable};
-    ghost use Rattle.ci_elf.specs.LoadedPlaces.{IsSound};
+    ghost use Rattle.ci_elf.specs.private.LoadedPlaces.{IsSound};
 
     ghost Value = { Executable };
 

@@ -5,8 +5,8 @@ ghost use Rattle.std.specs.List.{Contains, sum_by};
 ghost use Rattle.std.specs.List.Sorted.{IsNonDecreasingBy, IsPermutation};
 ghost use Rattle.ci_elf.specs.Fields.{e_phnum};
 ghost use Rattle.ci_elf.specs.Rules.{memory_rules};
-ghost use Rattle.ci_elf.specs.Checks.{HasTables, IsLastBefore, IsTestOf};
-ghost use Rattle.ci_elf.specs.Parts.{memory_of, parts_below};
+ghost use Rattle.ci_elf.specs.private.Checks.{HasTables, IsLastBefore, IsTestOf};
+ghost use Rattle.ci_elf.specs.private.Parts.{memory_of, parts_below};
 
 use crate::fields::program_count;
 use crate::parts::{Part, first_overlap};

@@ -1,7 +1,7 @@
 //! Parts of a file or of memory, and which of them overlap.
 ghost use Rattle.std.specs.Prelude.{◌≡◌, ℕ, ◌+◌, ◌<◌, ◌≤◌, ◌↔◌, IsTrue, IfOk, MatchOption, length, take};
 ghost use Rattle.std.specs.List.Sorted.{IsNonDecreasingBy};
-ghost use Rattle.ci_elf.specs.Parts.{Overlap, OverlapAt, AreApart, AreApartAt, IsFirstOverlap};
+ghost use Rattle.ci_elf.specs.private.Parts.{Overlap, OverlapAt, AreApart, AreApartAt, IsFirstOverlap};
 
 use std::alloc::{AllocError, Global};
 
@@ -13,7 +13,7 @@ pub(crate) struct Part {
 }
 
 impl Part {
-    ghost use Rattle.ci_elf.specs.Parts.{IsWidened, Overlap, part};
+    ghost use Rattle.ci_elf.specs.private.Parts.{IsWidened, Overlap, part};
 
     /// The part of this size.
     pub(crate) fn new(start: u32, size: u32) -> Self

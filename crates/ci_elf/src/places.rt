@@ -20,7 +20,7 @@ pub struct Places {
 impl Model for Places {
     ghost use Rattle.std.specs.Prelude.{List};
     ghost use Rattle.ci_elf.specs.declared.ranges.Range.{Range as TextRange};
-    ghost use Rattle.ci_elf.specs.RangeChecks.{AreFirstPlaces};
+    ghost use Rattle.ci_elf.specs.private.RangeChecks.{AreFirstPlaces};
 
     ghost Value = { List TextRange };
 

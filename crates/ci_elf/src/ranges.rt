@@ -4,8 +4,8 @@ ghost use Rattle.std.specs.List.{sum_by};
 ghost use Rattle.ci_elf.specs.Fields.{e_shnum};
 ghost use Rattle.ci_elf.specs.Executables.{HoldsAddress, InText, IsAscending, IsTextWord, ranges_of};
 ghost use Rattle.ci_elf.specs.Rules.{KeepsRules, section_rules, segment_rules};
-ghost use Rattle.ci_elf.specs.Checks.{HasTables};
-ghost use Rattle.ci_elf.specs.RangeChecks.{range_at, words_of};
+ghost use Rattle.ci_elf.specs.private.Checks.{HasTables};
+ghost use Rattle.ci_elf.specs.private.RangeChecks.{range_at, words_of};
 
 use crate::ElfFault;
 use crate::fields::section_count;

@@ -5,7 +5,7 @@ ghost use Rattle.ci_elf.specs.Executables.{IsAscending, ranges_of, segments_of};
 ghost use Rattle.ci_elf.specs.Rules.{EntryIsText, IsReadAs, KeepsRules, MemoryIsBounded, TextIsBounded};
 ghost use Rattle.ci_elf.specs.Rules.{file_header_rules, kind_rules, memory_rules, section_rules, segment_rules};
 ghost use Rattle.ci_elf.specs.Rules.{sharing_rules, table_rules};
-ghost use Rattle.ci_elf.specs.Checks.{HasTables, IsTestOf};
+ghost use Rattle.ci_elf.specs.private.Checks.{HasTables, IsTestOf};
 
 use crate::fields::entry;
 use crate::file_header::{check_file_header, check_kind, check_tables};

@@ -7,10 +7,10 @@ ghost use Rattle.ci_elf.specs.Fields.{e_shnum, sh_entsize};
 ghost use Rattle.ci_elf.specs.Executables.{segments_of};
 ghost use Rattle.ci_elf.specs.Rules.{HasSymbols, TextIsAlone, TextIsLoaded, KeepsRules, memory_rules, section_rules};
 ghost use Rattle.ci_elf.specs.Rules.{segment_rules};
-ghost use Rattle.ci_elf.specs.Checks.{HasTables, IsTestOf};
-ghost use Rattle.ci_elf.specs.Parts.{IsFirstMeeting, part, parts_below, symbols_at, tables_of, text_of};
-ghost use Rattle.ci_elf.specs.SectionChecks.{AreLaidOut, AreSurroundings, HoldsSection, IsTable, section_of};
-ghost use Rattle.ci_elf.specs.SectionChecks.{symbol_section, text_section};
+ghost use Rattle.ci_elf.specs.private.Checks.{HasTables, IsTestOf};
+ghost use Rattle.ci_elf.specs.private.Parts.{IsFirstMeeting, part, parts_below, symbols_at, tables_of, text_of};
+ghost use Rattle.ci_elf.specs.private.SectionChecks.{AreLaidOut, AreSurroundings, HoldsSection, IsTable, section_of};
+ghost use Rattle.ci_elf.specs.private.SectionChecks.{symbol_section, text_section};
 
 use crate::coverage::{coverage, next_covered};
 use crate::fields::{
@@ -33,8 +33,8 @@ pub(crate) struct Section {
 
 impl Section {
     ghost use Rattle.std.specs.Prelude.{◌≡◌, ◌↔◌, IsTrue};
-    ghost use Rattle.ci_elf.specs.Parts.{part};
-    ghost use Rattle.ci_elf.specs.SectionChecks.{HoldsSection};
+    ghost use Rattle.ci_elf.specs.private.Parts.{part};
+    ghost use Rattle.ci_elf.specs.private.SectionChecks.{HoldsSection};
 
     /// Its part of the file.
     pub(crate) fn file_part(self) -> Part

@@ -2,8 +2,8 @@
 ghost use Rattle.std.specs.Prelude.{◌≡◌, ◌+◌, ◌<◌, ◌≤◌, ◌↔◌, [], ◌∷◌, length, IsTrue, IfOk, Some};
 ghost use Rattle.ci_elf.specs.Fields.{e_phnum, p_type, is_loadable};
 ghost use Rattle.ci_elf.specs.Executables.{segments_of};
-ghost use Rattle.ci_elf.specs.Parts.{part};
-ghost use Rattle.ci_elf.specs.Checks.{IsTestOf, HasTables, SegmentFits, loadable_at};
+ghost use Rattle.ci_elf.specs.private.Parts.{part};
+ghost use Rattle.ci_elf.specs.private.Checks.{IsTestOf, HasTables, SegmentFits, loadable_at};
 ghost use Rattle.ci_elf.specs.Rules.{NamesNoInterpreter, HasFilePart, IsPlaced, segment_rules};
 
 use crate::ElfFault;
@@ -37,8 +37,8 @@ const STACK: Part = Part {
 
 impl Segment {
     ghost use Rattle.std.specs.Prelude.{◌≡◌, ◌<◌, ◌↔◌, IsTrue};
-    ghost use Rattle.ci_elf.specs.Parts.{part};
-    ghost use Rattle.ci_elf.specs.Checks.{SegmentFits};
+    ghost use Rattle.ci_elf.specs.private.Parts.{part};
+    ghost use Rattle.ci_elf.specs.private.Checks.{SegmentFits};
 
     /// The addresses of its memory.
     pub(crate) fn memory(self) -> Part

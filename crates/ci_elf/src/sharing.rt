@@ -2,8 +2,8 @@
 ghost use Rattle.std.specs.Prelude.{◌≡◌, ℕ, ◌<◌, IfOk, vec_len};
 ghost use Rattle.ci_elf.specs.Fields.{e_phnum, e_shnum};
 ghost use Rattle.ci_elf.specs.Rules.{sharing_rules};
-ghost use Rattle.ci_elf.specs.Checks.{HasTables, IsTestOf};
-ghost use Rattle.ci_elf.specs.Parts.{ArePartsFromText, IsCoverage, IsPartFromText, IsRising, parts_below, text_of};
+ghost use Rattle.ci_elf.specs.private.Checks.{HasTables, IsTestOf};
+ghost use Rattle.ci_elf.specs.private.Parts.{ArePartsFromText, IsCoverage, IsPartFromText, IsRising, parts_below, text_of};
 
 use crate::ElfFault;
 use crate::coverage::{coverage, next_covered};

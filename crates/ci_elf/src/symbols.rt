@@ -3,8 +3,8 @@ ghost use Rattle.std.specs.Prelude.{◌≡◌, ◌<◌, ◌≤◌, ◌++◌, len
 ghost use Rattle.ci_elf.specs.Fields.{e_shnum};
 ghost use Rattle.ci_elf.specs.Executables.{begins_entry, symbols_of};
 ghost use Rattle.ci_elf.specs.Rules.{KeepsRules, section_rules};
-ghost use Rattle.ci_elf.specs.Checks.{HasTables};
-ghost use Rattle.ci_elf.specs.SymbolChecks.{IsSpan, IsTableAmong, TakesToo, free_values};
+ghost use Rattle.ci_elf.specs.private.Checks.{HasTables};
+ghost use Rattle.ci_elf.specs.private.SymbolChecks.{IsSpan, IsTableAmong, TakesToo, free_values};
 
 use crate::fields::{section_count, word_at};
 use crate::parts::Part;

@@ -14,9 +14,9 @@ use Rattle.ci_machine.specs.Programs.{Program, State, in_text}
 use Rattle.ci_machine.specs.Steps.{Meaning, word_at, execute, fetched}
 use Rattle.ci_machine.specs.Touches.{moved}
 use Rattle.ci_emu.specs.declared.steps.Outcome.{Outcome}
-use Rattle.ci_emu.specs.Fetched.{HasHiddenIndex, IsOnlyAt, may_change}
+use Rattle.ci_emu.specs.private.Fetched.{HasHiddenIndex, IsOnlyAt, may_change}
 use Rattle.ci_emu.specs.Machines.{standing, StandAs}
-use Rattle.ci_emu.specs.Counting.{target_of}
+use Rattle.ci_emu.specs.private.Counting.{target_of}
 use Rattle.ci_emu.specs.Steps.{LeadsTo, IsStep, IsReached}
 use Rattle.ci_emu.proofs.CountLaws.{no_word}
 

@@ -32,8 +32,8 @@ use Rattle.ci_machine.specs.Steps.{Meaning, word_at, fetched}
 use Rattle.ci_emu.specs.declared.decode_cache.Decoded.{Decoded}
 use Rattle.ci_emu.specs.declared.steps.Outcome as emu
 use Rattle.ci_emu.specs.Alignment.{are_aligned}
-use Rattle.ci_emu.specs.Fetched.{may_change}
-use Rattle.ci_emu.specs.Lines.{AreKept, AreKnown, IsTimed, IsWordAt}
+use Rattle.ci_emu.specs.private.Fetched.{may_change}
+use Rattle.ci_emu.specs.private.Lines.{AreKept, AreKnown, IsTimed, IsWordAt}
 use Rattle.ci_emu.specs.Steps.{LeadsTo}
 use Rattle.ci_emu.proofs.Fetching.{fetched_is}
 

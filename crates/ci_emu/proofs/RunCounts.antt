@@ -21,7 +21,7 @@ use Rattle.ci_machine.proofs.RunLaws.{ends_stay}
 use Rattle.ci_emu.specs.declared.profile.Profile.{Profile}
 use Rattle.ci_emu.specs.declared.tally.Tally.{Tally}
 use Rattle.ci_emu.specs.Profiles.{IsTarget, IsTouch, IsProfileOf}
-use Rattle.ci_emu.specs.Counting.{first_touch, Led, IsFresh, IsToldBy, IsCounted, IsStepCounted}
+use Rattle.ci_emu.specs.private.Counting.{first_touch, Led, IsFresh, IsToldBy, IsCounted, IsStepCounted}
 
 module _ (meaning : Meaning) (program : Program) (latencies : Latencies) (start : State) where
   abbrev made : ℕ → Bool

@@ -14,7 +14,7 @@ use Rattle.ci_emu.specs.declared.profile.Profile.{Profile}
 use Rattle.ci_emu.specs.declared.steps.Outcome.{Outcome}
 use Rattle.ci_emu.specs.declared.steps.Outcome.TheVariants.{Ended}
 use Rattle.ci_emu.specs.declared.tally.Tally.{Tally}
-use Rattle.ci_emu.specs.Counting.{IsCounted, IsStepCounted, IsToldBy}
+use Rattle.ci_emu.specs.private.Counting.{IsCounted, IsStepCounted, IsToldBy}
 use Rattle.ci_emu.specs.Profiles.{count_at, IsProfileOf}
 use Rattle.ci_emu.specs.Steps.{end_of, IsStep, IsReached}
 use Rattle.ci_emu.proofs.RunCounts.{one_more, nothing_more, no_steps_more, all_made, made_with_last, profile_of}

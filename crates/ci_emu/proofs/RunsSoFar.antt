@@ -7,10 +7,10 @@ use Rattle.ci_machine.specs.Runs.{Latencies, after}
 use Rattle.ci_machine.specs.Steps.{Meaning}
 use Rattle.ci_emu.specs.declared.steps.Outcome.TheVariants.{Next}
 use Rattle.ci_emu.specs.declared.tally.Tally.{Tally}
-use Rattle.ci_emu.specs.CountedSteps.{HasEntered, HasRoom, IsCountedStep}
-use Rattle.ci_emu.specs.Counting.{IsCounted}
-use Rattle.ci_emu.specs.Fetched.{IsTextBelow}
-use Rattle.ci_emu.specs.Lines.{AreKept, AreKnown}
+use Rattle.ci_emu.specs.private.CountedSteps.{HasEntered, HasRoom, IsCountedStep}
+use Rattle.ci_emu.specs.private.Counting.{IsCounted}
+use Rattle.ci_emu.specs.private.Fetched.{IsTextBelow}
+use Rattle.ci_emu.specs.private.Lines.{AreKept, AreKnown}
 use Rattle.ci_emu.proofs.RunSteps.{HasFew, counted_more, few_more, has_room, stepped_to}
 use Rattle.ci_emu.proofs.SameStart.{same_start}
 

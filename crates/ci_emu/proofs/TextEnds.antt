@@ -9,7 +9,7 @@ use Rattle.ci_elf.specs.Executables.{end_of, in_text, IsAscending}
 use Rattle.ci_elf.proofs.RangeLaws.{range_holding}
 use Rattle.ci_isa.specs.declared.instruction.Width.TheVariants.{Byte, Half, Word}
 use Rattle.ci_machine.specs.Accesses.{addresses}
-use Rattle.ci_emu.specs.Fetched.{IsTextBelow}
+use Rattle.ci_emu.specs.private.Fetched.{IsTextBelow}
 
 -- what passes no test from an address on is not found there
 module _ (text : ℕ → Bool) (end : ℕ) (none : (address : ℕ) → end ≤ address → text address ≡ false) where

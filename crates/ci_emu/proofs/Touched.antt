@@ -2,7 +2,7 @@
 use Rattle.std.proofs.Common.{◌≡◌, ℕ, Option, Some, None, refl, inl, inr}
 use Rattle.std.specs.Prelude.{is_none, false, ◌↔◌, ◌⊎◌}
 use Rattle.std.specs.BTreeSet.{BTreeSet}
-use Rattle.ci_emu.specs.Counting.{first_touch, Led}
+use Rattle.ci_emu.specs.private.Counting.{first_touch, Led}
 
 pub without_touch : (earlier : Option (ℕ × ℕ)) (pc : ℕ) → first_touch earlier pc None ≡ earlier
 without_touch (Some touch) pc = refl

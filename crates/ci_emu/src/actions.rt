@@ -1,7 +1,7 @@
 //! Instructions by one look: what a step does is told by the variant alone, where it is frequent.
 ghost use Rattle.std.specs.Prelude.{◌≡◌};
 ghost use Rattle.ci_isa.specs.declared.instruction.Insn.TheVariants.{Alu, AluImm, Branch, Load, Store};
-ghost use Rattle.ci_emu.specs.Actions.{insn_of};
+ghost use Rattle.ci_emu.specs.private.Actions.{insn_of};
 
 use ci_isa::{Cond, Insn, LoadKind, Reg, Width};
 use ci_word::Op;

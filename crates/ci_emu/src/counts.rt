@@ -20,7 +20,7 @@ impl Nearby {
     ghost use Rattle.std.specs.Prelude.{List};
     ghost use Rattle.ci_elf.specs.declared.ranges.Range.{Range as TextRange};
     ghost use Rattle.ci_elf.specs.Executables.{has_byte};
-    ghost use Rattle.ci_emu.specs.PlacedRanges.{ArePlaced};
+    ghost use Rattle.ci_emu.specs.private.PlacedRanges.{ArePlaced};
 
     /// A range without words, before any of a text is near.
     pub(crate) fn new(alloc: Global) -> Nearby
@@ -92,7 +92,7 @@ fn are_aligned(text: &[Range]) -> bool
 impl Counts {
     ghost use Rattle.std.specs.Prelude.{ℕ};
     ghost use Rattle.ci_elf.specs.Executables.{IsAscending};
-    ghost use Rattle.ci_emu.specs.PlacedRanges.{ArePlaced};
+    ghost use Rattle.ci_emu.specs.private.PlacedRanges.{ArePlaced};
     ghost use Rattle.ci_emu.specs.Profiles.{count_at};
 
     /// No steps yet.

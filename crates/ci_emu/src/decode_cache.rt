@@ -9,8 +9,8 @@ ghost use Rattle.ci_word.specs.declared.arithmetic.Class.TheVariants.{Free};
 ghost use Rattle.ci_machine.specs.States.{program_of, state_of};
 ghost use Rattle.ci_machine.specs.Steps.{Meaning, fetched};
 ghost use Rattle.ci_emu.specs.Alignment.{are_aligned};
-ghost use Rattle.ci_emu.specs.Actions.{insn_of};
-ghost use Rattle.ci_emu.specs.Fetched.{cycles_on, IsOnlyAt};
+ghost use Rattle.ci_emu.specs.private.Actions.{insn_of};
+ghost use Rattle.ci_emu.specs.private.Fetched.{cycles_on, IsOnlyAt};
 
 use crate::actions::Action;
 use crate::machine::Machine;
@@ -79,7 +79,7 @@ fn read_latency<M: Machine>(machine: &M, table: &Table) -> u32
 }
 
 impl Decoded {
-    ghost use Rattle.ci_emu.specs.Lines.{IsTimed};
+    ghost use Rattle.ci_emu.specs.private.Lines.{IsTimed};
 
     /// What the table has for a word, and how long the machine takes for it.
     fn of<M: Machine>(machine: &M, table: &Table, word: u32) -> Decoded
@@ -137,7 +137,7 @@ pub(crate) struct DecodeCache {
 }
 
 impl DecodeCache {
-    ghost use Rattle.ci_emu.specs.Lines.{AreKept, AreKnown, IsTimed};
+    ghost use Rattle.ci_emu.specs.private.Lines.{AreKept, AreKnown, IsTimed};
 
     /// For so many places.
     pub(crate) fn new<M: Machine>(

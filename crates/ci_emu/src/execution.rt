@@ -18,8 +18,8 @@ ghost use Rattle.ci_machine.specs.Touches.{moved};
 ghost use Rattle.ci_emu.specs.declared.steps.Outcome.TheVariants.{Next};
 ghost use Rattle.ci_emu.specs.Machines.{standing};
 ghost use Rattle.ci_emu.specs.Steps.{next_or, LeadsTo};
-ghost use Rattle.ci_emu.specs.Counting.{first_touch};
-ghost use Rattle.ci_emu.specs.Fetched.{may_change, HasHiddenIndex, IsTextBelow};
+ghost use Rattle.ci_emu.specs.private.Counting.{first_touch};
+ghost use Rattle.ci_emu.specs.private.Fetched.{may_change, HasHiddenIndex, IsTextBelow};
 
 use crate::machine::Machine;
 use crate::steps::Outcome;

@@ -10,10 +10,10 @@ ghost use Rattle.ci_machine.specs.Programs.{in_text};
 ghost use Rattle.ci_machine.specs.Touches.{moved};
 ghost use Rattle.ci_emu.specs.declared.steps.Outcome.TheVariants.{Next};
 ghost use Rattle.ci_emu.specs.Machines.{standing};
-ghost use Rattle.ci_emu.specs.Actions.{insn_of};
+ghost use Rattle.ci_emu.specs.private.Actions.{insn_of};
 ghost use Rattle.ci_emu.specs.Steps.{LeadsTo};
-ghost use Rattle.ci_emu.specs.Counting.{first_touch, target_of, Led};
-ghost use Rattle.ci_emu.specs.Fetched.{may_change, HasHiddenIndex, IsTextBelow};
+ghost use Rattle.ci_emu.specs.private.Counting.{first_touch, target_of, Led};
+ghost use Rattle.ci_emu.specs.private.Fetched.{may_change, HasHiddenIndex, IsTextBelow};
 
 use crate::actions::Action;
 use crate::execution::{

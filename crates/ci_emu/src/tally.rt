@@ -4,17 +4,17 @@ ghost use Rattle.std.specs.Prelude.{if◌then◌else◌, IfOk, IfSome, OnOk, OnE
 ghost use Rattle.std.specs.Prelude.{length, slice_index_or};
 ghost use Rattle.std.specs.BTreeSet.{IsOrdered};
 ghost use Rattle.std.specs.Ordering.{nat_cmp};
-ghost use Rattle.ci_emu.specs.Actions.{insn_of};
+ghost use Rattle.ci_emu.specs.private.Actions.{insn_of};
 ghost use Rattle.ci_machine.specs.States.{program_of, state_of};
 ghost use Rattle.ci_machine.specs.Steps.{Meaning, fetched};
-ghost use Rattle.ci_emu.specs.Counting.{target_of, Led};
-ghost use Rattle.ci_emu.specs.CountedSteps.{HasEntered, HasRoom, IsCountedStep};
+ghost use Rattle.ci_emu.specs.private.Counting.{target_of, Led};
+ghost use Rattle.ci_emu.specs.private.CountedSteps.{HasEntered, HasRoom, IsCountedStep};
 ghost use Rattle.ci_elf.specs.Executables.{in_text as has_text, IsTextWord};
-ghost use Rattle.ci_emu.specs.Fetched.{cycles_on, IsTextBelow};
+ghost use Rattle.ci_emu.specs.private.Fetched.{cycles_on, IsTextBelow};
 ghost use Rattle.ci_emu.specs.Profiles.{count_at};
 ghost use Rattle.ci_emu.specs.TableLatencies.{latencies_on};
-ghost use Rattle.ci_emu.specs.Lines.{AreKept, AreKnown};
-ghost use Rattle.ci_emu.specs.PlacedRanges.{ArePlaced};
+ghost use Rattle.ci_emu.specs.private.Lines.{AreKept, AreKnown};
+ghost use Rattle.ci_emu.specs.private.PlacedRanges.{ArePlaced};
 ghost use Rattle.ci_emu.specs.declared.steps.Outcome.TheVariants.{Next};
 ghost use Rattle.ci_emu.specs.Steps.{IsReached};
 
@@ -46,8 +46,8 @@ pub(crate) struct Tally {
 
 impl Tally {
     ghost use Rattle.ci_elf.specs.Executables.{IsAscending};
-    ghost use Rattle.ci_emu.specs.Counting.{IsFresh, IsToldBy};
-    ghost use Rattle.ci_emu.specs.Lines.{AreKept};
+    ghost use Rattle.ci_emu.specs.private.Counting.{IsFresh, IsToldBy};
+    ghost use Rattle.ci_emu.specs.private.Lines.{AreKept};
 
     /// Nothing yet. Out of line: behind its tests the compiler would take the loop of the steps for seldom reached, and
     /// not inline loads and stores into it.

@@ -6,8 +6,8 @@ ghost use Rattle.ci_machine.specs.Accesses.{addresses};
 ghost use Rattle.ci_machine.specs.Programs.{in_text};
 ghost use Rattle.ci_machine.specs.States.{program_of, state_of};
 ghost use Rattle.ci_machine.specs.Touches.{moved_by_call};
-ghost use Rattle.ci_emu.specs.Counting.{first_touch};
-ghost use Rattle.ci_emu.specs.Fetched.{IsTextBelow};
+ghost use Rattle.ci_emu.specs.private.Counting.{first_touch};
+ghost use Rattle.ci_emu.specs.private.Fetched.{IsTextBelow};
 
 use ci_elf::Range;
 use ci_isa::Width;

@@ -12,7 +12,7 @@ use Rattle.ci_calls.specs.declared.refusals.Refusal.{Refusal}
 use Rattle.ci_calls.specs.declared.success.Success.{Success}
 use Rattle.ci_calls.specs.Inputs.{Input}
 use Rattle.ci_calls.specs.Reads.{IsSuccessOf, IsRefusalOf}
-use Rattle.ci_find.specs.Chosen.{KeepsChoiceRanges}
+use Rattle.ci_find.specs.private.Chosen.{KeepsChoiceRanges}
 use Rattle.ci_find.specs.ChoiceReading.{IsPlanOf}
 
 -- ---- ranges

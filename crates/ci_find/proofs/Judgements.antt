@@ -16,8 +16,8 @@ use Rattle.ci_find.specs.declared.check.ChoiceFiles.{ChoiceFiles}
 use Rattle.ci_find.specs.declared.choice.Profiled.{Profiled as Run}
 use Rattle.ci_find.specs.Profiled.{Settings, RunFiles, Profiled, IsProfiled, instance_by}
 use Rattle.ci_find.specs.CheckCommand.{CheckFiles, IsCheckMade, IsCheckRefused, unprofiled, rejected}
-use Rattle.ci_find.specs.Judged.{IsAnswerOn}
-use Rattle.ci_find.specs.Unprofiled.{IsUnprofiledCause}
+use Rattle.ci_find.specs.private.Judged.{IsAnswerOn}
+use Rattle.ci_find.specs.private.Unprofiled.{IsUnprofiledCause}
 
 -- the executable is read, then the files of a choice, then the others
 pub all_read :

@@ -20,7 +20,7 @@ use Rattle.ci_calls.specs.Reads.{HaveRead, IsSuccessOf, IsRefusalOf}
 use Rattle.ci_calls.proofs.InputLaws.{read_without_memory}
 use Rattle.ci_find.specs.Profiled.{Settings, RunFiles, IsProfiled, IsUnprofiled}
 use Rattle.ci_find.specs.FindCommand.{FindNames, IsChoice, IsFindMade, IsFindRefused}
-use Rattle.ci_find.specs.Unprofiled.{IsUnprofiledCause}
+use Rattle.ci_find.specs.private.Unprofiled.{IsUnprofiledCause}
 
 -- ---- the run
 

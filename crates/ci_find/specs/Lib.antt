@@ -11,6 +11,4 @@ pub mod Headline
 pub mod HeadlineOverFiles
 pub mod FirstFiles
 pub mod Laws
-pub mod Unprofiled
-pub mod Chosen
-pub mod Judged
+pub mod private

@@ -9,8 +9,8 @@ ghost use Rattle.ci_calls.specs.Reads.{HaveRead, HaveNotRead, IsSuccessOf, IsRef
 ghost use Rattle.ci_calls.specs.Refused.{name_in};
 ghost use Rattle.ci_find.specs.Profiled.{IsProfiled};
 ghost use Rattle.ci_find.specs.CheckCommand.{check_inputs, IsCheckMade, IsCheckRefused};
-ghost use Rattle.ci_find.specs.Chosen.{check_names_of, instance_from, settings_by};
-ghost use Rattle.ci_find.specs.Judged.{IsAnswerOn};
+ghost use Rattle.ci_find.specs.private.Chosen.{check_names_of, instance_from, settings_by};
+ghost use Rattle.ci_find.specs.private.Judged.{IsAnswerOn};
 
 use crate::choice::{ChoiceSettings, Profiled, RunFiles, profiled_run, read_run_files};
 use ci_calls::{Refusal, Success, read_book, read_image, read_new_file, read_units};

@@ -6,7 +6,7 @@ ghost use Rattle.ci_calls.specs.Files.{optional_bytes, AreGiven, AreLatencies, i
 ghost use Rattle.ci_calls.specs.Reads.{HaveRead, HaveNotRead};
 ghost use Rattle.ci_calls.specs.Refused.{name_in};
 ghost use Rattle.ci_find.specs.Profiled.{IsProfiled, run_files};
-ghost use Rattle.ci_find.specs.Unprofiled.{IsUnprofiledCause};
+ghost use Rattle.ci_find.specs.private.Unprofiled.{IsUnprofiledCause};
 
 use ci_block::{CustomWord, first_custom_word};
 use ci_calls::{Refusal, read_input, read_table};

@@ -8,7 +8,7 @@ ghost use Rattle.ci_words.specs.declared.tables.OptionName.TheVariants as option
 ghost use Rattle.ci_words.specs.Words.{words_set};
 ghost use Rattle.ci_find.specs.ChoiceReading.{settings_of, IsPlanOf};
 ghost use Rattle.ci_find.specs.Commands.{inputs_by, MakesBy, RefusesBy};
-ghost use Rattle.ci_find.specs.Chosen.{settings_by, KeepsChoiceRanges};
+ghost use Rattle.ci_find.specs.private.Chosen.{settings_by, KeepsChoiceRanges};
 ghost use Rattle.ci_find.specs.EndsBy.{IsDueBy, IsRefusalBy};
 ghost use Rattle.ci_io.specs.CallLists.{Call};
 ghost use Rattle.ci_io.specs.MadeCalls.{AreMade};

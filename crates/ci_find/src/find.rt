@@ -15,7 +15,7 @@ ghost use Rattle.ci_calls.specs.Refused.{name_in};
 ghost use Rattle.ci_find.specs.Profiled.{IsProfiled};
 ghost use Rattle.ci_find.specs.FindCommand.{find_inputs, is_spent, summary, summary_line, written};
 ghost use Rattle.ci_find.specs.FindCommand.{IsChoice, IsFindMade, IsFindRefused};
-ghost use Rattle.ci_find.specs.Chosen.{instance_from, names_of, settings_by};
+ghost use Rattle.ci_find.specs.private.Chosen.{instance_from, names_of, settings_by};
 
 use crate::choice::{
     ChoiceSettings, Profiled, RunFiles, bytes_are_small, profiled_run, read_run_files,

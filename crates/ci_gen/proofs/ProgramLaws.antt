@@ -21,7 +21,7 @@ use Rattle.ci_elf.specs.Rules.{IsReadAs}
 use Rattle.ci_elf.proofs.FrameHeaderLaws.{frame_headers}
 use Rattle.ci_elf.proofs.FrameImageLaws.{frames_are_read, frames_keep_rules}
 use Rattle.ci_gen.specs.Programs.{AreWordsOf, IsOnlyProgramOf, IsProgramOf}
-use Rattle.ci_gen.specs.Pushed.{AreOnlyWordsOf}
+use Rattle.ci_gen.specs.private.Pushed.{AreOnlyWordsOf}
 use Rattle.ci_gen.specs.Texts.{text_of}
 use Rattle.ci_gen.proofs.InstructionLaws.{IsPlain, plain_text}
 use Rattle.ci_gen.proofs.OperationLaws.{length-text}

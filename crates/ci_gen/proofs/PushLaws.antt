@@ -2,7 +2,7 @@
 use Rattle.std.proofs.Common.{◌≡◌, ℕ, List, [], ◌∷◌, ◌++◌, refl, sym, subst, append_assoc, append-nil}
 use Rattle.ci_isa.specs.declared.instruction.Insn.{Insn}
 use Rattle.ci_gen.specs.Programs.{AreWordsOf}
-use Rattle.ci_gen.specs.Pushed.{AreOnlyWordsOf, ArePushed, IsOnlyWordOf}
+use Rattle.ci_gen.specs.private.Pushed.{AreOnlyWordsOf, ArePushed, IsOnlyWordOf}
 
 -- one word more, for one instruction more
 pub one_pushed : (words : List ℕ) (word : ℕ) (insn : Insn) → IsOnlyWordOf word insn → ArePushed words (words ++ word ∷ []) (insn ∷ [])

@@ -2,5 +2,5 @@ pub mod Draws
 pub mod Texts
 pub mod Programs
 pub mod Laws
-pub mod Pushed
 pub mod Runs
+pub mod private

@@ -4,7 +4,7 @@ ghost use Rattle.ci_isa.specs.declared.instruction.Insn.{Insn};
 ghost use Rattle.ci_isa.specs.FieldBounds.{FieldsFit};
 ghost use Rattle.ci_gen.specs.Draws.{state_of};
 ghost use Rattle.ci_gen.specs.Texts.{add_constant, ending, group, operation, operation_of, text_of};
-ghost use Rattle.ci_gen.specs.Pushed.{ArePushed, AreOnlyWordsOf};
+ghost use Rattle.ci_gen.specs.private.Pushed.{ArePushed, AreOnlyWordsOf};
 
 use crate::generator::Generator;
 use ci_isa::{Insn, Reg, Width, encode};

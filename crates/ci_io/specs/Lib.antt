@@ -4,6 +4,5 @@ pub mod MemoryStates
 pub mod Outcomes
 pub mod Reads
 pub mod CallLists
-pub mod CallCodes
-pub mod Noted
 pub mod MadeCalls
+pub mod private

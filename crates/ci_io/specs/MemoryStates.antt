@@ -1,6 +1,6 @@
 -- What contracts see of a shelf and of the sinks in memory.
 use Rattle.std.specs.Prelude.{ℕ, List, refl}
-use Rattle.ci_io.specs.CallCodes.{calls_code}
+use Rattle.ci_io.specs.private.CallCodes.{calls_code}
 use Rattle.ci_io.specs.CallLists.{Call}
 use Rattle.std.specs.Coded.{Coded, code_by, coded×, coded_ℕ, coded_list}
 use Rattle.std.specs.FinMap as map

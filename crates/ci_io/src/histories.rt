@@ -1,7 +1,7 @@
 //! The calls that were made on a shelf or on a sink, which only proofs read. They take no memory.
 ghost use Rattle.std.specs.Prelude.{◌≡◌, List, [], ◌∷◌, ◌++◌};
 ghost use base.Fml.{ftrue};
-ghost use Rattle.ci_io.specs.CallCodes.{calls_code};
+ghost use Rattle.ci_io.specs.private.CallCodes.{calls_code};
 ghost use Rattle.ci_io.specs.CallLists.{Call};
 
 use crate::{ShelfErr, SinkErr};
@@ -37,7 +37,7 @@ pub(crate) enum NotedCall<'a> {
 }
 
 impl CallHistory {
-    ghost use Rattle.ci_io.specs.Noted.{call_of};
+    ghost use Rattle.ci_io.specs.private.Noted.{call_of};
 
     /// No call.
     pub(crate) fn new() -> CallHistory

@@ -16,10 +16,10 @@ use Rattle.ci_isa.specs.declared.instruction.Insn.TheVariants.{Fence, Ecall, Ebr
 use Rattle.ci_isa.specs.Fields.{field, rd_field, funct3, rs1_field, rs2_field, funct7, immediate_format, store_format, branch_format, signed_immediate}
 use Rattle.ci_isa.specs.Table.{operation_codes, condition_code, load_code, store_code, constant_form, HoldsConstant}
 use Rattle.ci_isa.specs.Table.{HasFieldsOf, HasFieldsOfX, Reads, ReadsX, IsWordOf, IsWellFormed, IsInsnAt}
-use Rattle.ci_isa.specs.Decoding.{condition_at, load_at, width_at, immediate_at, operation_at, shift_at, jump_row}
-use Rattle.ci_isa.specs.Decoding.{branch_row, load_row, store_row, immediate_row, shift_row, constant_row}
-use Rattle.ci_isa.specs.Decoding.{operation_row, fence_row, environment_row, unit_row, cread_row, cput_row, hidden_row, plain_row}
-use Rattle.ci_isa.specs.Decoding.{extended_row}
+use Rattle.ci_isa.specs.private.Decoding.{condition_at, load_at, width_at, immediate_at, operation_at, shift_at, jump_row}
+use Rattle.ci_isa.specs.private.Decoding.{branch_row, load_row, store_row, immediate_row, shift_row, constant_row}
+use Rattle.ci_isa.specs.private.Decoding.{operation_row, fence_row, environment_row, unit_row, cread_row, cput_row, hidden_row, plain_row}
+use Rattle.ci_isa.specs.private.Decoding.{extended_row}
 use Rattle.ci_isa.proofs.RowSoundness.{in_extended}
 
 -- ---- each code has one meaning

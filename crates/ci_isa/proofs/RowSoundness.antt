@@ -15,10 +15,10 @@ use Rattle.ci_isa.specs.declared.instruction.Insn.TheVariants.{Fence, Ecall, Ebr
 use Rattle.ci_isa.specs.Fields.{field, opcode, rd_field, funct3, rs1_field, rs2_field, funct7, immediate_format}
 use Rattle.ci_isa.specs.Fields.{store_format, branch_format, upper_format, jump_format, immediate, signed_immediate}
 use Rattle.ci_isa.specs.Table.{operation_codes, condition_code, load_code, store_code, constant_form, HoldsConstant, HasFieldsOf, HasFieldsOfX, Reads, ReadsX}
-use Rattle.ci_isa.specs.Decoding.{condition_at, load_at, width_at, operation_among, base_at, other_at, product_at}
-use Rattle.ci_isa.specs.Decoding.{immediate_at, operation_at, shift_at, jump_row, branch_row, load_row, store_row}
-use Rattle.ci_isa.specs.Decoding.{immediate_row, shift_row, constant_row, operation_row, fence_row, environment_row}
-use Rattle.ci_isa.specs.Decoding.{unit_row, cread_row, cput_row, hidden_row, plain_row, extended_row}
+use Rattle.ci_isa.specs.private.Decoding.{condition_at, load_at, width_at, operation_among, base_at, other_at, product_at}
+use Rattle.ci_isa.specs.private.Decoding.{immediate_at, operation_at, shift_at, jump_row, branch_row, load_row, store_row}
+use Rattle.ci_isa.specs.private.Decoding.{immediate_row, shift_row, constant_row, operation_row, fence_row, environment_row}
+use Rattle.ci_isa.specs.private.Decoding.{unit_row, cread_row, cput_row, hidden_row, plain_row, extended_row}
 
 -- ---- choices
 

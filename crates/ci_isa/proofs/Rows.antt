@@ -7,7 +7,7 @@ use Rattle.ci_isa.specs.declared.instruction.Insn.{Insn}
 use Rattle.ci_isa.specs.declared.instruction.Insn.TheVariants.{Alu, AluImm, Unit, Cread, Cput, Illegal}
 use Rattle.ci_isa.specs.Table.{IsInsnAt}
 use Rattle.ci_isa.specs.Laws.{IsInsnAtX}
-use Rattle.ci_isa.specs.Decoding.{environment_row, plain_row}
+use Rattle.ci_isa.specs.private.Decoding.{environment_row, plain_row}
 use Rattle.ci_isa.specs.Effects.{writes_register}
 use Rattle.ci_isa.specs.RegisterSets.{registers_read}
 use Rattle.ci_isa.specs.Sequences.{nth_insn, latest_writer, IsLastWriter}

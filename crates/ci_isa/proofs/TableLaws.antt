@@ -7,7 +7,7 @@ use Rattle.ci_isa.specs.declared.instruction.Insn.TheVariants.{Unit, Cread, Cput
 use Rattle.ci_isa.specs.Fields.{HasCustomOpcode}
 use Rattle.ci_isa.specs.Table.{HasFieldsOf, HasFieldsOfX, Reads, ReadsX, IsInsnAt}
 use Rattle.ci_isa.specs.Laws.{IsInsnAtX}
-use Rattle.ci_isa.specs.Decoding.{plain_row, extended_row}
+use Rattle.ci_isa.specs.private.Decoding.{plain_row, extended_row}
 use Rattle.ci_isa.specs.Laws.{TablesAgree, IsOnlyInsn, OneInsnAtEachWord}
 use Rattle.ci_isa.proofs.RowSoundness.{in_extended, plain_reads, extended_reads}
 use Rattle.ci_isa.proofs.RowCompleteness.{only_plain, only_extended, one_insn}

@@ -1,4 +1,3 @@
-pub mod Decoding
 pub mod Effects
 pub mod RegisterSets
 pub mod FieldBounds
@@ -6,3 +5,4 @@ pub mod Fields
 pub mod Laws
 pub mod Sequences
 pub mod Table
+pub mod private

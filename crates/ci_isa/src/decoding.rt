@@ -3,7 +3,7 @@ ghost use Rattle.std.specs.Prelude.{◌≡◌, Some, IfSome, IfNone};
 ghost use Rattle.ci_isa.specs.declared.instruction.Insn.{Insn};
 ghost use Rattle.ci_isa.specs.Fields as fields;
 ghost use Rattle.ci_isa.specs.Table.{Reads, ReadsX, IsWellFormed, IsInsnAt};
-ghost use Rattle.ci_isa.specs.Decoding as row;
+ghost use Rattle.ci_isa.specs.private.Decoding as row;
 
 use crate::fields::bits;
 use crate::immediates::{
@@ -49,7 +49,7 @@ pub fn insn_at(word: u32) -> Insn
 }
 
 /// What the extended table has for the word.
-#[tactic(auto, unfolding(crate::specs::Decoding::extended_row))]
+#[tactic(auto, unfolding(crate::specs::private::Decoding::extended_row))]
 fn extended_row(word: u32) -> Option<Insn>
     ensures { result ≡ row.extended_row word }
 {
@@ -61,7 +61,7 @@ fn extended_row(word: u32) -> Option<Insn>
 }
 
 /// What the plain table has for the word.
-#[tactic(auto, unfolding(crate::specs::Decoding::plain_row))]
+#[tactic(auto, unfolding(crate::specs::private::Decoding::plain_row))]
 fn plain_row(word: u32) -> Option<Insn>
     ensures { result ≡ row.plain_row word }
 {
@@ -90,7 +90,7 @@ fn plain_row(word: u32) -> Option<Insn>
 }
 
 /// A word of the opcode JALR.
-#[tactic(auto, unfolding(crate::specs::Decoding::jump_row))]
+#[tactic(auto, unfolding(crate::specs::private::Decoding::jump_row))]
 fn jump_to_register(word: u32) -> Option<Insn>
     ensures { result ≡ row.jump_row word }
 {
@@ -105,7 +105,7 @@ fn jump_to_register(word: u32) -> Option<Insn>
 }
 
 /// A word of the opcode BRANCH.
-#[tactic(auto, unfolding(crate::specs::Decoding::branch_row))]
+#[tactic(auto, unfolding(crate::specs::private::Decoding::branch_row))]
 fn branch(word: u32) -> Option<Insn>
     ensures { result ≡ row.branch_row word }
 {
@@ -119,7 +119,7 @@ fn branch(word: u32) -> Option<Insn>
 }
 
 /// A word of the opcode LOAD.
-#[tactic(auto, unfolding(crate::specs::Decoding::load_row))]
+#[tactic(auto, unfolding(crate::specs::private::Decoding::load_row))]
 fn load(word: u32) -> Option<Insn>
     ensures { result ≡ row.load_row word }
 {
@@ -133,7 +133,7 @@ fn load(word: u32) -> Option<Insn>
 }
 
 /// A word of the opcode STORE.
-#[tactic(auto, unfolding(crate::specs::Decoding::store_row))]
+#[tactic(auto, unfolding(crate::specs::private::Decoding::store_row))]
 fn store(word: u32) -> Option<Insn>
     ensures { result ≡ row.store_row word }
 {
@@ -147,7 +147,7 @@ fn store(word: u32) -> Option<Insn>
 }
 
 /// A word of the opcode OP-IMM.
-#[tactic(auto, unfolding(crate::specs::Decoding::constant_row))]
+#[tactic(auto, unfolding(crate::specs::private::Decoding::constant_row))]
 fn operation_on_constant(word: u32) -> Option<Insn>
     ensures { result ≡ row.constant_row word }
 {
@@ -158,7 +158,7 @@ fn operation_on_constant(word: u32) -> Option<Insn>
 }
 
 /// A word of the opcode OP-IMM that has an immediate.
-#[tactic(auto, unfolding(crate::specs::Decoding::immediate_row))]
+#[tactic(auto, unfolding(crate::specs::private::Decoding::immediate_row))]
 fn operation_on_immediate(word: u32) -> Option<Insn>
     ensures { result ≡ row.immediate_row word }
 {
@@ -172,7 +172,7 @@ fn operation_on_immediate(word: u32) -> Option<Insn>
 }
 
 /// A word of the opcode OP-IMM that has an amount for a shift.
-#[tactic(auto, unfolding(crate::specs::Decoding::shift_row))]
+#[tactic(auto, unfolding(crate::specs::private::Decoding::shift_row))]
 fn shift_by_constant(word: u32) -> Option<Insn>
     ensures { result ≡ row.shift_row word }
 {
@@ -186,7 +186,7 @@ fn shift_by_constant(word: u32) -> Option<Insn>
 }
 
 /// A word of the opcode OP.
-#[tactic(auto, unfolding(crate::specs::Decoding::operation_row))]
+#[tactic(auto, unfolding(crate::specs::private::Decoding::operation_row))]
 fn operation(word: u32) -> Option<Insn>
     ensures { result ≡ row.operation_row word }
 {
@@ -200,7 +200,7 @@ fn operation(word: u32) -> Option<Insn>
 }
 
 /// A word of the opcode MISC-MEM.
-#[tactic(auto, unfolding(crate::specs::Decoding::fence_row))]
+#[tactic(auto, unfolding(crate::specs::private::Decoding::fence_row))]
 fn fence(word: u32) -> Option<Insn>
     ensures { result ≡ row.fence_row word }
 {
@@ -215,7 +215,7 @@ fn fence(word: u32) -> Option<Insn>
 }
 
 /// A word of the opcode SYSTEM, or of one without rows.
-#[tactic(auto, unfolding(crate::specs::Decoding::environment_row))]
+#[tactic(auto, unfolding(crate::specs::private::Decoding::environment_row))]
 fn environment(word: u32) -> Option<Insn>
     ensures { result ≡ row.environment_row word }
 {
@@ -227,7 +227,7 @@ fn environment(word: u32) -> Option<Insn>
 }
 
 /// A word of the opcode custom-0.
-#[tactic(auto, unfolding(crate::specs::Decoding::unit_row))]
+#[tactic(auto, unfolding(crate::specs::private::Decoding::unit_row))]
 fn unit(word: u32) -> Insn
     ensures { Some result ≡ row.unit_row word }
 {
@@ -241,7 +241,7 @@ fn unit(word: u32) -> Insn
 }
 
 /// A word of the opcode custom-1.
-#[tactic(auto, unfolding(crate::specs::Decoding::hidden_row))]
+#[tactic(auto, unfolding(crate::specs::private::Decoding::hidden_row))]
 fn cread_or_cput(word: u32) -> Option<Insn>
     ensures { result ≡ row.hidden_row word }
 {
@@ -256,7 +256,7 @@ fn cread_or_cput(word: u32) -> Option<Insn>
 }
 
 /// A word that reads a hidden result.
-#[tactic(auto, unfolding(crate::specs::Decoding::cread_row))]
+#[tactic(auto, unfolding(crate::specs::private::Decoding::cread_row))]
 fn cread(word: u32) -> Option<Insn>
     ensures { result ≡ row.cread_row word }
 {
@@ -275,7 +275,7 @@ fn cread(word: u32) -> Option<Insn>
 }
 
 /// A word that writes the hidden operands.
-#[tactic(auto, unfolding(crate::specs::Decoding::cput_row))]
+#[tactic(auto, unfolding(crate::specs::private::Decoding::cput_row))]
 fn cput(word: u32) -> Option<Insn>
     ensures { result ≡ row.cput_row word }
 {

@@ -2,4 +2,4 @@ pub mod Latencies
 pub mod TableRules
 pub mod Keys
 pub mod Faults
-pub mod Stored
+pub mod private

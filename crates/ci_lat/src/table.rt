@@ -31,7 +31,7 @@ pub struct Table {
 impl Model for Table {
     ghost use Rattle.ci_lat.specs.Latencies.{Latencies};
     ghost use Rattle.ci_lat.specs.TableRules.{IsLatencyTable};
-    ghost use Rattle.ci_lat.specs.Stored.{latencies};
+    ghost use Rattle.ci_lat.specs.private.Stored.{latencies};
 
     ghost Value = { Latencies };
 

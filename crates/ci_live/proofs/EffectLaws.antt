@@ -6,7 +6,7 @@ use Rattle.ci_isa.specs.declared.instruction.Insn.{Insn}
 use Rattle.ci_isa.specs.RegisterSets.{registers_read, registers_written}
 use Rattle.ci_isa.specs.Effects.{reads_register, writes_register}
 use Rattle.ci_isa.proofs.Registers.{reads_register_is, writes_register_is}
-use Rattle.ci_live.specs.Flows.{Has}
+use Rattle.ci_live.specs.private.Flows.{Has}
 use Rattle.ci_isa.specs.Sequences.{ReadFirst, Write}
 use Rattle.ci_live.proofs.SetLaws.{has_difference, has_union}
 use Rattle.ci_isa.proofs.SequenceLaws.{read_first_cons, write_cons}

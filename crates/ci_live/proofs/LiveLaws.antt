@@ -10,8 +10,8 @@ use Rattle.ci_block.specs.declared.blocks.Block.{Block}
 use Rattle.ci_block.specs.Blocks.{AreInOrder}
 use Rattle.ci_live.specs.declared.flow.Flow.{Flow}
 use Rattle.ci_live.specs.declared.iteration.Found.{Found as FoundSets}
-use Rattle.ci_live.specs.Flows.{AreFlows, AreWithin, Has, IsWithin, flow_at}
-use Rattle.ci_live.specs.Found.{IsSolution, IsSound, live_at, on_edges}
+use Rattle.ci_live.specs.private.Flows.{AreFlows, AreWithin, Has, IsWithin, flow_at}
+use Rattle.ci_live.specs.private.Found.{IsSolution, IsSound, live_at, on_edges}
 use Rattle.ci_live.specs.Liveness.{AreLiveSets, IsLive, IsLiveAfter}
 use Rattle.ci_live.specs.Sets.{set_of}
 use Rattle.ci_live.proofs.TransferLaws.{on_edges_reached}

@@ -8,7 +8,7 @@ use Rattle.ci_block.specs.declared.blocks.Block.{Block}
 use Rattle.ci_block.specs.Blocks.{AreInOrder}
 use Rattle.ci_live.specs.declared.flow.Flow.{Flow}
 use Rattle.ci_live.specs.declared.flow.Successors.{Successors}
-use Rattle.ci_live.specs.Flows.{AreFlows, AreSuccessorNumbers, IsReached, here, further, Leads, flow_at}
+use Rattle.ci_live.specs.private.Flows.{AreFlows, AreSuccessorNumbers, IsReached, here, further, Leads, flow_at}
 use Rattle.ci_isa.specs.Sequences.{ReadFirst, Write}
 use Rattle.ci_live.specs.Liveness.{FollowEachOther, IsLive, IsLiveAfter, IsSuccessor, LeadsTo, first_of}
 use Rattle.ci_live.proofs.LivenessLaws.{live_from_steps, live_where_read}

@@ -8,7 +8,7 @@ use Rattle.std.proofs.Math.ListN.{get_or-append}
 use Rattle.std.proofs.Math.Seq.{get_or-append_seam}
 use Rattle.ci_block.specs.declared.blocks.Block.{Block}
 use Rattle.ci_live.specs.declared.flow.Flow.{Flow}
-use Rattle.ci_live.specs.Flows.{AreFlows, IsFlowOf, flow_at}
+use Rattle.ci_live.specs.private.Flows.{AreFlows, IsFlowOf, flow_at}
 
 -- ---- one number less
 

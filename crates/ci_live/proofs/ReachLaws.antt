@@ -5,8 +5,8 @@ use Rattle.ci_live.specs.declared.flow.Flow.{Flow}
 use Rattle.ci_live.specs.declared.flow.Successors.{Successors}
 use Rattle.ci_live.specs.declared.flow.Successors.TheVariants.{Named, Anywhere}
 use Rattle.ci_live.specs.declared.iteration.Found.{Found as FoundSets}
-use Rattle.ci_live.specs.Flows.{Has, IsReached, here, further, Leads, flow_at}
-use Rattle.ci_live.specs.Found.{IsClosed, IsSound, IsSolution, live_at, needed_at, on_edge, on_edges, passed_at}
+use Rattle.ci_live.specs.private.Flows.{Has, IsReached, here, further, Leads, flow_at}
+use Rattle.ci_live.specs.private.Found.{IsClosed, IsSound, IsSolution, live_at, needed_at, on_edge, on_edges, passed_at}
 use Rattle.ci_live.proofs.SetLaws.{covered, has_difference, has_union}
 
 -- what is live at one of the successors is live behind the block

@@ -8,8 +8,8 @@ use Rattle.std.proofs.lemmas.Bool.{and_parts, and_from, or_cases, or_left, or_ri
 use Rattle.std.proofs.lemmas.List.Sums.{sum_by-set}
 use Rattle.ci_word.specs.Numbers.{count_below}
 use Rattle.ci_word.proofs.NumberLaws.{count_below-le, count_below-or, count_below-same}
-use Rattle.ci_live.specs.Flows.{Has}
-use Rattle.ci_live.specs.Found.{live_at}
+use Rattle.ci_live.specs.private.Flows.{Has}
+use Rattle.ci_live.specs.private.Found.{live_at}
 
 pub has_none : (r : ℕ) → ¬ Has set.empty r
 has_none r has = true≢false (sym has ∙ set.contains-empty nat_cmp r)

@@ -9,8 +9,8 @@ use Rattle.ci_live.specs.declared.flow.Flow.{Flow}
 use Rattle.ci_live.specs.declared.flow.Successors.{Successors}
 use Rattle.ci_live.specs.declared.flow.Successors.TheVariants.{Named, Anywhere}
 use Rattle.ci_live.specs.declared.iteration.Found.{Found as FoundSets}
-use Rattle.ci_live.specs.Flows.{Has, IsReached, here, further, Leads, flow_at}
-use Rattle.ci_live.specs.Found.{IsSound, live_at, missing_at, needed_at, on_edge, on_edges, passed_at}
+use Rattle.ci_live.specs.private.Flows.{Has, IsReached, here, further, Leads, flow_at}
+use Rattle.ci_live.specs.private.Found.{IsSound, live_at, missing_at, needed_at, on_edge, on_edges, passed_at}
 use Rattle.ci_live.proofs.SetLaws.{has_difference, has_none, has_union}
 
 -- empty sets are right

@@ -5,7 +5,7 @@ use Rattle.std.proofs.lemmas.List.{get_or-take}
 use Rattle.std.proofs.lemmas.Bool.{cases_lt}
 use Rattle.ci_live.specs.declared.flow.Flow.{Flow}
 use Rattle.ci_live.specs.declared.iteration.Found.{Found as FoundSets}
-use Rattle.ci_live.specs.Found.{AreVisits, IsClosed, IsTransfer, IsSound, room}
+use Rattle.ci_live.specs.private.Found.{AreVisits, IsClosed, IsTransfer, IsSound, room}
 
 module _ (flows : List Flow) (before middle after : FoundSets) (order changed : List ℕ) (i : ℕ)
     (within : i < length order) (so_far : AreVisits flows before middle (take i order) changed)

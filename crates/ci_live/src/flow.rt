@@ -2,7 +2,7 @@
 ghost use Rattle.std.specs.Prelude.{◌≡◌, ℕ, ◌<◌, ◌↔◌, length, map, slice_index, IfOk, MatchOption};
 ghost use Rattle.std.specs.List.{AllPairs, Contains};
 ghost use Rattle.ci_isa.specs.Sequences.{ReadFirst, Write};
-ghost use Rattle.ci_live.specs.Flows.{AreFlows, AreSuccessorNumbers, Has};
+ghost use Rattle.ci_live.specs.private.Flows.{AreFlows, AreSuccessorNumbers, Has};
 
 use ci_block::{Block, Next};
 use ci_isa::{Insn, reads, writes};

@@ -1,9 +1,9 @@
 //! Live sets by repeated steps.
 ghost use Rattle.std.specs.Prelude.{◌≡◌, ℕ, ◌<◌, ◌≤◌, length, IfOk, IfSome, OnOk};
 ghost use Rattle.std.specs.List.{All, Contains};
-ghost use Rattle.ci_live.specs.Flows.{AreWithin, IsWithin};
-ghost use Rattle.ci_live.specs.Found.{AreVisits, IsTransfer, IsSolution, IsSound};
-ghost use Rattle.ci_live.specs.Found.{missing_at, on_edge as what_is_on, on_edges, room};
+ghost use Rattle.ci_live.specs.private.Flows.{AreWithin, IsWithin};
+ghost use Rattle.ci_live.specs.private.Found.{AreVisits, IsTransfer, IsSolution, IsSound};
+ghost use Rattle.ci_live.specs.private.Found.{missing_at, on_edge as what_is_on, on_edges, room};
 
 use crate::flow::{Flow, Successors};
 use crate::predecessors::Predecessors;

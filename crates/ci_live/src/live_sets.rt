@@ -2,8 +2,8 @@
 ghost use Rattle.std.specs.Prelude.{◌≡◌, ℕ, ◌<◌, length, map, IfOk};
 ghost use Rattle.std.specs.List.{Contains};
 ghost use Rattle.ci_block.specs.Blocks.{AreInOrder};
-ghost use Rattle.ci_live.specs.Flows.{AreWithin, flow_at};
-ghost use Rattle.ci_live.specs.Found.{IsSolution, live_at, on_edges};
+ghost use Rattle.ci_live.specs.private.Flows.{AreWithin, flow_at};
+ghost use Rattle.ci_live.specs.private.Found.{IsSolution, live_at, on_edges};
 ghost use Rattle.ci_live.specs.Liveness.{AreLiveSets};
 ghost use Rattle.ci_live.specs.Sets.{after_block, at_leader};
 
@@ -24,7 +24,7 @@ pub struct LiveSets {
 
 impl Model for LiveSets {
     ghost use Rattle.ci_live.specs.Sets.{Sets};
-    ghost use Rattle.ci_live.specs.StoredSets.{coded_sets};
+    ghost use Rattle.ci_live.specs.private.StoredSets.{coded_sets};
 
     ghost Value = { Sets };
 
@@ -36,7 +36,7 @@ impl Model for LiveSets {
       live_out = s.after.items;
     } };
 
-    ghost use Rattle.ci_live.specs.StoredSets.{AreByLeader};
+    ghost use Rattle.ci_live.specs.private.StoredSets.{AreByLeader};
 
     ghost invariant = { λ s. AreByLeader s.leaders.items s.at.items s.after.items };
 }

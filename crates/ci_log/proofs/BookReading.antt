@@ -20,7 +20,7 @@ use Rattle.ci_log.specs.declared.book.Finish.TheVariants.{Empty}
 use Rattle.ci_log.specs.Trees.{letters}
 use Rattle.ci_log.specs.Books.{IsEntry, IsSearch, AreRounds, AreInOrder, Book, IsBook, Spells, entry_text, finish_text, first_line}
 use Rattle.ci_log.specs.Faults.{HasTree, EndsTree}
-use Rattle.ci_log.specs.Reading.{BehindTree, Read, take, search, round, finish, searches, rounds, body}
+use Rattle.ci_log.specs.private.Reading.{BehindTree, Read, take, search, round, finish, searches, rounds, body}
 use Rattle.ci_log.proofs.Ends.{NotDue, most, same_front}
 use Rattle.ci_log.proofs.EntryReading.{LogReader, IsTake, a_take, take_exact, a_search, search_exact, a_finish, search_begins, take_begins, finish_begins}
 

@@ -19,7 +19,7 @@ use Rattle.ci_reading.proofs.Languages.{Plainly, Then, joined, Mapped, mapped, I
 use Rattle.ci_reading.proofs.Exact.{IsExact, also, and_then, seen_plainly, give}
 use Rattle.ci_reading.proofs.NumberReading.{IsNumber, both_true, number_exact, number_read}
 use Rattle.ci_reading.proofs.Readers.{PlainReader}
-use Rattle.ci_log.specs.Reading.{Read, BehindTree, nodes_from, nodes, with_numbers, set_of}
+use Rattle.ci_log.specs.private.Reading.{Read, BehindTree, nodes_from, nodes, with_numbers, set_of}
 
 -- ---- rising numbers
 

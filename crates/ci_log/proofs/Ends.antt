@@ -1,7 +1,7 @@
 -- Beginnings of books up to the last letter of a tree, where a newline is due.
 use Rattle.std.proofs.Common.{◌≡◌, ◌≢◌, ℕ, List, [], ◌∷◌, ◌++◌, refl, append_assoc, Option, Some, None}
 use Rattle.ci_reading.specs.Lines.{line}
-use Rattle.ci_log.specs.Reading.{BehindTree}
+use Rattle.ci_log.specs.private.Reading.{BehindTree}
 
 -- any other byte than the newline that is due behind a tree
 abbrev pub NotDue : BehindTree → ℕ → Type 0

@@ -25,7 +25,7 @@ use Rattle.ci_log.specs.declared.book.Finish.TheVariants.{Empty, Count}
 use Rattle.ci_log.specs.Trees.{letters}
 use Rattle.ci_log.specs.Books.{IsEntry, IsSearch, entry_text, finish_text}
 use Rattle.ci_log.specs.Faults.{HasTree}
-use Rattle.ci_log.specs.Reading.{BehindTree, nodes, set_of, best, without, budgets, spent, search, units, take, finish}
+use Rattle.ci_log.specs.private.Reading.{BehindTree, nodes, set_of, best, without, budgets, spent, search, units, take, finish}
 use Rattle.ci_log.proofs.Ends.{NotDue, most, ended, ended_behind, same_ended}
 use Rattle.ci_log.proofs.CutReading.{a_cut, some_cut_text}
 use Rattle.ci_log.proofs.TreeReading.{a_tree_line}

@@ -7,7 +7,7 @@ use Rattle.ci_log.specs.declared.book.Finish.{Finish}
 use Rattle.ci_log.specs.declared.faults.Failure.{Failure}
 use Rattle.ci_log.specs.declared.faults.Failure.TheVariants as failure
 use Rattle.ci_log.specs.Books.{Book}
-use Rattle.ci_log.specs.Reading.{Fails, Read, stop_seen, take, search, round, finish, one_search, searches, rounds, body}
+use Rattle.ci_log.specs.private.Reading.{Fails, Read, stop_seen, take, search, round, finish, one_search, searches, rounds, body}
 
 module _ (so_far : List Entry) (xs : List ℕ) where
   pub next_search : (s : Entry) (after : List ℕ) → begins_with 98 xs ≡ true → search xs ≡ Ok (s, after) → length after < length xs

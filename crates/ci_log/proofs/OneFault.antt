@@ -19,7 +19,7 @@ use Rattle.ci_log.specs.declared.faults.LogFault.{LogFault}
 use Rattle.ci_log.specs.declared.faults.LogFault.TheVariants.{BadHeader, BadItem, Unfinished, Trailing, NoMemory}
 use Rattle.ci_log.specs.Books.{Book, Spells, entry_text, finish_text, first_line, book_text}
 use Rattle.ci_log.specs.Faults.{IsFront, EndsTree, IsWhole, IsTrailing, HasFault, IsFaultOf, Answers, bad_header, unfinished, trailing, bad_item}
-use Rattle.ci_log.specs.Reading.{BehindTree, Fails, IsLeft, stop_seen, body, stop_fault, failure_fault, header_fault}
+use Rattle.ci_log.specs.private.Reading.{BehindTree, Fails, IsLeft, stop_seen, body, stop_fault, failure_fault, header_fault}
 use Rattle.ci_log.proofs.Ends.{most}
 use Rattle.ci_log.proofs.BookReading.{empty_book, empty_spells, read_book, tree_body, a_book}
 

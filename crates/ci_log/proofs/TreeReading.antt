@@ -17,7 +17,7 @@ use Rattle.ci_reading.proofs.Readers.{Reader, PlainReader, part_before, shown_an
 use Rattle.ci_log.specs.Trees.{IsLeaf, IsTree, leaf, branch, IsLog, letter, letters}
 use Rattle.ci_log.specs.declared.faults.Failure.{Failure}
 use Rattle.ci_log.specs.declared.faults.Failure.TheVariants as failure
-use Rattle.ci_log.specs.Reading.{Fails, BehindTree, item, Read, item_of, due_after, with_item, trees, tree_end, tree_line}
+use Rattle.ci_log.specs.private.Reading.{Fails, BehindTree, item, Read, item_of, due_after, with_item, trees, tree_end, tree_line}
 use Rattle.ci_log.proofs.Ends.{NotDue, most, ended, same_front}
 
 -- ---- so many trees, one after the other

@@ -40,7 +40,7 @@ pub struct LogBook {
 
 impl Model for LogBook {
     ghost use Rattle.ci_log.specs.Books.{Book, IsBook};
-    ghost use Rattle.ci_log.specs.Stored.{coded_book};
+    ghost use Rattle.ci_log.specs.private.Stored.{coded_book};
 
     ghost Value = { Book };
 

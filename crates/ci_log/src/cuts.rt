@@ -1,6 +1,6 @@
 //! The cuts of a book's lines.
 ghost use Rattle.std.specs.Prelude.{◌≡◌, ◌≤◌};
-ghost use Rattle.ci_log.specs.Reading.{Gives, nodes, set_of};
+ghost use Rattle.ci_log.specs.private.Reading.{Gives, nodes, set_of};
 
 use crate::faults::{Failure, stopped};
 use ci_reading::{Numbers, number};

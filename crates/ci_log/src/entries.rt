@@ -1,7 +1,7 @@
 //! The entries of a book.
 ghost use Rattle.std.specs.Prelude.{◌≡◌, ◌≤◌, length, IfOk};
 ghost use Rattle.ci_reading.specs.LineReading.{with_front};
-ghost use Rattle.ci_log.specs.Reading.{Gives, best, without, spent, search, take, searches, rounds, finish};
+ghost use Rattle.ci_log.specs.private.Reading.{Gives, best, without, spent, search, take, searches, rounds, finish};
 
 use crate::book::{Entry, Finish};
 use crate::cuts::nodes;
@@ -27,7 +27,7 @@ const UNITS: Numbers = Numbers {
 };
 
 /// What stands behind the leader of a search that found a cut.
-#[tactic(auto, unfolding(crate::specs::Reading::best))]
+#[tactic(auto, unfolding(crate::specs::private::Reading::best))]
 fn best(alloc: Global, leader: u32, bytes: &[u8]) -> Result<(Entry, &[u8]), Failure>
     requires { length bytes.now ≤ 268435456 }
     ensures { Gives (λ x. (x.0, x.1.now)) result (best leader bytes.now) }
@@ -45,7 +45,7 @@ fn best(alloc: Global, leader: u32, bytes: &[u8]) -> Result<(Entry, &[u8]), Fail
 }
 
 /// What stands behind the leader of a search that found no cut.
-#[tactic(auto, unfolding(crate::specs::Reading::without))]
+#[tactic(auto, unfolding(crate::specs::private::Reading::without))]
 fn without(alloc: Global, leader: u32, bytes: &[u8]) -> Result<(Entry, &[u8]), Failure>
     requires { length bytes.now ≤ 268435456 }
     ensures { Gives (λ x. (x.0, x.1.now)) result (without leader bytes.now) }
@@ -59,7 +59,7 @@ fn without(alloc: Global, leader: u32, bytes: &[u8]) -> Result<(Entry, &[u8]), F
 }
 
 /// What stands behind the leader of a search that needs more than its budget.
-#[tactic(auto, unfolding(crate::specs::Reading::spent))]
+#[tactic(auto, unfolding(crate::specs::private::Reading::spent))]
 fn spent(leader: u32, bytes: &[u8]) -> Result<(Entry, &[u8]), Failure>
     ensures { Gives (λ x. (x.0, x.1.now)) result (spent leader bytes.now) }
 {
@@ -69,7 +69,7 @@ fn spent(leader: u32, bytes: &[u8]) -> Result<(Entry, &[u8]), Failure>
 }
 
 /// A search.
-#[tactic(auto, unfolding(crate::specs::Reading::search))]
+#[tactic(auto, unfolding(crate::specs::private::Reading::search))]
 fn search(alloc: Global, bytes: &[u8]) -> Result<(Entry, &[u8]), Failure>
     requires { length bytes.now ≤ 268435456 }
     ensures { Gives (λ x. (x.0, x.1.now)) result (search bytes.now) }
@@ -87,7 +87,7 @@ fn search(alloc: Global, bytes: &[u8]) -> Result<(Entry, &[u8]), Failure>
 }
 
 /// A take.
-#[tactic(auto, unfolding(crate::specs::Reading::take))]
+#[tactic(auto, unfolding(crate::specs::private::Reading::take))]
 fn take(bytes: &[u8]) -> Result<(Entry, &[u8]), Failure>
     ensures { Gives (λ x. (x.0, x.1.now)) result (take bytes.now) }
 {
@@ -138,7 +138,7 @@ pub(crate) fn rounds<'a>(
 }
 
 /// The finish.
-#[tactic(auto, unfolding(crate::specs::Reading::finish))]
+#[tactic(auto, unfolding(crate::specs::private::Reading::finish))]
 pub(crate) fn finish(bytes: &[u8]) -> Result<(Finish, &[u8]), Failure>
     ensures { Gives (λ x. (x.0, x.1.now)) result (finish bytes.now) }
 {

@@ -2,7 +2,7 @@
 ghost use Rattle.std.specs.Prelude.{◌≡◌, ℕ, ◌<◌, ◌≤◌, length, IfOk, IfErr, Ok, Err};
 ghost use Rattle.ci_log.specs.Books.{Book, Spells};
 ghost use Rattle.ci_log.specs.Faults.{HasFault, IsFaultOf, Answers};
-ghost use Rattle.ci_log.specs.Reading.{Gives, body, IsLeft, failure_fault, header_fault};
+ghost use Rattle.ci_log.specs.private.Reading.{Gives, body, IsLeft, failure_fault, header_fault};
 ghost use Rattle.ci_log.specs.declared.faults.LogFault.{LogFault};
 
 use crate::book::LogBook;
@@ -12,7 +12,7 @@ use ci_reading::word;
 use std::alloc::Global;
 
 /// What stands behind the first line.
-#[tactic(auto, unfolding(crate::specs::Reading::body))]
+#[tactic(auto, unfolding(crate::specs::private::Reading::body))]
 fn body(alloc: Global, bytes: &[u8]) -> Result<(LogBook, &[u8]), Failure>
     requires { length bytes.now ≤ 268435456 }
     ensures { Gives (λ x. (x.0, x.1.now)) result (body bytes.now) }

@@ -1,6 +1,6 @@
 //! The letters of a log.
 ghost use Rattle.std.specs.Prelude.{◌≡◌, ◌-◌, ◌<◌, ◌≤◌, length};
-ghost use Rattle.ci_log.specs.Reading.{Gives, item_of, item, due_after, trees, tree_end, tree_line};
+ghost use Rattle.ci_log.specs.private.Reading.{Gives, item_of, item, due_after, trees, tree_end, tree_line};
 
 use crate::faults::{Failure, Stop, stopped};
 use crate::log::{Item, Log};
@@ -77,7 +77,7 @@ fn tree_end(bytes: &[u8]) -> Result<&[u8], Failure>
 }
 
 /// A log's line.
-#[tactic(auto, unfolding(crate::specs::Reading::tree_line))]
+#[tactic(auto, unfolding(crate::specs::private::Reading::tree_line))]
 pub(crate) fn tree_line(alloc: Global, bytes: &[u8]) -> Result<(Log, &[u8]), Failure>
     requires { length bytes.now ≤ 268435456 }
     ensures { Gives (λ x. (x.0, x.1.now)) result (tree_line bytes.now) }

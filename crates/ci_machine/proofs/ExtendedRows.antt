@@ -6,7 +6,7 @@ use Rattle.ci_word.specs.declared.arithmetic.Op.TheVariants.{Add}
 use Rattle.ci_isa.specs.declared.instruction.Insn.{Insn}
 use Rattle.ci_isa.specs.declared.instruction.Insn.TheVariants.{AluImm, Unit, Cread, Cput, Illegal}
 use Rattle.ci_isa.specs.Table.{ReadsX}
-use Rattle.ci_isa.specs.Decoding.{environment_row, plain_row}
+use Rattle.ci_isa.specs.private.Decoding.{environment_row, plain_row}
 use Rattle.ci_isa.proofs.RowCompleteness.{only_plain, one_insn}
 use Rattle.ci_elf.specs.Executables.{Executable}
 use Rattle.ci_verilog.specs.declared.expressions.Simple.TheVariants.{Whole}

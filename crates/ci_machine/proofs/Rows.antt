@@ -12,8 +12,8 @@ use Rattle.ci_isa.specs.declared.instruction.LoadKind.TheVariants as kinds
 use Rattle.ci_isa.specs.declared.instruction.Width.TheVariants as widths
 use Rattle.ci_isa.specs.declared.instruction.Insn.{Insn}
 use Rattle.ci_isa.specs.declared.instruction.Insn.TheVariants.{Alu, AluImm, Load, Store, Jalr, Unit, Cread, Cput, Illegal}
-use Rattle.ci_isa.specs.Decoding.{jump_row, branch_row, load_row, store_row, immediate_row, shift_row, constant_row}
-use Rattle.ci_isa.specs.Decoding.{operation_row, fence_row, environment_row, plain_row}
+use Rattle.ci_isa.specs.private.Decoding.{jump_row, branch_row, load_row, store_row, immediate_row, shift_row, constant_row}
+use Rattle.ci_isa.specs.private.Decoding.{operation_row, fence_row, environment_row, plain_row}
 use Rattle.ci_machine.specs.declared.ends.End.{End}
 use Rattle.ci_machine.specs.declared.ends.End.TheVariants as ends
 use Rattle.ci_machine.specs.Cores.{Core, first_hidden, register, with_register}

@@ -13,7 +13,7 @@ use Rattle.std.specs.List.{AllPairs, Contains, sum_by}
 use Rattle.ci_elf.specs.declared.segments.Segment.{Segment}
 use Rattle.ci_elf.specs.Executables.{Executable, IsWellFormed, ShareNoMemory}
 use Rattle.ci_elf.proofs.ImageLaws.{contains_tail}
-use Rattle.ci_machine.specs.Loading.{holders, in_segments, loaded_content}
+use Rattle.ci_machine.specs.private.Loading.{holders, in_segments, loaded_content}
 use Rattle.ci_machine.specs.PageTables.{written}
 use Rattle.ci_machine.specs.Programs.{extent_of, lies_in, maximum_end, loaded_memory, loaded_size, stack_start, stack_end}
 use Rattle.ci_machine.proofs.MemoryLaws.{or_true}

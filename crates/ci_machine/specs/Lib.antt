@@ -28,4 +28,4 @@ pub mod Layouts
 pub mod Windows
 pub mod Memories
 pub mod States
-pub mod Loading
+pub mod private

@@ -7,7 +7,7 @@ ghost use Rattle.std.specs.List.{Contains};
 ghost use Rattle.std.specs.List.Sorted.{IsPermutation};
 ghost use Rattle.ci_elf.specs.declared.segments.Segment.{Segment};
 ghost use Rattle.ci_machine.specs.Layouts.{heap_limit};
-ghost use Rattle.ci_machine.specs.Loading.{IsInFile, holders, in_segments, loaded_content};
+ghost use Rattle.ci_machine.specs.private.Loading.{IsInFile, holders, in_segments, loaded_content};
 ghost use Rattle.ci_machine.specs.Memories.{memory_of, segments_of};
 ghost use Rattle.ci_machine.specs.Pages.{content, has, room};
 ghost use Rattle.ci_machine.specs.PageTables.{pages_to};

@@ -14,8 +14,8 @@ use Rattle.ci_region.specs.declared.block.Block.{Block}
 use Rattle.ci_region.specs.BoundedMap.{BoundedMap, IsLive, used, with_value, without}
 use Rattle.ci_region.specs.declared.block.Cell.{Cell}
 use Rattle.ci_region.specs.declared.block.Cell.TheVariants.{Live, Free}
-use Rattle.ci_region.specs.Cells.{values_in, value_of, is_live, Avoids, IsChain, chain_end}
-use Rattle.ci_region.specs.Cells.{chain_link, AreCells}
+use Rattle.ci_region.specs.private.Cells.{values_in, value_of, is_live, Avoids, IsChain, chain_end}
+use Rattle.ci_region.specs.private.Cells.{chain_link, AreCells}
 use Rattle.ci_region.proofs.ValueLaws.{get-values_in, len-values_in, no_value, values-live, values-push, values-free}
 
 module _ {T : Type 0} (cells : List (Cell T)) where

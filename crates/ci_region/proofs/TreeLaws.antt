@@ -6,7 +6,7 @@ use Rattle.std.proofs.lemmas.List.{nil_from_length, reverse-append, reverse-reve
 use Rattle.std.specs.Ordering.{nat_cmp}
 use Rattle.std.specs.FinMap as map
 use Rattle.ci_region.specs.Trees.{Leaf, Inner, TreeKind, AreTreesIn, no_tree, leaf_tree, inner_tree, in_front}
-use Rattle.ci_region.specs.TreeReading.{AreRead, read_all, read_leaf, read_inner, IsReadUpTo}
+use Rattle.ci_region.specs.private.TreeReading.{AreRead, read_all, read_leaf, read_inner, IsReadUpTo}
 use Rattle.ci_region.proofs.MapLaws.{kept_without, fewer_without, given_back, get-insert_same}
 
 module _ {Node Child Item : Type 0} {kind : TreeKind Node Child Item} where

@@ -13,7 +13,7 @@ use Rattle.std.specs.FinMap.{get-empty, len-empty, len-insert}
 use Rattle.ci_region.proofs.MapLaws.{get-insert_same, get-insert_other, is_insert, is_remove}
 use Rattle.ci_region.specs.declared.block.Cell.{Cell}
 use Rattle.ci_region.specs.declared.block.Cell.TheVariants.{Live, Free}
-use Rattle.ci_region.specs.Cells.{values_from, values_in, value_of, is_live, AreFree}
+use Rattle.ci_region.specs.private.Cells.{values_from, values_in, value_of, is_live, AreFree}
 
 module _ {T : Type 0} where
   -- ---- what a slot holds, and how many do

@@ -60,7 +60,7 @@ impl<T> Block<T> {
     ghost use Rattle.ci_region.specs.contracts.block.Cell.{the_row};
     ghost use Rattle.ci_region.specs.declared.block.Cell.TheVariants.{Live, Free};
     ghost use Rattle.ci_region.specs.Blocks.{IsUnreached, IsLeaseOf, LendsCell, with_cell, with_next, with_only};
-    ghost use Rattle.ci_region.specs.Cells.{value_of, AreFree};
+    ghost use Rattle.ci_region.specs.private.Cells.{value_of, AreFree};
 
     /// Memory for `count` cells, none of which is reached.
     pub(crate) fn reserve<A: Allocator>(

@@ -9,7 +9,7 @@ ghost use Rattle.std.specs.Prelude.{◌≡◌, ◌<◌, ◌≤◌, ◌↔◌, �
 ghost use Rattle.std.specs.FinMap as map;
 ghost use Rattle.std.specs.Borrow.{sem};
 ghost use Rattle.ci_region.specs.BoundedMap.{IsLive, used, with_value, without};
-ghost use Rattle.ci_region.specs.Cells.{value_of};
+ghost use Rattle.ci_region.specs.private.Cells.{value_of};
 ghost use Rattle.ci_region.specs.Blocks.{LendsLive};
 
 use block::{Block, Cell, Lease};
@@ -64,7 +64,7 @@ impl<T> Model for Region<T> {
     ghost coded = { bounded_map_code T.code };
 
     ghost use Rattle.std.specs.Prelude.{◌≡◌, ◌+◌};
-    ghost use Rattle.ci_region.specs.Cells.{values_in, AreCells};
+    ghost use Rattle.ci_region.specs.private.Cells.{values_in, AreCells};
     ghost use Rattle.ci_region.specs.Blocks.{IsLeaseOf};
 
     ghost view = { λ r. record {

@@ -14,7 +14,7 @@ use Rattle.ci_select.proofs.HistoryLaws.{round_stays}
 use Rattle.ci_select.specs.Takes.{AreTaken, IsTaken, none, of_search, of_take as more_taken}
 use Rattle.ci_report.specs.Lines.{cut_line, unit_line}
 use Rattle.ci_report.specs.Reports.{IsEntryLine, more, of_take, unit_lines, uses_of}
-use Rattle.ci_report.specs.Added.{AddsLines}
+use Rattle.ci_report.specs.private.Added.{AddsLines}
 
 -- ---- units
 

@@ -1,4 +1,4 @@
 pub mod Laws
 pub mod Lines
 pub mod Reports
-pub mod Added
+pub mod private

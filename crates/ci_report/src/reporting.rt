@@ -8,7 +8,7 @@ ghost use Rattle.ci_select.specs.UnitNumbers.{AreUnits};
 ghost use Rattle.ci_select.specs.Savings.{IsSaved};
 ghost use Rattle.ci_select.specs.Takes.{AreTaken};
 ghost use Rattle.ci_report.specs.Reports.{IsReport, block_lines, unit_lines, is_take_as, uses_of};
-ghost use Rattle.ci_report.specs.Added.{AddsLines};
+ghost use Rattle.ci_report.specs.private.Added.{AddsLines};
 
 use crate::lines::{
     push_block, push_cut, push_plan, push_profile, push_skip, push_total, push_unit,

@@ -9,7 +9,7 @@ use Rattle.ci_isa.specs.declared.instruction.Insn.TheVariants.{Unit, Cread, Cput
 use Rattle.ci_isa.specs.Effects.{is_cput}
 use Rattle.ci_isa.specs.Sequences.{nth_insn}
 use Rattle.ci_dfg.specs.Bundles.{Before, another, left_by, before_at}
-use Rattle.ci_rewrite.specs.Follows.{MayStand, Follow}
+use Rattle.ci_rewrite.specs.private.Follows.{MayStand, Follow}
 use Rattle.ci_unit.proofs.SourceLaws.{not_true}
 use Rattle.ci_rewrite.specs.BareWords.{is_passed_to, OfUnit, OfBareWords}
 use Rattle.ci_rewrite.proofs.FollowLaws.{follow_place, may_stand_anywhere}

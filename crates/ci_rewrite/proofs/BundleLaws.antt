@@ -14,8 +14,8 @@ use Rattle.ci_machine.specs.Cores.{hidden_operands}
 use Rattle.ci_machine.specs.Actions.{Units}
 use Rattle.ci_machine.specs.Agreement.{reads, writes, needed}
 use Rattle.ci_dfg.specs.Bundles.{is_read_of, AreBundled}
-use Rattle.ci_rewrite.specs.Bundles.{is_unit_of, TakeGiven, AreGiven, given_behind, given_at}
-use Rattle.ci_rewrite.specs.Bundles.{BundlesAreGiven, NoHiddenNeeded}
+use Rattle.ci_rewrite.specs.private.Bundles.{is_unit_of, TakeGiven, AreGiven, given_behind, given_at}
+use Rattle.ci_rewrite.specs.private.Bundles.{BundlesAreGiven, NoHiddenNeeded}
 
 -- ---- which hidden registers an instruction reads and writes
 

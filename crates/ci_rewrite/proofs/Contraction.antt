@@ -21,7 +21,7 @@ use Rattle.ci_isa.proofs.LastWriter.{written, last_writer, latest_writer_is_last
 use Rattle.ci_isa.proofs.OperandLaws.{operand_below, single_result, joins}
 use Rattle.ci_lat.specs.Latencies.{Latencies}
 use Rattle.ci_machine.specs.Cores.{Core, first_hidden, register, values_in}
-use Rattle.ci_rewrite.specs.Bundles.{taken_from}
+use Rattle.ci_rewrite.specs.private.Bundles.{taken_from}
 use Rattle.ci_machine.specs.Actions.{Units}
 use Rattle.ci_machine.specs.Agreement.{acted}
 use Rattle.ci_machine.specs.Blocks.{HaveSameStreams}

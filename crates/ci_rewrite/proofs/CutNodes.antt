@@ -19,7 +19,7 @@ use Rattle.ci_lat.specs.Latencies.{Latencies}
 use Rattle.ci_machine.specs.Actions.{Units}
 use Rattle.ci_machine.specs.Agreement as machine
 use Rattle.ci_dfg.specs.Bundles.{AreBundled, is_read_of}
-use Rattle.ci_rewrite.specs.Bundles.{TakeGiven, is_unit_of, given_at}
+use Rattle.ci_rewrite.specs.private.Bundles.{TakeGiven, is_unit_of, given_at}
 use Rattle.ci_dfg.specs.Bundles.{another, Bundled}
 use Rattle.ci_dfg.specs.BundleArcs as bundles
 use Rattle.ci_cut.specs.declared.graph.Source.TheVariants.{Made}

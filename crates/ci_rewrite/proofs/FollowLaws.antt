@@ -6,12 +6,12 @@ use Rattle.ci_isa.specs.declared.instruction.Insn.{Insn}
 use Rattle.ci_isa.specs.declared.instruction.Insn.TheVariants.{Unit, Cread, Cput}
 use Rattle.ci_isa.specs.Effects.{is_among, is_unit, is_cread, is_cput}
 use Rattle.ci_machine.specs.Cores.{hidden_operands}
-use Rattle.ci_rewrite.specs.Bundles.{TakeGiven, is_unit_of}
+use Rattle.ci_rewrite.specs.private.Bundles.{TakeGiven, is_unit_of}
 use Rattle.ci_isa.specs.Sequences.{nth_insn}
 use Rattle.ci_machine.specs.Actions.{Units}
 use Rattle.ci_dfg.specs.BlockGraph.{is_joined, stay_together}
 use Rattle.ci_dfg.specs.Bundles.{Before, a_put, a_unit, a_first, another, left_by, MayFollow, IsDone, Bundled, before_at}
-use Rattle.ci_rewrite.specs.Follows.{MayStand, Follow, last_of}
+use Rattle.ci_rewrite.specs.private.Follows.{MayStand, Follow, last_of}
 use Rattle.ci_dfg.proofs.BundledLists.{put_goes_on}
 use Rattle.ci_rewrite.proofs.PassedUnits.{MayTake}
 use Rattle.ci_rewrite.proofs.Stages.{those_below, those_zero, those_more, those_same}

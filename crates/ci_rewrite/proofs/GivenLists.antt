@@ -7,7 +7,7 @@ use Rattle.ci_isa.specs.Sequences.{nth_insn}
 use Rattle.ci_machine.specs.Cores.{first_hidden}
 use Rattle.ci_machine.specs.Actions.{Units}
 use Rattle.ci_machine.specs.Agreement.{reads, writes}
-use Rattle.ci_rewrite.specs.Bundles.{AreGiven, given_behind, given_at}
+use Rattle.ci_rewrite.specs.private.Bundles.{AreGiven, given_behind, given_at}
 
 abbrev given_from : (ℕ → Bool) → List Insn → ℕ → ℕ → Bool
 given_from given insns zero r = given r

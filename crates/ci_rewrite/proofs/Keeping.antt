@@ -15,7 +15,7 @@ use Rattle.ci_machine.specs.Cores.{first_hidden}
 use Rattle.ci_machine.specs.Words.{AreTaken, MakesWords}
 use Rattle.ci_elf.specs.WordLists.{AreWords}
 use Rattle.ci_dfg.specs.Bundles.{another}
-use Rattle.ci_rewrite.specs.Follows.{MayStand, Follow}
+use Rattle.ci_rewrite.specs.private.Follows.{MayStand, Follow}
 use Rattle.ci_machine.proofs.NamedReads.{needed, needed_behind}
 use Rattle.ci_machine.proofs.RelatedLists.{no_text}
 use Rattle.ci_cut.specs.declared.graph.Limits.{Limits}

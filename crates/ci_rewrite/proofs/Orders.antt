@@ -10,7 +10,7 @@ use Rattle.ci_isa.proofs.LastWriter.{written, last_writer}
 use Rattle.ci_lat.specs.Latencies.{Latencies}
 use Rattle.ci_machine.specs.Cores.{Core}
 use Rattle.ci_machine.specs.Actions.{Units}
-use Rattle.ci_rewrite.specs.Bundles.{TakeGiven}
+use Rattle.ci_rewrite.specs.private.Bundles.{TakeGiven}
 use Rattle.ci_machine.proofs.TestLaws.{by_test}
 use Rattle.ci_cut.specs.Ports.{is_output}
 use Rattle.ci_dfg.specs.Arcs.{IsOwnArc, true_arc, anti_arc, output_arc, memory_arc}

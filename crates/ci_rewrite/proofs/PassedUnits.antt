@@ -16,7 +16,7 @@ use Rattle.ci_cut.specs.declared.graph.Limits.{Limits}
 use Rattle.ci_cut.specs.Gain.{Fits}
 use Rattle.ci_dfg.specs.BlockGraph.{graph_of}
 use Rattle.ci_dfg.specs.Bundles.{Before, another}
-use Rattle.ci_rewrite.specs.Follows.{MayStand, Follow}
+use Rattle.ci_rewrite.specs.private.Follows.{MayStand, Follow}
 use Rattle.ci_unit.specs.Units as terms
 use Rattle.ci_unit.specs.Uses.{passes}
 use Rattle.ci_rewrite.specs.Blocks.{IsBlock, AreNamed, Covers, live_behind}

@@ -18,9 +18,9 @@ use Rattle.ci_lat.specs.Latencies.{Latencies}
 use Rattle.ci_machine.specs.declared.ends.End.{End}
 use Rattle.ci_machine.specs.Cores.{Core, first_hidden, hidden_operands, register, values_in}
 use Rattle.ci_unit.specs.UseWords.{reads_of, use_words}
-use Rattle.ci_rewrite.specs.Bundles.{taken_from}
+use Rattle.ci_rewrite.specs.private.Bundles.{taken_from}
 use Rattle.ci_machine.specs.Agreement.{TakeHidden}
-use Rattle.ci_rewrite.specs.Bundles.{TakeGiven}
+use Rattle.ci_rewrite.specs.private.Bundles.{TakeGiven}
 use Rattle.ci_rewrite.proofs.FollowLaws.{take_given}
 use Rattle.ci_machine.specs.Outcomes.{Reached, Next, at_start}
 use Rattle.ci_machine.specs.Actions.{Units, act}

@@ -22,7 +22,7 @@ use Rattle.ci_cut.specs.Gain.{further_words}
 use Rattle.ci_cut.specs.Ports.{is_output}
 use Rattle.ci_dfg.specs.BlockGraph.{graph_of}
 use Rattle.ci_dfg.specs.Bundles.{Before, a_put, a_unit, a_first, another, left_by, MayFollow, IsDone, Bundled, before_at}
-use Rattle.ci_rewrite.specs.Follows.{MayStand, Follow, last_of}
+use Rattle.ci_rewrite.specs.private.Follows.{MayStand, Follow, last_of}
 use Rattle.ci_unit.specs.Units as terms
 use Rattle.ci_unit.specs.Uses as uses
 use Rattle.ci_unit.specs.UseWords.{reads_of, use_words}

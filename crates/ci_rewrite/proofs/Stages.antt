@@ -11,7 +11,7 @@ use Rattle.ci_isa.specs.Sequences.{nth_insn}
 use Rattle.ci_machine.specs.Cores.{Core, register, first_hidden}
 use Rattle.ci_machine.specs.Outcomes.{Reached, continued}
 use Rattle.ci_machine.specs.Actions.{Units, act}
-use Rattle.ci_rewrite.specs.Bundles.{given_at}
+use Rattle.ci_rewrite.specs.private.Bundles.{given_at}
 use Rattle.ci_machine.specs.Agreement.{act_all, AllLeaveText}
 use Rattle.ci_machine.proofs.TestLaws.{by_test}
 use Rattle.ci_machine.proofs.LeavingLists.{leaves-append}

@@ -18,7 +18,7 @@ use Rattle.ci_machine.specs.Outcomes.{Reached, continued}
 use Rattle.ci_machine.specs.Actions.{Units, act, accessed}
 use Rattle.ci_machine.specs.Agreement.{acted, reads, writes, AgreeOn, LeavesText, TakeHidden}
 use Rattle.ci_machine.specs.Blocks.{HaveSameStreams}
-use Rattle.ci_rewrite.specs.Bundles.{given_at}
+use Rattle.ci_rewrite.specs.private.Bundles.{given_at}
 use Rattle.ci_machine.proofs.EndLaws.{acted_keeps_streams}
 use Rattle.ci_machine.proofs.TestLaws.{by_test, by_end, no_end, or_second}
 use Rattle.ci_machine.proofs.NamedReads.{writes_is}

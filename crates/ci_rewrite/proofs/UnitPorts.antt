@@ -24,7 +24,7 @@ use Rattle.ci_dfg.specs.BlockGraph.{source_of, graph_of}
 use Rattle.ci_dfg.proofs.ArcLaws.{found_from}
 use Rattle.ci_dfg.proofs.BlockIsGraph.{node_at_within, length-nodes, made_rise}
 use Rattle.ci_dfg.proofs.SourceLaws.{entry_is, made_is}
-use Rattle.ci_unit.specs.Reading.{IsSmall}
+use Rattle.ci_unit.specs.private.Reading.{IsSmall}
 use Rattle.ci_unit.specs.Units.{inputs_of, outputs_of}
 use Rattle.ci_unit.specs.Uses as uses
 use Rattle.ci_unit.proofs.CountLaws.{passes_there}

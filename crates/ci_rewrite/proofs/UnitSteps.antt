@@ -16,13 +16,13 @@ use Rattle.ci_machine.specs.Cores.{Core, first_hidden, hidden_operands, register
 use Rattle.ci_machine.specs.Outcomes.{at_start}
 use Rattle.ci_machine.specs.Actions.{Units}
 use Rattle.ci_machine.specs.Agreement.{act_all}
-use Rattle.ci_rewrite.specs.Bundles.{IsLeft}
+use Rattle.ci_rewrite.specs.private.Bundles.{IsLeft}
 use Rattle.ci_cut.specs.FlowGraph.{FlowGraph}
 use Rattle.ci_cut.specs.Ports.{is_output}
 use Rattle.ci_dfg.specs.BlockGraph.{graph_of}
 use Rattle.ci_unit.specs.Units as terms
 use Rattle.ci_unit.specs.Uses as uses
-use Rattle.ci_rewrite.specs.Bundles.{taken_from}
+use Rattle.ci_rewrite.specs.private.Bundles.{taken_from}
 use Rattle.ci_unit.proofs.CountLaws.{IsNumberAt, number_at, number_there}
 use Rattle.ci_cut.proofs.RisingCounts.{count_below-rises, count_below-more}
 use Rattle.ci_unit.proofs.ValueLaws.{results_of_value}

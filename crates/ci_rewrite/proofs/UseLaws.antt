@@ -10,8 +10,8 @@ use Rattle.ci_machine.specs.Agreement.{act_all}
 use Rattle.ci_machine.specs.Blocks.{HaveSameStreams}
 use Rattle.ci_dfg.specs.Bundles.{a_unit, another, Bundled}
 use Rattle.ci_unit.specs.UseWords.{reads_of, use_words}
-use Rattle.ci_rewrite.specs.Bundles.{taken_from}
-use Rattle.ci_rewrite.specs.Bundles.{IsLeft, UseLeaves}
+use Rattle.ci_rewrite.specs.private.Bundles.{taken_from}
+use Rattle.ci_rewrite.specs.private.Bundles.{IsLeft, UseLeaves}
 use Rattle.ci_machine.proofs.RegisterLaws.{register_kept, register_written, registers_kept}
 
 -- ---- the reads

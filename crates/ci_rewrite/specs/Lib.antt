@@ -1,8 +1,6 @@
 pub mod FoldedBlock
 pub mod Blocks
 pub mod BareWords
-pub mod Follows
-pub mod Bundles
 pub mod SameEffect
 pub mod ComputedUnits
 pub mod UnitModules
@@ -10,3 +8,4 @@ pub mod SameSteps
 pub mod RunLatencies
 pub mod Costs
 pub mod Folds
+pub mod private

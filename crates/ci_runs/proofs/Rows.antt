@@ -6,8 +6,8 @@ use Rattle.std.specs.Option.{unwrap_or}
 use Rattle.ci_word.specs.Numbers.{sum_below}
 use Rattle.ci_isa.specs.declared.instruction.Width.TheVariants.{Word}
 use Rattle.ci_isa.specs.declared.instruction.Insn.TheVariants.{Illegal}
-use Rattle.ci_isa.specs.Decoding.{jump_row, branch_row, load_row, store_row, immediate_row, shift_row, constant_row}
-use Rattle.ci_isa.specs.Decoding.{operation_row, fence_row, environment_row, plain_row, unit_row, hidden_row, extended_row}
+use Rattle.ci_isa.specs.private.Decoding.{jump_row, branch_row, load_row, store_row, immediate_row, shift_row, constant_row}
+use Rattle.ci_isa.specs.private.Decoding.{operation_row, fence_row, environment_row, plain_row, unit_row, hidden_row, extended_row}
 use Rattle.ci_elf.specs.Executables.{Executable}
 use Rattle.ci_machine.specs.declared.ends.End.{End}
 use Rattle.ci_machine.specs.declared.ends.End.TheVariants as ends

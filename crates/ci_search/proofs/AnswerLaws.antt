@@ -21,8 +21,8 @@ use Rattle.ci_cut.specs.Representation.{Represents}
 use Rattle.ci_check.proofs.Acceptance.{accepted_is_best}
 use Rattle.ci_cut.proofs.NeedLaws.{reached_none}
 use Rattle.ci_search.specs.Answered.{free, HasLog, IsAnswer, IsSpent, IsOptimal}
-use Rattle.ci_search.specs.Searched.{undecided, IsReady, IsGivenUp}
-use Rattle.ci_search.specs.Trees.{IsSearched, found_at, answer_of}
+use Rattle.ci_search.specs.private.Searched.{undecided, IsReady, IsGivenUp}
+use Rattle.ci_search.specs.private.Trees.{IsSearched, found_at, answer_of}
 
 module _ (graph : FlowGraph) (flows : IsFlowGraph graph) (limits : Limits) where
   pub none_ready : (terms : PrefixTerms) (delays : List ℕ) → Represents graph [] terms delays

@@ -11,7 +11,7 @@ use Rattle.ci_log.specs.declared.flattening.Child.TheVariants.{Inner}
 use Rattle.ci_log.specs.declared.flattening.LogNode.{LogNode}
 use Rattle.ci_log.specs.RegionTrees.{Slots, IsTreeIn}
 use Rattle.ci_log.proofs.RegionTreeLaws.{at_inner}
-use Rattle.ci_search.specs.Branches.{AreTreesOf}
+use Rattle.ci_search.specs.private.Branches.{AreTreesOf}
 
 -- two trees in a region
 module _ (before after : BoundedMap LogNode) (taken left_out : Child) (in_items out_items : List Item) (rest : Slots)

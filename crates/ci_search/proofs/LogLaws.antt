@@ -18,14 +18,14 @@ use Rattle.ci_cut.specs.Prefixes.{Prefix, eligible_nodes, is_next, taken, bound}
 use Rattle.ci_cut.specs.Need.{IsOpen}
 use Rattle.ci_check.specs.Rules.{Given, best_gain, IsGood, IsAfterBest, IsBeforeBest, IsBetter, IsRight, stations, IsRightAt}
 use Rattle.ci_check.specs.Representation.{IsMeasured}
-use Rattle.ci_cut.specs.Reached.{Completes, IsReachedBefore, IsReachedWith}
+use Rattle.ci_cut.specs.private.Reached.{Completes, IsReachedBefore, IsReachedWith}
 use Rattle.ci_cut.proofs.PrefixLaws.{completes_earlier, taken_completes}
 use Rattle.ci_cut.proofs.BoundLaws.{before_more, before_in, before_out, before_by_next}
 use Rattle.ci_cut.proofs.NeedLaws.{compare_gains}
 use Rattle.ci_cut.proofs.NeedLaws.{open_by_bound, bound_of_open}
 use Rattle.ci_check.proofs.Acceptance.{all_both, before_completions}
 use Rattle.ci_cut.specs.Incumbents.{IsImproved}
-use Rattle.ci_search.specs.Searched.{Prunes, IsPruning, IsLater, IsPassed, IsLogged}
+use Rattle.ci_search.specs.private.Searched.{Prunes, IsPruning, IsLater, IsPassed, IsLogged}
 
 -- ---- orders
 

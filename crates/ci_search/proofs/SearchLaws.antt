@@ -20,16 +20,16 @@ use Rattle.ci_cut.specs.Need.{IsOpen, continuations}
 use Rattle.ci_check.specs.Rules.{IsAfterBest, IsRight}
 use Rattle.ci_cut.specs.Representation.{Represents}
 use Rattle.ci_check.specs.Representation.{IsMeasured}
-use Rattle.ci_check.specs.Walked.{IsWalked}
+use Rattle.ci_check.specs.private.Walked.{IsWalked}
 use Rattle.ci_cut.proofs.ListCountLaws.{AtLeast-left, AtLeast-both, AtLeast-fewer}
 use Rattle.ci_cut.proofs.NeedLaws.{reached_whole, reached_in, reached_between, continuations-more}
 use Rattle.ci_check.proofs.WalkedLaws.{walked_whole, walked_closed, walked_both}
 use Rattle.ci_search.specs.Answered.{free}
 use Rattle.ci_cut.specs.Incumbents.{IsImproved}
-use Rattle.ci_cut.specs.Reached.{IsReachedBefore}
-use Rattle.ci_search.specs.Searched.{undecided, IsReady, Prunes, IsSpentAt}
-use Rattle.ci_search.specs.Trees.{IsSearched}
-use Rattle.ci_search.specs.Branches.{AreTreesOf, IsBranch}
+use Rattle.ci_cut.specs.private.Reached.{IsReachedBefore}
+use Rattle.ci_search.specs.private.Searched.{undecided, IsReady, Prunes, IsSpentAt}
+use Rattle.ci_search.specs.private.Trees.{IsSearched}
+use Rattle.ci_search.specs.private.Branches.{AreTreesOf, IsBranch}
 use Rattle.ci_search.proofs.LogLaws.{bar_closes, logged_bar, bar_is_leaf, logged_whole, reached_with_whole, after_in, after_between, logged_branch}
 
 -- the same walk, counted from one more

@@ -12,10 +12,10 @@ use Rattle.ci_log.specs.declared.flattening.LogNode.{LogNode}
 use Rattle.ci_cut.specs.declared.prefix.PrefixTerms.{PrefixTerms}
 use Rattle.ci_cut.specs.declared.incumbent.Incumbent.{Incumbent}
 use Rattle.ci_cut.specs.Prefixes.{Prefix}
-use Rattle.ci_search.specs.Searched.{IsReady, IsSpentAt}
-use Rattle.ci_search.specs.Trees.{IsSearched}
-use Rattle.ci_search.specs.Branches.{IsBranch}
-use Rattle.ci_search.specs.Waiting.{child_at, AreKeptBelow, IsWaiting, AreWaiting, IsJoined}
+use Rattle.ci_search.specs.private.Searched.{IsReady, IsSpentAt}
+use Rattle.ci_search.specs.private.Trees.{IsSearched}
+use Rattle.ci_search.specs.private.Branches.{IsBranch}
+use Rattle.ci_search.specs.private.Waiting.{child_at, AreKeptBelow, IsWaiting, AreWaiting, IsJoined}
 use Rattle.ci_search.proofs.SearchLaws.{spent_out, spent_here, searched_branch}
 
 -- a child that is written is the one there, and those below are the same

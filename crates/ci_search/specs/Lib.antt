@@ -1,5 +1,2 @@
 pub mod Answered
-pub mod Branches
-pub mod Searched
-pub mod Trees
-pub mod Waiting
+pub mod private

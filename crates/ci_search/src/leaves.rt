@@ -5,7 +5,7 @@ ghost use Rattle.ci_cut.specs.Incumbents.{IsImproved};
 ghost use Rattle.ci_cut.specs.Representation.{AreRowsOf, Represents, RepresentsSome, RepresentsWhole};
 ghost use Rattle.ci_check.specs.Representation.{IsMeasured};
 ghost use Rattle.ci_check.specs.Rules.{Given, IsRight};
-ghost use Rattle.ci_search.specs.Searched.{Prunes, IsPruning};
+ghost use Rattle.ci_search.specs.private.Searched.{Prunes, IsPruning};
 
 use ci_check::{is_right, is_right_with};
 use ci_cut::{Graph, GraphRows, Incumbent, Limits, PrefixTerms};

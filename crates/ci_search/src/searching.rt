@@ -9,9 +9,9 @@ ghost use Rattle.ci_cut.specs.Representation.{AreRowsOf, AreKeptFrom};
 ghost use Rattle.ci_check.specs.Representation.{IsMeasured};
 ghost use Rattle.ci_log.specs.declared.flattening.LogNode.{LogNode};
 ghost use Rattle.ci_search.specs.Answered.{free, IsAnswer, IsSpent, IsOptimal};
-ghost use Rattle.ci_search.specs.Searched.{IsReady, IsGivenUp};
-ghost use Rattle.ci_search.specs.Trees.{IsSearched, IsSearchOf, IsReadyFor, IsSearchWith, answer_of};
-ghost use Rattle.ci_search.specs.Waiting.{AreKeptBelow};
+ghost use Rattle.ci_search.specs.private.Searched.{IsReady, IsGivenUp};
+ghost use Rattle.ci_search.specs.private.Trees.{IsSearched, IsSearchOf, IsReadyFor, IsSearchWith, answer_of};
+ghost use Rattle.ci_search.specs.private.Waiting.{AreKeptBelow};
 
 use crate::leaves::{improve, pruning_item, pruning_with};
 use crate::trees::{Pending, branches};

@@ -7,9 +7,9 @@ ghost use Rattle.ci_cut.specs.declared.graph.Limits.{Limits};
 ghost use Rattle.ci_cut.specs.declared.incumbent.Incumbent.{Incumbent};
 ghost use Rattle.ci_log.specs.declared.flattening.Child.TheVariants.{Leaf};
 ghost use Rattle.ci_log.specs.declared.flattening.LogNode.{LogNode};
-ghost use Rattle.ci_search.specs.Branches.{IsBranch};
-ghost use Rattle.ci_search.specs.Trees.{IsSearchOf};
-ghost use Rattle.ci_search.specs.Waiting.{IsJoined};
+ghost use Rattle.ci_search.specs.private.Branches.{IsBranch};
+ghost use Rattle.ci_search.specs.private.Trees.{IsSearchOf};
+ghost use Rattle.ci_search.specs.private.Waiting.{IsJoined};
 
 use ci_log::{Child, Item, LogNode};
 use ci_region::Region;

@@ -18,7 +18,7 @@ use Rattle.ci_block.specs.Blocks.{size_of}
 use Rattle.ci_live.specs.Sets.{Sets}
 use Rattle.ci_select.specs.Instances.{AreBlocksOf}
 use Rattle.ci_select.specs.NewFiles.{LiesIn, with_bytes}
-use Rattle.ci_select.specs.Patched.{PatchesBlock, PatchesWords}
+use Rattle.ci_select.specs.private.Patched.{PatchesBlock, PatchesWords}
 use Rattle.ci_select.proofs.BlockSums.{blocks_lie_apart, blocks_stand_in_order, words_in_text}
 
 -- a file of which text is written over is read

@@ -13,5 +13,4 @@ pub mod NewFiles
 pub mod WrongPlaces
 pub mod Laws
 pub mod Followed
-pub mod Patched
-pub mod Judged
+pub mod private

@@ -10,7 +10,7 @@ ghost use Rattle.ci_select.specs.LegalBooks.{IsLegal};
 ghost use Rattle.ci_select.specs.NewFiles.{IsNewFile};
 ghost use Rattle.ci_select.specs.WrongPlaces.{IsAcceptable, IsVerdict, IsFirstWrongPart};
 ghost use Rattle.ci_select.specs.Followed.{Follows, FollowsSome, instance_in};
-ghost use Rattle.ci_select.specs.Judged.{IsEndJudged, IsJudged, IsSearchJudged, is_at};
+ghost use Rattle.ci_select.specs.private.Judged.{IsEndJudged, IsJudged, IsSearchJudged, is_at};
 
 use crate::choosing::bytes_are_small;
 use crate::plan::Plan;

@@ -13,7 +13,7 @@ use Rattle.ci_cut.specs.FlowGraph.{FlowGraph, node_at, is_source, reads}
 use Rattle.ci_cut.specs.Ports.{count_sources, is_outside, is_read_by, inputs}
 use Rattle.ci_cut.proofs.RisingCounts.{count_below-one, count_below-skip, count_below-rises}
 use Rattle.ci_unit.specs.Units.{inputs_of}
-use Rattle.ci_unit.specs.Reading.{IsSmall}
+use Rattle.ci_unit.specs.private.Reading.{IsSmall}
 use Rattle.ci_unit.proofs.SourceLaws.{is_source-itself, each_weaker, each_both, each_among, each_filter, filter_each, each_flat, flat_finds}
 use Rattle.ci_unit.proofs.SourceLaws.{once_distinct, once_each, filter_finds, once_finds, own_sources}
 

@@ -14,7 +14,7 @@ use Rattle.ci_cut.specs.declared.graph.Node.{Node}
 use Rattle.ci_cut.specs.FlowGraph.{FlowGraph, node_at, is_source, reads}
 use Rattle.ci_cut.specs.Ports.{is_outside}
 use Rattle.ci_unit.specs.Units.{once}
-use Rattle.ci_unit.specs.Reading.{with_input, with_inputs, inputs_below, is_further, sources_below}
+use Rattle.ci_unit.specs.private.Reading.{with_input, with_inputs, inputs_below, is_further, sources_below}
 use Rattle.ci_unit.proofs.SourceLaws.{same_source, not_source_back, is_source-itself}
 
 -- ---- lists

@@ -29,7 +29,7 @@ use Rattle.ci_unit.specs.declared.operations.Arg.TheVariants.{Input, Earlier, Co
 use Rattle.ci_unit.specs.declared.operations.UnitOp.{UnitOp}
 use Rattle.ci_unit.specs.Units.{IsUnit, IsOp, IsArg, no_op, place_in, arg_from, args_from, arg_at, operation_of, op_of, inputs_of, unit_of}
 use Rattle.ci_unit.specs.Operands.{AreOperands, FitsSomeLimits}
-use Rattle.ci_unit.specs.Reading.{IsSmall, IsWordArg, HasWords, inputs_below}
+use Rattle.ci_unit.specs.private.Reading.{IsSmall, IsWordArg, HasWords, inputs_below}
 use Rattle.ci_unit.proofs.CountLaws.{IsNumberAt, number_at}
 use Rattle.ci_unit.proofs.SourceLaws.{not_true, own_sources, place_within}
 use Rattle.ci_unit.proofs.InputLaws.{few_inputs, has_input}

@@ -15,7 +15,7 @@ use Rattle.ci_cut.specs.declared.graph.Source.TheVariants.{Entry, Made}
 use Rattle.ci_cut.specs.FlowGraph.{FlowGraph, node_at, reads}
 use Rattle.ci_cut.specs.Ports.{is_output}
 use Rattle.ci_unit.specs.Operands.{AreOperands, FitsSomeLimits}
-use Rattle.ci_unit.specs.Reading.{AreFirstOf, inputs_below, outputs_below, is_further, sources_below, IsRegister, read_of}
+use Rattle.ci_unit.specs.private.Reading.{AreFirstOf, inputs_below, outputs_below, is_further, sources_below, IsRegister, read_of}
 use Rattle.ci_unit.specs.Units.{inputs_of, outputs_of}
 use Rattle.ci_unit.specs.Uses.{AreRegisters, result_register, register_of, output_reads}
 use Rattle.ci_unit.specs.UseWords.{reads_of}

@@ -5,5 +5,5 @@ pub mod Uses
 pub mod Tables
 pub mod Equality
 pub mod EqualityLaws
-pub mod Reading
 pub mod Laws
+pub mod private

@@ -8,7 +8,7 @@ ghost use Rattle.ci_cut.specs.declared.graph.Source.TheVariants.{Made};
 ghost use Rattle.ci_cut.specs.FlowGraph.{is_source};
 ghost use Rattle.ci_cut.specs.Ports as ports;
 ghost use Rattle.ci_unit.specs.Operands.{AreOperands, FitsSomeLimits};
-ghost use Rattle.ci_unit.specs.Reading.{inputs_below, with_inputs, IsSmall, IsWordArg, HasWords};
+ghost use Rattle.ci_unit.specs.private.Reading.{inputs_below, with_inputs, IsSmall, IsWordArg, HasWords};
 ghost use Rattle.ci_unit.specs.Units as terms;
 ghost use Rattle.ci_unit.specs.Units.{arg_from, args_from, arg_at, operation_of, place_in};
 

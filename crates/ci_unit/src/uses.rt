@@ -8,8 +8,8 @@ ghost use Rattle.smallvec.specs.SmallVec.{HasRoomFor};
 ghost use Rattle.ci_isa.specs.declared.instruction.Insn.TheVariants.{Cput};
 ghost use Rattle.ci_isa.specs.Table.{IsWellFormed};
 ghost use Rattle.ci_unit.specs.Operands.{AreOperands, FitsSomeLimits};
-ghost use Rattle.ci_unit.specs.Reading as reading;
-ghost use Rattle.ci_unit.specs.Reading.{inputs_below, outputs_below, sources_below, AreFirstOf, IsRegister};
+ghost use Rattle.ci_unit.specs.private.Reading as reading;
+ghost use Rattle.ci_unit.specs.private.Reading.{inputs_below, outputs_below, sources_below, AreFirstOf, IsRegister};
 ghost use Rattle.ci_unit.specs.Uses as terms;
 ghost use Rattle.ci_unit.specs.Uses.{AreRegisters, passes};
 

@@ -7,7 +7,7 @@ use Rattle.ci_verilog.specs.declared.vectors.Vector.{Vector}
 use Rattle.ci_verilog.specs.declared.expressions.Wire.{Wire}
 use Rattle.ci_verilog.specs.declared.expressions.Expr.TheVariants.{One}
 use Rattle.ci_verilog.specs.Modules.{vector, inputs, IsInput}
-use Rattle.ci_verilog.specs.Held.{Fits}
+use Rattle.ci_verilog.specs.private.Held.{Fits}
 use Rattle.ci_verilog.specs.Values as module_
 use Rattle.ci_verilog.specs.Values.{of_width, term_bits, expr_value, Settles}
 use Rattle.ci_verilog.proofs.ValueLaws.{AreSettled, settled_fit, value_exists, word_at}

@@ -12,7 +12,7 @@ use Rattle.ci_verilog.specs.declared.expressions.Expr.{Expr}
 use Rattle.ci_verilog.specs.declared.expressions.Wire.{Wire}
 use Rattle.ci_verilog.specs.Modules.{Known, WireList, wires_of, inputs, declared_by, known_by, IsExpr, IsWire, Module, IsModule}
 use Rattle.ci_verilog.specs.Values.{of_width, expr_value, Settles}
-use Rattle.ci_verilog.specs.Held.{Holds, IsHeld, ExprFits}
+use Rattle.ci_verilog.specs.private.Held.{Holds, IsHeld, ExprFits}
 use Rattle.ci_verilog.proofs.WireLaws.{wire_at, narrow_names}
 use Rattle.ci_verilog.proofs.ExpressionLaws.{expr_fits}
 use Rattle.ci_verilog.proofs.ValueLaws.{settled_for, settled_fit}

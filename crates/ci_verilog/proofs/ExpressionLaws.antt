@@ -12,7 +12,7 @@ use Rattle.ci_verilog.specs.declared.expressions.Operator.TheVariants.{Plus, Min
 use Rattle.ci_verilog.specs.declared.expressions.Expr.{Expr}
 use Rattle.ci_verilog.specs.Modules.{Known, vector, Makes, IsSimple, IsItem, AreItems, IsTerm, IsExpr}
 use Rattle.ci_verilog.specs.Values.{of_width, above, joined, simple_bits, item_bits, term_bits, operated, expr_value}
-use Rattle.ci_verilog.specs.Held.{Fits}
+use Rattle.ci_verilog.specs.private.Held.{Fits}
 use Rattle.ci_verilog.proofs.VectorLaws.{above_in_range, above_nothing, copies_are_wide, copies_in_range}
 
 -- ---- an expression depends on its names alone

@@ -13,7 +13,7 @@ use Rattle.ci_verilog.specs.declared.expressions.Term.{Term}
 use Rattle.ci_verilog.specs.declared.expressions.Wire.{Wire}
 use Rattle.ci_verilog.specs.Modules.{WireList, vector, known_by, Makes, IsSimple, IsItem, AreItems, IsTerm, IsExpr}
 use Rattle.ci_verilog.specs.Values.{above, joined, simple_bits, item_bits, term_bits}
-use Rattle.ci_verilog.specs.Held.{InRange, Fits, Holds, IsHeld, SimpleFits, ItemsFit}
+use Rattle.ci_verilog.specs.private.Held.{InRange, Fits, Holds, IsHeld, SimpleFits, ItemsFit}
 use Rattle.ci_verilog.proofs.VectorLaws.{above_assoc, above_nothing}
 use Rattle.ci_verilog.proofs.WidthLaws.{bits_parts, two_parts, narrow_term, next_item}
 use Rattle.ci_verilog.proofs.ExpressionLaws.{simple_fits, item_fits, items_fit, term_fits}

@@ -10,7 +10,7 @@ use Rattle.ci_verilog.specs.declared.expressions.Wire.{Wire}
 use Rattle.ci_verilog.specs.Modules.{Known, IsInput, vector, inputs, declared_by, known_by, AreWires, Module, IsModule}
 use Rattle.ci_verilog.specs.Values.{of_width, expr_value, results_of, Settles}
 use Rattle.ci_verilog.specs.Laws.{ValueExists, ValueIsOne, ValuesAreWords, NarrowIgnores}
-use Rattle.ci_verilog.specs.Held.{Fits}
+use Rattle.ci_verilog.specs.private.Held.{Fits}
 use Rattle.ci_verilog.proofs.WireLaws.{input_is_word, input_is_known, known_is_input}
 use Rattle.ci_verilog.proofs.ExpressionLaws.{Agree, expr_agrees, AllFit, expr_fits}
 

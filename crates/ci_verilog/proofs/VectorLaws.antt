@@ -5,7 +5,7 @@ use Rattle.std.proofs.Math.Nat.{div-eq_of_lt, pow-le-pow_right, add-mul-mod_self
 use Rattle.std.proofs.lemmas.Nat.{pow-add, mul-add-lt, shl_whole, row_fits}
 use Rattle.ci_verilog.specs.declared.vectors.Vector.{Vector}
 use Rattle.ci_verilog.specs.Values.{of_width, above, joined}
-use Rattle.ci_verilog.specs.Held.{InRange}
+use Rattle.ci_verilog.specs.private.Held.{InRange}
 
 same_vector : (u v : Vector) → u.width ≡ v.width → u.value ≡ v.value → u ≡ v
 same_vector u v e f = λ i. record { width = e i; value = f i }

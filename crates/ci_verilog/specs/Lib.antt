@@ -1,8 +1,8 @@
 pub mod Modules
 pub mod Values
 pub mod Laws
-pub mod Held
 pub mod NameEquality
 pub mod ItemEquality
 pub mod WireEquality
 pub mod ModuleEquality
+pub mod private

@@ -2,7 +2,7 @@
 ghost use Rattle.std.specs.Prelude.{◌≡◌, ℕ, ◌*◌, ◌+◌, ◌-◌, ◌/◌, ◌%◌, ◌^◌, ◌<◌, ◌≤◌, replicate};
 ghost use Rattle.ci_verilog.specs.Values.{of_width, above, joined, operated};
 ghost use Rattle.ci_verilog.specs.Modules.{Makes};
-ghost use Rattle.ci_verilog.specs.Held.{InRange};
+ghost use Rattle.ci_verilog.specs.private.Held.{InRange};
 
 use crate::expressions::Operator;
 

@@ -5,7 +5,7 @@ use Rattle.ci_vread.specs.declared.checking.Fault.{Fault}
 use Rattle.ci_vread.specs.Lexicon.{unit_format}
 use Rattle.ci_vread.specs.Grammar.{Placed, Event, Finish, Goes, made, units}
 use Rattle.ci_vread.specs.Rules.{Rule, AreRules, IsFirst, nothing, rules_from, rules_at}
-use Rattle.ci_vread.specs.Led.{IsAnswer}
+use Rattle.ci_vread.specs.private.Led.{IsAnswer}
 use Rattle.ci_vread.proofs.Annotations.{goes_somehow}
 use Rattle.ci_vread.proofs.ReadSteps.{AreKept}
 use Rattle.ci_vread.proofs.TextLaws.{are_ended}

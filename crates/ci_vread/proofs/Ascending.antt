@@ -8,7 +8,7 @@ use Rattle.ci_vread.specs.declared.tokens.Sign.TheVariants.{ModuleWord, InputWor
 use Rattle.ci_vread.specs.Lexicon.{Token, Spells, of_sign, of_operator, of_name, of_number, of_constant, of_cycles, long_name, bad_number, bad_constant}
 use Rattle.ci_vread.specs.Lexicon.{spelling, operator_spelling, constant_spelling, AreLetters, unit_format}
 use Rattle.ci_vread.specs.Grammar.{Placed}
-use Rattle.ci_vread.specs.Led.{AscendFrom}
+use Rattle.ci_vread.specs.private.Led.{AscendFrom}
 use Rattle.ci_vread.proofs.CheckerAnswers.{ascend_less}
 use Rattle.ci_vread.proofs.Numbers.{number_good}
 

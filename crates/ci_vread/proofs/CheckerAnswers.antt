@@ -9,7 +9,7 @@ use Rattle.ci_vread.specs.Grammar.{Placed, Role, its_module, its_high, its_name,
 use Rattle.ci_vread.specs.Grammar.{of_simple, of_side, of_condition, of_branch, of_operand, Part, reads, made, Phrase, NeedsNext, Fits}
 use Rattle.ci_vread.specs.Grammar.{Event, read, ended, Finish, whole, stops, Goes, all_read, by_parts, by_end, by_token, bad_token, bad_byte, no_token, no_next}
 use Rattle.ci_vread.specs.Rules.{Rule, Seen, behind, rules_of, rules_from, rules_at, IsFirst}
-use Rattle.ci_vread.specs.Led.{Leads, AscendFrom}
+use Rattle.ci_vread.specs.private.Led.{Leads, AscendFrom}
 use Rattle.ci_reading.proofs.BrokenLaws.{kept_append}
 use Rattle.ci_vread.proofs.ReadSteps.{IsKept, AreKept}
 use Rattle.ci_vread.proofs.LeastRules.{first_stays, only_last}

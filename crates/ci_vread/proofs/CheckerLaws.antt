@@ -12,10 +12,10 @@ use Rattle.ci_vread.specs.declared.checking.Checker.{Checker}
 use Rattle.ci_vread.specs.Grammar.{Placed, Part, Role, End, NeedsNext, of_bits, of_others, Symbol, Fits, reads, made, read, ended}
 use Rattle.ci_vread.specs.Lexicon.{Token, sign, operator, name, number, constant, cycles, never}
 use Rattle.ci_vread.specs.Rules.{Rule, Seen, behind, rules_of, IsFirst}
-use Rattle.ci_vread.specs.Scanned.{symbol_by, width_in, value_in, word_in, cycles_in}
-use Rattle.ci_vread.specs.Tables.{part_of, phrase_of, due_of, needs_next}
-use Rattle.ci_vread.specs.Checked.{Shows, IsLeast, EndsOn, ReadsOn}
-use Rattle.ci_vread.specs.Led.{Leads, LeadsWith, IsAt, IsDue, IsFresh, IsBehind, AscendFrom}
+use Rattle.ci_vread.specs.private.Scanned.{symbol_by, width_in, value_in, word_in, cycles_in}
+use Rattle.ci_vread.specs.private.Tables.{part_of, phrase_of, due_of, needs_next}
+use Rattle.ci_vread.specs.private.Checked.{Shows, IsLeast, EndsOn, ReadsOn}
+use Rattle.ci_vread.specs.private.Led.{Leads, LeadsWith, IsAt, IsDue, IsFresh, IsBehind, AscendFrom}
 use Rattle.ci_vread.specs.declared.checking.Due.{Due}
 use Rattle.ci_vread.specs.declared.checking.Due.TheVariants as due
 use Rattle.ci_vread.proofs.CheckerAnswers.{misfit, ended_early, pending_role, pending_end, pending_missing, missing}

@@ -6,8 +6,8 @@ use Rattle.ci_vread.specs.Grammar.{Placed, Role, End}
 use Rattle.ci_vread.specs.Grammar.{Part, reads, ends, made, Phrase, parts_of, NeedsNext, Fits, Symbol}
 use Rattle.ci_vread.specs.Grammar.{Event, read, ended, Finish, Goes, by_parts, by_end, by_token, bad_token, no_next}
 use Rattle.ci_vread.specs.Rules.{Rule, Seen, behind, rules_of, rules_from, rules_at}
-use Rattle.ci_vread.specs.Checked.{least, IsLeast}
-use Rattle.ci_vread.specs.Led.{Leads}
+use Rattle.ci_vread.specs.private.Checked.{least, IsLeast}
+use Rattle.ci_vread.specs.private.Led.{Leads}
 use Rattle.ci_vread.proofs.LeastRules.{least_of_both, least_behind}
 
 -- rules that are seen go to those before

@@ -10,7 +10,7 @@ use Rattle.ci_vread.specs.Grammar.{read, ended, whole, stops, all_read, by_parts
 use Rattle.ci_vread.proofs.FirstFaults.{first, IsFound, first_is}
 use Rattle.ci_vread.proofs.LongestTokens.{are_symbols}
 use Rattle.ci_vread.specs.Rules.{HasFault, KeepsRules, AreRules, Rule, nothing, rules_from, rules_at}
-use Rattle.ci_vread.specs.Scanning.{unit_lexer, scan, number_at, cycles_at, mark_at}
+use Rattle.ci_vread.specs.private.Scanning.{unit_lexer, scan, number_at, cycles_at, mark_at}
 use Rattle.ci_vread.proofs.TokenDecisions.{Decided, fits_or_not, token_decided, sign_decided, operator_decided, number_decided, name_decided, carried}
 use Rattle.ci_vread.proofs.Annotations.{HasRun, needs_or_not}
 

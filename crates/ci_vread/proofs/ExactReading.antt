@@ -21,10 +21,10 @@ use Rattle.ci_vread.specs.Spelling as spelling
 use Rattle.ci_vread.specs.Spelling.{SpellsSimple, whole_name, one_bit, some_bits, some_constant, SpellsItem, SpellsItems, last, more, SpellsTerm}
 use Rattle.ci_vread.specs.Spelling.{SpellsExpr, SpellsWire, some_wire, SpellsWires, no_wires, more_wires, SpellsModule, some_module, SpellsModules, no_modules}
 use Rattle.ci_vread.specs.Spelling.{more_modules, result, SpellsThird, no_third, some_third}
-use Rattle.ci_vread.specs.Building.{front, is_sign, is_number, is_cycles, number_in, cycles_in, operator_in, constant_in, name_in, begins_item, begins_wire}
-use Rattle.ci_vread.specs.Building.{begins_module, low_of, bits_of, named_by, simple_of, repeated_of, item_by, item_of, many, items_of, inside_by, inside_of}
-use Rattle.ci_vread.specs.Building.{term_by, term_of, others_of, expr_of, wire_of, wires_of, result_of, third_of, is_wide}
-use Rattle.ci_vread.specs.Building.{ports_behind, module_by, module_of, modules_of}
+use Rattle.ci_vread.specs.private.Building.{front, is_sign, is_number, is_cycles, number_in, cycles_in, operator_in, constant_in, name_in, begins_item, begins_wire}
+use Rattle.ci_vread.specs.private.Building.{begins_module, low_of, bits_of, named_by, simple_of, repeated_of, item_by, item_of, many, items_of, inside_by, inside_of}
+use Rattle.ci_vread.specs.private.Building.{term_by, term_of, others_of, expr_of, wire_of, wires_of, result_of, third_of, is_wide}
+use Rattle.ci_vread.specs.private.Building.{ports_behind, module_by, module_of, modules_of}
 use Rattle.ci_vread.proofs.ManyTokens.{one_more, no_more}
 use Rattle.ci_vread.proofs.SmallNumbers.{SmallSimple, SmallItem, SmallTerm, SmallExpr, SmallWire, SmallModule, small_module}
 

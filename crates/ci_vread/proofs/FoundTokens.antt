@@ -14,9 +14,9 @@ use Rattle.ci_vread.specs.declared.tokens.Sign.TheVariants.{ModuleWord, InputWor
 use Rattle.ci_vread.specs.declared.tokens.Sign.TheVariants.{NameZ}
 use Rattle.ci_vread.specs.Lexicon.{Token, sign, spelling, operator_spelling, AreLetters, constant_spelling, Spells, of_sign, of_operator, of_name, of_number}
 use Rattle.ci_vread.specs.Lexicon.{IsNumber, of_constant, of_cycles, long_name, bad_number, bad_constant}
-use Rattle.ci_vread.specs.Scanning.{run, front, byte_at, words, marks, singles, shifts, sign_among, operator_among, word_by, word_token, is_good, number_token}
-use Rattle.ci_vread.specs.Scanning.{constant_token, is_value, number_behind, number_at, cycles_behind, cycles_at, word_at, single_by, single, mark_by, mark_at}
-use Rattle.ci_vread.specs.Scanning.{scan}
+use Rattle.ci_vread.specs.private.Scanning.{run, front, byte_at, words, marks, singles, shifts, sign_among, operator_among, word_by, word_token, is_good, number_token}
+use Rattle.ci_vread.specs.private.Scanning.{constant_token, is_value, number_behind, number_at, cycles_behind, cycles_at, word_at, single_by, single, mark_by, mark_at}
+use Rattle.ci_vread.specs.private.Scanning.{scan}
 use Rattle.ci_vread.proofs.Runs.{true_is_not_false, letter_in_name, run_all, front_more, run_length, run_splits, all_digits, all_hex}
 use Rattle.ci_vread.proofs.Numbers.{good_number, bad_digits}
 

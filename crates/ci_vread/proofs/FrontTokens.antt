@@ -8,8 +8,8 @@ use Rattle.ci_vread.specs.declared.tokens.Kind.{Kind}
 use Rattle.ci_vread.specs.declared.tokens.Kind.TheVariants as kind
 use Rattle.ci_vread.specs.declared.tokens.Token as of_code
 use Rattle.ci_vread.specs.Lexicon.{Token}
-use Rattle.ci_vread.specs.Scanned.{text_of, symbol_by}
-use Rattle.ci_vread.specs.Building.{token_in, token_of, is_sign, is_number, is_cycles, number_in, cycles_in, operator_in, constant_in, name_in}
+use Rattle.ci_vread.specs.private.Scanned.{text_of, symbol_by}
+use Rattle.ci_vread.specs.private.Building.{token_in, token_of, is_sign, is_number, is_cycles, number_in, cycles_in, operator_in, constant_in, name_in}
 
 module _ (text : List ℕ) (t : of_code.Token) (found : Token) (is : token_of text t ≡ found) where
   -- a token of this kind

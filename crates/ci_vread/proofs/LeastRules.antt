@@ -6,7 +6,7 @@ use Rattle.std.specs.List.{Contains}
 use Rattle.std.proofs.lemmas.List.Elements.{Contains-append_left, Contains-append_right, Contains-append_cases, All-from_recursion, All-contains}
 use Rattle.std.proofs.lemmas.Bool.{cases_lt}
 use Rattle.ci_vread.specs.Rules.{Rule, rule, IsBefore, IsFirst}
-use Rattle.ci_vread.specs.Checked.{least, IsLeast}
+use Rattle.ci_vread.specs.private.Checked.{least, IsLeast}
 use Rattle.ci_reading.proofs.BrokenLaws.{kept_append}
 use Rattle.ci_vread.proofs.ReadSteps.{IsKept, AreKept}
 use Rattle.ci_vread.proofs.FirstFaults.{only_first}

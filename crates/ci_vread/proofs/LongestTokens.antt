@@ -18,8 +18,8 @@ use Rattle.ci_vread.specs.declared.tokens.Sign.TheVariants.{NameZ}
 use Rattle.ci_vread.specs.Lexicon.{Token, sign, operator, name, number, constant, cycles, spelling, operator_spelling, AreLetters, IsNumber, constant_spelling}
 use Rattle.ci_vread.specs.Lexicon.{Spells, of_sign, of_operator, of_name, of_number, of_constant, of_cycles, long_name, bad_number, bad_constant, IsBlank}
 use Rattle.ci_vread.specs.Lexicon.{unit_format}
-use Rattle.ci_vread.specs.Scanning.{run, front, byte_at, words, shifts, sign_among, operator_among, word_by, word_token, is_good, constant_token}
-use Rattle.ci_vread.specs.Scanning.{is_value, number_behind, number_at, cycles_at, word_at, mark_by, mark_at, scan, behind_first, unit_lexer}
+use Rattle.ci_vread.specs.private.Scanning.{run, front, byte_at, words, shifts, sign_among, operator_among, word_by, word_token, is_good, constant_token}
+use Rattle.ci_vread.specs.private.Scanning.{is_value, number_behind, number_at, cycles_at, word_at, mark_by, mark_at, scan, behind_first, unit_lexer}
 use Rattle.ci_vread.proofs.Runs.{letter_in_name, digit_no_letter, below_digit, below_hex, blank_yes, blank_no, AllOf, all_by_test, run_most, Stops}
 use Rattle.ci_vread.proofs.Runs.{run_exact, front_exact, rest_exact, digits_all, hex_all}
 use Rattle.ci_vread.proofs.Numbers.{number_good, not_good}

@@ -5,7 +5,7 @@ use Rattle.std.proofs.lemmas.List.{append-nil}
 use Rattle.ci_reading.proofs.BrokenLaws.{kept_back}
 use Rattle.ci_verilog.specs.declared.expressions.Item.{Item}
 use Rattle.ci_vread.specs.Lexicon.{Token}
-use Rattle.ci_vread.specs.Building.{many, many_by, begins_item, item_of, items_of}
+use Rattle.ci_vread.specs.private.Building.{many, many_by, begins_item, item_of, items_of}
 
 module _ {A : Type 0} (begins : List Token → Bool) (read : ℕ → List Token → A × List Token) where
   -- so much was read of the whole, and what is read next is the rest of it

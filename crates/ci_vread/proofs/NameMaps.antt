@@ -6,7 +6,7 @@ use Rattle.std.specs.Option.{is_some, unwrap_or, option_copied}
 use denote.Ref.{Bor}
 use Rattle.ci_verilog.specs.Modules.{Known}
 use Rattle.ci_vread.specs.Rules.{same, is_known, width_of}
-use Rattle.ci_vread.specs.Names.{earlier, lookup}
+use Rattle.ci_vread.specs.private.Names.{earlier, lookup}
 
 pub same_is_eq : (xs ys : List ℕ) → same xs ys ≡ bytes_eq xs ys
 same_is_eq [] [] = refl

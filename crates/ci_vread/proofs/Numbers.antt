@@ -10,7 +10,7 @@ use Rattle.std.proofs.lemmas.Fmt.{decimal_is_IsNumeral, decimal_digit, first_dec
 use Rattle.std.proofs.lemmas.Str.Parse.{IsNumeralModel}
 use Rattle.ci_reading.proofs.DigitLaws.{digits_below}
 use Rattle.ci_vread.specs.Lexicon.{IsNumber}
-use Rattle.ci_vread.specs.Scanning.{byte_at, is_good}
+use Rattle.ci_vread.specs.private.Scanning.{byte_at, is_good}
 use Rattle.ci_vread.proofs.Runs.{true_is_not_false}
 
 own : IsNumeralModel (AllDigits 10) (digits_value 10)

@@ -5,10 +5,10 @@ use Rattle.ci_verilog.specs.Modules.{Module, IsModule}
 use Rattle.ci_vread.specs.declared.tokens.Token as of_code
 use Rattle.ci_vread.specs.Lexicon.{Token, never}
 use Rattle.ci_vread.specs.Grammar.{Placed}
-use Rattle.ci_vread.specs.Scanned.{placed_of}
+use Rattle.ci_vread.specs.private.Scanned.{placed_of}
 use Rattle.ci_vread.specs.Spelling.{AreTokens, at_end, more_tokens, SpellsModules, no_modules, more_modules, Spell}
-use Rattle.ci_vread.specs.Building.{token_in, token_of, is_cycles, modules_of, AreBuilt}
-use Rattle.ci_vread.specs.Scanning.{unit_lexer}
+use Rattle.ci_vread.specs.private.Building.{token_in, token_of, is_cycles, modules_of, AreBuilt}
+use Rattle.ci_vread.specs.private.Scanning.{unit_lexer}
 use Rattle.ci_vread.specs.Rules.{KeepsRules}
 use Rattle.ci_vread.specs.Laws.{SpellingIsOne}
 use Rattle.ci_reading.specs.Lexers.{symbols_of}

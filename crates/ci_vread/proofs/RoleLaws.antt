@@ -12,9 +12,9 @@ use Rattle.ci_vread.specs.declared.tokens.Token.{Token as TokenValue}
 use Rattle.ci_vread.specs.Lexicon.{Token, sign, operator, name, number, constant, cycles}
 use Rattle.ci_vread.specs.Grammar.{Fits, that_token, some_cycles, a_module, a_high, a_name, a_target, a_use, input_a, input_b, input_c, an_index, a_low}
 use Rattle.ci_vread.specs.Grammar.{a_count, a_constant, an_operator, its_module, its_high, its_name, its_target, its_index, its_low, its_count, its_constant}
-use Rattle.ci_vread.specs.Scanned.{symbol_by, symbol_of, text_of, word_in, width_in, value_in, cycles_in}
-use Rattle.ci_vread.specs.Tables.{role_of, IsOperator, IsUse}
-use Rattle.ci_vread.specs.Checked.{CanHave, CanNotHave, Suits}
+use Rattle.ci_vread.specs.private.Scanned.{symbol_by, symbol_of, text_of, word_in, width_in, value_in, cycles_in}
+use Rattle.ci_vread.specs.private.Tables.{role_of, IsOperator, IsUse}
+use Rattle.ci_vread.specs.private.Checked.{CanHave, CanNotHave, Suits}
 
 -- ---- kinds of symbols
 

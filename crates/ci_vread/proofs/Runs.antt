@@ -12,7 +12,7 @@ use Rattle.std.proofs.lemmas.List.Sums.{prefix_len-le-length}
 use Rattle.ci_vread.specs.declared.bytes.ByteClass.{ByteClass}
 use Rattle.ci_vread.specs.declared.bytes.ByteClass.TheVariants.{Blank, InName, Digit, HexDigit}
 use Rattle.ci_vread.specs.Lexicon.{IsBlank}
-use Rattle.ci_vread.specs.Scanning.{belongs, run, front, byte_at}
+use Rattle.ci_vread.specs.private.Scanning.{belongs, run, front, byte_at}
 
 pub true_is_not_false : {b : Bool} → b ≡ true → b ≡ false → ⊥
 true_is_not_false is not = cc

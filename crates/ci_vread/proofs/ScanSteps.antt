@@ -11,8 +11,8 @@ use Rattle.ci_vread.specs.declared.bytes.ByteClass.{ByteClass}
 use Rattle.ci_vread.specs.declared.bytes.ByteClass.TheVariants.{Blank}
 use Rattle.ci_vread.specs.declared.tokens.Kind.{Kind}
 use Rattle.ci_vread.specs.Lexicon.{Token, never, Spells, unit_format}
-use Rattle.ci_vread.specs.Scanned.{symbol_by}
-use Rattle.ci_vread.specs.Scanning.{belongs, run, byte_at, scan, behind_first, unit_lexer, symbols_from, IsSolid, kind_of, kind_and_size, ends}
+use Rattle.ci_vread.specs.private.Scanned.{symbol_by}
+use Rattle.ci_vread.specs.private.Scanning.{belongs, run, byte_at, scan, behind_first, unit_lexer, symbols_from, IsSolid, kind_of, kind_and_size, ends}
 use Rattle.ci_vread.proofs.FoundTokens.{IsFoundBy, scan_found}
 use Rattle.ci_vread.proofs.LongestTokens.{IsFoundBehind, found_behind, is_lexer}
 use Rattle.ci_vread.proofs.TokenMeanings.{kind_means, small_or_never, token_goes_on}

@@ -3,7 +3,7 @@ use Rattle.std.proofs.Common.{◌≡◌, ℕ, suc, List, [], ◌∷◌, length, 
 use Rattle.std.proofs.lemmas.List.{length-reverse}
 use Rattle.ci_vread.specs.Rules.{same}
 use Rattle.ci_vread.specs.declared.seen.Seen.{Seen as SeenValue}
-use Rattle.ci_vread.specs.Checked.{least, IsStill, IsBounded}
+use Rattle.ci_vread.specs.private.Checked.{least, IsStill, IsBounded}
 
 same_length : (xs ys : List ℕ) → same xs ys ≡ true → length xs ≡ length ys
 same_length [] [] e = refl

@@ -7,7 +7,7 @@ use Rattle.ci_vread.specs.Grammar.{Placed, made, units, Goes}
 use Rattle.ci_vread.specs.Rules.{Rule, nothing, rules_from, rules_at, AreRules, IsFirst}
 use Rattle.ci_vread.proofs.Annotations.{goes_once, AreEnded, by_stray, by_text_end, behind, goes_somehow}
 use Rattle.ci_vread.specs.Laws.{SpellsOrHasFault, HasNoFault, FaultIsOne, SpellsWhereRulesAreKept}
-use Rattle.ci_vread.specs.Scanning.{unit_lexer}
+use Rattle.ci_vread.specs.private.Scanning.{unit_lexer}
 use Rattle.ci_vread.proofs.LongestTokens.{are_symbols, one_list}
 use Rattle.ci_vread.proofs.FirstFaults.{fault_is_one, kept_has_none, kept_or_fault}
 use Rattle.ci_vread.proofs.ReadModules.{kept_spells}

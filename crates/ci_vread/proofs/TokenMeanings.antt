@@ -17,8 +17,8 @@ use Rattle.ci_vread.specs.declared.tokens.Sign.TheVariants.{Opening}
 use Rattle.ci_vread.specs.Lexicon.{Token, number, constant, cycles, never, spelling, operator_spelling, IsNumber, constant_spelling, Spells, of_sign}
 use Rattle.ci_vread.specs.Lexicon.{of_operator, of_name, of_number, of_constant, of_cycles}
 use Rattle.ci_vread.specs.Lexicon.{long_name, bad_number, bad_constant}
-use Rattle.ci_vread.specs.Scanned.{word_in, before_quote, width_in, value_in, symbol_by}
-use Rattle.ci_vread.specs.Scanning.{belongs, kind_of, ends}
+use Rattle.ci_vread.specs.private.Scanned.{word_in, before_quote, width_in, value_in, symbol_by}
+use Rattle.ci_vread.specs.private.Scanning.{belongs, kind_of, ends}
 use Rattle.ci_vread.proofs.Runs.{AllOf, run_exact, front_exact}
 use Rattle.ci_vread.proofs.Numbers.{number_good}
 use Rattle.ci_vread.proofs.FoundTokens.{cycles_spelling}

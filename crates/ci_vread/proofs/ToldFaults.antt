@@ -7,11 +7,11 @@ use Rattle.ci_verilog.specs.Modules.{Module}
 use Rattle.ci_vread.specs.declared.checking.Fault.{Fault}
 use Rattle.ci_vread.specs.declared.tokens.Token.{Token}
 use Rattle.ci_vread.specs.Lexicon.{unit_format}
-use Rattle.ci_vread.specs.Scanned.{placed_of}
-use Rattle.ci_vread.specs.Scanning.{unit_lexer}
+use Rattle.ci_vread.specs.private.Scanned.{placed_of}
+use Rattle.ci_vread.specs.private.Scanning.{unit_lexer}
 use Rattle.ci_vread.specs.Spelling.{Spell}
-use Rattle.ci_vread.specs.Led.{IsAnswer}
-use Rattle.ci_vread.specs.Building.{AreBuilt}
+use Rattle.ci_vread.specs.private.Led.{IsAnswer}
+use Rattle.ci_vread.specs.private.Building.{AreBuilt}
 use Rattle.ci_vread.proofs.LongestTokens.{are_symbols}
 use Rattle.ci_vread.proofs.OneSpelling.{kept_built}
 

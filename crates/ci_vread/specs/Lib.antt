@@ -3,11 +3,5 @@ pub mod Grammar
 pub mod Rules
 pub mod Spelling
 pub mod Promised
-pub mod Scanned
 pub mod Laws
-pub mod Tables
-pub mod Led
-pub mod Checked
-pub mod Names
-pub mod Scanning
-pub mod Building
+pub mod private

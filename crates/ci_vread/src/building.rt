@@ -2,11 +2,11 @@
 ghost use Rattle.std.specs.Prelude.{◌≡◌, ◌<◌, ℕ, List, drop, length, IfOk, OnOk};
 ghost use Rattle.std.specs.List.{AllByRecursion};
 ghost use Rattle.ci_verilog.specs.Modules.{Module, IsModule};
-ghost use Rattle.ci_vread.specs.Building.{token_of, left, front, is_sign, is_number, is_cycles, number_in, cycles_in};
-ghost use Rattle.ci_vread.specs.Building.{operator_in, constant_in, name_in, input_in, low_of, bits_of, simple_of};
-ghost use Rattle.ci_vread.specs.Building.{repeated_of};
-ghost use Rattle.ci_vread.specs.Building.{item_of, items_of, inside_of, term_of, others_of, expr_of, wire_of, wires_of};
-ghost use Rattle.ci_vread.specs.Building.{result_of, third_of, is_wide, ports_behind, module_of, modules_of, AreBuilt};
+ghost use Rattle.ci_vread.specs.private.Building.{token_of, left, front, is_sign, is_number, is_cycles, number_in, cycles_in};
+ghost use Rattle.ci_vread.specs.private.Building.{operator_in, constant_in, name_in, input_in, low_of, bits_of, simple_of};
+ghost use Rattle.ci_vread.specs.private.Building.{repeated_of};
+ghost use Rattle.ci_vread.specs.private.Building.{item_of, items_of, inside_of, term_of, others_of, expr_of, wire_of, wires_of};
+ghost use Rattle.ci_vread.specs.private.Building.{result_of, third_of, is_wide, ports_behind, module_of, modules_of, AreBuilt};
 
 use crate::tokens::{Kind, Sign, Token};
 use crate::values::{constant_of, cycles_of, name_of, number_of};
@@ -173,7 +173,7 @@ impl<'a> Builder<'a> {
     }
 
     /// The low end of a range, behind its high end; the same where it is a single index.
-    #[tactic(auto, unfolding(crate::specs::Building::low_of))]
+    #[tactic(auto, unfolding(crate::specs::private::Building::low_of))]
     fn low(&mut self, high: u8) -> u8
         ensures value { result ≡ (low_of high (left self.old)).0 }
         ensures rest { left self.new ≡ (low_of high (left self.old)).1 }
@@ -188,7 +188,7 @@ impl<'a> Builder<'a> {
     }
 
     /// The bits of the name, behind `[`.
-    #[tactic(auto, unfolding(crate::specs::Building::bits_of))]
+    #[tactic(auto, unfolding(crate::specs::private::Building::bits_of))]
     fn bits(&mut self, name: Name) -> Simple
         ensures value { result ≡ (bits_of name (left self.old)).0 }
         ensures rest { left self.new ≡ (bits_of name (left self.old)).1 }
@@ -201,7 +201,7 @@ impl<'a> Builder<'a> {
     }
 
     /// A simple.
-    #[tactic(auto, unfolding(crate::specs::Building::simple_of))]
+    #[tactic(auto, unfolding(crate::specs::private::Building::simple_of))]
     fn simple(&mut self) -> Result<Simple, AllocError>
         ensures value { IfOk result (λ simple. simple ≡ (simple_of (left self.old)).0) }
         ensures rest { OnOk result (left self.new ≡ (simple_of (left self.old)).1) }
@@ -220,7 +220,7 @@ impl<'a> Builder<'a> {
     }
 
     /// The simple of a repetition whose count comes next.
-    #[tactic(auto, unfolding(crate::specs::Building::repeated_of))]
+    #[tactic(auto, unfolding(crate::specs::private::Building::repeated_of))]
     fn repeated(&mut self) -> Result<Simple, AllocError>
         ensures value { IfOk result (λ simple. simple ≡ (repeated_of (left self.old)).0) }
         ensures rest { OnOk result (left self.new ≡ (repeated_of (left self.old)).1) }
@@ -232,7 +232,7 @@ impl<'a> Builder<'a> {
     }
 
     /// An item of a concatenation.
-    #[tactic(auto, unfolding(crate::specs::Building::item_of))]
+    #[tactic(auto, unfolding(crate::specs::private::Building::item_of))]
     fn item(&mut self) -> Result<Item, AllocError>
         ensures value { IfOk result (λ item. item ≡ (item_of (left self.old)).0) }
         ensures rest { OnOk result (left self.new ≡ (item_of (left self.old)).1) }
@@ -246,7 +246,7 @@ impl<'a> Builder<'a> {
     }
 
     /// The items of a concatenation.
-    #[tactic(auto, unfolding(crate::specs::Building::items_of))]
+    #[tactic(auto, unfolding(crate::specs::private::Building::items_of))]
     fn items(&mut self) -> Result<Items, AllocError>
         ensures value { IfOk result (λ items. items ≡ (items_of (left self.old)).0) }
         ensures rest { OnOk result (left self.new ≡ (items_of (left self.old)).1) }
@@ -264,7 +264,7 @@ impl<'a> Builder<'a> {
     }
 
     /// The term behind a `{`.
-    #[tactic(auto, unfolding(crate::specs::Building::inside_of))]
+    #[tactic(auto, unfolding(crate::specs::private::Building::inside_of))]
     fn inside(&mut self) -> Result<Term, AllocError>
         ensures value { IfOk result (λ term. term ≡ (inside_of (left self.old)).0) }
         ensures rest { OnOk result (left self.new ≡ (inside_of (left self.old)).1) }
@@ -279,7 +279,7 @@ impl<'a> Builder<'a> {
     }
 
     /// A term.
-    #[tactic(auto, unfolding(crate::specs::Building::term_of))]
+    #[tactic(auto, unfolding(crate::specs::private::Building::term_of))]
     fn term(&mut self) -> Result<Term, AllocError>
         ensures value { IfOk result (λ term. term ≡ (term_of (left self.old)).0) }
         ensures rest { OnOk result (left self.new ≡ (term_of (left self.old)).1) }
@@ -309,7 +309,7 @@ impl<'a> Builder<'a> {
     }
 
     /// The expression that begins with the term.
-    #[tactic(auto, unfolding(crate::specs::Building::others_of))]
+    #[tactic(auto, unfolding(crate::specs::private::Building::others_of))]
     fn others(&mut self, first: Term) -> Result<Expr, AllocError>
         ensures value { IfOk result (λ expr. expr ≡ (others_of first (left self.old)).0) }
         ensures rest { OnOk result (left self.new ≡ (others_of first (left self.old)).1) }
@@ -338,7 +338,7 @@ impl<'a> Builder<'a> {
     }
 
     /// An expression.
-    #[tactic(auto, unfolding(crate::specs::Building::expr_of))]
+    #[tactic(auto, unfolding(crate::specs::private::Building::expr_of))]
     fn expr(&mut self) -> Result<Expr, AllocError>
         ensures value { IfOk result (λ expr. expr ≡ (expr_of (left self.old)).0) }
         ensures rest { OnOk result (left self.new ≡ (expr_of (left self.old)).1) }
@@ -348,7 +348,7 @@ impl<'a> Builder<'a> {
     }
 
     /// The wire that is declared next, as the one of this number.
-    #[tactic(auto, unfolding(crate::specs::Building::wire_of))]
+    #[tactic(auto, unfolding(crate::specs::private::Building::wire_of))]
     fn wire(&mut self, number: u16) -> Result<Wire, AllocError>
         ensures value { IfOk result (λ wire. wire ≡ (wire_of (left self.old)).0) }
         ensures rest { OnOk result (left self.new ≡ (wire_of (left self.old)).1) }
@@ -370,7 +370,7 @@ impl<'a> Builder<'a> {
     }
 
     /// The wires of a module.
-    #[tactic(auto, unfolding(crate::specs::Building::wires_of))]
+    #[tactic(auto, unfolding(crate::specs::private::Building::wires_of))]
     fn wires(&mut self) -> Result<Vec<Wire>, AllocError>
         ensures value { IfOk result (λ wires. wires.items ≡ (wires_of (left self.old)).0) }
         ensures rest { OnOk result (left self.new ≡ (wires_of (left self.old)).1) }
@@ -386,7 +386,7 @@ impl<'a> Builder<'a> {
     }
 
     /// The expression that is assigned to a result.
-    #[tactic(auto, unfolding(crate::specs::Building::result_of))]
+    #[tactic(auto, unfolding(crate::specs::private::Building::result_of))]
     fn assigned(&mut self) -> Result<Expr, AllocError>
         ensures value { IfOk result (λ expr. expr ≡ (result_of (left self.old)).0) }
         ensures rest { OnOk result (left self.new ≡ (result_of (left self.old)).1) }
@@ -398,7 +398,7 @@ impl<'a> Builder<'a> {
     }
 
     /// The expression of x, which is 0 in a narrow module.
-    #[tactic(auto, unfolding(crate::specs::Building::third_of))]
+    #[tactic(auto, unfolding(crate::specs::private::Building::third_of))]
     fn third(&mut self, wide: bool) -> Result<Expr, AllocError>
         ensures value { IfOk result (λ expr. expr ≡ (third_of wide (left self.old)).0) }
         ensures rest { OnOk result (left self.new ≡ (third_of wide (left self.old)).1) }
@@ -430,7 +430,7 @@ impl<'a> Builder<'a> {
     }
 
     /// Whether a fourth input comes next.
-    #[tactic(auto, unfolding(crate::specs::Building::is_wide))]
+    #[tactic(auto, unfolding(crate::specs::private::Building::is_wide))]
     fn begins_wide(&self) -> bool
         ensures { result ≡ is_wide (left self.now) }
     {
@@ -438,7 +438,7 @@ impl<'a> Builder<'a> {
     }
 
     /// Passes over the ports behind the first three inputs.
-    #[tactic(auto, unfolding(crate::specs::Building::ports_behind))]
+    #[tactic(auto, unfolding(crate::specs::private::Building::ports_behind))]
     fn pass_ports(&mut self, wide: bool)
         ensures { left self.new ≡ drop (ports_behind wide) (left self.old) }
     {
@@ -446,7 +446,7 @@ impl<'a> Builder<'a> {
     }
 
     /// The module of this number.
-    #[tactic(auto, unfolding(crate::specs::Building::module_of))]
+    #[tactic(auto, unfolding(crate::specs::private::Building::module_of))]
     fn unit(&mut self, number: u8) -> Result<Module, AllocError>
         requires { IsModule (module_of number (left self.old)).0 }
         ensures value { IfOk result (λ unit. unit ≡ (module_of number (left self.old)).0) }
@@ -471,7 +471,7 @@ impl<'a> Builder<'a> {
     }
 
     /// The modules of the text.
-    #[tactic(auto, unfolding(crate::specs::Building::modules_of))]
+    #[tactic(auto, unfolding(crate::specs::private::Building::modules_of))]
     fn units(&mut self) -> Result<Vec<Module>, AllocError>
         requires { AllByRecursion IsModule (modules_of (left self.old)) }
         ensures { IfOk result (λ units. units.items ≡ modules_of (left self.old)) }

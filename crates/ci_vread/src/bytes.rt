@@ -1,6 +1,6 @@
 //! Bytes of a text, and runs of them.
 ghost use Rattle.std.specs.Prelude.{◌≡◌, ◌≤◌, length, drop};
-ghost use Rattle.ci_vread.specs.Scanning.{belongs, run, byte_at};
+ghost use Rattle.ci_vread.specs.private.Scanning.{belongs, run, byte_at};
 
 /// A class of bytes.
 #[derive(Clone, Copy)]

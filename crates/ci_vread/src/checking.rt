@@ -4,11 +4,11 @@ ghost use Rattle.ci_reading.specs.Tokens.{AreSymbols, at};
 ghost use Rattle.ci_vread.specs.Lexicon.{unit_format};
 ghost use Rattle.ci_vread.specs.Grammar.{Placed, Event, Finish, Goes, units, reads, made};
 ghost use Rattle.ci_vread.specs.Rules.{Rule, nothing, rules_from, rules_at};
-ghost use Rattle.ci_vread.specs.Scanned.{symbol_by, placed_of};
-ghost use Rattle.ci_vread.specs.Tables.{role_of, part_of, due_of};
-ghost use Rattle.ci_vread.specs.Checked.{IsBounded};
-ghost use Rattle.ci_vread.specs.Led.{LeadsWith, IsAt, IsDue, IsOn, IsFresh, IsBehind, IsAfter, IsAnswer};
-ghost use Rattle.ci_vread.specs.Led.{AscendFrom};
+ghost use Rattle.ci_vread.specs.private.Scanned.{symbol_by, placed_of};
+ghost use Rattle.ci_vread.specs.private.Tables.{role_of, part_of, due_of};
+ghost use Rattle.ci_vread.specs.private.Checked.{IsBounded};
+ghost use Rattle.ci_vread.specs.private.Led.{LeadsWith, IsAt, IsDue, IsOn, IsFresh, IsBehind, IsAfter, IsAnswer};
+ghost use Rattle.ci_vread.specs.private.Led.{AscendFrom};
 
 use crate::grammar::{Part, Phrase, Role};
 use crate::roles::{fits, is_kind};

@@ -2,8 +2,8 @@
 ghost use Rattle.std.specs.Prelude.{◌≡◌, ◌↔◌, ℕ, true, false, IsTrue, List, [], ◌∷◌, ◌++◌, map};
 ghost use Rattle.ci_vread.specs.Grammar.{unit, made, ends, of_three, units, body, body_of, declaration, wires, others};
 ghost use Rattle.ci_vread.specs.Grammar.{term, inside, item, items, simple, bits, range, repetition, parts_of};
-ghost use Rattle.ci_vread.specs.Scanned.{symbol_by};
-ghost use Rattle.ci_vread.specs.Tables.{IsOperator, part_of, phrase_of, needs_next};
+ghost use Rattle.ci_vread.specs.private.Scanned.{symbol_by};
+ghost use Rattle.ci_vread.specs.private.Tables.{IsOperator, part_of, phrase_of, needs_next};
 
 use crate::tokens::{Kind, Sign};
 

@@ -4,7 +4,7 @@ ghost use Rattle.std.specs.Prelude.{if◌then◌else◌};
 ghost use Rattle.std.specs.Str.{bytes_eq};
 ghost use Rattle.ci_verilog.specs.Modules.{Known, inputs, vector};
 ghost use Rattle.ci_vread.specs.Rules.{is_known, width_of, most_names};
-ghost use Rattle.ci_vread.specs.Names.{Knows, width_at, earlier};
+ghost use Rattle.ci_vread.specs.private.Names.{Knows, width_at, earlier};
 
 use std::alloc::{AllocError, Global};
 use std::collections::BTreeMap;

@@ -4,9 +4,9 @@ ghost use Rattle.ci_reading.specs.Tokens as reading;
 ghost use Rattle.ci_vread.specs.Lexicon as lexicon;
 ghost use Rattle.ci_vread.specs.Grammar.{Fits, its_use};
 ghost use Rattle.ci_vread.specs.Rules.{bytes_of};
-ghost use Rattle.ci_vread.specs.Scanned.{text_of, symbol_of};
-ghost use Rattle.ci_vread.specs.Tables.{IsUse, role_of};
-ghost use Rattle.ci_vread.specs.Checked.{ReadsOn, Suits};
+ghost use Rattle.ci_vread.specs.private.Scanned.{text_of, symbol_of};
+ghost use Rattle.ci_vread.specs.private.Tables.{IsUse, role_of};
+ghost use Rattle.ci_vread.specs.private.Checked.{ReadsOn, Suits};
 
 use crate::grammar::{Role, is_operator, is_sign};
 use crate::seen::Seen;

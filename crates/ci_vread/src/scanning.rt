@@ -2,10 +2,10 @@
 ghost use Rattle.std.specs.Prelude.{◌≡◌, ◌<◌, ◌≤◌, ◌∷◌, false, if◌then◌else◌, [], min, length, map, option_map};
 ghost use Rattle.std.specs.Prelude.{IfOk};
 ghost use Rattle.ci_reading.specs.Lexers.{symbols_of};
-ghost use Rattle.ci_vread.specs.Scanned.{placed_of};
-ghost use Rattle.ci_vread.specs.Scanning.{sign_among, words, word_token, is_good, is_value, number_at, cycles_at};
-ghost use Rattle.ci_vread.specs.Scanning.{word_at, single, mark_at, scan, unit_lexer, symbols_from, IsSolid, kind_of};
-ghost use Rattle.ci_vread.specs.Scanning.{kind_and_size, ends};
+ghost use Rattle.ci_vread.specs.private.Scanned.{placed_of};
+ghost use Rattle.ci_vread.specs.private.Scanning.{sign_among, words, word_token, is_good, is_value, number_at, cycles_at};
+ghost use Rattle.ci_vread.specs.private.Scanning.{word_at, single, mark_at, scan, unit_lexer, symbols_from, IsSolid, kind_of};
+ghost use Rattle.ci_vread.specs.private.Scanning.{kind_and_size, ends};
 
 use crate::bytes::{ByteClass, behind, byte_at, run};
 use crate::tokens::{Kind, Sign, Token};
@@ -68,7 +68,7 @@ fn is_value(text: &[u8]) -> bool
 }
 
 /// The number or constant with which the text begins.
-#[tactic(auto, unfolding(crate::specs::Scanning::number_at))]
+#[tactic(auto, unfolding(crate::specs::private::Scanning::number_at))]
 fn number_at(text: &[u8]) -> (Kind, usize)
     ensures { result ≡ kind_and_size (number_at text.now) }
 {
@@ -90,7 +90,7 @@ fn number_at(text: &[u8]) -> (Kind, usize)
 }
 
 /// The line of a module's cycles with which the text begins.
-#[tactic(auto, unfolding(crate::specs::Scanning::cycles_at))]
+#[tactic(auto, unfolding(crate::specs::private::Scanning::cycles_at))]
 fn cycles_at(text: &[u8]) -> Option<(Kind, usize)>
     ensures { result ≡ option_map kind_and_size (cycles_at text.now) }
 {
@@ -132,7 +132,7 @@ fn single(byte: u8) -> Option<(Kind, usize)>
 }
 
 /// The operator or mark that is this byte, or this byte and the next.
-#[tactic(auto, unfolding(crate::specs::Scanning::mark_at))]
+#[tactic(auto, unfolding(crate::specs::private::Scanning::mark_at))]
 fn mark_at(byte: u8, next: u8) -> Option<(Kind, usize)>
     ensures { result ≡ option_map kind_and_size (mark_at byte next) }
 {
@@ -146,7 +146,7 @@ fn mark_at(byte: u8, next: u8) -> Option<(Kind, usize)>
 }
 
 /// The longest token with which the text begins, and how many bytes it has.
-#[tactic(auto, unfolding(crate::specs::Scanning::scan))]
+#[tactic(auto, unfolding(crate::specs::private::Scanning::scan))]
 fn scan(text: &[u8]) -> Option<(Kind, usize)>
     ensures { result ≡ option_map kind_and_size (scan text.now) }
 {

@@ -7,8 +7,8 @@ ghost use Rattle.ci_vread.specs.Grammar.{its_module, its_high, its_name, its_tar
 ghost use Rattle.ci_vread.specs.Grammar.{its_count, its_constant, its_operator, of_simple, of_term, of_side};
 ghost use Rattle.ci_vread.specs.Grammar.{of_condition, of_branch, of_operand, of_wire, of_wires, of_three};
 ghost use Rattle.ci_vread.specs.Rules.{same, makes, nothing, bytes_of, is_word};
-ghost use Rattle.ci_vread.specs.Tables.{end_of};
-ghost use Rattle.ci_vread.specs.Checked.{least, Shows, ReadsOn, EndsOn, IsCalm, IsStill, IsBounded};
+ghost use Rattle.ci_vread.specs.private.Tables.{end_of};
+ghost use Rattle.ci_vread.specs.private.Checked.{least, Shows, ReadsOn, EndsOn, IsCalm, IsStill, IsBounded};
 
 use crate::grammar::End;
 use crate::names::Names;

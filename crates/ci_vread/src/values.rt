@@ -3,7 +3,7 @@ ghost use Rattle.std.specs.Prelude.{◌≡◌, ◌%◌, ◌^◌};
 ghost use Rattle.std.specs.Str.Parse.{digits_value};
 ghost use Rattle.ci_reading.specs.Tokens as reading;
 ghost use Rattle.ci_vread.specs.Lexicon.{name, number, constant, cycles};
-ghost use Rattle.ci_vread.specs.Scanned.{text_of, word_in, symbol_of};
+ghost use Rattle.ci_vread.specs.private.Scanned.{text_of, word_in, symbol_of};
 
 use crate::bytes::{ByteClass, behind, run};
 use crate::tokens::{Kind, Token};

@@ -10,7 +10,7 @@ use Rattle.std.proofs.lemmas.Bool.{le-ltb, lt-ltb, cases_eq, cond_both, false_fr
 use Rattle.std.proofs.Math.ListN.{get_or-append}
 use Rattle.std.proofs.Math.Seq.{get_or-append_seam}
 use Rattle.std.proofs.lemmas.List.Elements.{Contains-append_cases, Contains-append_left, Contains-append_right}
-pub use Rattle.ci_word.specs.SetLaws.{list_any-numbers_below, contains-set_below}
+pub use Rattle.ci_word.specs.private.SetLaws.{list_any-numbers_below, contains-set_below}
 use Rattle.ci_word.specs.Numbers.{numbers_below, count_below, sum_below, some_below, set_below}
 
 -- ---- one number more

@@ -19,8 +19,8 @@ use Rattle.std.proofs.lemmas.Nat.Bits.{bit_at_cat_low, bit_at_set_same, bit_at_s
 use Rattle.std.proofs.lemmas.Nat.Bits.{bit_at_clear_other, bit_at-trailing_zeros, bit_at_above}
 use Rattle.ci_word.specs.Numbers.{count_below, Meets, IsGreatest}
 use Rattle.ci_word.proofs.NumberLaws.{same_numbers, contains-insert_nat, contains-remove_nat, count_below-same, count_below-add}
-use Rattle.ci_word.specs.Words.{is_in, numbers_in, AreRowWords, four_words}
-use Rattle.ci_word.specs.WordLaws.{contains-numbers_in, is_in-at}
+use Rattle.ci_word.specs.private.Words.{is_in, numbers_in, AreRowWords, four_words}
+use Rattle.ci_word.specs.private.WordLaws.{contains-numbers_in, is_in-at}
 
 -- ---- what a row contains
 

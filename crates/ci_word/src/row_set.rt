@@ -22,7 +22,7 @@ impl Model for Row {
 
     ghost coded = { set.code coded_ℕ };
 
-    ghost use Rattle.ci_word.specs.Words.{numbers_in, words_of, AreRowWords};
+    ghost use Rattle.ci_word.specs.private.Words.{numbers_in, words_of, AreRowWords};
 
     ghost view = { λ row. numbers_in row.words };
 
@@ -31,7 +31,7 @@ impl Model for Row {
     ghost inverse = { λ numbers. record { words = words_of numbers } };
 
     ghost use Rattle.std.proofs.Common.{ap};
-    ghost use Rattle.ci_word.specs.WordLaws.{words_of-numbers_in};
+    ghost use Rattle.ci_word.specs.private.WordLaws.{words_of-numbers_in};
 
     ghost inverse_ok = { λ row words. ap (λ items. record { words = items }) (words_of-numbers_in row.words words) };
 }

@@ -11,7 +11,7 @@ use Rattle.clap.specs.Walk as w
 use Rattle.clap.specs.Faults.{turn_fault, walk_fault}
 use Rattle.ci_words.specs.Words.{IsEnding, IsName, Item, options, positionals, spellings}
 use Rattle.ci_words.specs.Words as item
-use Rattle.ci_words.specs.Parses.{Known}
+use Rattle.ci_words.specs.private.Parses.{Known}
 use Rattle.ci_words.proofs.Rows.{IsNew}
 use Rattle.ci_words.proofs.Rules.{long_known, option_rule, rules, shape}
 use Rattle.ci_words.proofs.States.{Holds, Holds-filled, Holds-named, Holds-reacted, IsOption, both_none, filled, long_of-joined, long_of-opened, opened}

@@ -12,7 +12,7 @@ use Rattle.clap.specs.Faults.{built_fault, check_fault, defaults_fault, fault_of
 use Rattle.clap.proofs.FaultLemmas.{leaf_fault}
 use Rattle.ci_words.specs.Words.{AreMixed, IsName, Item, options, positionals, spellings}
 use Rattle.ci_words.specs.Words as item
-use Rattle.ci_words.specs.Parses.{Known, app_for}
+use Rattle.ci_words.specs.private.Parses.{Known, app_for}
 use Rattle.ci_words.proofs.Rows.{AreOf, no_rows}
 use Rattle.ci_words.proofs.Rules.{built_is, names_rule, option_rule, rules, shape}
 use Rattle.ci_words.proofs.States.{AreOnce, Holds, IsOption, both_none, first_none, new_option, second_none}

@@ -5,7 +5,7 @@ use Rattle.clap.specs.Matches.{matched_of, raw_values}
 use Rattle.clap.specs.Walk.{Text, rows_of}
 use Rattle.clap.specs.declared.parser.matches.Found.{Found}
 use Rattle.clap.proofs.WalkLemmas.{raw_values-rows}
-use Rattle.ci_words.specs.Parses.{values_in}
+use Rattle.ci_words.specs.private.Parses.{values_in}
 
 -- `Some` is injective
 pub some-same : {X : Type 0} (x y : X) → Some x ≡ Some y → x ≡ y

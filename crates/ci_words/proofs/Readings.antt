@@ -22,7 +22,7 @@ use Rattle.ci_words.specs.Tables.{CommandRow, OptionRow, commands}
 use Rattle.ci_words.specs.Words.{AreApart, AreDigits, AreSaid, AreSet, Gives, IsDefault, IsName, IsWord, Reading}
 use Rattle.ci_words.specs.Words.{ReadsAs, ReadsBy, ReadsIn, Says, Sets, Text, Value, file, number, settings_in}
 use Rattle.ci_words.specs.Words.{values_of, word}
-use Rattle.ci_words.specs.Parses.{IsParsed, MatchesGive, app_by, are_rows, is_row, known_in, names_in, values_in}
+use Rattle.ci_words.specs.private.Parses.{IsParsed, MatchesGive, app_by, are_rows, is_row, known_in, names_in, values_in}
 use Rattle.ci_words.proofs.Levels.{AreRead, passed_reads, read_meets}
 use Rattle.ci_words.proofs.Matches.{some-same}
 use Rattle.ci_words.proofs.Rows.{AreOf, listed}

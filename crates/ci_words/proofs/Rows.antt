@@ -10,7 +10,7 @@ use Rattle.clap.specs.declared.builder.value_parser.Reading.{Reading}
 use Rattle.clap.specs.declared.builder.value_parser.Reading.TheVariants.{AsWritten}
 use Rattle.clap.specs.declared.parser.matches.ValueSource.TheVariants.{CommandLine}
 use Rattle.ci_words.specs.Words.{is_named, values_of}
-use Rattle.ci_words.specs.Parses.{Known}
+use Rattle.ci_words.specs.private.Parses.{Known}
 use Rattle.ci_words.proofs.Rules.{names_rule, option_rule, option_with, same_text}
 
 -- the values of the argument, with more at their end

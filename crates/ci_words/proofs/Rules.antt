@@ -10,7 +10,7 @@ use Rattle.clap.specs.Simple.{Shape, built, filled, filled_from, new_rule, new_s
 use Rattle.clap.specs.declared.builder.action.ArgAction.TheVariants.{Append}
 use Rattle.clap.specs.declared.builder.range.ValueRange.{ValueRange}
 use Rattle.clap.specs.declared.builder.value_parser.ValueParser.TheVariants as parser
-use Rattle.ci_words.specs.Parses.{Known, app_for, option_by, option_given}
+use Rattle.ci_words.specs.private.Parses.{Known, app_for, option_by, option_given}
 
 -- a use has one value
 abbrev pub one_value : ValueRange

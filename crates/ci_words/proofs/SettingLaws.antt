@@ -15,7 +15,7 @@ use Rattle.ci_words.specs.declared.tables.OptionName.{OptionName}
 use Rattle.ci_words.specs.declared.values.Value.{Value as Held}
 use Rattle.ci_words.specs.Tables.{OptionRow}
 use Rattle.ci_words.specs.Words.{AreSet, Says, Sets, Text, Value, settings_in}
-use Rattle.ci_words.specs.Parses.{option_row}
+use Rattle.ci_words.specs.private.Parses.{option_row}
 use Rattle.ci_words.specs.Read.{setting_in, value_in}
 use Rattle.ci_words.proofs.Elements.{no_option, no_text}
 

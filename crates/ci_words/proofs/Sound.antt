@@ -11,7 +11,7 @@ use Rattle.clap.specs.Walk as w
 use Rattle.clap.specs.Faults.{settle_fault, turn_fault, walk_fault, react_fault}
 use Rattle.ci_words.specs.Words.{IsEnding, Item, options, positionals, spellings}
 use Rattle.ci_words.specs.Words as item
-use Rattle.ci_words.specs.Parses.{Known}
+use Rattle.ci_words.specs.private.Parses.{Known}
 use Rattle.ci_words.proofs.Rows.{AreOf, AreOf-name, IsNew, no_rows}
 use Rattle.ci_words.proofs.Rules.{long_cases, option_rule, rules, shape}
 use Rattle.ci_words.proofs.Spellings.{Look, Spells, look}

@@ -13,7 +13,7 @@ use Rattle.clap.specs.declared.error.kind.ErrorKind.TheVariants as kind
 use Rattle.clap.proofs.CutLemmas.{Lacks}
 use Rattle.clap.proofs.LexerLemmas.{name_and_value-at, name_and_value-without}
 use Rattle.ci_words.specs.Words.{values_of}
-use Rattle.ci_words.specs.Parses.{Known}
+use Rattle.ci_words.specs.private.Parses.{Known}
 use Rattle.ci_words.proofs.Rules.{id_known, option_rule, option_with, rules, same_text}
 use Rattle.ci_words.proofs.Rows.{AreOf, AreOf-name, AreOf-option, IsNew, has_row-given, listed, values_of-append}
 use Rattle.ci_words.proofs.Steps.{named}

@@ -15,7 +15,7 @@ use Rattle.clap.specs.Faults.{positional_fault, settle_fault, step_fault, turn_f
 use Rattle.clap.specs.declared.error.kind.ErrorKind.TheVariants as kind
 use Rattle.clap.proofs.FaultLemmas.{fault_ends}
 use Rattle.clap.proofs.WalkLemmas.{bundle_ends}
-use Rattle.ci_words.specs.Parses.{Known}
+use Rattle.ci_words.specs.private.Parses.{Known}
 use Rattle.ci_words.proofs.Rules.{id_known, names_rule, no_short, same_text, option_rule, rules, shape}
 
 -- between two words

@@ -16,7 +16,7 @@ use Rattle.clap.specs.Walk.{Rule, is_early_multiple}
 use Rattle.clap.specs.Words.{is_simple_and_free}
 use Rattle.ci_words.specs.Tables.{CommandRow, OptionRow}
 use Rattle.ci_words.specs.Words.{Text}
-use Rattle.ci_words.specs.Parses.{Known, known_in, app_by, app_for, are_distinct, are_rows, is_option_name, is_row, is_same, names_in, option_given, repeats_in}
+use Rattle.ci_words.specs.private.Parses.{Known, known_in, app_by, app_for, are_distinct, are_rows, is_option_name, is_row, is_same, names_in, option_given, repeats_in}
 use Rattle.ci_words.proofs.Rules.{built_is, names_rule, option_rule, rules, shape}
 use Rattle.ci_words.proofs.SettingLaws.{no_option_row}
 use Rattle.ci_words.proofs.States.{IsOption}

@@ -2,4 +2,4 @@ pub mod Tables
 pub mod Words
 pub mod Read
 pub mod Ranges
-pub mod Parses
+pub mod private

@@ -5,9 +5,9 @@ ghost use Rattle.std.specs.String.{string_bytes};
 ghost use Rattle.clap.specs.Words.{app_of, is_simple_and_free, fault_of, found_of, rows_of};
 ghost use Rattle.ci_words.specs.Tables.{CommandRow as Row};
 ghost use Rattle.ci_words.specs.Words.{Text};
-ghost use Rattle.ci_words.specs.Parses.{Known, app_by, app_for, command_row, is_row, names_in, option_row, values_in};
-ghost use Rattle.ci_words.specs.Parses.{IsParsed};
-ghost use Rattle.ci_words.specs.Parses as parses;
+ghost use Rattle.ci_words.specs.private.Parses.{Known, app_by, app_for, command_row, is_row, names_in, option_row, values_in};
+ghost use Rattle.ci_words.specs.private.Parses.{IsParsed};
+ghost use Rattle.ci_words.specs.private.Parses as parses;
 
 use crate::reader::WordsErr;
 use crate::tables::{CommandOption, CommandRow};

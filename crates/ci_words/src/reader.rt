@@ -2,7 +2,7 @@
 ghost use Rattle.std.specs.Prelude.{◌≡◌, List, map, true, IfOk, IfErr};
 ghost use Rattle.std.specs.String.{string_bytes};
 ghost use Rattle.ci_words.specs.Words.{Text, Reading, ReadsAs, ReadsIn, HasNoReading};
-ghost use Rattle.ci_words.specs.Parses.{are_rows, command_row};
+ghost use Rattle.ci_words.specs.private.Parses.{are_rows, command_row};
 ghost use Rattle.ci_words.specs.Ranges.{KeepsRanges, KeepsPlaces};
 ghost use Rattle.ci_words.specs.Read.{reading_of};
 

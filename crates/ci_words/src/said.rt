@@ -4,7 +4,7 @@ ghost use Rattle.std.specs.Prelude.{OnOk};
 ghost use Rattle.clap.specs.Words.{found_of, rows_of};
 ghost use Rattle.ci_words.specs.Words.{AreApart, AreSaid, AreSet, IsDefault, Reading, Sets, Value as SaidValue};
 ghost use Rattle.ci_words.specs.Read.{reading_of, setting_in, value_in};
-ghost use Rattle.ci_words.specs.Parses.{command_row, option_row, values_in, IsApartBefore, MatchesGive};
+ghost use Rattle.ci_words.specs.private.Parses.{command_row, option_row, values_in, IsApartBefore, MatchesGive};
 
 use crate::parse::{NAMES, words_given};
 use crate::reader::{Words, WordsErr};

@@ -3,7 +3,7 @@ ghost use Rattle.std.specs.Prelude.{[], ◌∷◌, ℕ, List, IfOk, IfErr};
 ghost use Rattle.ci_calls.specs.Inputs.{Input};
 ghost use Rattle.ci_calls.specs.Reads.{HaveRead, HaveNotRead};
 ghost use Rattle.ci_commands.specs.BestCommand.{block_input};
-ghost use Rattle.ci_commands.specs.BlockFiles.{IsFileOf, IsWithinLimit};
+ghost use Rattle.ci_commands.specs.private.BlockFiles.{IsFileOf, IsWithinLimit};
 
 use ci_calls::{Refusal, read_file, read_image};
 use ci_elf::Image;

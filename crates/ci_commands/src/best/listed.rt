@@ -3,7 +3,7 @@ ghost use Rattle.std.specs.Prelude.{◌≡◌, ◌≢◌, ◌≤◌, IfOk, IfErr
 ghost use Rattle.std.specs.List.{Contains};
 ghost use Rattle.ci_block.specs.declared.blocks.Block.{Block as BasicBlock};
 ghost use Rattle.ci_dfg.specs.Bundles.{AreBundled};
-ghost use Rattle.ci_commands.specs.Causes.{IsCause};
+ghost use Rattle.ci_commands.specs.private.Causes.{IsCause};
 ghost use Rattle.ci_commands.specs.ListedBlocks.{IsListedBlock, IsNoListedBlock};
 
 use super::LiveBlock;

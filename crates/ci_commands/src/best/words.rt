@@ -1,6 +1,6 @@
 //! The block of instructions that the words of a file are.
 ghost use Rattle.std.specs.Prelude.{◌≡◌, ◌+◌, ◌<◌, ◌≤◌, ◌%◌, ◌↔◌, ◌⊎◌, IfOk, IfErr, IsTrue, length};
-ghost use Rattle.ci_commands.specs.Causes.{IsCause};
+ghost use Rattle.ci_commands.specs.private.Causes.{IsCause};
 ghost use Rattle.ci_isa.specs.Fields.{HasCustomOpcode};
 ghost use Rattle.ci_dfg.specs.Bundles.{AreBundled};
 ghost use Rattle.ci_commands.specs.WordBlocks.{IsWordBlock, IsNoWordBlock, IsTerminator, every_register};

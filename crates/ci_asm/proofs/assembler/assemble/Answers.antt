@@ -1,8 +1,8 @@
 use Rattle.std.proofs.Common.{sym, subst}
 use Rattle.std.specs.Prelude.{IfOk, IfErr}
 use Rattle.std.proofs.lemmas.Result.{err_from_is_err_and}
-use Rattle.ci_asm.specs.LabelMap.{found_in}
-use Rattle.ci_asm.specs.Programs.{all_read, assembled, AreWordsIn, IsFaultIn}
+use Rattle.ci_asm.specs.private.LabelMap.{found_in}
+use Rattle.ci_asm.specs.private.Programs.{all_read, assembled, AreWordsIn, IsFaultIn}
 use Rattle.ci_asm.specs.Lines.{lines_of}
 use Rattle.ci_asm.specs.Assembly.{IsAssembly}
 use Rattle.ci_asm.specs.Promised.{IsFaultOf}

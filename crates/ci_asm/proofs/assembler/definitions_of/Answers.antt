@@ -1,7 +1,7 @@
 use Rattle.std.proofs.Common.{◌≡◌, ℕ, ◌+◌, List, drop, length, sym, ap, ◌∙◌, arith}
 use Rattle.std.proofs.lemmas.Result.{err_from_is_err_and}
-use Rattle.ci_asm.specs.LabelMap.{found_in, earlier}
-use Rattle.ci_asm.specs.Programs.{line_at, words_behind, all_read, definition_on, definition_of}
+use Rattle.ci_asm.specs.private.LabelMap.{found_in, earlier}
+use Rattle.ci_asm.specs.private.Programs.{line_at, words_behind, all_read, definition_on, definition_of}
 use Rattle.ci_asm.specs.Lines.{lines_of}
 use Rattle.ci_asm.proofs.LinesOfTexts.{lines_of-drop, lines_of-end, line_within}
 use Rattle.ci_asm.proofs.AssemblySteps.{all_read-nil, all_read-ok, all_read-err, words_behind-ok, words_in-small, definition_of-nil, definition_of-cons}

@@ -1,6 +1,6 @@
 use Rattle.std.proofs.Common.{◌≡◌, ℕ, ◌+◌, ◌-◌, ◌≤◌, List, drop, length}
-use Rattle.ci_asm.specs.LabelMap.{found_in, earlier}
-use Rattle.ci_asm.specs.Programs.{all_read, definition_of}
+use Rattle.ci_asm.specs.private.LabelMap.{found_in, earlier}
+use Rattle.ci_asm.specs.private.Programs.{all_read, definition_of}
 use Rattle.ci_asm.specs.Lines.{lines_of}
 use Rattle.ci_asm.proofs.assembler.definitions_of.Given as goal
 

@@ -1,8 +1,8 @@
 use Rattle.std.proofs.Common.{◌≡◌, length, sym, subst, Some}
 use Rattle.std.specs.Prelude.{IfSome}
 use Rattle.std.proofs.lemmas.Result.{err_from_is_err_and}
-use Rattle.ci_asm.specs.LabelMap.{found_in}
-use Rattle.ci_asm.specs.Statements.{IsRead}
+use Rattle.ci_asm.specs.private.LabelMap.{found_in}
+use Rattle.ci_asm.specs.private.Statements.{IsRead}
 use Rattle.ci_asm.proofs.AssemblySteps.{resolved-place, resolved-registers}
 use Rattle.ci_asm.proofs.StatementsHaveWords.{well_formed}
 use Rattle.ci_asm.proofs.assembler.line_insn.Goals as goal

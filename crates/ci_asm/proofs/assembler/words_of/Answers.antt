@@ -1,7 +1,7 @@
 use Rattle.std.proofs.Common.{◌≡◌, ◌+◌, ◌++◌, drop, length, vec_len, sym, ap, ◌∙◌, subst, arith, Ok, Err}
 use Rattle.std.specs.Option.{option_to_list}
-use Rattle.ci_asm.specs.LabelMap.{found_in}
-use Rattle.ci_asm.specs.Programs.{line_insn, insns_of, option_length}
+use Rattle.ci_asm.specs.private.LabelMap.{found_in}
+use Rattle.ci_asm.specs.private.Programs.{line_insn, insns_of, option_length}
 use Rattle.ci_asm.specs.Lines.{lines_of}
 use Rattle.ci_asm.proofs.LinesOfTexts.{lines_of-drop, lines_of-end, line_within}
 use Rattle.ci_asm.proofs.AssemblySteps.{behind, behind-behind, behind-end, insns_of-nil, insns_of-ok, insns_of-err, option_length-small}

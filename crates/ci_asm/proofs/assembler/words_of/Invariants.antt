@@ -1,7 +1,7 @@
 use Rattle.std.proofs.Common.{◌≡◌, ◌+◌, ◌-◌, ◌≤◌, List, drop, length, vec_len}
 use Rattle.ci_isa.specs.declared.instruction.Insn.{Insn}
-use Rattle.ci_asm.specs.LabelMap.{found_in}
-use Rattle.ci_asm.specs.Programs.{insns_of, AreWordsOf}
+use Rattle.ci_asm.specs.private.LabelMap.{found_in}
+use Rattle.ci_asm.specs.private.Programs.{insns_of, AreWordsOf}
 use Rattle.ci_asm.specs.Lines.{lines_of}
 use Rattle.ci_asm.proofs.AssemblySteps.{behind}
 use Rattle.ci_asm.proofs.assembler.words_of.Given as goal

@@ -5,7 +5,7 @@ use Rattle.std.specs.Str.{bytes_eq}
 use Rattle.std.proofs.lemmas.Map.Text.{btree_map_updates_str}
 use Rattle.std.proofs.lemmas.Slice.Eq.{bytes_eq-Decides}
 use Rattle.ci_asm.specs.declared.labels.Definition.{Definition}
-use Rattle.ci_asm.specs.LabelMap.{found_in, earlier}
+use Rattle.ci_asm.specs.private.LabelMap.{found_in, earlier}
 use Rattle.ci_asm.proofs.labels.define.Goals as goal
 
 -- a label that has no definition takes the new one, and the others keep theirs

@@ -1,6 +1,6 @@
 use Rattle.std.proofs.Common.{length, ◌-◌, ◌≡◌, ◌+◌, ◌≤◌, drop}
 use Rattle.std.specs.List.{prefix_len}
-use Rattle.ci_asm.specs.Tokens.{belongs}
+use Rattle.ci_asm.specs.private.Tokens.{belongs}
 use Rattle.ci_asm.proofs.scanner.run_end.Given as goal
 
 -- the run that goes on here ends where the whole run ends

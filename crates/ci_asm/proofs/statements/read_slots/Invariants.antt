@@ -1,5 +1,5 @@
 use Rattle.std.proofs.Common.{◌≡◌, drop}
-use Rattle.ci_asm.specs.Statements.{read_slots}
+use Rattle.ci_asm.specs.private.Statements.{read_slots}
 use Rattle.ci_asm.proofs.statements.read_slots.Given as goal
 
 -- what is left to read gives the whole answer

@@ -1,6 +1,6 @@
 use Rattle.std.proofs.Common.{◌≡◌, ◌+◌, ◌-◌, ◌*◌, refl, sym, ◌∙◌, ap, subst, arith}
 use Rattle.ci_block.specs.Blocks.{IsNext}
-use Rattle.ci_block.specs.Stretches.{AreInsns, IsStretch}
+use Rattle.ci_block.specs.private.Stretches.{AreInsns, IsStretch}
 use Rattle.ci_block.specs.Text.{StandsAt}
 use Rattle.ci_block.proofs.BlockLaws.{last_word, whole_words}
 use Rattle.ci_block.proofs.blocks.block_between.Goals as goal

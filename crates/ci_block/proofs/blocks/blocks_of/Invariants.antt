@@ -1,4 +1,4 @@
-use Rattle.ci_block.specs.Stretches.{AreBlocksOf}
+use Rattle.ci_block.specs.private.Stretches.{AreBlocksOf}
 use Rattle.ci_block.proofs.blocks.blocks_of.Given as goal
 
 abbrev pub invariant-loop-index : goal.invariant-loop-index

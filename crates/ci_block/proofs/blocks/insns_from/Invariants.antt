@@ -1,4 +1,4 @@
-use Rattle.ci_block.specs.Stretches.{AreInsns}
+use Rattle.ci_block.specs.private.Stretches.{AreInsns}
 use Rattle.ci_block.proofs.blocks.insns_from.Given as goal
 
 abbrev pub invariant-loop-word : goal.invariant-loop-word

@@ -1,6 +1,6 @@
 use Rattle.std.proofs.Common.{sym, ap, subst, arith}
 use Rattle.ci_elf.specs.Executables.{HoldsAddress, IsAscending, end_of}
-use Rattle.ci_block.specs.Marking.{AreTextRanges, range_at}
+use Rattle.ci_block.specs.private.Marking.{AreTextRanges, range_at}
 use Rattle.ci_block.proofs.RangeLaws.{text_ranges}
 use Rattle.ci_block.proofs.blocks.range_end.Goals as goal
 

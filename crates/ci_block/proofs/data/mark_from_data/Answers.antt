@@ -1,8 +1,8 @@
 use Rattle.std.proofs.Common.{◌+◌, List, length, ap, subst, arith}
 use Rattle.ci_elf.specs.declared.segments.Segment.{Segment}
-use Rattle.ci_block.specs.Loading.{IsFromSegments, IsFromDataWords, first_word, end_word, segment_at}
-use Rattle.ci_block.specs.Marks.{Adds}
-use Rattle.ci_block.specs.Sources.{IsFromData}
+use Rattle.ci_block.specs.private.Loading.{IsFromSegments, IsFromDataWords, first_word, end_word, segment_at}
+use Rattle.ci_block.specs.private.Marks.{Adds}
+use Rattle.ci_block.specs.private.Sources.{IsFromData}
 use Rattle.ci_block.proofs.LoadingLaws.{from_segment, segment_or_before, data_from_segments, segments_from_data}
 use Rattle.ci_block.proofs.MarkLaws.{added_both, added_by_all}
 use Rattle.ci_block.proofs.data.mark_from_data.Goals as goal

@@ -1,5 +1,5 @@
-use Rattle.ci_block.specs.Loading.{IsFromSegments}
-use Rattle.ci_block.specs.Marks.{Adds}
+use Rattle.ci_block.specs.private.Loading.{IsFromSegments}
+use Rattle.ci_block.specs.private.Marks.{Adds}
 use Rattle.ci_block.proofs.data.mark_from_data.Given as goal
 
 abbrev pub invariant-loop-segment : goal.invariant-loop-segment

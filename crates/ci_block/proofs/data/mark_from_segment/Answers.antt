@@ -1,7 +1,7 @@
 use Rattle.std.proofs.Common.{◌≡◌, ◌+◌, subst, arith}
 use Rattle.std.specs.Prelude.{Some}
-use Rattle.ci_block.specs.Loading.{IsFromDataWords, end_word, first_word}
-use Rattle.ci_block.specs.Marks.{Adds}
+use Rattle.ci_block.specs.private.Loading.{IsFromDataWords, end_word, first_word}
+use Rattle.ci_block.specs.private.Marks.{Adds}
 use Rattle.ci_block.proofs.LoadingLaws.{data_word_or_before, from_data_word, segment_top}
 use Rattle.ci_block.proofs.MarkLaws.{added_both}
 use Rattle.ci_block.proofs.data.mark_from_segment.Goals as goal

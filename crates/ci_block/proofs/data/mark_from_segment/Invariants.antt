@@ -1,5 +1,5 @@
-use Rattle.ci_block.specs.Loading.{IsFromDataWords}
-use Rattle.ci_block.specs.Marks.{Adds}
+use Rattle.ci_block.specs.private.Loading.{IsFromDataWords}
+use Rattle.ci_block.specs.private.Marks.{Adds}
 use Rattle.ci_block.proofs.data.mark_from_segment.Given as goal
 
 abbrev pub invariant-loop-word : goal.invariant-loop-word

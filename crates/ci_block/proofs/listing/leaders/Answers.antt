@@ -1,7 +1,7 @@
 use Rattle.std.proofs.Common.{subst}
-use Rattle.ci_block.specs.Listing.{IsListedBelow}
-use Rattle.ci_block.specs.Marking.{AreTextRanges}
-use Rattle.ci_block.specs.Marks.{IsMarked}
+use Rattle.ci_block.specs.private.Listing.{IsListedBelow}
+use Rattle.ci_block.specs.private.Marking.{AreTextRanges}
+use Rattle.ci_block.specs.private.Marks.{IsMarked}
 use Rattle.ci_block.proofs.LeaderLaws.{are_listed}
 use Rattle.ci_block.proofs.listing.leaders.Goals as goal
 

@@ -1,7 +1,7 @@
 use Rattle.std.proofs.Common.{◌+◌, ◌<◌, sym, subst}
-use Rattle.ci_block.specs.Listing.{IsListedBelow}
-use Rattle.ci_block.specs.Marking.{range_at}
-use Rattle.ci_block.specs.Marks.{IsMarked}
+use Rattle.ci_block.specs.private.Listing.{IsListedBelow}
+use Rattle.ci_block.specs.private.Marking.{range_at}
+use Rattle.ci_block.specs.private.Marks.{IsMarked}
 use Rattle.ci_block.proofs.ListingLaws.{IsListedTo, none_listed, word_added, word_passed}
 use Rattle.ci_block.proofs.listing.list_range.Goals as goal
 use Rattle.ci_block.proofs.listing.list_range.Goals.{then-is_leader+in_ok-push, else-is_leader}

@@ -1,5 +1,5 @@
 use Rattle.std.proofs.Common.{ap, arith, length}
-use Rattle.ci_block.specs.Marks.{IsMarked}
+use Rattle.ci_block.specs.private.Marks.{IsMarked}
 use Rattle.ci_block.proofs.ListingLaws.{before_ranges, range_listed}
 use Rattle.ci_block.proofs.listing.listed.Goals as goal
 

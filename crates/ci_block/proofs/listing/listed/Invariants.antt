@@ -1,4 +1,4 @@
-use Rattle.ci_block.specs.Marks.{IsMarked}
+use Rattle.ci_block.specs.private.Marks.{IsMarked}
 use Rattle.ci_block.proofs.ListingLaws.{AreListedBefore}
 use Rattle.ci_block.proofs.listing.listed.Given as goal
 

@@ -1,7 +1,7 @@
 use Rattle.std.proofs.Common.{◌≡◌, length, ◌∙◌, subst}
 use Rattle.std.specs.List.{Contains}
-use Rattle.ci_block.specs.Marks.{Adds}
-use Rattle.ci_block.specs.Sources.{IsFromMeeting}
+use Rattle.ci_block.specs.private.Marks.{Adds}
+use Rattle.ci_block.specs.private.Sources.{IsFromMeeting}
 use Rattle.ci_block.proofs.RangeLaws.{text_ranges}
 use Rattle.ci_block.proofs.LeaderLaws.{all_marked, more_marked, none_marked}
 use Rattle.ci_block.proofs.listing.marks_of.Goals as goal

@@ -1,6 +1,6 @@
 use Rattle.std.proofs.Common.{◌≡◌, ◌+◌, inl, inr, true, sym, ◌∙◌, Some}
 use Rattle.ci_isa.specs.Effects.{ends_block}
-use Rattle.ci_block.specs.Sources.{Leads}
+use Rattle.ci_block.specs.private.Sources.{Leads}
 use Rattle.ci_block.proofs.MarkLaws.{added_both}
 use Rattle.ci_block.proofs.text.mark_from.Goals as goal
 

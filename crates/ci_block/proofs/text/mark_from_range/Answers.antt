@@ -1,7 +1,7 @@
 use Rattle.std.proofs.Common.{◌≡◌, ◌+◌, ◌*◌, ◌<◌, ◌≤◌, sym, subst, arith}
 use Rattle.ci_elf.specs.declared.ranges.Range.{Range}
-use Rattle.ci_block.specs.Marks.{Adds}
-use Rattle.ci_block.specs.Sources.{IsFromWords, Leads}
+use Rattle.ci_block.specs.private.Marks.{Adds}
+use Rattle.ci_block.specs.private.Sources.{IsFromWords, Leads}
 use Rattle.ci_elf.specs.Executables.{IsTextWord, end_of}
 use Rattle.ci_block.proofs.MarkLaws.{added_both}
 use Rattle.ci_block.proofs.RangeLaws.{number_of, word_of_range}

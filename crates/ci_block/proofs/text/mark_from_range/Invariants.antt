@@ -1,5 +1,5 @@
-use Rattle.ci_block.specs.Marks.{Adds}
-use Rattle.ci_block.specs.Sources.{IsFromWords}
+use Rattle.ci_block.specs.private.Marks.{Adds}
+use Rattle.ci_block.specs.private.Sources.{IsFromWords}
 use Rattle.ci_block.proofs.text.mark_from_range.Given as goal
 
 abbrev pub invariant-loop-word : goal.invariant-loop-word

@@ -1,8 +1,8 @@
 use Rattle.std.proofs.Common.{◌+◌, ◌<◌, List, length, ap, subst, arith}
 use Rattle.ci_elf.specs.declared.ranges.Range.{Range}
-use Rattle.ci_block.specs.Marking.{range_at}
-use Rattle.ci_block.specs.Marks.{Adds}
-use Rattle.ci_block.specs.Sources.{IsFromRanges, IsFromText, IsFromWords}
+use Rattle.ci_block.specs.private.Marking.{range_at}
+use Rattle.ci_block.specs.private.Marks.{Adds}
+use Rattle.ci_block.specs.private.Sources.{IsFromRanges, IsFromText, IsFromWords}
 use Rattle.ci_block.proofs.MarkLaws.{added_both, added_by_all}
 use Rattle.ci_block.proofs.RangeLaws.{range_there}
 use Rattle.ci_block.proofs.SourceLaws.{from_range, range_or_before, text_from_ranges, ranges_from_text}

@@ -1,6 +1,6 @@
 use Rattle.std.proofs.Common.{◌+◌, ◌-◌, length, arith}
-use Rattle.ci_block.specs.Marking.{range_at}
-use Rattle.ci_block.specs.Sources.{IsFromMeeting, Meets}
+use Rattle.ci_block.specs.private.Marking.{range_at}
+use Rattle.ci_block.specs.private.Sources.{IsFromMeeting, Meets}
 use Rattle.ci_block.proofs.MarkLaws.{added_as, added_both}
 use Rattle.ci_block.proofs.SourceLaws.{all_meetings, from_meeting, meeting_or_before}
 use Rattle.ci_block.proofs.text.mark_where_ranges_meet.Goals as goal

@@ -6,7 +6,7 @@ use Rattle.ci_io.specs.declared.sinks.SinkErr.TheVariants as sink
 use Rattle.ci_io.specs.CallLists.{put}
 use Rattle.ci_calls.specs.Called as made
 use Rattle.ci_calls.proofs.CallsMade.{ArePut-append}
-use Rattle.ci_calls.specs.Finish.{taken, fault, no_memory}
+use Rattle.ci_calls.specs.private.Finish.{taken, fault, no_memory}
 use Rattle.ci_calls.proofs.finishing.put_success.Goals as goal
 
 -- a sink that took nothing more took an empty text

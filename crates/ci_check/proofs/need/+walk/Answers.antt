@@ -6,8 +6,8 @@ use Rattle.ci_cut.specs.declared.prefix.PrefixTerms.{PrefixTerms}
 use Rattle.ci_cut.specs.FlowGraph.{FlowGraph}
 use Rattle.ci_cut.specs.Prefixes.{Prefix, eligible_nodes}
 use Rattle.ci_cut.specs.Representation.{Represents, IsNextBelow, AreKeptFrom}
-use Rattle.ci_cut.specs.Reached.{IsReachedBefore, IsReachedBehind, IsReachedWith}
-use Rattle.ci_check.specs.Walked.{IsWalked}
+use Rattle.ci_cut.specs.private.Reached.{IsReachedBefore, IsReachedBehind, IsReachedWith}
+use Rattle.ci_check.specs.private.Walked.{IsWalked}
 use Rattle.ci_cut.proofs.Represented.{same_taken, all_decided, next_from_below, some_undecided, represents_kept}
 use Rattle.ci_cut.proofs.NeedLaws.{reached_whole, reached_in, reached_between}
 use Rattle.ci_check.proofs.WalkedLaws.{walked_whole, walked_closed, walked_here, walked_first, walked_both}

@@ -1,7 +1,7 @@
 use Rattle.std.proofs.Common.{inl, inr, refl, sym, subst, rules, w64, SFits, arith, ◌≤ℤ◌, ◌<ℤ◌}
 use Rattle.std.proofs.lemmas.Int.{ints, to_z-of_z}
 use Rattle.std.specs.FinSet as set
-use Rattle.ci_cut.specs.Reached.{IsReachedWith}
+use Rattle.ci_cut.specs.private.Reached.{IsReachedWith}
 use Rattle.ci_check.proofs.GainTests.{less_by_test, not_less_by_test}
 use Rattle.ci_check.proofs.need.reached_with.Goals as goal
 

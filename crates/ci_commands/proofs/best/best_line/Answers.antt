@@ -5,7 +5,7 @@ use Rattle.std.proofs.lemmas.Result.{err_from_is_err_and}
 use Rattle.ci_cut.specs.FlowGraph.{FlowGraph}
 use Rattle.ci_dfg.specs.BlockGraph.{graph_of}
 use Rattle.ci_dfg.specs.Bundles.{AreBundled}
-use Rattle.ci_commands.specs.BlockFiles.{IsFileOf}
+use Rattle.ci_commands.specs.private.BlockFiles.{IsFileOf}
 use Rattle.ci_commands.specs.BestCommand.{IsBestLine}
 use Rattle.ci_commands.proofs.best.best_line.Goals as goal
 

@@ -2,7 +2,7 @@ use Rattle.std.proofs.Common.{nat_eq, take}
 use Rattle.std.specs.List.{list_any}
 use Rattle.ci_cut.specs.declared.graph.Source.TheVariants.{Made}
 use Rattle.ci_cut.specs.FlowGraph.{is_source}
-use Rattle.ci_cut.specs.AddedRows.{AreAdded}
+use Rattle.ci_cut.specs.private.AddedRows.{AreAdded}
 use Rattle.ci_cut.proofs.graph_rows.add_at_makers.Given as goal
 
 abbrev pub invariant-loop-source : goal.invariant-loop-source

@@ -1,7 +1,7 @@
 use Rattle.std.proofs.Common.{◌≡◌}
 use Rattle.std.specs.FinSet as set
 use Rattle.ci_cut.specs.declared.graph.Source.{Source}
-use Rattle.ci_cut.specs.SourceSets.{holds, is_reader, is_read_below}
+use Rattle.ci_cut.specs.private.SourceSets.{holds, is_reader, is_read_below}
 use Rattle.ci_cut.proofs.ports.read_by.Given as goal
 
 abbrev pub invariant-loop-k : goal.invariant-loop-k

@@ -1,7 +1,7 @@
 use Rattle.std.proofs.Common.{◌≡◌, ℕ, ◌+◌, max, take, slice_index, sym, ◌∙◌, subst, arith}
 use Rattle.std.proofs.lemmas.Bool.Decides.{nat_tests}
 use Rattle.ci_cut.specs.declared.graph.Source.TheVariants.{Entry}
-use Rattle.ci_cut.specs.ChainDelays.{IsMaximumAt}
+use Rattle.ci_cut.specs.private.ChainDelays.{IsMaximumAt}
 use Rattle.ci_cut.proofs.MaximumAt.{IsMaximumAt-entry, IsMaximumAt-made}
 use Rattle.ci_cut.proofs.timing.maximum_at.Goals as goal
 use Rattle.ci_cut.proofs.timing.maximum_at.Goals.{in-Made, in_default}

@@ -2,7 +2,7 @@ use Rattle.std.proofs.Common.{sym, subst, rules}
 use Rattle.std.specs.List.Sorted.{IsNonDecreasingBy, IsPermutation}
 use Rattle.std.proofs.lemmas.List.Sorted.{IsNonDecreasingBy-from_sort_by_key}
 use Rattle.std.proofs.lemmas.Result.{IfOk-weaker}
-use Rattle.ci_elf.specs.Parts.{IsCoverage}
+use Rattle.ci_elf.specs.private.Parts.{IsCoverage}
 use Rattle.ci_elf.proofs.CoverageLaws.{coverage_permuted}
 use Rattle.ci_elf.proofs.coverage.coverage.Goals as goal
 

@@ -3,7 +3,7 @@ use Rattle.std.specs.Prelude.{MatchOption}
 use Rattle.ci_elf.specs.declared.parts.Part.{Part}
 use Rattle.ci_elf.specs.Fields.{e_phnum}
 use Rattle.ci_elf.specs.Rules.{MemoryIsApart}
-use Rattle.ci_elf.specs.Parts.{memory_of, IsFirstOverlap, AreApart}
+use Rattle.ci_elf.specs.private.Parts.{memory_of, IsFirstOverlap, AreApart}
 use Rattle.ci_elf.proofs.FieldLaws.{e_phnum_small}
 use Rattle.ci_elf.proofs.PairRuleLaws.{parts_count, part_is, pairs_kept, pairs_broken}
 use Rattle.ci_elf.proofs.MemoryLaws.{memory_kept, memory_broken}

@@ -1,6 +1,6 @@
 use Rattle.std.proofs.Common.{◌≡◌, sym, ◌∙◌, ap, arith}
 use Rattle.ci_elf.specs.Fields.{e_phnum}
-use Rattle.ci_elf.specs.Parts.{parts_below, memory_of}
+use Rattle.ci_elf.specs.private.Parts.{parts_below, memory_of}
 use Rattle.ci_reading.proofs.BrokenLaws.{each_below_none}
 use Rattle.ci_elf.proofs.PairRuleLaws.{parts_step}
 use Rattle.ci_elf.proofs.memory.memory_parts.Goals as goal

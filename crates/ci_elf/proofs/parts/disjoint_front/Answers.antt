@@ -1,6 +1,6 @@
 use Rattle.std.proofs.Common.{◌≡◌, ◌+◌, take, subst, arith}
 use Rattle.std.proofs.lemmas.Bool.Decides.{not_from_Decides}
-use Rattle.ci_elf.specs.Parts.{AreApart}
+use Rattle.ci_elf.specs.private.Parts.{AreApart}
 use Rattle.ci_elf.proofs.PartLaws.{front_whole}
 use Rattle.ci_elf.proofs.parts.disjoint_front.Goals as goal
 

@@ -1,5 +1,5 @@
 use Rattle.std.proofs.Common.{ℕ, ◌<◌}
-use Rattle.ci_elf.specs.Parts.{AreApartAt}
+use Rattle.ci_elf.specs.private.Parts.{AreApartAt}
 use Rattle.ci_elf.proofs.parts.first_overlapping.Given as goal
 
 abbrev pub invariant-loop-k : goal.invariant-loop-k

@@ -1,6 +1,6 @@
 use Rattle.std.proofs.Common.{◌+◌, ◌≤◌, subst, sym}
 use Rattle.ci_elf.specs.Fields.{is_text}
-use Rattle.ci_elf.specs.SectionChecks.{section_of}
+use Rattle.ci_elf.specs.private.SectionChecks.{section_of}
 use Rattle.ci_elf.proofs.SegmentLaws.{chosen}
 use Rattle.ci_elf.proofs.RangeLaws.{text_top}
 use Rattle.ci_elf.proofs.ranges.range_of_section.Goals as goal

@@ -1,8 +1,8 @@
 use Rattle.std.proofs.Common.{◌≡◌, ◌+◌, [], sym, ◌∙◌, subst, refl, ap, arith}
 use Rattle.ci_elf.specs.Fields.{is_text, sh_offset, sh_size}
 use Rattle.ci_elf.specs.Rules.{TextIsAlone}
-use Rattle.ci_elf.specs.Parts.{IsCoverage, IsNext, IsFirstMeeting, tables_of}
-use Rattle.ci_elf.specs.SectionChecks.{section_of}
+use Rattle.ci_elf.specs.private.Parts.{IsCoverage, IsNext, IsFirstMeeting, tables_of}
+use Rattle.ci_elf.specs.private.SectionChecks.{section_of}
 use Rattle.ci_elf.proofs.CheckLaws.{fault_here}
 use Rattle.ci_elf.proofs.SegmentLaws.{chosen}
 use Rattle.ci_elf.proofs.SectionLaws.{alone_from, table_met, text_met}

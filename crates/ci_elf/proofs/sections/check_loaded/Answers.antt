@@ -3,7 +3,7 @@ use Rattle.std.proofs.lemmas.Bool.Decides.{not_from_Decides}
 use Rattle.std.specs.List.{Contains}
 use Rattle.ci_elf.specs.Fields.{is_text}
 use Rattle.ci_elf.specs.Rules.{TextIsLoaded}
-use Rattle.ci_elf.specs.SectionChecks.{HoldsSection, section_of}
+use Rattle.ci_elf.specs.private.SectionChecks.{HoldsSection, section_of}
 use Rattle.ci_elf.proofs.CheckLaws.{fault_here}
 use Rattle.ci_elf.proofs.SegmentLaws.{chosen}
 use Rattle.ci_elf.proofs.SectionLaws.{laid_out, loaded_from, loaded_to, text_filled}

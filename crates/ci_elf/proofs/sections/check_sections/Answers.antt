@@ -2,7 +2,7 @@ use Rattle.std.proofs.Common.{ℕ, inl, inr, List, [], ◌∷◌, subst, sym, ar
 use Rattle.std.proofs.lemmas.Bool.{cases_eq}
 use Rattle.ci_elf.specs.Fields.{e_shnum}
 use Rattle.ci_elf.specs.Rules.{Rule, HasSymbols, TextIsLoaded, TextIsAlone, Holds, section_rules}
-use Rattle.ci_elf.specs.Parts.{IsFirstMeeting}
+use Rattle.ci_elf.specs.private.Parts.{IsFirstMeeting}
 use Rattle.ci_reading.proofs.BrokenLaws.{kept_each}
 use Rattle.ci_elf.proofs.CheckLaws.{handed_on, fault_each}
 use Rattle.ci_elf.proofs.SectionLaws.{text_met}

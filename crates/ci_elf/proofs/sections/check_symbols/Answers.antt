@@ -2,7 +2,7 @@ use Rattle.std.proofs.Common.{◌∙◌, [], sym, subst, refl}
 use Rattle.std.proofs.lemmas.Bool.Decides.{not_from_Decides}
 use Rattle.ci_elf.specs.Fields.{is_symbol_table}
 use Rattle.ci_elf.specs.Rules.{HasSymbols}
-use Rattle.ci_elf.specs.SectionChecks.{IsTable, section_of}
+use Rattle.ci_elf.specs.private.SectionChecks.{IsTable, section_of}
 use Rattle.ci_elf.proofs.CheckLaws.{fault_here}
 use Rattle.ci_elf.proofs.SegmentLaws.{chosen}
 use Rattle.ci_elf.proofs.sections.check_symbols.Goals as goal

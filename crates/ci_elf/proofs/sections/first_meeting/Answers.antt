@@ -2,7 +2,7 @@ use Rattle.std.proofs.Common.{ℕ, subst, sym, ◌∙◌, arith, List, Option}
 use Rattle.std.specs.Prelude.{MatchOption}
 use Rattle.ci_elf.specs.declared.parts.Part.{Part}
 use Rattle.ci_elf.specs.Fields.{e_shnum}
-use Rattle.ci_elf.specs.Parts.{text_of, IsFirstOverlap, IsFirstMeeting, AreApart}
+use Rattle.ci_elf.specs.private.Parts.{text_of, IsFirstOverlap, IsFirstMeeting, AreApart}
 use Rattle.ci_elf.proofs.FieldLaws.{e_shnum_small}
 use Rattle.ci_elf.proofs.PairRuleLaws.{parts_count}
 use Rattle.ci_elf.proofs.MeetingLaws.{meeting_found, meeting_none}

@@ -1,5 +1,5 @@
 use Rattle.std.proofs.Common.{sym, subst, true≢false}
-use Rattle.ci_elf.specs.SectionChecks.{HoldsSection}
+use Rattle.ci_elf.specs.private.SectionChecks.{HoldsSection}
 use Rattle.ci_elf.proofs.SectionLaws.{holder, no_holder}
 use Rattle.ci_elf.proofs.sections.is_loaded.Goals as goal
 

@@ -1,6 +1,6 @@
 use Rattle.std.proofs.Common.{◌≡◌, ◌*◌, [], ◌∷◌, ◌++◌, refl, ◌∙◌, ap, arith}
 use Rattle.ci_elf.specs.Fields.{e_phoff, e_phnum, e_shoff, e_shnum}
-use Rattle.ci_elf.specs.Parts.{part, parts_below, symbols_at}
+use Rattle.ci_elf.specs.private.Parts.{part, parts_below, symbols_at}
 use Rattle.ci_reading.proofs.BrokenLaws.{each_below_none}
 use Rattle.ci_elf.proofs.PairRuleLaws.{parts_step}
 use Rattle.ci_elf.proofs.sections.table_parts.Goals as goal

@@ -1,6 +1,6 @@
 use Rattle.std.proofs.Common.{◌≡◌, sym, ◌∙◌, ap, arith}
 use Rattle.ci_elf.specs.Fields.{e_shnum}
-use Rattle.ci_elf.specs.Parts.{parts_below, text_of}
+use Rattle.ci_elf.specs.private.Parts.{parts_below, text_of}
 use Rattle.ci_reading.proofs.BrokenLaws.{each_below_none}
 use Rattle.ci_elf.proofs.PairRuleLaws.{parts_step}
 use Rattle.ci_elf.proofs.sections.text_parts.Goals as goal

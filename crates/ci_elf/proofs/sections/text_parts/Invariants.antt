@@ -1,5 +1,5 @@
 use Rattle.std.proofs.Common.{◌≡◌}
-use Rattle.ci_elf.specs.Parts.{parts_below, text_of}
+use Rattle.ci_elf.specs.private.Parts.{parts_below, text_of}
 use Rattle.ci_elf.proofs.sections.text_parts.Given as goal
 
 abbrev pub invariant-loop-n : goal.invariant-loop-n

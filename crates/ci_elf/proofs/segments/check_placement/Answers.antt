@@ -2,7 +2,7 @@ use Rattle.std.proofs.Common.{◌<◌, [], ◌∷◌, sym, subst, ap, refl}
 use Rattle.std.proofs.lemmas.Bool.Decides.{not_from_Decides}
 use Rattle.ci_elf.specs.declared.faults.ElfFault.TheVariants.{Short}
 use Rattle.ci_elf.specs.Rules.{HasFilePart, IsPlaced, LiesIn}
-use Rattle.ci_elf.specs.Checks.{SegmentFits}
+use Rattle.ci_elf.specs.private.Checks.{SegmentFits}
 use Rattle.ci_elf.proofs.CheckLaws.{fault_here, fault_behind}
 use Rattle.ci_elf.proofs.SegmentLaws.{found, not_found, has_memory, fits_to, fits_from}
 use Rattle.ci_elf.proofs.segments.check_placement.Goals as goal

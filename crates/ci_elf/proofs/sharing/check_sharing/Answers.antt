@@ -3,7 +3,7 @@ use Rattle.std.specs.Prelude.{MatchOption}
 use Rattle.ci_elf.specs.declared.parts.Part.{Part}
 use Rattle.ci_elf.specs.Fields.{e_phnum, e_shnum}
 use Rattle.ci_elf.specs.Rules.{TextIsUnshared}
-use Rattle.ci_elf.specs.Parts.{text_of, parts_below, part_at, IsCoverage, ArePartsFromText, IsFirstOverlap, AreApart}
+use Rattle.ci_elf.specs.private.Parts.{text_of, parts_below, part_at, IsCoverage, ArePartsFromText, IsFirstOverlap, AreApart}
 use Rattle.ci_elf.proofs.FieldLaws.{e_phnum_small}
 use Rattle.ci_elf.proofs.PairRuleLaws.{pairs_kept, pairs_broken}
 use Rattle.ci_elf.proofs.SharingLaws.{sharing_kept, sharing_broken}

@@ -1,6 +1,6 @@
 use Rattle.std.proofs.Common.{◌≡◌, subst, arith}
 use Rattle.ci_elf.specs.Fields.{e_phnum}
-use Rattle.ci_elf.specs.Parts.{ArePartsFromText}
+use Rattle.ci_elf.specs.private.Parts.{ArePartsFromText}
 use Rattle.ci_elf.proofs.SharingLaws.{from_text_none, from_text_more}
 use Rattle.ci_elf.proofs.sharing.parts_from_text.Goals as goal
 

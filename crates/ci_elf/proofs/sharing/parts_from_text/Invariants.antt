@@ -1,4 +1,4 @@
-use Rattle.ci_elf.specs.Parts.{ArePartsFromText}
+use Rattle.ci_elf.specs.private.Parts.{ArePartsFromText}
 use Rattle.ci_elf.proofs.sharing.parts_from_text.Given as goal
 
 abbrev pub invariant-loop-n : goal.invariant-loop-n

@@ -1,5 +1,5 @@
 use Rattle.std.proofs.Common.{refl, arith}
-use Rattle.ci_elf.specs.SymbolChecks.{value_at}
+use Rattle.ci_elf.specs.private.SymbolChecks.{value_at}
 use Rattle.ci_elf.proofs.EntryLaws.{walk_begins, at_run, at_entry}
 use Rattle.ci_elf.proofs.symbols.push_values.Goals as goal
 

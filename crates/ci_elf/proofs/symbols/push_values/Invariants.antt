@@ -1,5 +1,5 @@
 use Rattle.std.proofs.Common.{◌-◌, ◌≤◌}
-use Rattle.ci_elf.specs.SymbolChecks.{value_at}
+use Rattle.ci_elf.specs.private.SymbolChecks.{value_at}
 use Rattle.ci_elf.proofs.EntryLaws.{IsAt}
 use Rattle.ci_elf.proofs.symbols.push_values.Given as goal
 

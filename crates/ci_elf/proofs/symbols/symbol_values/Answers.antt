@@ -2,7 +2,7 @@ use Rattle.std.proofs.Common.{◌≡◌, ◌++◌, ◌∙◌, ap, arith, subst, 
 use Rattle.ci_elf.specs.Fields.{e_shnum}
 use Rattle.ci_reading.specs.Broken.{each_below}
 use Rattle.ci_elf.specs.Executables.{begins_entry, symbols_of}
-use Rattle.ci_elf.specs.SymbolChecks.{TakesToo, free_values, symbols_here}
+use Rattle.ci_elf.specs.private.SymbolChecks.{TakesToo, free_values, symbols_here}
 use Rattle.ci_reading.proofs.BrokenLaws.{each_below_none, each_below_more}
 use Rattle.ci_elf.proofs.TableLaws.{none_taken, room_for, room_stays, table_among, table_holds, table_taken, values_here}
 use Rattle.ci_elf.proofs.symbols.symbol_values.Goals as goal

@@ -1,6 +1,6 @@
 use Rattle.std.proofs.Common.{◌≡◌}
 use Rattle.ci_reading.specs.Broken.{each_below}
-use Rattle.ci_elf.specs.SymbolChecks.{AreTakenBelow, symbols_here}
+use Rattle.ci_elf.specs.private.SymbolChecks.{AreTakenBelow, symbols_here}
 use Rattle.ci_elf.proofs.TableLaws.{HaveRoom}
 use Rattle.ci_elf.proofs.symbols.symbol_values.Given as goal
 

@@ -1,5 +1,5 @@
 use Rattle.std.proofs.Common.{arith, subst}
-use Rattle.ci_elf.specs.Parts.{IsWidened}
+use Rattle.ci_elf.specs.private.Parts.{IsWidened}
 use Rattle.ci_elf.proofs.TableLaws.{span_more, table_holds}
 use Rattle.ci_elf.proofs.symbols.table_span.Goals as goal
 

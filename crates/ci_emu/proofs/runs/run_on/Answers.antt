@@ -2,9 +2,9 @@ use Rattle.std.proofs.Common.{◌≡◌, ℕ, ◌≤◌, false, sym, subst, ◌�
 use Rattle.ci_elf.specs.Executables.{in_text as has_text}
 use Rattle.ci_machine.specs.Programs.{Program, State}
 use Rattle.ci_machine.specs.States.{program_of, state_of}
-use Rattle.ci_emu.specs.CountedSteps.{IsCountedStep}
-use Rattle.ci_emu.specs.Fetched.{cycles_on, IsTextBelow}
-use Rattle.ci_emu.specs.PlacedRanges.{ArePlaced}
+use Rattle.ci_emu.specs.private.CountedSteps.{IsCountedStep}
+use Rattle.ci_emu.specs.private.Fetched.{cycles_on, IsTextBelow}
+use Rattle.ci_emu.specs.private.PlacedRanges.{ArePlaced}
 use Rattle.ci_emu.specs.TableLatencies.{latencies_on}
 use Rattle.ci_emu.specs.declared.tally.Tally.{Tally}
 use Rattle.ci_emu.proofs.KnownLines.{later_kept, none_known}

@@ -1,7 +1,7 @@
 -- So many steps were made, none of them ended, and the tally is theirs. What is near is near in the text.
 use Rattle.ci_machine.specs.States.{program_of, state_of}
-use Rattle.ci_emu.specs.Fetched.{cycles_on}
-use Rattle.ci_emu.specs.PlacedRanges.{ArePlaced}
+use Rattle.ci_emu.specs.private.Fetched.{cycles_on}
+use Rattle.ci_emu.specs.private.PlacedRanges.{ArePlaced}
 use Rattle.ci_emu.specs.TableLatencies.{latencies_on}
 use Rattle.ci_emu.proofs.RunsSoFar.{IsRunTo}
 use Rattle.ci_emu.proofs.runs.run_on.Given as goal

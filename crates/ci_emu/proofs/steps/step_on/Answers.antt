@@ -1,7 +1,7 @@
 use Rattle.std.proofs.Common.{subst}
 use Rattle.ci_elf.specs.Executables.{in_text as has_text}
 use Rattle.ci_machine.specs.States.{program_of, state_of}
-use Rattle.ci_emu.specs.Fetched.{IsTextBelow}
+use Rattle.ci_emu.specs.private.Fetched.{IsTextBelow}
 use Rattle.ci_emu.proofs.Fetching.{executed_is, fetched_as, index_fits}
 use Rattle.ci_emu.proofs.steps.step_on.Goals as goal
 

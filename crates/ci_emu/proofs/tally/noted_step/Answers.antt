@@ -7,8 +7,8 @@ use Rattle.ci_machine.specs.Programs.{in_text}
 use Rattle.ci_isa.specs.declared.instruction.Insn.{Insn}
 use Rattle.ci_isa.specs.Laws.{IsInsnAtX}
 use Rattle.ci_emu.specs.declared.decode_cache.Decoded.{Decoded}
-use Rattle.ci_emu.specs.Fetched.{cycles_on, may_change, HasHiddenIndex}
-use Rattle.ci_emu.specs.Lines.{AreKnown, IsTimed}
+use Rattle.ci_emu.specs.private.Fetched.{cycles_on, may_change, HasHiddenIndex}
+use Rattle.ci_emu.specs.private.Lines.{AreKnown, IsTimed}
 use Rattle.ci_emu.proofs.KnownLines.{behind_step}
 use Rattle.ci_emu.proofs.tally.noted_step.Given.{Over}
 use Rattle.ci_emu.proofs.tally.noted_step.Goals as goal

@@ -9,11 +9,11 @@ use Rattle.ci_isa.specs.declared.instruction.Insn.{Insn}
 use Rattle.ci_emu.specs.declared.decode_cache.Decoded.{Decoded}
 use Rattle.ci_emu.specs.declared.steps.Outcome.TheVariants.{Next}
 use Rattle.ci_emu.specs.Machines.{standing}
-use Rattle.ci_emu.specs.Actions.{insn_of}
-use Rattle.ci_emu.specs.Counting.{target_of}
+use Rattle.ci_emu.specs.private.Actions.{insn_of}
+use Rattle.ci_emu.specs.private.Counting.{target_of}
 use Rattle.std.specs.Prelude.{false}
-use Rattle.ci_emu.specs.Fetched.{cycles_on}
-use Rattle.ci_emu.specs.Lines.{AreKnown, IsTimed}
+use Rattle.ci_emu.specs.private.Fetched.{cycles_on}
+use Rattle.ci_emu.specs.private.Lines.{AreKnown, IsTimed}
 use Rattle.ci_emu.proofs.CountLaws.{place_at, entered, count_here}
 use Rattle.ci_emu.proofs.Fetching.{fetched_as, index_fits, made, stands_at, same_change, same_moved, same_target}
 use Rattle.ci_emu.proofs.KnownLines.{behind_step}

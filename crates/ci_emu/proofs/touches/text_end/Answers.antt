@@ -1,6 +1,6 @@
 use Rattle.std.proofs.Common.{sym, subst}
 use Rattle.ci_elf.specs.Executables.{in_text as has_text}
-use Rattle.ci_emu.specs.Fetched.{IsTextBelow}
+use Rattle.ci_emu.specs.private.Fetched.{IsTextBelow}
 use Rattle.ci_emu.proofs.TextEnds.{below_last, none_below}
 use Rattle.ci_emu.proofs.touches.text_end.Goals as goal
 

@@ -6,10 +6,10 @@ use Rattle.ci_calls.specs.Files.{book_input, executable_input, new_file_input, u
 use Rattle.ci_calls.specs.Reads.{HaveRead}
 use Rattle.ci_calls.specs.Refused.{name_in}
 use Rattle.ci_calls.proofs.InputLaws.{HaveRead-append, unread_behind}
-use Rattle.ci_find.specs.Chosen.{check_names_of, settings_by}
+use Rattle.ci_find.specs.private.Chosen.{check_names_of, settings_by}
 use Rattle.ci_find.specs.CheckCommand.{check_inputs}
 use Rattle.ci_find.specs.Profiled.{run_files, RunFiles, IsProfiled, Profiled}
-use Rattle.ci_find.specs.Unprofiled.{IsUnprofiledCause}
+use Rattle.ci_find.specs.private.Unprofiled.{IsUnprofiledCause}
 use Rattle.ci_find.proofs.Judgements.{all_read, run_held, profiled_held, judged_made, judged_refused, unprofiled_refused}
 use Rattle.ci_find.proofs.check.evaluate.Given.{Over}
 use Rattle.ci_find.proofs.check.evaluate.Goals as goal

@@ -8,7 +8,7 @@ use Rattle.ci_calls.specs.Refused.{name_in}
 use Rattle.ci_calls.proofs.InputLaws.{HaveRead-append, read_without_memory, unread_behind}
 use Rattle.ci_find.specs.Profiled.{RunFiles, run_files}
 use Rattle.ci_find.specs.FindCommand.{find_inputs}
-use Rattle.ci_find.specs.Chosen.{names_of, settings_by}
+use Rattle.ci_find.specs.private.Chosen.{names_of, settings_by}
 use Rattle.ci_find.proofs.ProfiledRuns.{files_of, find_refused, find_made}
 use Rattle.ci_find.proofs.find.evaluate.Given.{Over}
 use Rattle.ci_find.proofs.find.evaluate.Goals as goal

@@ -1,7 +1,7 @@
 -- The bytes of the file are small, and so are those of the new file; the choice is made.
 use Rattle.std.proofs.Common.{◌∙◌, [], ◌∷◌, subst}
 use Rattle.ci_machine.specs.Words.{AreBytes}
-use Rattle.ci_find.specs.Chosen.{names_of}
+use Rattle.ci_find.specs.private.Chosen.{names_of}
 use Rattle.ci_find.proofs.find.success_of.Goals as goal
 
 pub returns : goal.returns

@@ -1,5 +1,5 @@
 use Rattle.std.proofs.Common.{take}
-use Rattle.ci_gen.specs.Pushed.{ArePushed}
+use Rattle.ci_gen.specs.private.Pushed.{ArePushed}
 use Rattle.ci_gen.proofs.text.push_ending.Given as goal
 
 -- so many instructions were appended

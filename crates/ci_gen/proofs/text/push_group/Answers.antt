@@ -2,7 +2,7 @@ use Rattle.std.proofs.Common.{◌≡◌, ℕ, ◌+◌, ◌*◌, ◌∷◌, [], s
 use Rattle.ci_isa.specs.declared.instruction.Insn.{Insn}
 use Rattle.ci_isa.specs.declared.instruction.Insn.TheVariants.{Jal}
 use Rattle.ci_gen.specs.Draws.{state_of}
-use Rattle.ci_gen.specs.Pushed.{ArePushed}
+use Rattle.ci_gen.specs.private.Pushed.{ArePushed}
 use Rattle.ci_gen.specs.Texts.{next_word, operation}
 use Rattle.ci_gen.proofs.StateLaws.{same_state}
 use Rattle.ci_gen.proofs.OperationLaws.{group-whole, operations, operations-more}

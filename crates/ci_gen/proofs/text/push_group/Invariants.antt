@@ -1,6 +1,6 @@
 use Rattle.std.proofs.Common.{◌≡◌, ℕ, ◌+◌, ◌*◌}
 use Rattle.ci_gen.specs.Draws.{state_of}
-use Rattle.ci_gen.specs.Pushed.{ArePushed}
+use Rattle.ci_gen.specs.private.Pushed.{ArePushed}
 use Rattle.ci_gen.proofs.OperationLaws.{operations}
 use Rattle.ci_gen.proofs.text.push_group.Given as goal
 

@@ -1,6 +1,6 @@
 use Rattle.std.proofs.Common.{◌≡◌, ℕ, List, [], subst, sym, ap, arith}
 use Rattle.ci_gen.specs.Draws.{state_of}
-use Rattle.ci_gen.specs.Pushed.{ArePushed}
+use Rattle.ci_gen.specs.private.Pushed.{ArePushed}
 use Rattle.ci_gen.specs.Texts.{ending, group, groups}
 use Rattle.ci_gen.proofs.OperationLaws.{groups-more, groups-none}
 use Rattle.ci_gen.proofs.PushLaws.{none_pushed, pushed_then}

@@ -4,7 +4,7 @@ use Rattle.std.specs.FinSet as set
 use Rattle.ci_isa.specs.declared.instruction.Insn.{Insn}
 use Rattle.ci_isa.specs.RegisterSets.{registers_read}
 use Rattle.ci_isa.specs.Sequences.{ReadFirst, Write}
-use Rattle.ci_live.specs.Flows.{Has}
+use Rattle.ci_live.specs.private.Flows.{Has}
 use Rattle.ci_live.proofs.SetLaws.{has_none}
 use Rattle.ci_isa.proofs.SequenceLaws.{nothing_read, nothing_written}
 use Rattle.ci_live.proofs.EffectLaws.{read_before, written_before}

@@ -1,6 +1,6 @@
 use Rattle.std.proofs.Common.{ℕ, ◌↔◌, drop}
 use Rattle.ci_isa.specs.Sequences.{ReadFirst, Write}
-use Rattle.ci_live.specs.Flows.{Has}
+use Rattle.ci_live.specs.private.Flows.{Has}
 use Rattle.ci_live.proofs.flow.effects.Given as goal
 
 abbrev pub invariant-loop-place : goal.invariant-loop-place

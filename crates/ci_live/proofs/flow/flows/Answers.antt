@@ -1,7 +1,7 @@
 use Rattle.std.proofs.Common.{◌↔◌, List, ◌+◌, subst, sym}
 use Rattle.ci_live.specs.declared.flow.Flow.{Flow}
 use Rattle.ci_isa.specs.Sequences.{ReadFirst, Write}
-use Rattle.ci_live.specs.Flows.{AreFlows, Has}
+use Rattle.ci_live.specs.private.Flows.{AreFlows, Has}
 use Rattle.ci_live.proofs.PushLaws.{flows_more}
 use Rattle.ci_live.proofs.flow.flows.Goals as goal
 

@@ -1,4 +1,4 @@
-use Rattle.ci_live.specs.Flows.{AreFlows}
+use Rattle.ci_live.specs.private.Flows.{AreFlows}
 use Rattle.ci_live.proofs.flow.flows.Given as goal
 
 abbrev pub invariant-loop-block : goal.invariant-loop-block

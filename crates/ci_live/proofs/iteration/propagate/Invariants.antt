@@ -1,5 +1,5 @@
 use Rattle.std.proofs.Common.{◌+◌, ◌≤◌, length, min}
-use Rattle.ci_live.specs.Found.{IsSound, room}
+use Rattle.ci_live.specs.private.Found.{IsSound, room}
 use Rattle.ci_live.proofs.iteration.propagate.Given as goal
 
 abbrev pub invariant-loop-alloc : goal.invariant-loop-alloc

@@ -1,7 +1,7 @@
 use Rattle.std.proofs.Common.{◌≡◌, ℕ, List, length, subst, sym, ◌∙◌, arith}
 use Rattle.std.proofs.lemmas.Bool.{eqb-true}
 use Rattle.std.proofs.lemmas.Grind.{get_or_default_zero}
-use Rattle.ci_live.specs.Found.{AreVisits, IsClosed}
+use Rattle.ci_live.specs.private.Found.{AreVisits, IsClosed}
 use Rattle.ci_live.proofs.ReachLaws.{solved}
 use Rattle.ci_live.proofs.iteration.solve.Goals as goal
 

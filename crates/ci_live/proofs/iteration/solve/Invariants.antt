@@ -1,4 +1,4 @@
-use Rattle.ci_live.specs.Found.{IsSound, room}
+use Rattle.ci_live.specs.private.Found.{IsSound, room}
 use Rattle.ci_live.proofs.iteration.solve.Given as goal
 
 abbrev pub invariant-loop-found : goal.invariant-loop-found

@@ -1,5 +1,5 @@
 use Rattle.std.proofs.Common.{◌≡◌, ℕ, Bool, List, take, ◌+◌, sym, ap, ◌∙◌, subst, get_or}
-use Rattle.ci_live.specs.Found.{AreVisits, IsTransfer}
+use Rattle.ci_live.specs.private.Found.{AreVisits, IsTransfer}
 use Rattle.ci_live.proofs.VisitLaws.{visit_changed, visit_unchanged}
 use Rattle.ci_live.proofs.iteration.visit.Goals as goal
 use Rattle.ci_live.proofs.iteration.visit.Goals.{then-transfer+in_ok-push, else-transfer}

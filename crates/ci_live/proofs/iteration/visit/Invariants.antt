@@ -1,5 +1,5 @@
 use Rattle.std.proofs.Common.{take}
-use Rattle.ci_live.specs.Found.{AreVisits}
+use Rattle.ci_live.specs.private.Found.{AreVisits}
 use Rattle.ci_live.proofs.iteration.visit.Given as goal
 
 abbrev pub invariant-loop-number : goal.invariant-loop-number

@@ -1,7 +1,7 @@
 use Rattle.std.proofs.Common.{◌≡◌, ℕ, ◌<◌, List, length, subst, sym, ap, ◌∙◌}
 use Rattle.ci_live.specs.declared.flow.Flow.{Flow}
-use Rattle.ci_live.specs.Flows.{AreFlows, AreWithin, flow_at}
-use Rattle.ci_live.specs.Found.{IsSolution, live_at, on_edges}
+use Rattle.ci_live.specs.private.Flows.{AreFlows, AreWithin, flow_at}
+use Rattle.ci_live.specs.private.Found.{IsSolution, live_at, on_edges}
 use Rattle.ci_live.proofs.LiveLaws.{are_live_sets, flows_within, leaders_ascend, leaders_many}
 use Rattle.ci_live.proofs.SearchLaws.{Ascend}
 use Rattle.ci_live.proofs.live_sets.live_of.Goals as goal

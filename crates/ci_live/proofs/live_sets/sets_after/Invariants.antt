@@ -1,6 +1,6 @@
 use Rattle.std.proofs.Common.{◌≡◌, ℕ, ◌<◌, length}
-use Rattle.ci_live.specs.Flows.{flow_at}
-use Rattle.ci_live.specs.Found.{live_at, on_edges}
+use Rattle.ci_live.specs.private.Flows.{flow_at}
+use Rattle.ci_live.specs.private.Found.{live_at, on_edges}
 use Rattle.ci_live.proofs.live_sets.sets_after.Given as goal
 
 abbrev pub invariant-loop-flow : goal.invariant-loop-flow

@@ -1,5 +1,5 @@
 use Rattle.std.proofs.Common.{◌≡◌, ◌-◌, ◌≤◌}
-use Rattle.ci_log.specs.Reading.{nodes, set_of}
+use Rattle.ci_log.specs.private.Reading.{nodes, set_of}
 use Rattle.ci_log.proofs.CutReading.{numbers_put}
 use Rattle.ci_log.proofs.cuts.nodes.Given as goal
 

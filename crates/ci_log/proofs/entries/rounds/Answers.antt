@@ -1,7 +1,7 @@
 use Rattle.std.proofs.Common.{arith, refl, sym, ◌∙◌, ◌≤◌, ◌++◌, ◌∷◌, [], length, ap, subst, append_assoc}
 use Rattle.std.proofs.lemmas.Result.{err_from_is_err_and}
 use Rattle.ci_reading.specs.LineReading.{with_front}
-use Rattle.ci_log.specs.Reading.{Fails, rounds}
+use Rattle.ci_log.specs.private.Reading.{Fails, rounds}
 use Rattle.ci_log.proofs.BookReading.{search_shorter, take_shorter}
 use Rattle.ci_log.proofs.Loops.{next_round, take_fails, round_fails, no_round}
 use Rattle.ci_log.proofs.entries.rounds.Goals as goal

@@ -1,6 +1,6 @@
 use Rattle.std.proofs.Common.{◌≡◌, ◌≤◌, length}
 use Rattle.ci_reading.specs.LineReading.{with_front}
-use Rattle.ci_log.specs.Reading.{rounds}
+use Rattle.ci_log.specs.private.Reading.{rounds}
 use Rattle.ci_log.proofs.entries.rounds.Given as goal
 
 abbrev pub invariant-loop-alloc : goal.invariant-loop-alloc

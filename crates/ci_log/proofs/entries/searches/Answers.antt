@@ -1,7 +1,7 @@
 use Rattle.std.proofs.Common.{arith, sym, ◌∙◌, subst}
 use Rattle.std.proofs.lemmas.Result.{err_from_is_err_and}
 use Rattle.ci_reading.proofs.Repetitions.{no_front}
-use Rattle.ci_log.specs.Reading.{Fails, searches}
+use Rattle.ci_log.specs.private.Reading.{Fails, searches}
 use Rattle.ci_log.proofs.BookReading.{search_shorter}
 use Rattle.ci_log.proofs.Loops.{next_search, search_fails, no_search}
 use Rattle.ci_log.proofs.entries.searches.Goals as goal

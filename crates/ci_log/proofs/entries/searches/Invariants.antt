@@ -1,6 +1,6 @@
 use Rattle.std.proofs.Common.{◌≡◌, ◌≤◌, length}
 use Rattle.ci_reading.specs.LineReading.{with_front}
-use Rattle.ci_log.specs.Reading.{searches}
+use Rattle.ci_log.specs.private.Reading.{searches}
 use Rattle.ci_log.proofs.entries.searches.Given as goal
 
 abbrev pub invariant-loop-alloc : goal.invariant-loop-alloc

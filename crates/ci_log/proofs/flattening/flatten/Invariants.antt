@@ -1,6 +1,6 @@
 use Rattle.std.proofs.Common.{List, ◌+◌, ◌-◌, ◌*◌, length}
 use Rattle.ci_region.specs.BoundedMap.{used}
-use Rattle.ci_region.specs.TreeReading.{IsReadUpTo}
+use Rattle.ci_region.specs.private.TreeReading.{IsReadUpTo}
 use Rattle.ci_log.specs.declared.log.Item.{Item}
 use Rattle.ci_log.specs.RegionTrees.{Slots, IsTreeIn, log_tree}
 use Rattle.ci_log.proofs.flattening.flatten.Given as goal

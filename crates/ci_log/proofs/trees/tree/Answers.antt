@@ -1,6 +1,6 @@
 use Rattle.std.proofs.Common.{arith, sym, ◌∙◌, ap, subst}
 use Rattle.std.proofs.lemmas.Result.{err_from_is_err_and}
-use Rattle.ci_log.specs.Reading.{Fails, trees}
+use Rattle.ci_log.specs.private.Reading.{Fails, trees}
 use Rattle.ci_log.proofs.TreeReading.{behind_items, next_item, item_fails, no_tree_due, none_before, item_length, due_most}
 use Rattle.ci_log.proofs.trees.tree.Goals as goal
 

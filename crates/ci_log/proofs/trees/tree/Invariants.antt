@@ -1,5 +1,5 @@
 use Rattle.std.proofs.Common.{◌≡◌, ◌+◌, ◌≤◌, length}
-use Rattle.ci_log.specs.Reading.{trees}
+use Rattle.ci_log.specs.private.Reading.{trees}
 use Rattle.ci_log.proofs.TreeReading.{behind_items}
 use Rattle.ci_log.proofs.trees.tree.Given as goal
 

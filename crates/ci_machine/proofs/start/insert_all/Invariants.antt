@@ -1,5 +1,5 @@
 use Rattle.std.proofs.Common.{◌≡◌, ◌||◌, ℕ, take}
-use Rattle.ci_machine.specs.Loading.{in_segments}
+use Rattle.ci_machine.specs.private.Loading.{in_segments}
 use Rattle.ci_machine.specs.Spans.{in_spans}
 use Rattle.ci_machine.proofs.start.insert_all.Given as goal
 

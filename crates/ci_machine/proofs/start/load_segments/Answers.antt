@@ -1,6 +1,6 @@
 use Rattle.std.proofs.Common.{◌+◌, ◌-◌, ◌/◌, ◌<◌, ◌∙◌, List, length, drop, get_or, ap, sym, subst, arith}
 use Rattle.ci_elf.specs.declared.segments.Segment.{Segment}
-use Rattle.ci_machine.specs.Loading.{loaded_content}
+use Rattle.ci_machine.specs.private.Loading.{loaded_content}
 use Rattle.ci_machine.specs.Pages.{content}
 use Rattle.ci_machine.proofs.TestLaws.{bounds-lies_in}
 use Rattle.ci_machine.proofs.StartLaws.{segment_read, loaded_step}

@@ -1,5 +1,5 @@
 use Rattle.std.proofs.Common.{◌≡◌, ◌≤◌, ℕ, length, drop}
-use Rattle.ci_machine.specs.Loading.{loaded_content}
+use Rattle.ci_machine.specs.private.Loading.{loaded_content}
 use Rattle.ci_machine.specs.Pages.{content, has, room}
 use Rattle.ci_machine.proofs.start.load_segments.Given as goal
 

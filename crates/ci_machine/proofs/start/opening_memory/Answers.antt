@@ -9,7 +9,7 @@ use Rattle.ci_machine.proofs.WindowLaws.{no_windows}
 use Rattle.ci_machine.specs.Memories.{is_mapped, memory_of, segments_of}
 use Rattle.ci_machine.specs.Programs.{extent_of, loaded_size, lies_in, maximum_end, stack_start, stack_end}
 use Rattle.ci_machine.specs.Spans.{in_spans}
-use Rattle.ci_machine.specs.Loading.{in_segments, loaded_content}
+use Rattle.ci_machine.specs.private.Loading.{in_segments, loaded_content}
 use Rattle.ci_machine.proofs.StartLaws.{segments_end, segments_fit, opening_is, opening_clean, opening_below}
 use Rattle.std.proofs.Common.{inl, inr}
 use Rattle.std.proofs.lemmas.Bool.{cases_lt}

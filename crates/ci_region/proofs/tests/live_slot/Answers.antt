@@ -1,5 +1,5 @@
 use Rattle.std.proofs.Common.{is_some, sym, ap, ◌∙◌}
-use Rattle.ci_region.specs.Cells.{value_of}
+use Rattle.ci_region.specs.private.Cells.{value_of}
 use Rattle.ci_region.proofs.ValueLaws.{get-values_in}
 use Rattle.ci_region.proofs.tests.live_slot.Goals as goal
 

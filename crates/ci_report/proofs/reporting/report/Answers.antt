@@ -8,7 +8,7 @@ use Rattle.ci_select.specs.Instances.{instance_of}
 use Rattle.ci_select.specs.Takes.{AreTaken}
 use Rattle.ci_report.specs.Lines.{first_line, plan_line, profile_line, total_line}
 use Rattle.ci_report.specs.Reports.{block_lines, unit_lines}
-use Rattle.ci_report.specs.Added.{AddsLines}
+use Rattle.ci_report.specs.private.Added.{AddsLines}
 use Rattle.ci_report.proofs.LineLaws.{as_many_taken}
 use Rattle.ci_report.proofs.reporting.report.Goals as goal
 

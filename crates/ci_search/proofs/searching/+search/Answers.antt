@@ -1,7 +1,7 @@
 use Rattle.std.proofs.Common.{ℕ, ◌<◌, true, false, ◌∷◌, length, IsTrue, refl, ◌∙◌, arith}
 use Rattle.ci_cut.specs.Prefixes.{Prefix, eligible_nodes, is_next}
-use Rattle.ci_search.specs.Searched.{IsReady}
-use Rattle.ci_search.specs.Trees.{IsSearched}
+use Rattle.ci_search.specs.private.Searched.{IsReady}
+use Rattle.ci_search.specs.private.Trees.{IsSearched}
 use Rattle.ci_cut.specs.Representation.{Represents}
 use Rattle.ci_cut.proofs.Represented.{all_decided, next_from_below, some_undecided, represents_kept, same_taken}
 use Rattle.ci_cut.proofs.NeedLaws.{reached_in}

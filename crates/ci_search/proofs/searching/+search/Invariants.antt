@@ -3,8 +3,8 @@ use Rattle.ci_region.specs.BoundedMap.{used}
 use Rattle.ci_cut.specs.Prefixes.{Prefix}
 use Rattle.ci_cut.specs.Representation.{AreKeptFrom}
 use Rattle.ci_check.specs.Representation.{IsMeasured}
-use Rattle.ci_search.specs.Searched.{IsReady}
-use Rattle.ci_search.specs.Waiting.{AreKeptBelow}
+use Rattle.ci_search.specs.private.Searched.{IsReady}
+use Rattle.ci_search.specs.private.Waiting.{AreKeptBelow}
 use Rattle.ci_search.proofs.WaitingLaws.{Goes}
 use Rattle.ci_search.proofs.searching.+search.Given as goal
 

@@ -4,7 +4,7 @@ use Rattle.std.proofs.lemmas.Bool.Decides.{not_from_Decides}
 use Rattle.ci_region.specs.BoundedMap.{used}
 use Rattle.ci_cut.specs.declared.incumbent.Incumbent.{Incumbent}
 use Rattle.ci_check.specs.Representation.{IsMeasured}
-use Rattle.ci_search.specs.Searched.{IsReady}
+use Rattle.ci_search.specs.private.Searched.{IsReady}
 use Rattle.ci_search.proofs.AnswerLaws.{none_ready, needed, emptied}
 use Rattle.ci_search.proofs.searching.search_all.Goals as goal
 use Rattle.ci_search.proofs.searching.search_all.Goals.{After-none-first}

@@ -3,7 +3,7 @@ use Rattle.std.proofs.lemmas.List.{get_or_default}
 use Rattle.ci_log.specs.declared.flattening.Child.{Child}
 use Rattle.ci_log.specs.declared.flattening.Child.TheVariants.{Leaf}
 use Rattle.ci_log.specs.declared.log.Item.TheVariants.{F}
-use Rattle.ci_search.specs.Branches.{IsBranch}
+use Rattle.ci_search.specs.private.Branches.{IsBranch}
 use Rattle.ci_search.proofs.WaitingLaws.{joins, all_joined}
 use Rattle.ci_search.proofs.trees.branches.Goals as goal
 

@@ -6,7 +6,7 @@ use Rattle.ci_cut.specs.declared.graph.Limits.{Limits}
 use Rattle.ci_cut.specs.declared.incumbent.Incumbent.{Incumbent}
 use Rattle.ci_log.specs.declared.flattening.Child.TheVariants.{Leaf}
 use Rattle.ci_log.specs.declared.flattening.LogNode.{LogNode}
-use Rattle.ci_search.specs.Waiting.{IsJoined}
+use Rattle.ci_search.specs.private.Waiting.{IsJoined}
 use Rattle.ci_search.proofs.trees.branches.Given as goal
 
 abbrev pub invariant-loop-left : goal.invariant-loop-left

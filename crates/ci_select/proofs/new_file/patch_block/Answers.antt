@@ -3,7 +3,7 @@ use Rattle.std.proofs.lemmas.List.{get_or_default}
 use Rattle.ci_isa.specs.declared.instruction.Insn.TheVariants.{Ebreak}
 use Rattle.ci_isa.specs.Table.{IsWellFormed, IsWordOf}
 use Rattle.ci_elf.specs.Executables.{Executable, IsTextWord}
-use Rattle.ci_select.specs.Patched.{PatchesWords}
+use Rattle.ci_select.specs.private.Patched.{PatchesWords}
 use Rattle.ci_select.proofs.PatchLaws.{none_patched, one_more_patched, text_below_top}
 use Rattle.ci_select.proofs.new_file.patch_block.Goals as goal
 

@@ -1,4 +1,4 @@
-use Rattle.ci_select.specs.Patched.{PatchesWords}
+use Rattle.ci_select.specs.private.Patched.{PatchesWords}
 use Rattle.ci_select.proofs.new_file.patch_block.Given as goal
 
 abbrev pub invariant-loop-k : goal.invariant-loop-k

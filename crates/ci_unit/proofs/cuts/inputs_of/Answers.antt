@@ -2,7 +2,7 @@ use Rattle.std.proofs.Common.{sym, ap, ◌∙◌, subst, All}
 use Rattle.std.specs.FinSet as set
 use Rattle.std.proofs.lemmas.List.Elements.{All-nil}
 use Rattle.ci_cut.proofs.NodeLaws.{node_there}
-use Rattle.ci_unit.specs.Reading.{with_inputs, IsSmall}
+use Rattle.ci_unit.specs.private.Reading.{with_inputs, IsSmall}
 use Rattle.ci_unit.proofs.ReadingLaws.{inputs_more, inputs_kept, inputs_below-zero}
 use Rattle.ci_unit.proofs.cuts.inputs_of.Goals as goal
 use Rattle.ci_unit.proofs.cuts.inputs_of.Goals.{then-has+in_ok-push_inputs, else-has}

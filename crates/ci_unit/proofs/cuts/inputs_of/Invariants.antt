@@ -1,6 +1,6 @@
 use Rattle.std.proofs.Common.{◌≡◌, All}
 use Rattle.std.specs.FinSet as set
-use Rattle.ci_unit.specs.Reading.{inputs_below, IsSmall}
+use Rattle.ci_unit.specs.private.Reading.{inputs_below, IsSmall}
 use Rattle.ci_unit.proofs.cuts.inputs_of.Given as goal
 
 abbrev pub invariant-loop-k : goal.invariant-loop-k

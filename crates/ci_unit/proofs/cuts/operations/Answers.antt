@@ -6,7 +6,7 @@ use Rattle.ci_word.proofs.NumberLaws.{numbers_below-zero}
 use Rattle.ci_isa.specs.declared.instruction.Insn.TheVariants.{Ebreak}
 use Rattle.ci_isa.specs.Effects.{operands}
 use Rattle.ci_cut.proofs.NodeLaws.{node_there}
-use Rattle.ci_unit.specs.Reading.{HasWords}
+use Rattle.ci_unit.specs.private.Reading.{HasWords}
 use Rattle.ci_unit.specs.Units.{op_of, operation_of, args_from}
 use Rattle.ci_unit.proofs.CountLaws.{made_here, not_made}
 use Rattle.ci_unit.proofs.cuts.operations.Goals as goal

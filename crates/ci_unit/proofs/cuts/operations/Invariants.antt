@@ -1,7 +1,7 @@
 use Rattle.std.proofs.Common.{◌≡◌, All, map}
 use Rattle.std.specs.FinSet as set
 use Rattle.ci_word.specs.Numbers.{numbers_below}
-use Rattle.ci_unit.specs.Reading.{HasWords}
+use Rattle.ci_unit.specs.private.Reading.{HasWords}
 use Rattle.ci_unit.specs.Units.{op_of}
 use Rattle.ci_unit.proofs.cuts.operations.Given as goal
 

@@ -1,6 +1,6 @@
 use Rattle.std.proofs.Common.{◌≡◌, All, take}
 use Rattle.std.specs.FinSet as set
-use Rattle.ci_unit.specs.Reading.{with_inputs, IsSmall}
+use Rattle.ci_unit.specs.private.Reading.{with_inputs, IsSmall}
 use Rattle.ci_unit.proofs.cuts.push_inputs.Given as goal
 
 abbrev pub invariant-loop-source : goal.invariant-loop-source

@@ -1,6 +1,6 @@
 use Rattle.std.proofs.Common.{◌∙◌, subst, All, sym}
 use Rattle.std.specs.FinSet as set
-use Rattle.ci_unit.specs.Reading.{IsSmall}
+use Rattle.ci_unit.specs.private.Reading.{IsSmall}
 use Rattle.ci_unit.proofs.UnitLaws.{five_read, unit_read, unit_read_is}
 use Rattle.ci_unit.proofs.cuts.unit_of.Goals as goal
 

@@ -4,7 +4,7 @@ use Rattle.std.specs.FinSet as set
 use Rattle.ci_isa.specs.declared.instruction.Insn.TheVariants.{Unit, Cput}
 use Rattle.ci_isa.proofs.WellFormed.{well_formed}
 use Rattle.ci_isa.specs.Table.{IsWellFormed}
-use Rattle.ci_unit.specs.Reading.{register_or_zero, read_of}
+use Rattle.ci_unit.specs.private.Reading.{register_or_zero, read_of}
 use Rattle.ci_unit.specs.Uses.{passes}
 use Rattle.ci_unit.proofs.UseLaws.{input_register_is, first_register_is, output_reads_are}
 use Rattle.ci_unit.proofs.uses.encode_use.Goals as goal

@@ -1,6 +1,6 @@
 use Rattle.std.proofs.Common.{Some, [], ◌∷◌, sym, ◌∙◌, length, subst}
 use Rattle.std.specs.FinSet as set
-use Rattle.ci_unit.specs.Reading.{AreFirstOf, inputs_below}
+use Rattle.ci_unit.specs.private.Reading.{AreFirstOf, inputs_below}
 use Rattle.ci_unit.proofs.UseLaws.{begin, one_more, no_more, first_five, four_and_next}
 use Rattle.ci_unit.proofs.uses.five_inputs.Goals as goal
 

@@ -4,7 +4,7 @@ use Rattle.std.specs.List.{flat_map}
 use Rattle.ci_word.proofs.NumberLaws.{numbers_below-zero}
 use Rattle.ci_cut.specs.FlowGraph.{node_at}
 use Rattle.ci_cut.proofs.NodeLaws.{node_there}
-use Rattle.ci_unit.specs.Reading.{is_further, IsRegister}
+use Rattle.ci_unit.specs.private.Reading.{is_further, IsRegister}
 use Rattle.ci_unit.proofs.UseLaws.{found_more, found_so_far, register_found}
 use Rattle.ci_unit.proofs.uses.next_input.Goals as goal
 use Rattle.ci_unit.proofs.uses.next_input.Goals.{then-has, else-has}

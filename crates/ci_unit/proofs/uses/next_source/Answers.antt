@@ -1,7 +1,7 @@
 use Rattle.std.proofs.Common.{sym, ◌∙◌, true, false}
 use Rattle.std.specs.FinSet as set
 use Rattle.ci_cut.specs.declared.graph.Source.TheVariants.{Entry}
-use Rattle.ci_unit.specs.Reading.{is_further}
+use Rattle.ci_unit.specs.private.Reading.{is_further}
 use Rattle.ci_unit.proofs.UseLaws.{find_from}
 use Rattle.ci_unit.proofs.uses.next_source.Goals as goal
 

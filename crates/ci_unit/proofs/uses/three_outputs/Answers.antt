@@ -5,7 +5,7 @@ use Rattle.ci_word.specs.Numbers.{numbers_below}
 use Rattle.ci_word.proofs.NumberLaws.{numbers_below-zero}
 use Rattle.ci_cut.specs.declared.graph.Source.TheVariants.{Made}
 use Rattle.ci_cut.specs.Ports.{is_output}
-use Rattle.ci_unit.specs.Reading.{outputs_below, IsRegister}
+use Rattle.ci_unit.specs.private.Reading.{outputs_below, IsRegister}
 use Rattle.ci_unit.proofs.CountLaws.{made_here, not_made}
 use Rattle.ci_unit.proofs.UseLaws.{first_pushed, second_pushed, third_pushed, made_registers}
 use Rattle.ci_unit.proofs.uses.three_outputs.Goals as goal

@@ -1,6 +1,6 @@
 use Rattle.std.proofs.Common.{◌≡◌, slice_get}
 use Rattle.std.specs.FinSet as set
-use Rattle.ci_unit.specs.Reading.{outputs_below}
+use Rattle.ci_unit.specs.private.Reading.{outputs_below}
 use Rattle.ci_unit.proofs.uses.three_outputs.Given as goal
 
 abbrev pub invariant-loop-k : goal.invariant-loop-k

@@ -2,7 +2,7 @@ use Rattle.std.proofs.Common.{◌≡◌, ◌<◌, ◌≤◌, length, sym, subst,
 use Rattle.std.specs.List.{slice_index_or}
 use Rattle.ci_verilog.specs.Modules.{wires_of}
 use Rattle.ci_verilog.specs.Values.{expr_value}
-use Rattle.ci_verilog.specs.Held.{ExprFits, IsHeld, Holds}
+use Rattle.ci_verilog.specs.private.Held.{ExprFits, IsHeld, Holds}
 use Rattle.ci_verilog.proofs.EvaluationLaws.{is_held, expr_fits_at, valued_more, all_held}
 use Rattle.ci_verilog.proofs.evaluation.evaluate.Goals as goal
 

@@ -1,6 +1,6 @@
 use Rattle.std.proofs.Common.{ap, refl, sym, ◌∙◌}
 use Rattle.ci_vread.specs.declared.tokens.Kind.TheVariants as kind
-use Rattle.ci_vread.specs.Building.{token_of, token_in, name_in}
+use Rattle.ci_vread.specs.private.Building.{token_of, token_in, name_in}
 use Rattle.ci_vread.proofs.FrontTokens.{of_kind, no_name}
 use Rattle.ci_vread.proofs.building.name_bytes.Goals as goal
 

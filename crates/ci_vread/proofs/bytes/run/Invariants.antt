@@ -1,7 +1,7 @@
 -- The run that goes on here ends where the whole run ends.
 use Rattle.std.proofs.Common.{length, ◌-◌, ◌≡◌, ◌+◌, ◌≤◌, drop}
 use Rattle.std.specs.List.{prefix_len}
-use Rattle.ci_vread.specs.Scanning.{belongs}
+use Rattle.ci_vread.specs.private.Scanning.{belongs}
 use Rattle.ci_vread.proofs.bytes.run.Given as goal
 
 abbrev pub invariant-loop-size : goal.invariant-loop-size

@@ -7,9 +7,9 @@ use Rattle.ci_vread.specs.declared.tokens.Kind.TheVariants as kind
 use Rattle.ci_vread.specs.declared.tokens.Sign.TheVariants.{ModuleWord}
 use Rattle.ci_vread.specs.Grammar.{Goes, Event, Finish, made, units}
 use Rattle.ci_vread.specs.Rules.{nothing, rules_from, rules_at}
-use Rattle.ci_vread.specs.Scanned.{placed_of}
-use Rattle.ci_vread.specs.Tables.{due_of}
-use Rattle.ci_vread.specs.Led.{IsAt, IsBehind, IsOn, IsAfter}
+use Rattle.ci_vread.specs.private.Scanned.{placed_of}
+use Rattle.ci_vread.specs.private.Tables.{due_of}
+use Rattle.ci_vread.specs.private.Led.{IsAt, IsBehind, IsOn, IsAfter}
 use Rattle.ci_vread.proofs.Answered.{kept, faulty}
 use Rattle.ci_vread.proofs.Ascending.{ascends}
 use Rattle.ci_vread.proofs.CheckerAnswers.{none_left}

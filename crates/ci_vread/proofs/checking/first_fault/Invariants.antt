@@ -1,9 +1,9 @@
 use Rattle.std.proofs.Common.{◌∷◌, [], ◌++◌, List, drop, map}
 use Rattle.ci_vread.specs.Grammar.{Goes, Event, Finish, made, units}
 use Rattle.ci_vread.specs.Rules.{nothing, rules_from, rules_at}
-use Rattle.ci_vread.specs.Scanned.{placed_of}
-use Rattle.ci_vread.specs.Checked.{IsBounded}
-use Rattle.ci_vread.specs.Led.{IsAt, IsBehind}
+use Rattle.ci_vread.specs.private.Scanned.{placed_of}
+use Rattle.ci_vread.specs.private.Checked.{IsBounded}
+use Rattle.ci_vread.specs.private.Led.{IsAt, IsBehind}
 use Rattle.ci_vread.proofs.checking.first_fault.Given as goal
 
 abbrev pub invariant-loop-token : goal.invariant-loop-token

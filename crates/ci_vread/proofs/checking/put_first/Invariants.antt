@@ -1,5 +1,5 @@
 use Rattle.std.proofs.Common.{◌≡◌, ◌++◌, drop, map}
-use Rattle.ci_vread.specs.Tables.{part_of, due_of}
+use Rattle.ci_vread.specs.private.Tables.{part_of, due_of}
 use Rattle.ci_vread.proofs.checking.put_first.Given as goal
 
 abbrev pub invariant-loop-i : goal.invariant-loop-i

@@ -4,7 +4,7 @@ use denote.Ref.{Bor}
 use Rattle.std.specs.Str.{bytes_eq}
 use Rattle.std.proofs.lemmas.Map.Text.{btree_map_updates_str}
 use Rattle.std.proofs.lemmas.Slice.Eq.{bytes_eq-Decides}
-use Rattle.ci_vread.specs.Names.{width_at, earlier}
+use Rattle.ci_vread.specs.private.Names.{width_at, earlier}
 use Rattle.ci_vread.proofs.names.define_width.Goals as goal
 
 -- a label that has no definition takes the new one, and the others keep theirs

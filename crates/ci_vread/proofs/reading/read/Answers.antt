@@ -1,6 +1,6 @@
 -- The modules of a text without fault are those that are built, and the fault is the one that the checker tells.
 use Rattle.std.proofs.Common.{sym, subst}
-use Rattle.ci_vread.specs.Led.{IsAnswer}
+use Rattle.ci_vread.specs.private.Led.{IsAnswer}
 use Rattle.ci_vread.specs.Spelling.{Spell}
 use Rattle.ci_vread.proofs.ToldFaults.{are_placed, spelled}
 use Rattle.ci_vread.proofs.reading.read.Goals as goal

@@ -1,8 +1,8 @@
 -- The symbols so far and those from the place on are those of the text.
 use Rattle.std.proofs.Common.{length, ◌-◌, ◌≡◌, ◌≤◌, ◌++◌, map}
 use Rattle.ci_reading.specs.Lexers.{symbols_of}
-use Rattle.ci_vread.specs.Scanned.{placed_of}
-use Rattle.ci_vread.specs.Scanning.{unit_lexer, symbols_from}
+use Rattle.ci_vread.specs.private.Scanned.{placed_of}
+use Rattle.ci_vread.specs.private.Scanning.{unit_lexer, symbols_from}
 use Rattle.ci_vread.proofs.scanning.symbols.Given as goal
 
 abbrev pub invariant-loop-tokens : goal.invariant-loop-tokens

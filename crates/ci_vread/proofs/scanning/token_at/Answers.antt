@@ -1,7 +1,7 @@
 -- The end, a token, or a byte that begins none.
 use Rattle.std.proofs.Common.{◌∙◌, ap, arith}
 use Rattle.std.specs.Prelude.{option_map}
-use Rattle.ci_vread.specs.Scanning.{scan, kind_and_size}
+use Rattle.ci_vread.specs.private.Scanning.{scan, kind_and_size}
 use Rattle.ci_vread.proofs.ScanSteps.{IsToken, end_from, token_is, stray_is}
 use Rattle.ci_vread.proofs.scanning.token_at.Goals as goal
 

@@ -1,5 +1,5 @@
 -- The parser has the word and the options of the row.
-use Rattle.ci_words.specs.Parses.{command_row, repeats_in}
+use Rattle.ci_words.specs.private.Parses.{command_row, repeats_in}
 use Rattle.ci_words.proofs.TableLaws.{repeats_alike}
 use Rattle.ci_words.proofs.parse.clap_command.Goals as goal
 

@@ -4,7 +4,7 @@ use Rattle.std.specs.Prelude.{IfErr}
 use Rattle.std.specs.String.{string_bytes}
 use Rattle.clap.specs.Words.{fault_of, is_simple_and_free}
 use Rattle.ci_words.specs.declared.reader.WordsErr.TheVariants.{NoReading}
-use Rattle.ci_words.specs.Parses.{command_row}
+use Rattle.ci_words.specs.private.Parses.{command_row}
 use Rattle.ci_words.proofs.TableLaws.{simple_row}
 use Rattle.ci_words.proofs.parse.parse.Goals as goal
 

@@ -3,7 +3,7 @@ use Rattle.std.proofs.Common.{◌≡◌, ◌≢◌, ◌∙◌, ap, below_more, f
 use Rattle.std.proofs.lemmas.List.{get_or-map}
 use Rattle.std.proofs.lemmas.Slice.Eq.{bytes_eq-Decides}
 use Rattle.ci_words.specs.Tables.{CommandRow}
-use Rattle.ci_words.specs.Parses.{command_row}
+use Rattle.ci_words.specs.private.Parses.{command_row}
 use Rattle.ci_words.proofs.Elements.{no_row, shown_there}
 use Rattle.ci_words.proofs.parse.row_called.Goals as goal
 

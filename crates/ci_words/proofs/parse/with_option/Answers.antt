@@ -3,7 +3,7 @@ use Rattle.std.proofs.Common.{◌≡◌, ◌∙◌, [], ◌∷◌, ◌++◌, ap,
 use Rattle.std.proofs.lemmas.List.{map-append}
 use Rattle.std.proofs.lemmas.Result.{IfOk-weaker}
 use Rattle.clap.specs.Words.{AddsArg, app_of, rule_of, with_rule}
-use Rattle.ci_words.specs.Parses.{app_for, names_given, option_by, option_given}
+use Rattle.ci_words.specs.private.Parses.{app_for, names_given, option_by, option_given}
 use Rattle.ci_words.proofs.parse.with_option.Goals as goal
 
 pub returns : goal.returns

@@ -1,6 +1,6 @@
 -- One more option.
 use Rattle.std.proofs.Common.{◌≡◌, ◌∙◌, ap, map, sym, take_all}
-use Rattle.ci_words.specs.Parses.{app_for, names_in, option_row}
+use Rattle.ci_words.specs.private.Parses.{app_for, names_in, option_row}
 use Rattle.ci_words.proofs.Elements.{no_option, shown_at, shown_more}
 use Rattle.std.proofs.lemmas.List.{map-append}
 use Rattle.ci_words.proofs.parse.with_options.Goals as goal

@@ -3,7 +3,7 @@ use Rattle.std.proofs.Common.{◌≡◌, Bool, [], map, take}
 use Rattle.std.specs.Prelude.{All}
 use Rattle.clap.specs.Words.{app_of}
 use Rattle.ci_words.specs.Words.{Text}
-use Rattle.ci_words.specs.Parses.{app_for, names_in, option_row}
+use Rattle.ci_words.specs.private.Parses.{app_for, names_in, option_row}
 use Rattle.ci_words.proofs.parse.with_options.Given as goal
 
 abbrev pub invariant-loop-option : goal.invariant-loop-option

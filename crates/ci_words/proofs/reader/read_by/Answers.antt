@@ -5,7 +5,7 @@ use Rattle.std.specs.Prelude.{slice_get}
 use Rattle.std.specs.String.{string_bytes}
 use Rattle.clap.specs.Words.{found_of, rows_of}
 use Rattle.clap.proofs.TakesLemmas.{passed_up}
-use Rattle.ci_words.specs.Parses.{command_row}
+use Rattle.ci_words.specs.private.Parses.{command_row}
 use Rattle.ci_words.specs.Read.{reading_of}
 use Rattle.ci_words.proofs.Readings.{read_here, refused_here, unmatched_here}
 use Rattle.ci_words.proofs.reader.read_by.Goals as goal

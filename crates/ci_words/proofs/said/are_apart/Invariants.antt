@@ -1,6 +1,6 @@
 -- Each value so far is apart from those before it.
 use Rattle.std.proofs.Common.{ℕ, ◌<◌, map}
-use Rattle.ci_words.specs.Parses.{IsApartBefore}
+use Rattle.ci_words.specs.private.Parses.{IsApartBefore}
 use Rattle.ci_words.specs.Read.{value_in}
 use Rattle.ci_words.proofs.said.are_apart.Given as goal
 

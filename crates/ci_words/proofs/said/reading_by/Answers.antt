@@ -3,7 +3,7 @@ use Rattle.std.proofs.Common.{◌≡◌, ◌∙◌, ◌++◌, ap, ap₂, codes, 
 use Rattle.std.specs.Prelude.{AllPairs, IsTrue}
 use Rattle.clap.specs.Words.{found_of, rows_of}
 use Rattle.ci_words.specs.Words.{AreApart, AreSaid}
-use Rattle.ci_words.specs.Parses.{command_row, values_in}
+use Rattle.ci_words.specs.private.Parses.{command_row, values_in}
 use Rattle.ci_words.specs.Read.{setting_in, value_in}
 use Rattle.ci_words.proofs.Readings.{given_apart}
 use Rattle.ci_words.proofs.SettingLaws.{texts}

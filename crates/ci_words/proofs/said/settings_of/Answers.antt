@@ -5,7 +5,7 @@ use Rattle.std.proofs.lemmas.Simd.{map-map}
 use Rattle.clap.specs.Words.{found_of, rows_of}
 use Rattle.clap.proofs.TakesLemmas.{passed_up}
 use Rattle.ci_words.specs.Words.{AreSet, Sets}
-use Rattle.ci_words.specs.Parses.{option_row, values_in}
+use Rattle.ci_words.specs.private.Parses.{option_row, values_in}
 use Rattle.ci_words.specs.Read.{setting_in, value_in}
 use Rattle.ci_words.proofs.Elements.{no_option, shown_more}
 use Rattle.ci_words.proofs.SettingLaws.{no_option_row, set_at, set_more, texts}

@@ -2,7 +2,7 @@
 use Rattle.std.proofs.Common.{map, take}
 use Rattle.clap.specs.Words.{found_of, rows_of}
 use Rattle.ci_words.specs.Words.{AreSet}
-use Rattle.ci_words.specs.Parses.{option_row, values_in}
+use Rattle.ci_words.specs.private.Parses.{option_row, values_in}
 use Rattle.ci_words.specs.Read.{setting_in}
 use Rattle.ci_words.proofs.said.settings_of.Given as goal
 

@@ -2,7 +2,7 @@
 use Rattle.std.proofs.Common.{[], arith, subst, sym}
 use Rattle.std.proofs.lemmas.List.{get_or-map, length-map}
 use Rattle.ci_words.specs.Words.{Says}
-use Rattle.ci_words.specs.Parses.{option_row}
+use Rattle.ci_words.specs.private.Parses.{option_row}
 use Rattle.ci_words.specs.Read.{value_in}
 use Rattle.ci_words.proofs.Elements.{no_text, not_zipped, zipped_shown}
 use Rattle.ci_words.proofs.SettingLaws.{given_sets, texts}

@@ -2,7 +2,7 @@ use Rattle.std.proofs.Common.{◌≡◌, ◌+◌, ◌*◌, get_or, false, true�
 use Rattle.std.proofs.lemmas.List.{get_or_default}
 use Rattle.ci_elf.specs.WordPlaces.{word_place}
 use Rattle.ci_elf.proofs.WordPlaceLaws.{word_below}
-use Rattle.ci_block.specs.Marking.{range_at}
+use Rattle.ci_block.specs.private.Marking.{range_at}
 use Rattle.ci_block.proofs.MarkLaws.{flag_of_marked, marked_by_flag, not_marked}
 use Rattle.ci_block.proofs.RangeLaws.{held_below}
 use Rattle.ci_block.proofs.marks.Marks.is_marked.Goals as goal

@@ -1,7 +1,7 @@
 use Rattle.std.proofs.Common.{◌≡◌, ◌+◌, take, get_or, refl, subst, arith}
 use Rattle.std.proofs.lemmas.List.{take_all}
 use Rattle.std.specs.List.{Contains}
-use Rattle.ci_block.specs.Marks.{Adds}
+use Rattle.ci_block.specs.private.Marks.{Adds}
 use Rattle.ci_block.proofs.MarkLaws.{added_both, contained_more, contained_before}
 use Rattle.ci_block.proofs.marks.Marks.mark_all.Goals as goal
 

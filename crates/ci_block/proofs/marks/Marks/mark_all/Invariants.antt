@@ -1,6 +1,6 @@
 use Rattle.std.proofs.Common.{take}
 use Rattle.std.specs.List.{Contains}
-use Rattle.ci_block.specs.Marks.{Adds}
+use Rattle.ci_block.specs.private.Marks.{Adds}
 use Rattle.ci_block.proofs.marks.Marks.mark_all.Given as goal
 
 abbrev pub invariant-loop-address : goal.invariant-loop-address

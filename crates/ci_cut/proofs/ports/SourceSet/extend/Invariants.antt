@@ -2,7 +2,7 @@ use Rattle.std.proofs.Common.{◌≡◌, ◌||◌, take}
 use Rattle.std.specs.List.{list_any}
 use Rattle.ci_cut.specs.declared.graph.Source.{Source}
 use Rattle.ci_cut.specs.FlowGraph.{is_source}
-use Rattle.ci_cut.specs.SourceSets.{holds}
+use Rattle.ci_cut.specs.private.SourceSets.{holds}
 use Rattle.ci_cut.proofs.ports.SourceSet.extend.Given as goal
 
 abbrev pub invariant-loop-source : goal.invariant-loop-source

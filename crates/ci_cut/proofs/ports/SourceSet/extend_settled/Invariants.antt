@@ -2,7 +2,7 @@ use Rattle.std.proofs.Common.{◌≡◌, Bool, ◌||◌, ◌+◌, take}
 use Rattle.std.specs.List.{list_any}
 use Rattle.ci_cut.specs.declared.graph.Source.{Source}
 use Rattle.ci_cut.specs.FlowGraph.{is_source}
-use Rattle.ci_cut.specs.SourceSets.{holds, AreSettledBy, count_held}
+use Rattle.ci_cut.specs.private.SourceSets.{holds, AreSettledBy, count_held}
 use Rattle.ci_cut.proofs.ports.SourceSet.extend_settled.Given as goal
 
 abbrev pub invariant-loop-source : goal.invariant-loop-source

@@ -4,7 +4,7 @@ use Rattle.ci_cut.specs.declared.graph.Source.{Source}
 use Rattle.ci_cut.specs.declared.graph.Source.TheVariants.{Entry, Made}
 use Rattle.ci_cut.specs.declared.ports.SourceSet.{SourceSet}
 use Rattle.ci_cut.specs.FlowGraph.{FlowGraph}
-use Rattle.ci_cut.specs.SourceSets.{holds}
+use Rattle.ci_cut.specs.private.SourceSets.{holds}
 use Rattle.ci_cut.proofs.OneMore.{IsCounted}
 use Rattle.ci_cut.proofs.SourceSetLaws.{count_held-more}
 use Rattle.ci_cut.proofs.ports.SourceSet.insert_settled.Goals as goal

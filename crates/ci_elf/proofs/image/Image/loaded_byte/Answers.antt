@@ -1,8 +1,8 @@
 use Rattle.std.proofs.Common.{◌≡◌, sym, ap, subst, get_or, arith}
 use Rattle.std.specs.List.{Contains}
 use Rattle.std.specs.Prelude.{Some}
-use Rattle.ci_elf.specs.LoadedPlaces.{IsLoadedFrom, IsSound}
-use Rattle.ci_elf.specs.SectionChecks.{AreLaidOut}
+use Rattle.ci_elf.specs.private.LoadedPlaces.{IsLoadedFrom, IsSound}
+use Rattle.ci_elf.specs.private.SectionChecks.{AreLaidOut}
 use Rattle.ci_elf.proofs.ImageLaws.{byte_in_file, is_loaded, layout_by_address, not_loaded, only_byte}
 use Rattle.ci_elf.proofs.image.Image.loaded_byte.Goals as goal
 

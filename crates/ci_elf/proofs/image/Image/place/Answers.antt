@@ -1,7 +1,7 @@
 use Rattle.std.proofs.Common.{sym, subst}
 use Rattle.std.specs.List.{Contains}
-use Rattle.ci_elf.specs.LoadedPlaces.{IsLoadedFrom, IsSound}
-use Rattle.ci_elf.specs.SectionChecks.{AreLaidOut}
+use Rattle.ci_elf.specs.private.LoadedPlaces.{IsLoadedFrom, IsSound}
+use Rattle.ci_elf.specs.private.SectionChecks.{AreLaidOut}
 use Rattle.ci_elf.proofs.ImageLaws.{layout_by_address, place_is, word_in_file, word_is_loaded}
 use Rattle.ci_elf.proofs.image.Image.place.Goals as goal
 

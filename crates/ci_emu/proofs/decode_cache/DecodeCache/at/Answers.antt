@@ -5,8 +5,8 @@ use Rattle.std.proofs.lemmas.List.{get_or-set_same}
 use Rattle.ci_isa.specs.declared.instruction.Insn.{Insn}
 use Rattle.ci_machine.specs.States.{program_of, state_of}
 use Rattle.ci_machine.specs.Steps.{word_at}
-use Rattle.ci_emu.specs.Lines.{AreKept, AreKnown}
-use Rattle.ci_emu.specs.Fetched.{cycles_on}
+use Rattle.ci_emu.specs.private.Lines.{AreKept, AreKnown}
+use Rattle.ci_emu.specs.private.Fetched.{cycles_on}
 use Rattle.ci_emu.proofs.KnownLines.{here_fetched, set_kept, set_known}
 use Rattle.ci_emu.proofs.decode_cache.DecodeCache.at.Given.{Over}
 use Rattle.ci_emu.proofs.decode_cache.DecodeCache.at.Goals as goal

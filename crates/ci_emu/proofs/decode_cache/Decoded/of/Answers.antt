@@ -1,5 +1,5 @@
 use Rattle.std.proofs.Common.{sym, subst}
-use Rattle.ci_emu.specs.Fetched.{IsOnlyAt}
+use Rattle.ci_emu.specs.private.Fetched.{IsOnlyAt}
 use Rattle.ci_emu.proofs.Fetching.{only_at}
 use Rattle.ci_emu.proofs.decode_cache.Decoded.of.Goals as goal
 

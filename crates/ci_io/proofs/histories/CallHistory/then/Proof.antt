@@ -28,7 +28,7 @@ use denote.Triple.Walked.{says, Stays, stay_dropped, walk_of, ends_at, walk_Meet
 use Rattle.ci_io.proofs.Walks.{none, none_made}
 use Rattle.ci_io.specs.contracts.histories.CallHistory as Log
 use Rattle.ci_io.specs.contracts.histories.NotedCall as NotedCall
-use Rattle.ci_io.specs.Noted.{call_of}
+use Rattle.ci_io.specs.private.Noted.{call_of}
 use Rattle.ci_io.specs.contracts.histories.CallHistory.then as F
 use Rattle.ci_io.specs.contracts.histories.CallHistory.then.Key.{name as #self}
 use Rattle.ci_io.proofs.histories.CallHistory.then.Statement as stated

@@ -4,8 +4,8 @@ use Rattle.std.specs.List.{sum_by}
 use Rattle.std.proofs.Math.ListN.{set as list_set}
 use Rattle.std.proofs.lemmas.List.{get_or_default}
 use Rattle.ci_word.specs.Numbers.{count_below}
-use Rattle.ci_live.specs.Flows.{Has}
-use Rattle.ci_live.specs.Found.{live_at, missing_at, room}
+use Rattle.ci_live.specs.private.Flows.{Has}
+use Rattle.ci_live.specs.private.Found.{live_at, missing_at, room}
 use Rattle.ci_live.proofs.TransferLaws.{found_right, missing_apart}
 use Rattle.ci_live.proofs.SetLaws.{has_none, less_room}
 use Rattle.ci_live.proofs.iteration.Found.transfer.Goals as goal

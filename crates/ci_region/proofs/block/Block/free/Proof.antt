@@ -47,7 +47,7 @@ use Rattle.core.proofs.slots.Leases.{uncapped, args, P}
 use Rattle.std_alloc.proofs.RcSteps.{word, word-Good}
 use Rattle.std_alloc.proofs.VecSteps.Shapes.{after}
 use Rattle.ci_region.specs.Blocks.{IsLeaseOf}
-use Rattle.ci_region.specs.Cells.{AreFree}
+use Rattle.ci_region.specs.private.Cells.{AreFree}
 use Rattle.ci_region.specs.Ownership.{cells_own, lease_owns}
 use Rattle.ci_region.proofs.Memory.{Cell-row, Block-row, Lease-row, cell_size, cell_type, block_type}
 use Rattle.ci_region.proofs.Memory.{block_size, block_align, mark, mark_had, pointer_had, to_room}

@@ -1,6 +1,6 @@
 use Rattle.std.proofs.Common.{subst}
 use Rattle.ci_verilog.specs.Modules.{wires_of}
-use Rattle.ci_verilog.specs.Held.{ExprFits}
+use Rattle.ci_verilog.specs.private.Held.{ExprFits}
 use Rattle.ci_verilog.proofs.ScopeLaws.{operands_found}
 use Rattle.ci_verilog.proofs.evaluation.Scope.expr.Goals as goal
 

@@ -1,6 +1,6 @@
 use Rattle.std.proofs.Common.{subst}
 use Rattle.ci_verilog.specs.Modules.{wires_of, known_by}
-use Rattle.ci_verilog.specs.Held.{ItemFits}
+use Rattle.ci_verilog.specs.private.Held.{ItemFits}
 use Rattle.ci_verilog.proofs.WidthLaws.{repeat_item_parts}
 use Rattle.ci_verilog.proofs.ScopeLaws.{copies_found}
 use Rattle.ci_verilog.proofs.evaluation.Scope.item.Goals as goal

@@ -1,6 +1,6 @@
 use Rattle.std.proofs.Common.{sym, subst, arith, drop, ◌+◌}
 use Rattle.ci_verilog.specs.Modules.{wires_of, known_by, IsItem}
-use Rattle.ci_verilog.specs.Held.{InRange, IsHeld}
+use Rattle.ci_verilog.specs.private.Held.{InRange, IsHeld}
 use Rattle.ci_verilog.proofs.VectorLaws.{above_in_range}
 use Rattle.ci_verilog.proofs.ScopeLaws.{IsAbove, item_at, next_found, all_above}
 use Rattle.ci_verilog.proofs.evaluation.Scope.items.Goals as goal

@@ -1,6 +1,6 @@
 use Rattle.std.proofs.Common.{drop}
 use Rattle.ci_verilog.specs.Modules.{wires_of}
-use Rattle.ci_verilog.specs.Held.{InRange, IsHeld}
+use Rattle.ci_verilog.specs.private.Held.{InRange, IsHeld}
 use Rattle.ci_verilog.proofs.ScopeLaws.{IsAbove}
 use Rattle.ci_verilog.proofs.evaluation.Scope.items.Given as goal
 

@@ -1,7 +1,7 @@
 use Rattle.std.proofs.Common.{◌+◌, ◌-◌, ◌/◌, ◌%◌, ◌^◌, sym, ap, subst, ◌∙◌}
 use Rattle.ci_verilog.specs.Modules.{wires_of}
 use Rattle.ci_verilog.specs.Values.{of_width, simple_bits}
-use Rattle.ci_verilog.specs.Held.{SimpleFits}
+use Rattle.ci_verilog.specs.private.Held.{SimpleFits}
 use Rattle.ci_verilog.proofs.ScopeLaws.{part_is_narrow}
 use Rattle.ci_verilog.proofs.evaluation.Scope.simple.Goals as goal
 

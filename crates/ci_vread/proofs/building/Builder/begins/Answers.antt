@@ -1,6 +1,6 @@
 use Rattle.std.proofs.Common.{ap, ◌∙◌}
 use Rattle.ci_vread.specs.declared.tokens.Kind.TheVariants as kind
-use Rattle.ci_vread.specs.Building.{front, left, is_sign}
+use Rattle.ci_vread.specs.private.Building.{front, left, is_sign}
 use Rattle.ci_vread.proofs.FrontTokens.{of_kind, no_sign}
 use Rattle.ci_vread.proofs.building.Builder.begins.Goals as goal
 

@@ -1,5 +1,5 @@
 use Rattle.std.proofs.Common.{ap, sym, ◌∙◌}
-use Rattle.ci_vread.specs.Building.{front, left, token_in, cycles_in}
+use Rattle.ci_vread.specs.private.Building.{front, left, token_in, cycles_in}
 use Rattle.ci_vread.proofs.FrontTokens.{no_cycles}
 use Rattle.ci_vread.proofs.building.Builder.cycles.Goals as goal
 

@@ -1,5 +1,5 @@
 use Rattle.std.proofs.Common.{◌-◌, ◌+◌, [], ◌∷◌, ◌++◌, drop, arith, sym, ap, ◌∙◌, inl, inr}
-use Rattle.ci_vread.specs.Building.{left, begins_item, item_of, items_of}
+use Rattle.ci_vread.specs.private.Building.{left, begins_item, item_of, items_of}
 use Rattle.ci_vread.proofs.ManyTokens.{goes_on, stops, items_begun}
 use Rattle.ci_vread.proofs.building.Builder.items.Goals as goal
 use Rattle.ci_vread.proofs.building.Builder.items.Goals.{else-loop-count-test, then-loop-count-test+then-not-begins}

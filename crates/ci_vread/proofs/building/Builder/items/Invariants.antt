@@ -1,5 +1,5 @@
 use Rattle.std.proofs.Common.{◌-◌, drop}
-use Rattle.ci_vread.specs.Building.{left, begins_item, item_of, items_of}
+use Rattle.ci_vread.specs.private.Building.{left, begins_item, item_of, items_of}
 use Rattle.ci_vread.proofs.ManyTokens.{IsReadUpTo}
 use Rattle.ci_vread.proofs.building.Builder.items.Given as goal
 

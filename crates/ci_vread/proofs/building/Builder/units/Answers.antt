@@ -1,6 +1,6 @@
 use Rattle.std.proofs.Common.{◌-◌, ◌+◌, arith, sym, inl, inr}
 use Rattle.ci_verilog.specs.Modules.{IsModule}
-use Rattle.ci_vread.specs.Building.{left, begins_module, module_of, modules_of, many}
+use Rattle.ci_vread.specs.private.Building.{left, begins_module, module_of, modules_of, many}
 use Rattle.ci_vread.proofs.ManyTokens.{goes_on, stops, next_keeps}
 use Rattle.ci_vread.proofs.building.Builder.units.Goals as goal
 use Rattle.ci_vread.proofs.building.Builder.units.Goals.{else-loop-number-test, then-loop-number-test+then-not-begins_module}

@@ -1,5 +1,5 @@
 use Rattle.std.proofs.Common.{◌-◌}
-use Rattle.ci_vread.specs.Building.{left, begins_module, module_of, many}
+use Rattle.ci_vread.specs.private.Building.{left, begins_module, module_of, many}
 use Rattle.ci_vread.proofs.ManyTokens.{IsReadUpTo}
 use Rattle.ci_vread.proofs.building.Builder.units.Given as goal
 

@@ -1,5 +1,5 @@
 use Rattle.std.proofs.Common.{◌-◌, ◌+◌, arith, sym, inl, inr}
-use Rattle.ci_vread.specs.Building.{left, begins_wire, wire_of, wires_of}
+use Rattle.ci_vread.specs.private.Building.{left, begins_wire, wire_of, wires_of}
 use Rattle.ci_vread.proofs.ManyTokens.{goes_on, stops}
 use Rattle.ci_vread.proofs.building.Builder.wires.Goals as goal
 use Rattle.ci_vread.proofs.building.Builder.wires.Goals.{else-loop-number-test, then-loop-number-test+then-not-begins}

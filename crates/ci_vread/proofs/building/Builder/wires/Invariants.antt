@@ -1,5 +1,5 @@
 use Rattle.std.proofs.Common.{◌-◌}
-use Rattle.ci_vread.specs.Building.{left, begins_wire, wire_of, wires_of}
+use Rattle.ci_vread.specs.private.Building.{left, begins_wire, wire_of, wires_of}
 use Rattle.ci_vread.proofs.ManyTokens.{IsReadUpTo}
 use Rattle.ci_vread.proofs.building.Builder.wires.Given as goal
 

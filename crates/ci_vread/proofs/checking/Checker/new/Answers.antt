@@ -4,7 +4,7 @@ use Rattle.ci_vread.specs.declared.grammar.Part.TheVariants as part
 use Rattle.ci_vread.specs.declared.grammar.Phrase.TheVariants as phrase
 use Rattle.ci_vread.specs.Grammar.{Goes}
 use Rattle.ci_vread.specs.Rules.{nothing}
-use Rattle.ci_vread.specs.Tables.{due_of}
+use Rattle.ci_vread.specs.private.Tables.{due_of}
 use Rattle.ci_vread.proofs.checking.Checker.new.Goals as goal
 
 pub returns-clause-at : goal.returns-clause-at

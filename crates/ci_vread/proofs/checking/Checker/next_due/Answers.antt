@@ -5,10 +5,10 @@ use Rattle.ci_vread.specs.declared.grammar.Part.TheVariants as part
 use Rattle.ci_vread.specs.declared.tokens.Kind.{Kind}
 use Rattle.ci_vread.specs.Grammar.{Part, made, ended, parts_of}
 use Rattle.ci_vread.specs.Rules.{behind}
-use Rattle.ci_vread.specs.Scanned.{symbol_by}
-use Rattle.ci_vread.specs.Tables.{due_of, phrase_of, end_of, part_of}
-use Rattle.ci_vread.specs.Checked.{IsBounded}
-use Rattle.ci_vread.specs.Led.{Leads}
+use Rattle.ci_vread.specs.private.Scanned.{symbol_by}
+use Rattle.ci_vread.specs.private.Tables.{due_of, phrase_of, end_of, part_of}
+use Rattle.ci_vread.specs.private.Checked.{IsBounded}
+use Rattle.ci_vread.specs.private.Led.{Leads}
 use Rattle.ci_vread.proofs.CheckerSteps.{opened, closed}
 use Rattle.ci_vread.proofs.CheckerLaws.{needs, needs_not, is_end, popped, due_popped, no_parts, ends_on}
 use Rattle.ci_vread.proofs.Work.{work, falls, IsQuiet, stays_quiet}

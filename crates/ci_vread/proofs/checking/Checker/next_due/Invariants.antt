@@ -2,10 +2,10 @@ use Rattle.std.proofs.Common.{◌≡◌, ◌∷◌, ℕ, List, None}
 use Rattle.ci_reading.specs.Tokens.{at}
 use Rattle.ci_vread.specs.Grammar.{Placed}
 use Rattle.ci_vread.specs.Rules.{Rule}
-use Rattle.ci_vread.specs.Scanned.{symbol_by}
-use Rattle.ci_vread.specs.Tables.{due_of}
-use Rattle.ci_vread.specs.Checked.{IsBounded}
-use Rattle.ci_vread.specs.Led.{IsAt, IsFresh}
+use Rattle.ci_vread.specs.private.Scanned.{symbol_by}
+use Rattle.ci_vread.specs.private.Tables.{due_of}
+use Rattle.ci_vread.specs.private.Checked.{IsBounded}
+use Rattle.ci_vread.specs.private.Led.{IsAt, IsFresh}
 use Rattle.ci_vread.proofs.Work.{work, IsQuiet}
 use Rattle.ci_vread.proofs.checking.Checker.next_due.Given as goal
 

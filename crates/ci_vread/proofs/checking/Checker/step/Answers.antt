@@ -3,8 +3,8 @@ use Rattle.ci_vread.specs.declared.checking.Due.{Due}
 use Rattle.ci_vread.specs.declared.checking.Due.TheVariants as due
 use Rattle.ci_vread.specs.Rules.{Rule}
 use Rattle.ci_vread.specs.Grammar.{Placed}
-use Rattle.ci_vread.specs.Scanned.{symbol_of, text_of, placed_of}
-use Rattle.ci_vread.specs.Led.{IsAt, IsDue, Leads}
+use Rattle.ci_vread.specs.private.Scanned.{symbol_of, text_of, placed_of}
+use Rattle.ci_vread.specs.private.Led.{IsAt, IsDue, Leads}
 use Rattle.ci_vread.proofs.CheckerAnswers.{all_kept}
 use Rattle.ci_vread.proofs.CheckerLaws.{pended, missed}
 use Rattle.ci_vread.proofs.checking.Checker.step.Goals as goal

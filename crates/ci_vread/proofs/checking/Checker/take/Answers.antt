@@ -3,9 +3,9 @@ use Rattle.ci_reading.specs.Tokens.{token, stray_byte, at}
 use Rattle.ci_vread.specs.declared.tokens.Kind.{Kind}
 use Rattle.ci_vread.specs.Grammar.{Symbol, reads, read}
 use Rattle.ci_vread.specs.Rules.{behind}
-use Rattle.ci_vread.specs.Scanned.{symbol_by, text_of, placed_of}
-use Rattle.ci_vread.specs.Tables.{role_of}
-use Rattle.ci_vread.specs.Led.{LeadsWith}
+use Rattle.ci_vread.specs.private.Scanned.{symbol_by, text_of, placed_of}
+use Rattle.ci_vread.specs.private.Tables.{role_of}
+use Rattle.ci_vread.specs.private.Led.{LeadsWith}
 use Rattle.ci_vread.proofs.CheckerSteps.{taken}
 use Rattle.ci_vread.proofs.CheckerAnswers.{stray, ascend_less}
 use Rattle.ci_vread.proofs.CheckerLaws.{reads_on, refused, with_kept}

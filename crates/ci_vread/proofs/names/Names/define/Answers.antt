@@ -1,7 +1,7 @@
 use Rattle.std.proofs.Common.{ap, ◌∙◌, ◌+◌}
 use Prim.Native.Nat.{min}
 use Rattle.ci_verilog.specs.Modules.{Known, vector}
-use Rattle.ci_vread.specs.Names.{width_at}
+use Rattle.ci_vread.specs.private.Names.{width_at}
 use Rattle.ci_vread.proofs.NameMaps.{takes_more, counts_more}
 use Rattle.ci_vread.proofs.names.Names.define.Goals as goal
 

@@ -1,6 +1,6 @@
 use Rattle.std.proofs.Common.{sym, subst, None}
-use Rattle.ci_vread.specs.Tables.{end_of}
-use Rattle.ci_vread.specs.Checked.{EndsOn}
+use Rattle.ci_vread.specs.private.Tables.{end_of}
+use Rattle.ci_vread.specs.private.Checked.{EndsOn}
 use Rattle.ci_vread.proofs.seen.Seen.end.Goals as goal
 
 pub returns-in-Simple-clause-on : goal.returns-in-Simple-clause-on

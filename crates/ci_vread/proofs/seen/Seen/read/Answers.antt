@@ -5,9 +5,9 @@ use Rattle.ci_vread.specs.declared.seen.Seen.{Seen as SeenValue}
 use Rattle.ci_vread.specs.declared.tokens.Token.{Token as TokenValue}
 use Rattle.ci_vread.specs.Lexicon.{Token}
 use Rattle.ci_vread.specs.Grammar.{Fits, its_module, its_high, its_name, its_target, its_index, its_low, its_count, its_constant, its_operator}
-use Rattle.ci_vread.specs.Scanned.{symbol_of}
-use Rattle.ci_vread.specs.Tables.{role_of}
-use Rattle.ci_vread.specs.Checked.{ReadsOn}
+use Rattle.ci_vread.specs.private.Scanned.{symbol_of}
+use Rattle.ci_vread.specs.private.Tables.{role_of}
+use Rattle.ci_vread.specs.private.Checked.{ReadsOn}
 use Rattle.ci_vread.proofs.RoleLaws.{that_number, that_name, that_constant, that_operator, of_module, of_name, of_target, of_high, of_index, of_low, of_count}
 use Rattle.ci_vread.proofs.seen.Seen.read.Goals as goal
 

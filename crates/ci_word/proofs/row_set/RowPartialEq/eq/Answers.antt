@@ -1,5 +1,5 @@
 use Rattle.std.proofs.Common.{rules}
-use Rattle.ci_word.specs.WordLaws.{words_of-numbers_in}
+use Rattle.ci_word.specs.private.WordLaws.{words_of-numbers_in}
 use Rattle.ci_word.proofs.row_set.RowPartialEq.eq.Goals as goal
 
 pub returns : goal.returns

@@ -1,0 +1,5 @@
+pub mod Tokens
+pub mod Shapes
+pub mod Statements
+pub mod LabelMap
+pub mod Programs

@@ -1,0 +1,6 @@
+pub mod LoadedPlaces
+pub mod Checks
+pub mod Parts
+pub mod SectionChecks
+pub mod RangeChecks
+pub mod SymbolChecks

@@ -1,0 +1,3 @@
+pub mod Unprofiled
+pub mod Chosen
+pub mod Judged

@@ -1,0 +1,2 @@
+pub mod CallCodes
+pub mod Noted

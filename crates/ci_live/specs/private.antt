@@ -1,0 +1,3 @@
+pub mod StoredSets
+pub mod Flows
+pub mod Found

@@ -1,0 +1,4 @@
+pub mod Branches
+pub mod Searched
+pub mod Trees
+pub mod Waiting
