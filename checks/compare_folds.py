@@ -3,7 +3,7 @@
 
     compare_folds.py PROGRAM FOLDER
 
-FOLDER is the program of the crate `ci_units`: it writes the folded block of each line that it is given. The blocks are
+FOLDER is the program of the crate `ci_folds`: it writes the folded block of each line that it is given. The blocks are
 those of the executables of samples/ and of checks/programs, which GCC builds with picolibc. Each is folded by its best
 cut, which `best --at` of PROGRAM tells, once by the usual limits on inputs and outputs and once by the greatest, and by
 some other cuts, as are blocks that are made up, always in the same way;

@@ -3,7 +3,7 @@
 
     compare_units.py PROGRAM EMITTER
 
-EMITTER is the program of the crate `ci_units`: it writes the units of the cuts that it is given. These are of each
+EMITTER is the program of the crate `ci_folds`: it writes the units of the cuts that it is given. These are of each
 operation alone, on all kinds of operands and by all shift amounts; of chains; and of blocks that are made up, always in
 the same way. Their text has to be the templates' one. Icarus Verilog simulates the modules, on words at their bounds
 and others, as do `eval` of PROGRAM and a plain reading of the text, and all have to give what the operations of the

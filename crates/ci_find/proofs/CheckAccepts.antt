@@ -2,11 +2,11 @@
 use Rattle.std.proofs.Common.{◌≡◌, ◌∙◌, ℕ, List, Some, sym, ap, subst, lit<, arith}
 use Rattle.std.specs.Prelude.{option_map, slice_get, unwrap_or}
 use Rattle.ci_io.specs.Outcomes.{Files}
-use Rattle.ci_words.specs.Words.{Reading, ReadsAs, name_at, number_in, number_set}
-use Rattle.ci_words.specs.declared.tables.CommandName.TheVariants.{Find, Check}
-use Rattle.ci_words.specs.declared.tables.OptionName.{OptionName}
-use Rattle.ci_words.specs.declared.tables.OptionName.TheVariants as option
-use Rattle.ci_words.proofs.Readings.{one_reading}
+use Rattle.ci_arguments.specs.Words.{Reading, ReadsAs, name_at, number_in, number_set}
+use Rattle.ci_arguments.specs.declared.tables.CommandName.TheVariants.{Find, Check}
+use Rattle.ci_arguments.specs.declared.tables.OptionName.{OptionName}
+use Rattle.ci_arguments.specs.declared.tables.OptionName.TheVariants as option
+use Rattle.ci_arguments.proofs.Readings.{one_reading}
 use Rattle.ci_select.specs.declared.plan.Plan.{Plan}
 use Rattle.ci_calls.specs.declared.refusals.Refusal.{Refusal}
 use Rattle.ci_calls.specs.declared.success.Success.{Success}

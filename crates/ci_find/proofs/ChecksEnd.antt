@@ -2,8 +2,8 @@
 use Rattle.std.proofs.Common.{◌≡◌, ◌∙◌, ◌⊎◌, inl, inr, ℕ, List, Option, Some, refl, sym, ap, subst}
 use Rattle.std.specs.Option.{option_map}
 use Rattle.ci_io.specs.Outcomes.{Files}
-use Rattle.ci_words.specs.Words.{name_at}
-use Rattle.ci_words.specs.declared.tables.CommandName.TheVariants.{Check}
+use Rattle.ci_arguments.specs.Words.{name_at}
+use Rattle.ci_arguments.specs.declared.tables.CommandName.TheVariants.{Check}
 use Rattle.ci_calls.specs.declared.refusals.Refusal.{Refusal}
 use Rattle.ci_calls.specs.Finishing.{Change, with_files}
 use Rattle.ci_calls.specs.Refusals.{status_of}

@@ -3,11 +3,11 @@ use Rattle.std.proofs.Common.{ℕ, inl, inr, Bool, List, Result, Ok, Err, IfOk, 
 use Rattle.std.specs.Prelude.{IfErr}
 use Rattle.ci_io.specs.Outcomes.{ShelfState}
 use Rattle.ci_select.specs.declared.plan.Plan.{Plan}
-use Rattle.ci_words.specs.Ranges.{KeepsRanges}
-use Rattle.ci_words.specs.Tables.{commands}
-use Rattle.ci_words.specs.Words.{Reading}
-use Rattle.ci_words.specs.declared.tables.CommandName.TheVariants.{Find, Check}
-use Rattle.ci_words.specs.declared.tables.OptionName.TheVariants as option
+use Rattle.ci_arguments.specs.Ranges.{KeepsRanges}
+use Rattle.ci_arguments.specs.Tables.{commands}
+use Rattle.ci_arguments.specs.Words.{Reading}
+use Rattle.ci_arguments.specs.declared.tables.CommandName.TheVariants.{Find, Check}
+use Rattle.ci_arguments.specs.declared.tables.OptionName.TheVariants as option
 use Rattle.ci_calls.specs.declared.refusals.Refusal.{Refusal}
 use Rattle.ci_calls.specs.declared.success.Success.{Success}
 use Rattle.ci_calls.specs.Inputs.{Input}

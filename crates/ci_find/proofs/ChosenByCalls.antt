@@ -3,7 +3,7 @@ use Rattle.std.proofs.Common.{◌≡◌, ◌≢◌, ◌∙◌, ℕ, inl, inr, Li
 use Rattle.ci_io.specs.CallLists.{Call, put}
 use Rattle.ci_log.specs.declared.book.Entry.{Entry}
 use Rattle.ci_unit.specs.Units.{Unit}
-use Rattle.ci_words.specs.Words.{Reading}
+use Rattle.ci_arguments.specs.Words.{Reading}
 use Rattle.ci_calls.specs.declared.refusals.Refusal.{Refusal}
 use Rattle.ci_calls.specs.declared.success.Success.{Success}
 use Rattle.ci_calls.specs.Called.{writes_of, IsTextTaken, PutsText, PutsRefusal, taken, put_failed, FinishesBy, all_written}

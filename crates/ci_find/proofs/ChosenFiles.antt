@@ -4,8 +4,8 @@ use Rattle.std.specs.Option.{option_map}
 use Rattle.ci_io.specs.Outcomes.{Files, SinkState}
 use Rattle.ci_vemit.specs.Templates.{modules_of}
 use Rattle.ci_vemit.specs.Texts.{text_of}
-use Rattle.ci_words.specs.declared.tables.CommandName.TheVariants.{Find}
-use Rattle.ci_words.specs.Words.{Reading, ReadsAs}
+use Rattle.ci_arguments.specs.declared.tables.CommandName.TheVariants.{Find}
+use Rattle.ci_arguments.specs.Words.{Reading, ReadsAs}
 use Rattle.ci_calls.specs.declared.success.Success.{Success}
 use Rattle.ci_calls.specs.Evaluations.{Evaluates}
 use Rattle.ci_calls.specs.Finishing.{Change, Takes, with_files}

@@ -4,8 +4,8 @@ use Rattle.std.specs.Prelude.{IfErr}
 use Rattle.ci_io.specs.CallLists.{Call}
 use Rattle.ci_io.specs.MadeCalls.{AreMade}
 use Rattle.ci_io.specs.Outcomes.{ShelfState}
-use Rattle.ci_words.specs.declared.tables.CommandName.{CommandName}
-use Rattle.ci_words.specs.Words.{Reading, ReadsAs}
+use Rattle.ci_arguments.specs.declared.tables.CommandName.{CommandName}
+use Rattle.ci_arguments.specs.Words.{Reading, ReadsAs}
 use Rattle.ci_calls.specs.declared.refusals.Refusal.{Refusal}
 use Rattle.ci_calls.specs.declared.success.Success.{Success}
 use Rattle.ci_calls.specs.Reads.{IsSuccessOf, IsRefusalOf, reads_of}

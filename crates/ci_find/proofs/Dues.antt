@@ -2,11 +2,11 @@
 use Rattle.std.proofs.Common.{◌≡◌, ℕ, ◌⊎◌, inl, inr, List, Some, sym, subst, ◌∙◌}
 use Rattle.ci_io.specs.Outcomes.{Files}
 use Rattle.ci_select.specs.declared.plan.Plan.{Plan}
-use Rattle.ci_words.specs.Words.{Reading, ReadsAs, HasNoReading, number_at, name_set, number_set, word_set, words_set}
-use Rattle.ci_words.specs.declared.tables.CommandName.{CommandName}
-use Rattle.ci_words.specs.declared.tables.CommandName.TheVariants.{Best, Asm, Dis, Run, Blocks, Eval, Find, Check, Load}
-use Rattle.ci_words.specs.declared.tables.OptionName.TheVariants as option
-use Rattle.ci_words.proofs.Readings.{one_reading}
+use Rattle.ci_arguments.specs.Words.{Reading, ReadsAs, HasNoReading, number_at, name_set, number_set, word_set, words_set}
+use Rattle.ci_arguments.specs.declared.tables.CommandName.{CommandName}
+use Rattle.ci_arguments.specs.declared.tables.CommandName.TheVariants.{Best, Asm, Dis, Run, Blocks, Eval, Find, Check, Load}
+use Rattle.ci_arguments.specs.declared.tables.OptionName.TheVariants as option
+use Rattle.ci_arguments.proofs.Readings.{one_reading}
 use Rattle.ci_calls.specs.declared.refusals.Refusal.{Refusal}
 use Rattle.ci_calls.specs.declared.success.Success.{Success}
 use Rattle.ci_calls.specs.Inputs.{AreRead, IsFileRefusal}

@@ -5,9 +5,9 @@ use Rattle.std.proofs.lemmas.List.{length-append, map-append}
 use Rattle.std.proofs.Math.Seq.{drop-append_seam, take-append_seam}
 use Rattle.ci_io.specs.declared.shelves.ShelfErr.TheVariants as shelf
 use Rattle.ci_io.specs.CallLists.{Answer, Call, write}
-use Rattle.ci_words.specs.declared.tables.CommandName.TheVariants.{Find}
-use Rattle.ci_words.specs.Words.{Reading, ReadsAs}
-use Rattle.ci_words.proofs.Readings.{one_reading}
+use Rattle.ci_arguments.specs.declared.tables.CommandName.TheVariants.{Find}
+use Rattle.ci_arguments.specs.Words.{Reading, ReadsAs}
+use Rattle.ci_arguments.proofs.Readings.{one_reading}
 use Rattle.ci_elf.specs.Executables.{Executable}
 use Rattle.ci_calls.specs.declared.refusals.Refusal.{Refusal}
 use Rattle.ci_calls.specs.declared.refusals.Refusal.TheVariants.{BadElf, BadTable, BadUnits, BadLog, NoMemory, BadAsm}

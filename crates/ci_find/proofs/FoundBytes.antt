@@ -6,7 +6,7 @@ use Rattle.ci_vemit.specs.Texts.{text_of}
 use Rattle.ci_choice.proofs.ChosenFileLaws.{chosen_files_run_alike}
 use Rattle.ci_choice.proofs.ProfiledRunLaws.{choices_save_in_profile}
 use Rattle.ci_select.specs.declared.plan.Plan.{Plan}
-use Rattle.ci_words.specs.Words.{Reading}
+use Rattle.ci_arguments.specs.Words.{Reading}
 use Rattle.ci_calls.specs.declared.success.Success.{Success}
 use Rattle.ci_calls.specs.Files.{input_bytes}
 use Rattle.ci_find.specs.ChoiceReading.{IsPlanOf, settings_of, find_names}

@@ -1,10 +1,10 @@
 -- What `find` makes of the bytes that its reads answered.
 use Rattle.std.proofs.Common.{◌≡◌, ◌∙◌, ℕ, List, [], ◌∷◌, map, Ok, refl, ap, subst}
 use Rattle.ci_io.specs.CallLists.{Call, write}
-use Rattle.ci_words.specs.declared.tables.CommandName.{CommandName}
-use Rattle.ci_words.specs.declared.tables.CommandName.TheVariants.{Find}
-use Rattle.ci_words.specs.Words.{Reading, ReadsAs}
-use Rattle.ci_words.proofs.Readings.{one_reading}
+use Rattle.ci_arguments.specs.declared.tables.CommandName.{CommandName}
+use Rattle.ci_arguments.specs.declared.tables.CommandName.TheVariants.{Find}
+use Rattle.ci_arguments.specs.Words.{Reading, ReadsAs}
+use Rattle.ci_arguments.proofs.Readings.{one_reading}
 use Rattle.ci_calls.specs.declared.success.Success.{Success}
 use Rattle.ci_calls.specs.declared.success.Written.{Written}
 use Rattle.ci_calls.specs.Called.{writes_of}

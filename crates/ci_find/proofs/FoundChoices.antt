@@ -1,11 +1,11 @@
 -- The success of words that read as `find`: what it makes, and that the names of its files differ.
 use Rattle.std.proofs.Common.{◌≡◌, ℕ, inl, inr, List, Option, Some, None, refl, subst, lit<}
 use Rattle.ci_io.specs.Outcomes.{Files}
-use Rattle.ci_words.specs.Words.{Reading, ReadsAs, name_at, name_set}
-use Rattle.ci_words.specs.declared.tables.CommandName.TheVariants.{Find}
-use Rattle.ci_words.specs.declared.tables.OptionName.{OptionName}
-use Rattle.ci_words.specs.declared.tables.OptionName.TheVariants as option
-use Rattle.ci_words.proofs.Readings.{one_reading}
+use Rattle.ci_arguments.specs.Words.{Reading, ReadsAs, name_at, name_set}
+use Rattle.ci_arguments.specs.declared.tables.CommandName.TheVariants.{Find}
+use Rattle.ci_arguments.specs.declared.tables.OptionName.{OptionName}
+use Rattle.ci_arguments.specs.declared.tables.OptionName.TheVariants as option
+use Rattle.ci_arguments.proofs.Readings.{one_reading}
 use Rattle.ci_calls.specs.declared.success.Success.{Success}
 use Rattle.ci_calls.specs.Evaluations.{Evaluates}
 use Rattle.ci_find.specs.ChoiceReading.{find_names}

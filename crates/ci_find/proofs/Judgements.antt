@@ -13,7 +13,7 @@ use Rattle.ci_calls.specs.Inputs.{Input}
 use Rattle.ci_calls.specs.Reads.{HaveRead, IsSuccessOf, IsRefusalOf}
 use Rattle.ci_calls.proofs.InputLaws.{HaveRead-append, read_without_memory}
 use Rattle.ci_find.specs.declared.check.ChoiceFiles.{ChoiceFiles}
-use Rattle.ci_find.specs.declared.choice.Profiled.{Profiled as Run}
+use Rattle.ci_find.specs.declared.profiling.Profiled.{Profiled as Run}
 use Rattle.ci_find.specs.Profiled.{Settings, RunFiles, Profiled, IsProfiled, instance_by}
 use Rattle.ci_find.specs.CheckCommand.{CheckFiles, IsCheckMade, IsCheckRefused, unprofiled, rejected}
 use Rattle.ci_find.specs.private.Judged.{IsAnswerOn}

@@ -13,7 +13,7 @@ use Rattle.ci_select.specs.declared.plan.Plan.{Plan}
 use Rattle.ci_select.specs.WrongPlaces.{IsAcceptable, IsFirstWrongPlace, Place, place}
 use Rattle.ci_select.proofs.AlikeLaws.{acceptable_alike}
 use Rattle.ci_select.proofs.VerdictLaws.{verdict_is_one}
-use Rattle.ci_words.specs.Words.{Reading}
+use Rattle.ci_arguments.specs.Words.{Reading}
 use Rattle.ci_calls.specs.declared.refusals.Refusal.{Refusal}
 use Rattle.ci_calls.specs.declared.success.Success.{Success}
 use Rattle.ci_calls.specs.Refusals.{status_of}

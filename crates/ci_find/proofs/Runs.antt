@@ -3,7 +3,7 @@ use Rattle.std.proofs.Common.{◌≡◌, ℕ, inl, inr, List, ◌∷◌, [], Con
 use Rattle.ci_io.specs.CallLists.{Call}
 use Rattle.ci_io.specs.MadeCalls.{AreMade}
 use Rattle.ci_io.specs.Outcomes.{Files, ShelfState}
-use Rattle.ci_words.specs.Words.{Reading, ReadsAs}
+use Rattle.ci_arguments.specs.Words.{Reading, ReadsAs}
 use Rattle.ci_calls.specs.declared.refusals.Refusal.{Refusal}
 use Rattle.ci_calls.specs.declared.refusals.Refusal.TheVariants.{Usage, Read, Write, Put, TooLarge, BadElf, BadTable, Unsupported}
 use Rattle.ci_calls.specs.declared.refusals.Refusal.TheVariants.{TextTouched, BadUnits, BadLog, Rejected, NoMemory, BadAsm}

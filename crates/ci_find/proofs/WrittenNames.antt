@@ -5,15 +5,15 @@ use Rattle.std.specs.Prelude.{AllPairs, get_or, option_map, slice_get, unwrap_or
 use Rattle.std.specs.List.{AllZip, list_all}
 use Rattle.std.proofs.lemmas.Option.{slice_get_within, get_or_from_slice_get}
 use denote.Enum.Bare.{sameb, true_same}
-use Rattle.ci_words.specs.contracts.tables.CommandName.{the_type as command_type}
-use Rattle.ci_words.specs.declared.tables.Access.TheVariants.{Reads, Writes}
-use Rattle.ci_words.specs.declared.tables.CommandName.TheVariants.{Find}
-use Rattle.ci_words.specs.declared.tables.Kind.{Kind}
-use Rattle.ci_words.specs.declared.tables.Kind.TheVariants as kind
-use Rattle.ci_words.specs.declared.tables.OptionName.{OptionName}
-use Rattle.ci_words.specs.Tables.{CommandRow, commands}
-use Rattle.ci_words.specs.Words.{AreApart, IsName, Reading, ReadsAs, Says, Text, Value, file, is_of, name_at, name_in, name_set, number, settings_in, word}
-use Rattle.ci_words.proofs.TableLaws.{true_there}
+use Rattle.ci_arguments.specs.contracts.tables.CommandName.{the_type as command_type}
+use Rattle.ci_arguments.specs.declared.tables.Access.TheVariants.{Reads, Writes}
+use Rattle.ci_arguments.specs.declared.tables.CommandName.TheVariants.{Find}
+use Rattle.ci_arguments.specs.declared.tables.Kind.{Kind}
+use Rattle.ci_arguments.specs.declared.tables.Kind.TheVariants as kind
+use Rattle.ci_arguments.specs.declared.tables.OptionName.{OptionName}
+use Rattle.ci_arguments.specs.Tables.{CommandRow, commands}
+use Rattle.ci_arguments.specs.Words.{AreApart, IsName, Reading, ReadsAs, Says, Text, Value, file, is_of, name_at, name_in, name_set, number, settings_in, word}
+use Rattle.ci_arguments.proofs.TableLaws.{true_there}
 
 -- ---- kinds of files
 

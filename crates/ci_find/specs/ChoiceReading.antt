@@ -1,7 +1,7 @@
 -- For every reader: the names and the settings of a choice, as the words of `find` or `check` have them.
 use Rattle.std.specs.Prelude.{◌≡◌, List}
-use Rattle.ci_words.specs.Words.{Reading, name_at, name_set, number_set, words_set}
-use Rattle.ci_words.specs.declared.tables.OptionName.TheVariants as option
+use Rattle.ci_arguments.specs.Words.{Reading, name_at, name_set, number_set, words_set}
+use Rattle.ci_arguments.specs.declared.tables.OptionName.TheVariants as option
 use Rattle.ci_calls.specs.Inputs.{Input}
 use Rattle.ci_select.specs.declared.plan.Plan.{Plan}
 use Rattle.ci_find.specs.CheckCommand.{CheckNames, check_inputs}

@@ -2,10 +2,10 @@
 -- its reading.
 use Rattle.std.specs.Prelude.{◌≡◌, ℕ, List, [], ◌∷◌, unwrap_or}
 use Rattle.ci_cut.specs.declared.graph.Limits.{Limits}
-use Rattle.ci_words.specs.Words.{Reading, name_at, number_at, word_at, name_set, number_set, word_set, words_set}
-use Rattle.ci_words.specs.declared.tables.CommandName.{CommandName}
-use Rattle.ci_words.specs.declared.tables.CommandName.TheVariants.{Best, Asm, Dis, Run, Blocks, Eval, Find, Check, Load}
-use Rattle.ci_words.specs.declared.tables.OptionName.TheVariants as option
+use Rattle.ci_arguments.specs.Words.{Reading, name_at, number_at, word_at, name_set, number_set, word_set, words_set}
+use Rattle.ci_arguments.specs.declared.tables.CommandName.{CommandName}
+use Rattle.ci_arguments.specs.declared.tables.CommandName.TheVariants.{Best, Asm, Dis, Run, Blocks, Eval, Find, Check, Load}
+use Rattle.ci_arguments.specs.declared.tables.OptionName.TheVariants as option
 use Rattle.ci_calls.specs.declared.refusals.Refusal.{Refusal}
 use Rattle.ci_calls.specs.declared.success.Success.{Success}
 use Rattle.ci_calls.specs.Evaluations.{RefusesNothing}

@@ -2,7 +2,7 @@
 use Rattle.std.specs.Prelude.{◌≡◌, ℕ, ◌⊎◌, IsTrue, List, [], Option, Some, IfSome, Contains, take}
 use Rattle.std.specs.FinMap as map
 use Rattle.ci_io.specs.Outcomes.{Files, Rises, SinkState}
-use Rattle.ci_words.specs.Words.{Reading, ReadsAs, HasNoReading}
+use Rattle.ci_arguments.specs.Words.{Reading, ReadsAs, HasNoReading}
 use Rattle.ci_calls.specs.declared.refusals.Refusal.{Refusal}
 use Rattle.ci_calls.specs.declared.refusals.Refusal.TheVariants.{Usage, Read, Write, Put, NoMemory}
 use Rattle.ci_calls.specs.declared.success.Success.{Success}

@@ -3,7 +3,7 @@ use Rattle.std.specs.Prelude.{◌≡◌, ◌≢◌, ℕ, ◌⊎◌, ⊤, List, [
 use Rattle.ci_io.specs.declared.shelves.ShelfErr.TheVariants as shelf
 use Rattle.ci_io.specs.declared.sinks.SinkErr.TheVariants as sink
 use Rattle.ci_io.specs.CallLists.{Call, Outcome, write, put}
-use Rattle.ci_words.specs.Words.{Reading, ReadsAs, HasNoReading}
+use Rattle.ci_arguments.specs.Words.{Reading, ReadsAs, HasNoReading}
 use Rattle.ci_calls.specs.declared.refusals.Refusal.{Refusal}
 use Rattle.ci_calls.specs.declared.refusals.Refusal.TheVariants.{Usage, Write, NoMemory}
 use Rattle.ci_calls.specs.declared.success.Success.{Success}

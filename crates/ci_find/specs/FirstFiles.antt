@@ -4,8 +4,8 @@ use Rattle.std.specs.Prelude.{◌≡◌, ℕ, ◌≤◌, ◌⊎◌, List, [], �
 use Rattle.ci_io.specs.declared.shelves.ShelfErr.TheVariants as shelf
 use Rattle.ci_io.specs.declared.sinks.SinkErr.TheVariants as sink
 use Rattle.ci_io.specs.CallLists.{Call, write, put}
-use Rattle.ci_words.specs.declared.tables.CommandName.TheVariants.{Find}
-use Rattle.ci_words.specs.Words.{Reading, ReadsAs}
+use Rattle.ci_arguments.specs.declared.tables.CommandName.TheVariants.{Find}
+use Rattle.ci_arguments.specs.Words.{Reading, ReadsAs}
 use Rattle.ci_calls.specs.declared.refusals.Refusal.TheVariants.{Write, Put, NoMemory}
 use Rattle.ci_calls.specs.Called.{IsLinePut}
 use Rattle.ci_calls.specs.Reads.{AreFit, reads_of}

@@ -33,8 +33,8 @@ use Rattle.ci_select.specs.WrongPlaces.{IsAcceptable}
 use Rattle.ci_choice.specs.ChosenFiles.{RunsAlike, rewriting_of}
 use Rattle.ci_choice.specs.ProfiledRuns.{SavesInProfile}
 use Rattle.ci_report.specs.Reports.{IsReport}
-use Rattle.ci_words.specs.declared.tables.CommandName.TheVariants.{Find}
-use Rattle.ci_words.specs.Words.{Reading, ReadsAs}
+use Rattle.ci_arguments.specs.declared.tables.CommandName.TheVariants.{Find}
+use Rattle.ci_arguments.specs.Words.{Reading, ReadsAs}
 use Rattle.ci_calls.specs.Files.{input_bytes}
 use Rattle.ci_calls.specs.Reads.{AreFit, reads_of}
 use Rattle.ci_find.specs.ChoiceReading.{IsPlanOf, settings_of, find_names, find_files}

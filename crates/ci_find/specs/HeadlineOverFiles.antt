@@ -3,8 +3,8 @@
 use Rattle.std.specs.Prelude.{◌≡◌, ℕ, List, Option, Some, IfSome}
 use Rattle.std.specs.FinMap as map
 use Rattle.ci_io.specs.Outcomes.{Files, SinkState}
-use Rattle.ci_words.specs.declared.tables.CommandName.TheVariants.{Find}
-use Rattle.ci_words.specs.Words.{Reading, ReadsAs}
+use Rattle.ci_arguments.specs.declared.tables.CommandName.TheVariants.{Find}
+use Rattle.ci_arguments.specs.Words.{Reading, ReadsAs}
 use Rattle.ci_calls.specs.Finishing.{Takes}
 use Rattle.ci_calls.specs.Inputs.{AreRead}
 use Rattle.ci_find.specs.ChoiceReading.{find_names, find_files}

@@ -7,9 +7,9 @@ use Rattle.ci_machine.specs.declared.ends.End.TheVariants.{Exit}
 use Rattle.ci_vemit.specs.Templates.{modules_of}
 use Rattle.ci_vemit.specs.Texts.{text_of}
 use Rattle.ci_vread.specs.Spelling.{Spell}
-use Rattle.ci_words.specs.Words.{Reading, ReadsAs, name_at}
-use Rattle.ci_words.specs.declared.tables.CommandName.TheVariants.{Find, Check}
-use Rattle.ci_words.specs.declared.tables.OptionName.{OptionName}
+use Rattle.ci_arguments.specs.Words.{Reading, ReadsAs, name_at}
+use Rattle.ci_arguments.specs.declared.tables.CommandName.TheVariants.{Find, Check}
+use Rattle.ci_arguments.specs.declared.tables.OptionName.{OptionName}
 use Rattle.ci_calls.specs.declared.refusals.Refusal.{Refusal}
 use Rattle.ci_calls.specs.declared.refusals.Refusal.TheVariants.{TooLarge}
 use Rattle.ci_calls.specs.declared.success.Success.{Success}

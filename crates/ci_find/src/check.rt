@@ -12,7 +12,7 @@ ghost use Rattle.ci_find.specs.CheckCommand.{check_inputs, IsCheckMade, IsCheckR
 ghost use Rattle.ci_find.specs.private.Chosen.{check_names_of, instance_from, settings_by};
 ghost use Rattle.ci_find.specs.private.Judged.{IsAnswerOn};
 
-use crate::choice::{ChoiceSettings, Profiled, RunFiles, profiled_run, read_run_files};
+use crate::profiling::{ChoiceSettings, Profiled, RunFiles, profiled_run, read_run_files};
 use ci_calls::{Refusal, Success, read_book, read_image, read_new_file, read_units};
 use ci_elf::Image;
 use ci_io::Shelf;

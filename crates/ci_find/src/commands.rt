@@ -1,11 +1,11 @@
 //! Which command the words mean, and what it makes of its files, or why it makes nothing.
 ghost use Rattle.std.specs.Prelude.{◌≡◌, ℕ, Bool, List, IfOk, IfErr, map};
 ghost use Rattle.std.specs.String.{string_bytes};
-ghost use Rattle.ci_words.specs.Ranges.{KeepsRanges, KeepsPlaces};
-ghost use Rattle.ci_words.specs.Read.{reading_of};
+ghost use Rattle.ci_arguments.specs.Ranges.{KeepsRanges, KeepsPlaces};
+ghost use Rattle.ci_arguments.specs.Read.{reading_of};
 ghost use Rattle.ci_calls.specs.Reads.{IsSuccessOf, IsRefusalOf};
-ghost use Rattle.ci_words.specs.declared.tables.OptionName.TheVariants as option;
-ghost use Rattle.ci_words.specs.Words.{words_set};
+ghost use Rattle.ci_arguments.specs.declared.tables.OptionName.TheVariants as option;
+ghost use Rattle.ci_arguments.specs.Words.{words_set};
 ghost use Rattle.ci_find.specs.ChoiceReading.{settings_of, IsPlanOf};
 ghost use Rattle.ci_find.specs.Commands.{inputs_by, MakesBy, RefusesBy};
 ghost use Rattle.ci_find.specs.private.Chosen.{settings_by, KeepsChoiceRanges};
@@ -15,9 +15,10 @@ ghost use Rattle.ci_io.specs.MadeCalls.{AreMade};
 ghost use Rattle.ci_io.specs.Outcomes.{ShelfState};
 
 use crate::check::{self, CheckNames};
-use crate::choice::ChoiceSettings;
 use crate::find::{self, FindNames};
 use crate::load;
+use crate::profiling::ChoiceSettings;
+use ci_arguments::{CommandName, OptionName, Words, WordsErr, read_words};
 use ci_calls::{Refusal, Success};
 use ci_commands::best::BestSettings;
 use ci_commands::run::RunSettings;
@@ -25,7 +26,6 @@ use ci_commands::{asm, best, blocks, dis, eval, run};
 use ci_cut::Limits;
 use ci_io::Shelf;
 use ci_select::Plan;
-use ci_words::{CommandName, OptionName, Words, WordsErr, read_words};
 use std::alloc::Global;
 
 /// The success that is due to the words, over the files of the shelf.

@@ -17,7 +17,7 @@ ghost use Rattle.ci_find.specs.FindCommand.{find_inputs, is_spent, summary, summ
 ghost use Rattle.ci_find.specs.FindCommand.{IsChoice, IsFindMade, IsFindRefused};
 ghost use Rattle.ci_find.specs.private.Chosen.{instance_from, names_of, settings_by};
 
-use crate::choice::{
+use crate::profiling::{
     ChoiceSettings, Profiled, RunFiles, bytes_are_small, profiled_run, read_run_files,
 };
 use ci_calls::{Refusal, Success, Written, read_image};

@@ -21,11 +21,11 @@ pub use laws::{check_accepts_choices, choices_tell_the_best, load_is_one, loads_
 use std::alloc::Global;
 
 mod check;
-mod choice;
 mod commands;
 mod find;
 mod laws;
 mod load;
+mod profiling;
 
 /// Runs the command that the words name, over the files of a shelf, and answers the program's status.
 ///

@@ -7,8 +7,8 @@ ghost use Rattle.ci_lat.specs.Latencies.{usual};
 ghost use Rattle.ci_find.specs.LoadCommand.{byte_digits, load_line, steps_of_load, IsExtendedCost, IsLoadMade};
 ghost use Rattle.ci_find.specs.LoadCommand.{IsPlainRun, IsPlanOfLoad};
 
-use crate::choice::bytes_are_small;
 use crate::find::summary;
+use crate::profiling::bytes_are_small;
 use ci_calls::Success;
 use ci_cut::Limits;
 use ci_elf::{ElfFault, Image, read_vec};

@@ -9,11 +9,11 @@ use Rattle.std.proofs.lemmas.List.{get_or_past, length_push}
 use Rattle.std.proofs.lemmas.List.{get_or-set_same, get_or-set_other, length-set, take_all}
 use Rattle.std.proofs.lemmas.List.Sums.{sum_by-set, sum_by_push}
 use Rattle.std.specs.FinMap as map
-use Rattle.ci_region.specs.Blocks.{with_cell, with_next, with_only}
-use Rattle.ci_region.specs.declared.block.Block.{Block}
+use Rattle.ci_region.specs.CellChanges.{with_cell, with_next, with_only}
+use Rattle.ci_region.specs.declared.cells.Cells.{Cells}
 use Rattle.ci_region.specs.BoundedMap.{BoundedMap, IsLive, used, with_value, without}
-use Rattle.ci_region.specs.declared.block.Cell.{Cell}
-use Rattle.ci_region.specs.declared.block.Cell.TheVariants.{Live, Free}
+use Rattle.ci_region.specs.declared.cells.Cell.{Cell}
+use Rattle.ci_region.specs.declared.cells.Cell.TheVariants.{Live, Free}
 use Rattle.ci_region.specs.private.Cells.{values_in, value_of, is_live, Avoids, IsChain, chain_end}
 use Rattle.ci_region.specs.private.Cells.{chain_link, AreCells}
 use Rattle.ci_region.proofs.ValueLaws.{get-values_in, len-values_in, no_value, values-live, values-push, values-free}
@@ -202,7 +202,7 @@ module _ {T : Type 0} (cells : List (Cell T)) (none : cells ≡ []) where
 
 -- ---- the first cells alone are reached, which may be all
 
-module _ {T : Type 0} (b : Block T) where
+module _ {T : Type 0} (b : Cells T) where
   pub only_all : (count : ℕ) → length b.cells ≡ count → with_only b count ≡ b
   only_all count all =
       let cells = take_all count b.cells (omega (arith, all)) in
@@ -267,7 +267,7 @@ module _ {T : Type 0} (cells : List (Cell T)) (capacity number slot : ℕ) (regi
 
 -- ---- a value is put into the first free cell, whichever that is
 
-module _ {T : Type 0} (block new : Block T) (first used_cells reached next : ℕ) (value : T)
+module _ {T : Type 0} (block new : Cells T) (first used_cells reached next : ℕ) (value : T)
     (are : AreCells block.cells first used_cells reached)
     (free : first < reached → get_or block.cells first (Free 0) ≡ Free next)
     (in_place : first < reached → new ≡ with_cell block first (Live value))
@@ -279,34 +279,34 @@ module _ {T : Type 0} (block new : Block T) (first used_cells reached next : ℕ
   ]
 
   pub same_start : new.start ≡ block.start
-  same_start = either (new.start ≡ block.start) (λ less. ap (λ (b : Block T). b.start) (in_place less))
-      (λ at. ap (λ (b : Block T). b.start) (behind at).1)
+  same_start = either (new.start ≡ block.start) (λ less. ap (λ (b : Cells T). b.start) (in_place less))
+      (λ at. ap (λ (b : Cells T). b.start) (behind at).1)
 
   pub same_room : (later : ℕ) → later ≡ max reached (first + 1) → first < reached + block.left
       → later + new.left ≡ reached + block.left
   same_room later greater room = either (later + new.left ≡ reached + block.left)
-      (λ less. omega (arith, greater, less, ap (λ (b : Block T). b.left) (in_place less)))
-      (λ at. omega (arith, greater, at, room, ap (λ (b : Block T). b.left) (behind at).1))
+      (λ less. omega (arith, greater, less, ap (λ (b : Cells T). b.left) (in_place less)))
+      (λ at. omega (arith, greater, at, room, ap (λ (b : Cells T). b.left) (behind at).1))
 
   pub AreCells-take : (later : ℕ) → later ≡ max reached (first + 1)
       → AreCells new.cells next (used_cells + 1) later
   AreCells-take later greater =
-      let Is : Block T → ℕ → ℕ → Type 0 = λ b n k. AreCells b.cells n (used_cells + 1) k in
+      let Is : Cells T → ℕ → ℕ → Type 0 = λ b n k. AreCells b.cells n (used_cells + 1) k in
       either (Is new next later)
       (λ less. let still : reached ≡ later = omega (arith, greater, less) in
       subst (λ (k : ℕ). Is new next k) still
-      (subst (λ (b : Block T). Is b next reached) (sym (in_place less))
+      (subst (λ (b : Cells T). Is b next reached) (sym (in_place less))
       (AreCells-fill block.cells first used_cells reached are less next (free less) value)))
       (λ at. let more : reached + 1 ≡ later = omega (arith, greater, at) in
       subst (λ (k : ℕ). Is new next k) more
       (subst (λ (n : ℕ). Is new n (reached + 1)) (sym (behind at).0)
-      (subst (λ (b : Block T). Is b (first + 1) (reached + 1)) (sym (behind at).1)
+      (subst (λ (b : Cells T). Is b (first + 1) (reached + 1)) (sym (behind at).1)
       (AreCells-push block.cells first used_cells reached are at value))))
 
   pub region-take : (capacity : ℕ) (region : BoundedMap T) → region_of block.cells capacity ≡ region
       → region_of new.cells capacity ≡ with_value region first value
   region-take capacity region is = either (region_of new.cells capacity ≡ with_value region first value)
-      (λ less. ap (λ (b : Block T). region_of b.cells capacity) (in_place less)
+      (λ less. ap (λ (b : Cells T). region_of b.cells capacity) (in_place less)
       ∙ region-live block.cells capacity first first region is refl value (omega (arith, less, are.all)))
-      (λ at. ap (λ (b : Block T). region_of b.cells capacity) (behind at).1
+      (λ at. ap (λ (b : Cells T). region_of b.cells capacity) (behind at).1
       ∙ region-push block.cells capacity first first region is refl value (omega (arith, at, are.all)))

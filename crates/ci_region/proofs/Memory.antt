@@ -47,11 +47,11 @@ use Rattle.core.proofs.slots.Leases.{P}
 use Rattle.std_alloc.proofs.RawLayout.{as_raw, as_written}
 use Rattle.std_alloc.proofs.RcSteps.{Good, word}
 use Rattle.ci_region.specs.Ownership.{cells_at, cells_lent_at, room_behind}
-use Rattle.ci_region.specs.contracts.block.Block as block
-use Rattle.ci_region.specs.contracts.block.Cell as cell
-use Rattle.ci_region.specs.contracts.block.Lease as lease
-use Rattle.ci_region.specs.declared.block.Cell.{Cell}
-use Rattle.ci_region.specs.declared.block.Cell.TheVariants.{Live}
+use Rattle.ci_region.specs.contracts.cells.Cells as block
+use Rattle.ci_region.specs.contracts.cells.Cell as cell
+use Rattle.ci_region.specs.contracts.cells.Lease as lease
+use Rattle.ci_region.specs.declared.cells.Cell.{Cell}
+use Rattle.ci_region.specs.declared.cells.Cell.TheVariants.{Live}
 use Rattle.std.proofs.lemmas.List.{length_push}
 
 module _ (E : El) where
@@ -61,8 +61,8 @@ module _ (E : El) where
   abbrev pub Cell-row : RattleType
   Cell-row = cell.the_row (R E)
 
-  abbrev pub Block-row : RattleType
-  Block-row = block.the_row (R E)
+  abbrev pub Cells-row : RattleType
+  Cells-row = block.the_row (R E)
 
   abbrev pub cell_size : ℕ
   cell_size = type_size Cell-row

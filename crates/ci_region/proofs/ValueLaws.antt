@@ -11,8 +11,8 @@ use Rattle.std.specs.Cmp.{nat_cmp_total}
 use Rattle.std.specs.FinMap as map
 use Rattle.std.specs.FinMap.{get-empty, len-empty, len-insert}
 use Rattle.ci_region.proofs.MapLaws.{get-insert_same, get-insert_other, is_insert, is_remove}
-use Rattle.ci_region.specs.declared.block.Cell.{Cell}
-use Rattle.ci_region.specs.declared.block.Cell.TheVariants.{Live, Free}
+use Rattle.ci_region.specs.declared.cells.Cell.{Cell}
+use Rattle.ci_region.specs.declared.cells.Cell.TheVariants.{Live, Free}
 use Rattle.ci_region.specs.private.Cells.{values_from, values_in, value_of, is_live, AreFree}
 
 module _ {T : Type 0} where

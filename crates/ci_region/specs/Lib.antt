@@ -1,4 +1,4 @@
-pub mod Blocks
+pub mod CellChanges
 pub mod BoundedMap
 pub mod Lending
 pub mod Ownership

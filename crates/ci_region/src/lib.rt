@@ -10,15 +10,15 @@ ghost use Rattle.std.specs.FinMap as map;
 ghost use Rattle.std.specs.Borrow.{sem};
 ghost use Rattle.ci_region.specs.BoundedMap.{IsLive, used, with_value, without};
 ghost use Rattle.ci_region.specs.private.Cells.{value_of};
-ghost use Rattle.ci_region.specs.Blocks.{LendsLive};
+ghost use Rattle.ci_region.specs.CellChanges.{LendsLive};
 
-use block::{Block, Cell, Lease};
+use cells::{Cell, Cells, Lease};
 use std::alloc::{AllocError, Global};
 use std::marker::Model;
 use std::mem;
 use std_alloc::room::may_hold;
 
-mod block;
+mod cells;
 #[cfg(test)]
 mod tests;
 
@@ -43,7 +43,7 @@ impl Model for Slot {
 /// It holds a pointer, and so is neither `Send` nor `Sync`.
 pub struct Region<T> {
     // The cell of each slot, by number.
-    block: Block<T>,
+    cells: Cells<T>,
     lease: Lease<T, Global>,
     alloc: Global,
     capacity: u32,
@@ -65,17 +65,17 @@ impl<T> Model for Region<T> {
 
     ghost use Rattle.std.specs.Prelude.{◌≡◌, ◌+◌};
     ghost use Rattle.ci_region.specs.private.Cells.{values_in, AreCells};
-    ghost use Rattle.ci_region.specs.Blocks.{IsLeaseOf};
+    ghost use Rattle.ci_region.specs.CellChanges.{IsLeaseOf};
 
     ghost view = { λ r. record {
-      values = values_in r.block.cells;
+      values = values_in r.cells.cells;
       capacity = r.capacity;
     } };
 
     ghost invariant = { λ r.
-        AreCells r.block.cells r.first_free r.used r.reached
-        × (r.reached + r.block.left ≡ r.capacity)
-        × IsLeaseOf r.lease r.block r.capacity r.alloc };
+        AreCells r.cells.cells r.first_free r.used r.reached
+        × (r.reached + r.cells.left ≡ r.capacity)
+        × IsLeaseOf r.lease r.cells r.capacity r.alloc };
 }
 
 // The value of a live cell, for writing.
@@ -94,7 +94,7 @@ impl<T: Drop> Drop for Region<T> {
     fn drop(mut self) {
         self.clear();
         let Region {
-            block,
+            cells,
             lease,
             alloc,
             capacity,
@@ -102,7 +102,7 @@ impl<T: Drop> Drop for Region<T> {
             used: _,
             reached: _,
         } = self;
-        block.free(lease, capacity, &alloc);
+        cells.free(lease, capacity, &alloc);
     }
 }
 
@@ -118,9 +118,9 @@ impl<T> Region<T> {
         if !may_hold::<Cell<T>>(n as usize) {
             return Err(AllocError);
         }
-        let (block, lease) = Block::reserve(&alloc, n)?;
+        let (cells, lease) = Cells::reserve(&alloc, n)?;
         Ok(Region {
-            block,
+            cells,
             lease,
             alloc,
             capacity: n,
@@ -146,7 +146,7 @@ impl<T> Region<T> {
             return Err(value);
         }
         let number = self.first_free;
-        self.first_free = self.block.fill(number, self.reached, value);
+        self.first_free = self.cells.fill(number, self.reached, value);
         self.used += 1;
         self.reached = self.reached.max(number + 1);
         Ok(Slot { number })
@@ -157,7 +157,7 @@ impl<T> Region<T> {
         requires { IsLive self.now slot }
         ensures { map.get self.now.values slot ≡ Some result.now }
     {
-        match self.block.cell(slot.number as usize) {
+        match self.cells.cell(slot.number as usize) {
             Cell::Live(value) => value,
             Cell::Free(_) => unreachable!(),
         }
@@ -169,7 +169,7 @@ impl<T> Region<T> {
         ensures* writes_back { sem 𝓛 (LendsValue T.row self.entry slot result) }
         ensures value { map.get self.old.values slot ≡ Some result.now }
     {
-        value_mut(self.block.cell_mut(slot.number as usize))
+        value_mut(self.cells.cell_mut(slot.number as usize))
     }
 
     /// Takes the value out of a live slot, which is free then.
@@ -179,7 +179,7 @@ impl<T> Region<T> {
         ensures rest { self.new ≡ without self.old slot }
     {
         let next = self.first_free;
-        let cell = self.block.cell_mut(slot.number as usize);
+        let cell = self.cells.cell_mut(slot.number as usize);
         match mem::replace(cell, Cell::Free(next)) {
             Cell::Live(value) => {
                 self.first_free = slot.number;
@@ -196,7 +196,7 @@ impl<T> Region<T> {
         T: Drop,
         ensures { self.new ≡ record self.old { values = map.empty } }
     {
-        self.block.vacate(self.reached);
+        self.cells.vacate(self.reached);
         self.first_free = 0;
         self.used = 0;
         self.reached = 0;

@@ -2,7 +2,7 @@
 ghost use Rattle.std.specs.Prelude.{IfSome};
 ghost use Rattle.ci_region.specs.BoundedMap.{IsLive};
 
-use crate::block::Cell;
+use crate::cells::Cell;
 use crate::{Region, Slot};
 use safe_region::SafeRegion;
 use std::process::Abort;
@@ -17,7 +17,7 @@ fn live_slot<T>(region: &Region<T>, number: u32) -> Option<Slot>
     if number >= region.reached {
         return None;
     }
-    match region.block.cell(number as usize) {
+    match region.cells.cell(number as usize) {
         Cell::Live(_) => Some(Slot { number }),
         Cell::Free(_) => None,
     }

@@ -1,5 +1,5 @@
 //! Words that read as a command, and words that do not.
-use ci_words::{CommandName, OptionName, Words, WordsErr, read_words};
+use ci_arguments::{CommandName, OptionName, Words, WordsErr, read_words};
 use std::alloc::{AllocError, Global};
 use std::process::Abort;
 

@@ -3,11 +3,11 @@ use Rattle.std.specs.Prelude.{◌≤◌}
 use Rattle.ci_lat.specs.Latencies.{Latencies}
 use Rattle.ci_select.specs.declared.plan.Plan.{Plan}
 use Rattle.ci_select.specs.Instances.{Instance, instance_of}
-use Rattle.ci_words.specs.Words.{Reading, number_set}
-use Rattle.ci_words.specs.declared.tables.OptionName.TheVariants as option
+use Rattle.ci_arguments.specs.Words.{Reading, number_set}
+use Rattle.ci_arguments.specs.declared.tables.OptionName.TheVariants as option
 use Rattle.ci_calls.specs.Refused.{name_in}
-use Rattle.ci_find.specs.declared.choice.ChoiceSettings.{ChoiceSettings}
-use Rattle.ci_find.specs.declared.choice.Profiled.{Profiled as Run}
+use Rattle.ci_find.specs.declared.profiling.ChoiceSettings.{ChoiceSettings}
+use Rattle.ci_find.specs.declared.profiling.Profiled.{Profiled as Run}
 use Rattle.ci_find.specs.declared.check.CheckNames.{CheckNames as NamesOfCheck}
 use Rattle.ci_find.specs.declared.find.FindNames.{FindNames as NamesOfFind}
 use Rattle.ci_find.specs.Profiled.{Settings}

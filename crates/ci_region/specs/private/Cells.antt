@@ -3,8 +3,8 @@ use Rattle.std.specs.Prelude.{◌≡◌, ◌≢◌, ℕ, ◌+◌, ◌<◌, Bool,
 use Rattle.std.specs.Prelude.{List, [], ◌∷◌, length, get_or, count_by}
 use Rattle.std.specs.Ordering.{nat_cmp}
 use Rattle.std.specs.FinMap as map
-use Rattle.ci_region.specs.declared.block.Cell.{Cell}
-use Rattle.ci_region.specs.declared.block.Cell.TheVariants.{Live, Free}
+use Rattle.ci_region.specs.declared.cells.Cell.{Cell}
+use Rattle.ci_region.specs.declared.cells.Cell.TheVariants.{Live, Free}
 
 -- the number isn't among these
 abbrev pub Avoids : ℕ → List ℕ → Type 0

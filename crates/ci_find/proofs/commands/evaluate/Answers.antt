@@ -1,8 +1,8 @@
 -- What is due to the reading of the words is due to them, and words with no reading are refused by usage.
 use Rattle.std.proofs.Common.{map, [], refl}
 use Rattle.std.specs.String.{string_bytes}
-use Rattle.ci_words.specs.Read.{reading_of}
-use Rattle.ci_words.specs.Words.{HasNoReading, ReadsAs}
+use Rattle.ci_arguments.specs.Read.{reading_of}
+use Rattle.ci_arguments.specs.Words.{HasNoReading, ReadsAs}
 use Rattle.ci_find.specs.EndsBy.{usage, no_memory}
 use Rattle.ci_find.proofs.DueCalls.{due_by_calls, refused_by_calls}
 use Rattle.ci_find.proofs.commands.evaluate.Goals as goal

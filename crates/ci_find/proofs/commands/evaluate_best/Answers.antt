@@ -3,11 +3,11 @@ use Rattle.std.proofs.Common.{◌≡◌, ◌∙◌, ℕ, inl, Bool, List, Option
 use Rattle.std.proofs.lemmas.Result.{err_from_is_err_and}
 use Rattle.ci_io.specs.Outcomes.{ShelfState}
 use Rattle.ci_cut.specs.declared.graph.Limits.{Limits}
-use Rattle.ci_words.specs.Read.{reading_of}
-use Rattle.ci_words.specs.Tables.{commands}
-use Rattle.ci_words.specs.Words.{Reading, name_at, name_set, number_set, word_set, words_set}
-use Rattle.ci_words.specs.declared.tables.CommandName.TheVariants.{Best}
-use Rattle.ci_words.specs.declared.tables.OptionName.TheVariants.{At, Inputs, Leader, Outputs, Budget, Table}
+use Rattle.ci_arguments.specs.Read.{reading_of}
+use Rattle.ci_arguments.specs.Tables.{commands}
+use Rattle.ci_arguments.specs.Words.{Reading, name_at, name_set, number_set, word_set, words_set}
+use Rattle.ci_arguments.specs.declared.tables.CommandName.TheVariants.{Best}
+use Rattle.ci_arguments.specs.declared.tables.OptionName.TheVariants.{At, Inputs, Leader, Outputs, Budget, Table}
 use Rattle.ci_calls.specs.declared.refusals.Refusal.{Refusal}
 use Rattle.ci_calls.specs.declared.success.Success.{Success}
 use Rattle.ci_calls.specs.Reads.{IsSuccessOf}

@@ -1,6 +1,6 @@
 -- The number of the module is in its range.
 use Rattle.std.proofs.Common.{arith, refl}
-use Rattle.ci_words.specs.Tables.{commands}
+use Rattle.ci_arguments.specs.Tables.{commands}
 use Rattle.ci_find.proofs.commands.evaluate_eval.Goals as goal
 
 pub overflow_cast-number : goal.overflow_cast-number

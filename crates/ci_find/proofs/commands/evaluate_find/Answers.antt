@@ -2,9 +2,9 @@
 use Rattle.std.proofs.Common.{◌≡◌, ◌∙◌, inl, ap, arith, subst, IfOk}
 use Rattle.std.proofs.lemmas.Result.{err_from_is_err_and}
 use Rattle.std.specs.Prelude.{IfErr}
-use Rattle.ci_words.specs.Read.{reading_of}
-use Rattle.ci_words.specs.Words.{name_at, name_set}
-use Rattle.ci_words.specs.declared.tables.OptionName.TheVariants as option
+use Rattle.ci_arguments.specs.Read.{reading_of}
+use Rattle.ci_arguments.specs.Words.{name_at, name_set}
+use Rattle.ci_arguments.specs.declared.tables.OptionName.TheVariants as option
 use Rattle.ci_calls.specs.Reads.{IsSuccessOf, IsRefusalOf}
 use Rattle.ci_calls.proofs.InputLaws.{nothing_read}
 use Rattle.ci_find.specs.ChoiceReading.{find_names, settings_of}

@@ -1,7 +1,7 @@
 -- The seed is in its range, and no file is read.
 use Rattle.std.proofs.Common.{[], ℕ, inl, arith, refl, subst}
 use Rattle.std.proofs.lemmas.Result.{err_from_is_err_and}
-use Rattle.ci_words.specs.Tables.{commands}
+use Rattle.ci_arguments.specs.Tables.{commands}
 use Rattle.ci_calls.proofs.InputLaws.{none_read, nothing_read}
 use Rattle.ci_find.specs.LoadCommand.{IsLoadMade}
 use Rattle.ci_find.proofs.commands.evaluate_load.Goals as goal

@@ -1,7 +1,7 @@
 -- The steps are in their range.
 use Rattle.std.proofs.Common.{arith, refl}
-use Rattle.ci_words.specs.Tables.{commands}
-use Rattle.ci_words.specs.declared.tables.OptionName.TheVariants.{Steps}
+use Rattle.ci_arguments.specs.Tables.{commands}
+use Rattle.ci_arguments.specs.declared.tables.OptionName.TheVariants.{Steps}
 use Rattle.ci_find.proofs.commands.evaluate_run.Goals as goal
 
 pub evaluate-requires : goal.evaluate-requires

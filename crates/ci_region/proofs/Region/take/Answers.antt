@@ -65,7 +65,7 @@ returns-clause-live g c =
 pub returns-clause-was_free : goal.returns-clause-was_free
 returns-clause-was_free g c =
     let free = first_is_free _ _ _ _ c.self.invariant.0 in
-    rw (← c.self.view_is) (get-values_in c.self.inside.block.cells c.self.inside.first_free ∙ free)
+    rw (← c.self.view_is) (get-values_in c.self.inside.cells.cells c.self.inside.first_free ∙ free)
 
 pub returns-clause-below_capacity : goal.returns-clause-below_capacity
 returns-clause-below_capacity g c =

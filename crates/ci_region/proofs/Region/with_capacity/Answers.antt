@@ -4,7 +4,7 @@ use Rattle.ci_region.proofs.Region.with_capacity.Goals as goal
 
 pub invariant_of-result : goal.invariant_of-result
 invariant_of-result g c =
-    let made = c.in_ok-block.ensures in (AreCells-none _ made.0.0, omega (arith, made.0.1), made.1)
+    let made = c.in_ok-cells.ensures in (AreCells-none _ made.0.0, omega (arith, made.0.1), made.1)
 
 pub returns : goal.returns
-returns g c = λ i. record { values = no_values _ c.in_ok-block.ensures.0.0 i; capacity = c.args.n }
+returns g c = λ i. record { values = no_values _ c.in_ok-cells.ensures.0.0 i; capacity = c.args.n }

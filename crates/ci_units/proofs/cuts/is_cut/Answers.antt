@@ -1,4 +1,0 @@
-use Rattle.ci_units.proofs.cuts.is_cut.Goals as goal
-
-pub returns : goal.returns
-returns c = λ is. (_, c.fits.ensures.0 is)

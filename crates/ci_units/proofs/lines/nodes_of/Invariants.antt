@@ -1,5 +1,0 @@
-use Rattle.ci_cut.specs.GraphRules.{AreNodes}
-use Rattle.ci_units.proofs.lines.nodes_of.Given as goal
-
-abbrev pub invariant-loop-digits : goal.invariant-loop-digits
-invariant-loop-digits l = AreNodes l.graph l.nodes
