@@ -8,7 +8,7 @@ use Rattle.ci_lat.proofs.SettingsFit.{IsLatencyTable-table_of, usual_is_table}
 use Rattle.ci_machine.specs.Words.{AreBytes}
 use Rattle.ci_emu.specs.Profiles.{targets_in}
 use Rattle.ci_select.specs.Instances.{AreOfSomeFile}
-use Rattle.ci_choice.specs.ChosenFiles.{IsChosenFile}
+use Rattle.ci_runs.specs.ChosenFiles.{IsChosenFile}
 use Rattle.ci_calls.specs.declared.success.Success.{Success}
 use Rattle.ci_calls.specs.Files.{AreLatencies}
 use Rattle.ci_find.specs.FindCommand.{FindNames, IsFindMade}

@@ -18,7 +18,7 @@ use Rattle.ci_select.proofs.PresentLaws.{blocks_in_order}
 use Rattle.ci_select.proofs.TakenUnits.{takes_name_their_units}
 use Rattle.ci_select.proofs.TruthLaws.{entries_are_true, takes_are_best}
 use Rattle.ci_select.proofs.UnitLaws.{unit_is_one}
-use Rattle.ci_choice.proofs.UnitModules.{module_computes}
+use Rattle.ci_runs.proofs.UnitModules.{module_computes}
 use Rattle.ci_find.specs.Headline.{IsChosenCut, TellTheBest}
 use Rattle.ci_find.specs.Laws.{ChoicesTellTheBest}
 use Rattle.ci_find.specs.Profiled.{instance_by}

@@ -3,8 +3,8 @@ use Rattle.std.proofs.Common.{ℕ, List, refl}
 use Rattle.ci_elf.specs.Rules.{rules, KeepsRules}
 use Rattle.ci_vemit.specs.Templates.{modules_of}
 use Rattle.ci_vemit.specs.Texts.{text_of}
-use Rattle.ci_choice.proofs.ChosenFileLaws.{chosen_files_run_alike}
-use Rattle.ci_choice.proofs.ProfiledRunLaws.{choices_save_in_profile}
+use Rattle.ci_runs.proofs.ChosenFileLaws.{chosen_files_run_alike}
+use Rattle.ci_runs.proofs.ProfiledRunLaws.{choices_save_in_profile}
 use Rattle.ci_select.specs.declared.plan.Plan.{Plan}
 use Rattle.ci_arguments.specs.Words.{Reading}
 use Rattle.ci_calls.specs.declared.success.Success.{Success}

@@ -2,7 +2,7 @@
 use Rattle.std.proofs.Common.{◌≡◌, ◌∙◌, ℕ, ◌/◌, ◌%◌, ◌<◌, List, [], ◌∷◌, ◌++◌, Ok, refl, subst, arith, length}
 use Rattle.std.proofs.lemmas.List.Concat.{flat_map-append}
 use Rattle.ci_reading.specs.Hex.{hex_digit}
-use Rattle.ci_choice.proofs.UnitModules.{table_of_modules}
+use Rattle.ci_runs.proofs.UnitModules.{table_of_modules}
 use Rattle.ci_elf.specs.Executables.{Executable}
 use Rattle.ci_lat.specs.Latencies.{Latencies}
 use Rattle.ci_machine.specs.Extended.{IsExtended, latencies_with}

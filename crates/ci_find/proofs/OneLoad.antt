@@ -44,7 +44,7 @@ use Rattle.ci_select.proofs.PresentIsOne.{blocks_in_order}
 use Rattle.ci_select.proofs.SavingLaws.{savings_are_one}
 use Rattle.ci_select.proofs.UnitLaws.{units_are_one}
 use Rattle.ci_select.proofs.WordIsOne.{word_is_one}
-use Rattle.ci_choice.proofs.UnitModules.{table_of_modules}
+use Rattle.ci_runs.proofs.UnitModules.{table_of_modules}
 use Rattle.ci_calls.specs.declared.success.Success.{Success}
 use Rattle.ci_find.specs.FindCommand.{is_spent, summary}
 use Rattle.ci_find.specs.Laws.{LoadIsOne}

@@ -10,9 +10,9 @@ use Rattle.ci_machine.specs.Touches.{LeavesTextFor}
 use Rattle.ci_emu.specs.Profiles.{IsTouch, targets_in}
 use Rattle.ci_vemit.specs.Templates.{modules_of}
 use Rattle.ci_select.specs.Instances.{instance_of}
-use Rattle.ci_choice.specs.ChosenFiles.{IsChosenFile, rewriting_of}
-use Rattle.ci_choice.specs.ProfiledRuns.{SavesInProfile}
-use Rattle.ci_choice.proofs.ProfiledRunLaws.{choices_save_in_profile}
+use Rattle.ci_runs.specs.ChosenFiles.{IsChosenFile, rewriting_of}
+use Rattle.ci_runs.specs.ProfiledRuns.{SavesInProfile}
+use Rattle.ci_runs.proofs.ProfiledRunLaws.{choices_save_in_profile}
 use Rattle.ci_gen.proofs.ProgramLaws.{plain_words}
 use Rattle.ci_gen.proofs.RunLaws.{programs_exit}
 use Rattle.ci_calls.specs.declared.success.Success.{Success}

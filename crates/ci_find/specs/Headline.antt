@@ -30,8 +30,8 @@ use Rattle.ci_select.specs.LegalBooks.{IsTrueOf}
 use Rattle.ci_select.specs.Savings.{IsSaved}
 use Rattle.ci_select.specs.PresentBlocks.{HasPresentCut, IsPresent, graph_at}
 use Rattle.ci_select.specs.WrongPlaces.{IsAcceptable}
-use Rattle.ci_choice.specs.ChosenFiles.{RunsAlike, rewriting_of}
-use Rattle.ci_choice.specs.ProfiledRuns.{SavesInProfile}
+use Rattle.ci_runs.specs.ChosenFiles.{RunsAlike, rewriting_of}
+use Rattle.ci_runs.specs.ProfiledRuns.{SavesInProfile}
 use Rattle.ci_report.specs.Reports.{IsReport}
 use Rattle.ci_arguments.specs.declared.tables.CommandName.TheVariants.{Find}
 use Rattle.ci_arguments.specs.Words.{Reading, ReadsAs}

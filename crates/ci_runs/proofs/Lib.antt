@@ -10,4 +10,9 @@ pub mod Bound
 pub mod Accounts
 pub mod WholeRuns
 pub mod FoldedFileLaws
+pub mod TakenSavings
+pub mod UnitModules
+pub mod TakenFolds
+pub mod ChosenFileLaws
+pub mod ProfiledRunLaws
 mod Rows

@@ -4,3 +4,5 @@ pub mod Laws
 pub mod Fronts
 pub mod Crossings
 pub mod CrossedFiles
+pub mod ChosenFiles
+pub mod ProfiledRuns

@@ -30,9 +30,9 @@ use Rattle.ci_select.proofs.TakenUnits.{takes_name_their_units}
 use Rattle.ci_select.proofs.UnitLaws.{unit_is_one}
 use Rattle.ci_runs.specs.FoldedFiles.{AreFolds, more, none as none_folded, saved_at, total}
 use Rattle.ci_runs.specs.WholeRuns.{Saving}
-use Rattle.ci_choice.specs.ChosenFiles.{AreSavings, none, of_search, of_take}
-use Rattle.ci_choice.proofs.TakenSavings.{gain_is_one}
-use Rattle.ci_choice.proofs.UnitModules.{module_computes, module_takes}
+use Rattle.ci_runs.specs.ChosenFiles.{AreSavings, none, of_search, of_take}
+use Rattle.ci_runs.proofs.TakenSavings.{gain_is_one}
+use Rattle.ci_runs.proofs.UnitModules.{module_computes, module_takes}
 
 module _
     (instance : Instance) (book : Book) (units : List Unit) (of_file : AreOfSomeFile instance.blocks instance.live)

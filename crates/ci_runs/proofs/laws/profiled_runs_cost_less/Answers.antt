@@ -1,5 +1,5 @@
-use Rattle.ci_choice.proofs.ProfiledRunLaws.{choices_save_in_profile, profiled_runs_are_tame}
-use Rattle.ci_choice.proofs.laws.profiled_runs_cost_less.Goals as goal
+use Rattle.ci_runs.proofs.ProfiledRunLaws.{choices_save_in_profile, profiled_runs_are_tame}
+use Rattle.ci_runs.proofs.laws.profiled_runs_cost_less.Goals as goal
 
 pub returns-clause-tame : goal.returns-clause-tame
 returns-clause-tame c = profiled_runs_are_tame

@@ -38,10 +38,10 @@ use Rattle.ci_select.specs.Savings.{IsSaved}
 use Rattle.ci_runs.specs.WholeRuns.{Rewriting, is_among, saved}
 use Rattle.ci_runs.proofs.Accounts.{saved_same}
 use Rattle.ci_runs.proofs.ListedLeaders.{is_listed, listed_there}
-use Rattle.ci_choice.specs.ChosenFiles.{IsChosenFile, RunsAlike, rewriting_of}
-use Rattle.ci_choice.specs.ProfiledRuns.{ChoicesSaveInProfile, ProfiledRunsAreTame, SavesInProfile}
-use Rattle.ci_choice.proofs.ChosenFileLaws.{chosen_files_run_alike}
-use Rattle.ci_choice.proofs.TakenSavings.{savings_are_listed}
+use Rattle.ci_runs.specs.ChosenFiles.{IsChosenFile, RunsAlike, rewriting_of}
+use Rattle.ci_runs.specs.ProfiledRuns.{ChoicesSaveInProfile, ProfiledRunsAreTame, SavesInProfile}
+use Rattle.ci_runs.proofs.ChosenFileLaws.{chosen_files_run_alike}
+use Rattle.ci_runs.proofs.TakenSavings.{savings_are_listed}
 
 -- ---- where a JALR leads
 

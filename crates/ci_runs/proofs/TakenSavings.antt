@@ -20,7 +20,7 @@ use Rattle.ci_select.proofs.HistoryLaws.{cut_is_one}
 use Rattle.ci_select.proofs.PresentIsOne.{block_of_present, present_is_one}
 use Rattle.ci_select.proofs.PresentLaws.{take_is_due}
 use Rattle.ci_runs.specs.WholeRuns.{Saving, saved}
-use Rattle.ci_choice.specs.ChosenFiles.{AreSavings, none, of_search, of_take}
+use Rattle.ci_runs.specs.ChosenFiles.{AreSavings, none, of_search, of_take}
 
 -- a block has one gain
 pub gain_is_one :

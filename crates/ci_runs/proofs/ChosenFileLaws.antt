@@ -15,10 +15,10 @@ use Rattle.ci_select.proofs.PresentIsOne.{blocks_in_order}
 use Rattle.ci_runs.specs.FoldedFiles.{IsFoldedBlock, IsFoldedFile}
 use Rattle.ci_runs.specs.WholeRuns.{Saving}
 use Rattle.ci_runs.proofs.FoldedFileLaws.{files_run_alike, files_meet, files_cost_less}
-use Rattle.ci_choice.specs.ChosenFiles.{AreSavings, ChosenFilesRunAlike, IsChosenFile, rewriting_of}
-use Rattle.ci_choice.proofs.TakenFolds.{folds_of}
-use Rattle.ci_choice.proofs.TakenSavings.{saved_is_sum, savings_are_listed, savings_of}
-use Rattle.ci_choice.proofs.UnitModules.{table_of_modules}
+use Rattle.ci_runs.specs.ChosenFiles.{AreSavings, ChosenFilesRunAlike, IsChosenFile, rewriting_of}
+use Rattle.ci_runs.proofs.TakenFolds.{folds_of}
+use Rattle.ci_runs.proofs.TakenSavings.{saved_is_sum, savings_are_listed, savings_of}
+use Rattle.ci_runs.proofs.UnitModules.{table_of_modules}
 
 module _
     (instance : Instance) (file : Executable) (book : Book) (units : List Unit) (new : List ℕ)

@@ -23,7 +23,7 @@ use Rattle.ci_select.specs.declared.plan.Plan.{Plan}
 use Rattle.ci_select.specs.Instances.{instance_of}
 use Rattle.ci_select.specs.Savings.{IsSaved}
 use Rattle.ci_runs.specs.WholeRuns.{Rewriting, IsTameFor, is_among}
-use Rattle.ci_choice.specs.ChosenFiles.{IsChosenFile, rewriting_of}
+use Rattle.ci_runs.specs.ChosenFiles.{IsChosenFile, rewriting_of}
 
 -- Of the profile of so many steps of the old executable on the plain machine, with the input, and what the cuts save by
 -- it, the total: this run is tame; where it ended, it is so for any number of steps; and where it ended otherwise than

@@ -1,2 +1,0 @@
-pub mod ChosenFiles
-pub mod ProfiledRuns
