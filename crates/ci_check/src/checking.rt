@@ -40,15 +40,32 @@ pub fn check(graph: &Graph, limits: &Limits, best: Option<Row>, log: &Log) -> Re
     ensures best { OnOk result (MatchOption best (HasNoCut graph.now limits.now)
         (λ cut. IsBest graph.now limits.now (set.contains cut))) }
 {
+    check_reusing(graph, limits, best, log, &mut GraphRows::new())
+}
+
+/// Checks as `check` does, with room for the graph's rows that may have held those of another one: a graph of few nodes
+/// writes few of them.
+pub fn check_reusing(
+    graph: &Graph,
+    limits: &Limits,
+    best: Option<Row>,
+    log: &Log,
+    rows: &mut GraphRows,
+) -> Result<(), Wrong>
+    ensures accepted { IsOk result ↔ IsAccepted graph.now limits.now best log.now }
+    ensures wrong { IfErr result (IsFirstWrong graph.now limits.now best log.now) }
+    ensures best { OnOk result (MatchOption best (HasNoCut graph.now limits.now)
+        (λ cut. IsBest graph.now limits.now (set.contains cut))) }
+{
     let Some(best) = checked(graph, limits, best) else {
         return Err(Wrong { item: 0, reason: 7 });
     };
-    let rows = GraphRows::of(graph);
+    rows.hold(graph);
     let mut delays = [0; 256];
     let mut none = PrefixTerms::none(graph);
     check_tree(
         graph,
-        &rows,
+        rows,
         limits,
         &best,
         log.items(),

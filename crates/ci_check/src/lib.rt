@@ -12,7 +12,7 @@
 //! many prefixes are open (`Need`); those in `specs` say when a log is accepted (`Rules`).
 #![tactic(auto)]
 
-pub use checking::{Wrong, check};
+pub use checking::{Wrong, check, check_reusing};
 pub use laws::each_item_has_one_prefix;
 pub use need::needs_more;
 pub use rules::{is_right, is_right_with};

@@ -27,7 +27,8 @@ pub fn needs_more(graph: &Graph, limits: &Limits, budget: u32) -> bool
         open: 0,
         reached: 0,
     };
-    let rows = GraphRows::of(graph);
+    let mut rows = GraphRows::new();
+    rows.hold(graph);
     let mut delays = [0; 256];
     let mut first = PrefixTerms::none(graph);
     let all = walk(

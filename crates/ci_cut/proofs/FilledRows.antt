@@ -1,9 +1,8 @@
 -- Rows that a loop fills with the numbers that pass a test, from the first number to the last.
-use Rattle.std.proofs.Common.{◌≡◌, ℕ, ◌+◌, ◌<◌, Bool, true, false, not, ◌&&◌, ◌||◌, nat_lt, nat_eq, inl, inr, IsTrue, List, length, replicate}
+use Rattle.std.proofs.Common.{◌≡◌, ℕ, ◌+◌, ◌<◌, Bool, true, false, not, ◌&&◌, ◌||◌, nat_lt, nat_eq, inl, inr, IsTrue, List, length}
 use Rattle.std.proofs.Common.{get_or-set_other, get_or-set_same, refl, sym, ap, ◌∙◌, arith, eq-eqb, eqb-true}
 use Rattle.std.proofs.Math.ListN.{set as list_set}
 use Rattle.std.proofs.lemmas.Bool.{cases_Bool, cases_eq, cases_order, lt-ltb, le-ltb, ne_eqb, and_from, and_parts, and_right}
-use Rattle.std.proofs.lemmas.List.{get_or-replicate}
 use Rattle.std.specs.Ordering.{nat_cmp}
 use Rattle.std.specs.FinSet as set
 use Rattle.ci_word.proofs.NumberLaws.{contains-insert_nat, contains-remove_nat}
@@ -55,19 +54,19 @@ module _ (test : ℕ → Bool) where
 
 -- ---- rows beside each other, each with a test of its own
 
--- the rows at the places have the numbers below k that pass
-abbrev pub AreFilled : (ℕ → ℕ → Bool) → List (set.FinSet nat_cmp) → ℕ → Type 0
-AreFilled test rows k = (j m : ℕ) → j < 256 → set.contains (row_at rows j) m ≡ (nat_lt m k && test j m)
+-- the first rows, so many, have the numbers below k that pass
+abbrev pub AreFilled : (ℕ → ℕ → Bool) → ℕ → List (set.FinSet nat_cmp) → ℕ → Type 0
+AreFilled test size rows k = (j m : ℕ) → j < size → set.contains (row_at rows j) m ≡ (nat_lt m k && test j m)
 
-pub all_filled_none : (test : ℕ → ℕ → Bool) (none : set.FinSet nat_cmp) → none ≡ set.empty → AreFilled test (replicate 256 none) 0
-all_filled_none test none is j m below =
-    filled_none (test j) (row_at (replicate 256 none) j) (get_or-replicate 256 j none set.empty below ∙ is) m
+pub all_filled_none : (test : ℕ → ℕ → Bool) (size : ℕ) (rows : List (set.FinSet nat_cmp))
+    → ((j : ℕ) → j < size → row_at rows j ≡ set.empty) → AreFilled test size rows 0
+all_filled_none test size rows cleared j m below = filled_none (test j) (row_at rows j) (cleared j below) m
 
 -- with the next number in the rows whose tests it passes
-pub all_filled_more : (test : ℕ → ℕ → Bool) (before after : List (set.FinSet nat_cmp)) (places : ℕ → Bool) (k : ℕ)
+pub all_filled_more : (test : ℕ → ℕ → Bool) (size : ℕ) (before after : List (set.FinSet nat_cmp)) (places : ℕ → Bool) (k : ℕ)
     → ((j : ℕ) → places j ≡ test j k) → AreAdded before after places (λ m. nat_eq m k)
-    → AreFilled test before k → AreFilled test after (k + 1)
-all_filled_more test before after places k here more so_far j m below =
+    → AreFilled test size before k → AreFilled test size after (k + 1)
+all_filled_more test size before after places k here more so_far j m below =
     let old = set.contains (row_at before j) m in
     more j m ∙ ap (λ b. (b && nat_eq m k) || old) (here j) ∙ elim (cases_Bool (test j k)) [
       | inl passes ↦

@@ -1,9 +1,8 @@
 -- The rows of a graph, as they are filled from the first node to the last.
 use Rattle.std.proofs.Common.{◌≡◌, ◌≢◌, ℕ, ◌+◌, ◌<◌, ◌≤◌, false, not, ◌&&◌, ◌||◌, nat_eq, ◌⊎◌, ◌↔◌, inl, inr, IsTrue, List, length}
-use Rattle.std.proofs.Common.{Option, Some, None, slice_index_or, replicate, get_or-set_other, get_or-set_same}
+use Rattle.std.proofs.Common.{Option, Some, None, slice_index_or, get_or-set_other, get_or-set_same}
 use Rattle.std.proofs.Common.{add-one, sym, ap, ◌∙◌, arith, true≢false, subst}
 use Rattle.std.proofs.lemmas.Bool.{cases_lt, cases_eq, cases_Bool, or_cases, or_left, or_right, and_from, and_parts, ne_eqb}
-use Rattle.std.proofs.lemmas.List.{get_or-replicate}
 use Rattle.std.specs.Cmp.{nat_cmp_total}
 use Rattle.std.specs.Ordering.{nat_cmp}
 use Rattle.std.proofs.Math.ListN.{set as list_set}
@@ -119,11 +118,12 @@ module _ (graph : FlowGraph) (node : ℕ) where
 -- ---- the last eligible node below a place
 
 module _ (graph : FlowGraph) where
-  pub last_below_start : (place : ℕ) → place ≤ 0 → IsLastBelow graph place (slice_index_or (replicate 257 None) place None)
-  last_below_start place first =
+  pub last_below_start : (last : List (Option ℕ)) → 0 < length last → (place : ℕ) → place ≤ 0
+      → IsLastBelow graph place (slice_index_or (list_set last 0 None) place None)
+  last_below_start last room place first =
       let none : place ≡ 0 = omega arith in
-      subst (IsLastBelow graph place) (sym (get_or-replicate 257 place None None (omega arith)))
-      (ap (λ (p : ℕ). count_below p (is_eligible graph)) none ∙ count_below-zero (is_eligible graph))
+      subst (λ (p : ℕ). IsLastBelow graph p (slice_index_or (list_set last 0 None) p None)) (sym none)
+      (subst (IsLastBelow graph 0) (sym (get_or-set_same last 0 None None room)) (count_below-zero (is_eligible graph)))
 
   pub last_below_here : (k : ℕ) → IsTrue (is_eligible graph k) → IsLastBelow graph (k + 1) (Some k)
   last_below_here k eligible = record {

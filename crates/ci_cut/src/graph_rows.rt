@@ -1,5 +1,5 @@
 //! What a graph tells of its nodes once, for all prefixes.
-ghost use Rattle.std.specs.Prelude.{◌≡◌, ◌↔◌, ℕ, ◌<◌, ◌≤◌, nat_eq, length, slice_index_or, IsTrue, None};
+ghost use Rattle.std.specs.Prelude.{◌≡◌, ◌↔◌, ℕ, ◌<◌, ◌≤◌, nat_eq, [], length, slice_index_or, IsTrue, None};
 ghost use Rattle.std.specs.List.{list_any};
 ghost use Rattle.std.specs.FinSet as set;
 ghost use Rattle.ci_cut.specs.declared.graph.Source.TheVariants.{Made};
@@ -12,7 +12,8 @@ ghost use Rattle.ci_cut.specs.private.AddedRows.{AreAdded};
 use crate::graph::{Graph, Source};
 use ci_word::Row;
 
-/// Rows by the number of a node, and the node that is decided next at each place.
+/// Rows by the number of a node, and the node that is decided next at each place. Behind the nodes they may hold
+/// anything.
 #[derive(Drop)]
 pub struct GraphRows {
     /// The nodes into which this node has an arc.
@@ -26,24 +27,41 @@ pub struct GraphRows {
 }
 
 impl GraphRows {
-    /// The rows of the graph.
-    pub fn of(graph: &Graph) -> GraphRows
-        ensures { AreRowsOf graph.now result }
+    /// The rows of the graph without a node. They may hold those of one graph after the other.
+    pub fn new() -> GraphRows
+        ensures { AreRowsOf (record { nodes = []; read = 0; pad = 0 }) result }
     {
-        let mut successors = [Row::empty(); 256];
-        let mut ancestors = [Row::empty(); 256];
-        let mut readers = [Row::empty(); 256];
-        for (k, node) in graph.nodes().iter().enumerate() {
-            add_at_members(&mut successors, &node.before, k as u8);
-            add_at_makers(&mut readers, node.sources.as_slice(), k as u8);
-            ancestors[k] = ancestors_of(graph, &ancestors, k);
-        }
         GraphRows {
-            successors,
-            ancestors,
-            readers,
-            last_below: last_below(graph),
+            successors: [Row::empty(); 256],
+            ancestors: [Row::empty(); 256],
+            readers: [Row::empty(); 256],
+            last_below: [None; 257],
         }
+    }
+
+    /// Holds the rows of the graph, whatever was held before. Only what belongs to its nodes is written.
+    pub fn hold(&mut self, graph: &Graph)
+        ensures { AreRowsOf graph.now self.new }
+    {
+        let size = graph.nodes().len();
+        clear(&mut self.successors, size);
+        clear(&mut self.readers, size);
+        for (k, node) in graph.nodes().iter().enumerate() {
+            add_at_members(&mut self.successors, &node.before, k as u8);
+            add_at_makers(&mut self.readers, node.sources.as_slice(), k as u8);
+            self.ancestors[k] = ancestors_of(graph, &self.ancestors, k);
+        }
+        hold_last_below(&mut self.last_below, graph);
+    }
+}
+
+/// Makes the first rows empty, so many.
+fn clear(rows: &mut [Row; 256], size: usize)
+    requires { size ≤ 256 }
+    ensures { (j : ℕ) → j < size → row_at rows.new j ≡ set.empty }
+{
+    for k in 0..size {
+        rows[k] = Row::empty();
     }
 }
 
@@ -115,12 +133,12 @@ fn ancestors_of(graph: &Graph, earlier: &[Row; 256], node: usize) -> Row
     row
 }
 
-/// The last eligible node below each place.
-fn last_below(graph: &Graph) -> [Option<u8>; 257]
+/// Holds the last eligible node below each place.
+fn hold_last_below(last: &mut [Option<u8>; 257], graph: &Graph)
     ensures { (place : ℕ) → place ≤ length graph.now.nodes
-        → IsLastBelow graph.now place (slice_index_or result place None) }
+        → IsLastBelow graph.now place (slice_index_or last.new place None) }
 {
-    let mut last = [None; 257];
+    last[0] = None;
     for (k, node) in graph.nodes().iter().enumerate() {
         last[k + 1] = if node.eligible {
             Some(k as u8)
@@ -128,5 +146,4 @@ fn last_below(graph: &Graph) -> [Option<u8>; 257]
             last[k]
         };
     }
-    last
 }

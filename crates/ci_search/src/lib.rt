@@ -5,7 +5,7 @@
 //! than the number of free slots.
 #![tactic(auto)]
 
-pub use searching::{Found, search};
+pub use searching::{Found, search, search_reusing};
 
 mod leaves;
 mod searching;

@@ -8,7 +8,7 @@ ghost use Rattle.ci_cut.specs.Need.{IsNeed, NeedExceeds};
 ghost use Rattle.ci_cut.specs.Representation.{AreRowsOf, AreKeptFrom};
 ghost use Rattle.ci_check.specs.Representation.{IsMeasured};
 ghost use Rattle.ci_log.specs.declared.flattening.LogNode.{LogNode};
-ghost use Rattle.ci_search.specs.Answered.{free, IsAnswer, IsSpent, IsOptimal};
+ghost use Rattle.ci_search.specs.Answered.{free, IsSearchBy};
 ghost use Rattle.ci_search.specs.private.Searched.{IsReady, IsGivenUp};
 ghost use Rattle.ci_search.specs.private.Trees.{IsSearched, IsSearchOf, IsReadyFor, IsSearchWith, answer_of};
 ghost use Rattle.ci_search.specs.private.Waiting.{AreKeptBelow};
@@ -49,19 +49,25 @@ pub enum Found {
 /// there are none of these. As many free slots as a graph has sets of eligible nodes are always enough. A tree takes
 /// as many slots as there are open prefixes that leave a node undecided, and no more.
 pub fn search(graph: &Graph, limits: &Limits, region: &mut Region<LogNode>) -> Found
-    ensures answer { IsAnswer graph.now limits.now region.old region.new result }
-    ensures spent { IsSpent result ↔ NeedExceeds graph.now limits.now (free region.old) }
-    ensures enough { 2 ^ eligible_nodes graph.now ≤ free region.old → ¬ IsSpent result }
-    ensures best { IsOptimal graph.now limits.now result }
-    ensures kept { (slot : ℕ) (node : LogNode) → map.get region.old.values slot ≡ Some node
-        → map.get region.new.values slot ≡ Some node }
-    ensures capacity { region.new.capacity ≡ region.old.capacity }
-    ensures slots { ¬ IsSpent result → IsNeed graph.now limits.now (used region.new - used region.old) }
+    ensures { IsSearchBy graph.now limits.now region.old region.new result }
+{
+    search_reusing(graph, limits, region, &mut GraphRows::new())
+}
+
+/// Searches as `search` does, with room for the graph's rows that may have held those of another one: a graph of few
+/// nodes writes few of them.
+pub fn search_reusing(
+    graph: &Graph,
+    limits: &Limits,
+    region: &mut Region<LogNode>,
+    rows: &mut GraphRows,
+) -> Found
+    ensures { IsSearchBy graph.now limits.now region.old region.new result }
 {
     let _nodes = graph.nodes();
     let budget = region.capacity() - region.used();
     let mut best = Incumbent { cut: None, gain: 0 };
-    let root = search_all(graph, limits, region, &mut best);
+    let root = search_all(graph, limits, region, rows, &mut best);
     answer_of(root, best.cut, budget)
 }
 
@@ -71,6 +77,7 @@ fn search_all(
     graph: &Graph,
     limits: &Limits,
     region: &mut Region<LogNode>,
+    rows: &mut GraphRows,
     best: &mut Incumbent,
 ) -> Option<Child>
     requires none { best.old ≡ record { cut = None; gain = pos 0 } }
@@ -82,13 +89,13 @@ fn search_all(
     if needs_more_beside_others(graph, limits, region) {
         return None;
     }
-    let rows = GraphRows::of(graph);
+    rows.hold(graph);
     let mut delays = [0; 256];
     let mut pending = [Child::Leaf(Item::F); 256];
     let mut first = PrefixTerms::none(graph);
     let Some(root) = search_from(
         graph,
-        &rows,
+        rows,
         limits,
         region,
         &mut first,

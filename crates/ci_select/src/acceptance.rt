@@ -16,8 +16,8 @@ use crate::choosing::bytes_are_small;
 use crate::plan::Plan;
 use crate::rounds::{Due, Rounds};
 use ci_block::Blocks;
-use ci_check::{check, needs_more};
-use ci_cut::Graph;
+use ci_check::{check_reusing, needs_more};
+use ci_cut::{Graph, GraphRows};
 use ci_elf::Image;
 use ci_emu::Profile;
 use ci_lat::Table;
@@ -185,8 +185,9 @@ fn first_wrong(
     ensures follows { OnOk result (FollowsSome rounds.new) }
     ensures instance { instance_in rounds.new ≡ instance_in rounds.old }
 {
+    let mut rows = GraphRows::new();
     for entry in book.entries() {
-        if let Some(wrong) = follow(alloc, rounds, entry)? {
+        if let Some(wrong) = follow(alloc, rounds, &mut rows, entry)? {
             return Ok(Some(wrong));
         }
     }
@@ -206,13 +207,18 @@ fn wrong_end(due: Due, finish: Finish) -> Option<Wrong>
 }
 
 /// Follows the entry, if it is right, or answers what is wrong.
-fn follow(alloc: Global, rounds: &mut Rounds, entry: &Entry) -> Result<Option<Wrong>, AllocError>
+fn follow(
+    alloc: Global,
+    rounds: &mut Rounds,
+    rows: &mut GraphRows,
+    entry: &Entry,
+) -> Result<Option<Wrong>, AllocError>
     requires { FollowsSome rounds.old }
     ensures judged { IfOk result (IsJudged rounds.old rounds.new entry.now) }
     ensures instance { instance_in rounds.new ≡ instance_in rounds.old }
 {
     match rounds.due() {
-        Due::Search(leader) => follow_search(alloc, rounds, leader, entry),
+        Due::Search(leader) => follow_search(alloc, rounds, rows, leader, entry),
         Due::Take { leader, unit } => follow_take(alloc, rounds, leader, unit, entry),
         Due::End(_) => Ok(Some(nowhere(10))),
     }
@@ -222,6 +228,7 @@ fn follow(alloc: Global, rounds: &mut Rounds, entry: &Entry) -> Result<Option<Wr
 fn follow_search(
     alloc: Global,
     rounds: &mut Rounds,
+    rows: &mut GraphRows,
     leader: u32,
     entry: &Entry,
 ) -> Result<Option<Wrong>, AllocError>
@@ -232,7 +239,7 @@ fn follow_search(
     ensures instance { instance_in rounds.new ≡ instance_in rounds.old }
 {
     let graph = rounds.graph(alloc)?;
-    if let Some(wrong) = wrong_search(&graph, rounds.plan(), leader, entry) {
+    if let Some(wrong) = wrong_search(&graph, rounds.plan(), rows, leader, entry) {
         return Ok(Some(wrong));
     }
     rounds.follow_search(alloc, graph, entry)?;
@@ -240,15 +247,21 @@ fn follow_search(
 }
 
 /// What is wrong of the entry, where the search of the block of this leader is due, which has this graph.
-fn wrong_search(graph: &Graph, plan: &Plan, leader: u32, entry: &Entry) -> Option<Wrong>
+fn wrong_search(
+    graph: &Graph,
+    plan: &Plan,
+    rows: &mut GraphRows,
+    leader: u32,
+    entry: &Entry,
+) -> Option<Wrong>
     ensures { IsSearchJudged graph.now plan.now leader entry.now result }
 {
     if leader_of(entry) != leader {
         return Some(another(leader, 8));
     }
     match entry {
-        Entry::Best { cut, log, .. } => wrong_item(graph, plan, leader, Some(*cut), log),
-        Entry::Without { log, .. } => wrong_item(graph, plan, leader, None, log),
+        Entry::Best { cut, log, .. } => wrong_item(graph, plan, rows, leader, Some(*cut), log),
+        Entry::Without { log, .. } => wrong_item(graph, plan, rows, leader, None, log),
         Entry::Spent { budget, .. } => {
             if *budget == plan.budget && needs_more(graph, &plan.limits, plan.budget) {
                 None
@@ -276,6 +289,7 @@ fn leader_of(entry: &Entry) -> u32
 fn wrong_item(
     graph: &Graph,
     plan: &Plan,
+    rows: &mut GraphRows,
     leader: u32,
     best: Option<Row>,
     log: &Log,
@@ -284,7 +298,7 @@ fn wrong_item(
         (λ wrong. (wrong.leader ≡ leader)
         × IsFirstWrong graph.now plan.now.limits best log.now (record { item = wrong.item; reason = wrong.reason })) }
 {
-    match check(graph, &plan.limits, best, log) {
+    match check_reusing(graph, &plan.limits, best, log, rows) {
         Ok(()) => None,
         Err(wrong) => Some(Wrong {
             leader,

@@ -18,14 +18,14 @@ use crate::plan::Plan;
 use crate::rounds::{Due, Rounds};
 use crate::taken::Taken;
 use ci_block::Blocks;
-use ci_cut::Graph;
+use ci_cut::{Graph, GraphRows};
 use ci_elf::Image;
 use ci_emu::Profile;
 use ci_lat::Table;
 use ci_live::LiveSets;
 use ci_log::{Entry, LogBook, LogNode, flatten};
 use ci_region::Region;
-use ci_search::{Found, search};
+use ci_search::{Found, search_reusing};
 use ci_unit::UnitTable;
 use std::alloc::{AllocError, Global};
 
@@ -110,12 +110,13 @@ fn book_of(alloc: Global, rounds: &mut Rounds) -> Result<(LogBook, Vec<Taken>), 
     ensures instance { instance_in rounds.new ≡ instance_in rounds.old }
 {
     let mut region = Region::with_capacity(alloc, rounds.plan().budget)?;
+    let mut rows = GraphRows::new();
     let mut entries = Vec::new(alloc);
     let mut takes = Vec::new(alloc);
     loop {
         match rounds.due() {
             Due::Search(leader) => {
-                entries.push(search_block(alloc, rounds, &mut region, leader)?)?;
+                entries.push(search_block(alloc, rounds, &mut region, &mut rows, leader)?)?;
             }
             Due::Take { leader, unit } => {
                 takes.push(rounds.taken(alloc, unit))?;
@@ -133,6 +134,7 @@ fn search_block(
     alloc: Global,
     rounds: &mut Rounds,
     region: &mut Region<LogNode>,
+    rows: &mut GraphRows,
     leader: u32,
 ) -> Result<Entry, AllocError>
     requires due { (history : History) × Follows history rounds.old
@@ -150,7 +152,7 @@ fn search_block(
     ensures budget { region.new.capacity ≡ region.old.capacity }
 {
     let graph = rounds.graph(alloc)?;
-    let entry = search_graph(alloc, &graph, rounds.plan(), region, leader)?;
+    let entry = search_graph(alloc, &graph, rounds.plan(), region, rows, leader)?;
     rounds.follow_search(alloc, graph, &entry)?;
     Ok(entry)
 }
@@ -161,6 +163,7 @@ fn search_graph(
     graph: &Graph,
     plan: &Plan,
     region: &mut Region<LogNode>,
+    rows: &mut GraphRows,
     leader: u32,
 ) -> Result<Entry, AllocError>
     requires { region.old.capacity ≡ plan.now.budget }
@@ -172,7 +175,7 @@ fn search_graph(
     ensures budget { region.new.capacity ≡ region.old.capacity }
 {
     region.clear();
-    Ok(match search(graph, &plan.limits, region) {
+    Ok(match search_reusing(graph, &plan.limits, region, rows) {
         Found::Best { cut, root } => Entry::Best {
             leader,
             cut,

@@ -5,10 +5,10 @@ use crate::common::set_of;
 use crate::graphs::{DEFAULT, ONE_OUTPUT, Part, SUM, add, best_in, graph_of, sums, two_sums};
 use ci_check::{check, needs_more};
 use ci_cut::Source::{Entry, Made};
-use ci_cut::{Graph, Limits, Source};
+use ci_cut::{Graph, GraphRows, Limits, Source};
 use ci_log::{Child, Item, LogNode, flatten};
 use ci_region::Region;
-use ci_search::{Found, search};
+use ci_search::{Found, search, search_reusing};
 use ci_word::Row;
 use std::alloc::{AllocError, Global};
 use std::process::Abort;
@@ -308,5 +308,34 @@ fn slot_that_was_live(rt: HostRuntime) -> Result<(), Fail> {
     assert_eq!(rt; spent_beside(&rt, rt.alloc(), &pair, 2)?, Some(1));
     assert_eq!(rt; spent_beside(&rt, rt.alloc(), &pair, 3)?, None);
     drop(pair);
+    Ok(())
+}
+
+/// The best cut that a search tells with rows that may have held those of another graph.
+fn best_reusing(
+    rt: &impl Abort,
+    alloc: Global,
+    graph: &Graph,
+    rows: &mut GraphRows,
+) -> Result<Option<Row>, AllocError> {
+    let mut region = Region::with_capacity(alloc, 1024)?;
+    let found = search_reusing(graph, &ONE_OUTPUT, &mut region, rows);
+    drop(region);
+    Ok(match found {
+        Found::Best { cut, .. } => Some(cut),
+        Found::NoCut { .. } => None,
+        Found::Spent { .. } => panic!(rt; "spent"),
+    })
+}
+
+#[test]
+fn rows_that_held_a_greater_graph(rt: HostRuntime) -> Result<(), AllocError> {
+    let mut rows = GraphRows::new();
+    for seed in 0..110u32 {
+        let graph = generated(&rt, rt.alloc(), (10 - seed % 11) as u8, seed)?;
+        let best = best_reusing(&rt, rt.alloc(), &graph, &mut rows)?;
+        assert_eq!(rt; best, best_in(&rt, &graph, &ONE_OUTPUT));
+        drop(graph);
+    }
     Ok(())
 }

@@ -14,17 +14,17 @@ use Rattle.ci_select.proofs.choosing.search_graph.Goals.{in-Best+in_ok-flatten-i
 pub flatten-requires-clause-few : goal.flatten-requires-clause-few
 flatten-requires-clause-few c =
     let few = few_used c.args.region.now c.clear.new.self c.clear.ensures c.args.graph.now c.args.plan.now.limits
-    c.search.new.region (Best c.in-Best.cut c.in-Best.root) c.in-Best.ensures.spent c.in-Best.ensures.slots (λ is. is) in
+    c.search_reusing.new.region (Best c.in-Best.cut c.in-Best.root) c.in-Best.ensures.spent c.in-Best.ensures.slots (λ is. is) in
     omega (arith, few, c.requires, c.args.plan.now.budget_in_range.1)
 
 pub flatten-requires-in-NoCut-clause-few : goal.flatten-requires-in-NoCut-clause-few
 flatten-requires-in-NoCut-clause-few c =
     let few = few_used c.args.region.now c.clear.new.self c.clear.ensures c.args.graph.now c.args.plan.now.limits
-    c.search.new.region (NoCut c.in-NoCut.root) c.in-NoCut.ensures.spent c.in-NoCut.ensures.slots (λ is. is) in
+    c.search_reusing.new.region (NoCut c.in-NoCut.root) c.in-NoCut.ensures.spent c.in-NoCut.ensures.slots (λ is. is) in
     omega (arith, few, c.requires, c.args.plan.now.budget_in_range.1)
 
 pub returns-clause-searched : goal.returns-clause-searched
-returns-clause-searched c = elim c.match-search.branch [
+returns-clause-searched c = elim c.match-search_reusing.branch [
   | in-Best+in_ok-flatten-in-Best w ↦
       let log = w.in-Best.ensures.answer in
       subst (λ (entry : Entry). IsSearched c.args.graph.now c.args.plan.now entry) (sym w.result-is)
@@ -46,7 +46,7 @@ returns-clause-given_up c =
     let graph = c.args.graph.now in
     let plan = c.args.plan.now in
     let all = all_free c.args.region.now c.clear.new.self c.clear.ensures ∙ c.requires in
-    elim c.match-search.branch [
+    elim c.match-search_reusing.branch [
       | in-Best+in_ok-flatten-in-Best w ↦
           subst (λ (entry : Entry). IsGivenUp entry ↔ NeedExceeds graph plan.limits plan.budget) (sym w.result-is)
           (subst (λ (budget : ℕ). ⊥ ↔ NeedExceeds graph plan.limits budget) all w.in-Best.ensures.spent)

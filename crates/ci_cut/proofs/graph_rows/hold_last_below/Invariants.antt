@@ -1,6 +1,6 @@
 use Rattle.std.proofs.Common.{◌≡◌, ℕ, ◌≤◌, length, slice_index_or, None}
 use Rattle.ci_cut.specs.Representation.{IsLastBelow}
-use Rattle.ci_cut.proofs.graph_rows.last_below.Given as goal
+use Rattle.ci_cut.proofs.graph_rows.hold_last_below.Given as goal
 
 abbrev pub invariant-loop-k : goal.invariant-loop-k
 invariant-loop-k l = record {

@@ -2,11 +2,14 @@ use Rattle.std.proofs.Common.{◌+◌, ◌<◌, None, refl, ap, ◌∙◌, arith
 use Rattle.ci_cut.specs.Representation.{IsLastBelow}
 use Rattle.ci_cut.proofs.NodeLaws.{node_there}
 use Rattle.ci_cut.proofs.WholeRows.{last_below_start, last_below_here, last_below_earlier, written_more}
-use Rattle.ci_cut.proofs.graph_rows.last_below.Goals as goal
-use Rattle.ci_cut.proofs.graph_rows.last_below.Goals.{then-node, else-node}
+use Rattle.ci_cut.proofs.graph_rows.hold_last_below.Goals as goal
+use Rattle.ci_cut.proofs.graph_rows.hold_last_below.Goals.{then-node, else-node}
 
 pub loop-k-init : goal.loop-k-init
-loop-k-init c = record { size = refl; told = last_below_start c.args.graph.now }
+loop-k-init c = record {
+  size = length-set c.args.last.now 0 None ∙ c.told-last;
+  told = last_below_start c.args.graph.now c.args.last.now (omega (arith, c.told-last));
+}
 
 pub loop-k-preserved : goal.loop-k-preserved
 loop-k-preserved c =

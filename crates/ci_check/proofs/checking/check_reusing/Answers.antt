@@ -5,7 +5,7 @@ use Rattle.ci_log.specs.Trees.{IsTree}
 use Rattle.ci_check.specs.Rules.{Given, IsGood, stations, IsRightAt, IsAccepted, IsFirstWrongIn}
 use Rattle.ci_check.proofs.Acceptance.{accepted_is_best}
 use Rattle.ci_check.proofs.TreeWalk.{not_all}
-use Rattle.ci_check.proofs.checking.check.Goals as goal
+use Rattle.ci_check.proofs.checking.check_reusing.Goals as goal
 
 pub check_tree-requires-clause-represents : goal.check_tree-requires-clause-represents
 check_tree-requires-clause-represents c = ([], c.none-none.ensures _)
