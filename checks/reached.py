@@ -52,12 +52,12 @@ class Sources:
         return definitions.Definitions(name, self.text(name))
 
     def all_definitions(self):
-        """The names of all files of definitions."""
+        """The names of all files of definitions, without those that only list others."""
         for crate in self.crates:
-            folder = f"crates/{crate}/specs"
-            if os.path.isdir(os.path.join(TOP, folder)):
-                yield from (f"{folder}/{file}" for file in sorted(os.listdir(os.path.join(TOP, folder)))
-                            if file.endswith(".antt") and file != "Lib.antt")
+            for folder in (f"crates/{crate}/specs", f"crates/{crate}/specs/private"):
+                if os.path.isdir(os.path.join(TOP, folder)):
+                    yield from (f"{folder}/{file}" for file in sorted(os.listdir(os.path.join(TOP, folder)))
+                                if file.endswith(".antt") and file not in ("Lib.antt", "private.antt"))
 
     def declaring_of(self, crate, name, module=()):
         """The file of a crate's code that declares an item: that of the module, or, of none, the only one; or None."""

@@ -12,10 +12,10 @@ commands do. What the toolchain's library and its ports define isn't counted.
 Without `--claim`, the size of each claim is printed, and the names of all definitions are looked up. With it, what the
 claim reaches is printed file by file, each behind those that it stands on.
 
-It ends with status 1 where a name leads nowhere or into a proof, where a claim reaches an item of a file whose first
-comment says that it serves private contracts or holds lemmas, where the points of README.md aren't those of this
-script, where a clause of the contract carries none of them, and where README.md has other sizes; and where a made-up
-change of a definition isn't noticed.
+It ends with status 1 where a name leads nowhere or into a proof, where a claim reaches an item of `specs/private/`,
+where the first comment of a file says something else than its folder of whom it is for, where the points of README.md
+aren't those of this script, where a clause of the contract carries none of them, and where README.md has other sizes;
+and where a made-up change of a definition isn't noticed.
 """
 import argparse
 import dataclasses
@@ -28,7 +28,9 @@ from reached import Fault
 RUN = "crates/ci_find/src/lib.rt", "run"
 # The table of what commands do, of which a claim may need the cases of some commands alone.
 COMMANDS = "crates/ci_find/specs/Commands.antt", "call_by"
-PRIVATE = re.compile(r"private contracts|no public clause|^lemmas\b|the model of `\w+` alone", re.I)
+# The folder of the definitions that serve private contracts, models or lemmas, and how their first comments say so.
+PRIVATE = "/specs/private/"
+TOLD_PRIVATE = re.compile(r"private contracts|no public clause|^lemmas\b|the model of `\w+` alone", re.I)
 CHOICES = "Find", "Check"
 LAWS = "crates/ci_find/src/laws.rt"
 READERS = "Best", "Blocks", "Run", *CHOICES
@@ -90,12 +92,19 @@ def unresolved(reader):
                 yield str(fault)
 
 
-def private(reader, found):
-    """The files of what is reached whose first comment says that they are for nobody above."""
+def private(found):
+    """What is reached of files of `specs/private/`, which are for nobody above."""
     for file in sorted({file for file, _ in found.items}):
-        if PRIVATE.search(reader.sources.definitions(file).comment):
+        if PRIVATE in file:
             names = ", ".join(sorted(name for other, name in found.items if other == file))
-            yield f"{file} isn't for public contracts, by its first comment: {names}"
+            yield f"{file} isn't for public contracts: {names}"
+
+
+def misplaced(reader, files):
+    """The files of definitions whose first comment says something else than their folder of whom they are for."""
+    for file in sorted(files):
+        if (PRIVATE in file) != bool(TOLD_PRIVATE.search(reader.sources.definitions(file).comment)):
+            yield f"{file} says by its first comment something else than by its folder of whom it is for"
 
 
 def points(found):
@@ -124,8 +133,9 @@ def uncarried(reader, contract):
 
 
 def counts(reader, found):
-    """How many items are reached, with how many lines, how many names lead nowhere, and how many files are private."""
-    return len(found.items), sum(found.items.values()), len(found.faults), len(list(private(reader, found)))
+    """How many items are reached, with how many lines, and how many names lead nowhere and how many files are misplaced."""
+    files = {file for file, _ in found.items}
+    return len(found.items), sum(found.items.values()), len(found.faults), len(list(misplaced(reader, files)))
 
 
 def untold(reader, found):
@@ -214,12 +224,13 @@ def main():
     chosen = parser.parse_args().claim
     reader = reached.Reader(reached.Sources())
     found = {name: find(reader, claim) for name, claim in CLAIMS.items() if chosen in (None, name)}
-    faults = [fault for one in found.values() for fault in (*one.faults, *private(reader, one))]
+    faults = [fault for one in found.values() for fault in (*one.faults, *private(one))]
     if chosen:
         show(reader.sources, found[chosen])
     summary(reader.sources, found)
     if not chosen:
-        faults += [*unresolved(reader), *points(found), *uncarried(reader, found["contract"]),
+        faults += [*unresolved(reader), *misplaced(reader, reader.sources.all_definitions()), *points(found),
+                   *uncarried(reader, found["contract"]),
                    *untold(reader, found["headline"])]
     for fault in dict.fromkeys(faults):
         print(fault)
