@@ -2,8 +2,8 @@
 import re
 import subprocess
 
-from instructions import mnemonic
-from latencies import MEMORY
+from readers.instructions import mnemonic
+from readers.latencies import MEMORY
 from program import disassembled, tool
 
 # Colours by the kind of a part, in light and in dark surroundings: what fills it, and its lines and letters.

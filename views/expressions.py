@@ -1,7 +1,7 @@
 """What a unit computes, as expressions: read from its module as `find` writes it."""
 import re
 
-from templates import LINES
+from readers.templates import LINES
 
 WIRE = re.compile(r"^wire \[(\d+):0\] ([a-z])(\d+);\nassign \2\3 = (.*);$", re.M)
 TERM = re.compile(r"([a-e])|t(\d+)|32'h([0-9a-f]{8})")

@@ -12,10 +12,6 @@ import textwrap
 
 TOP = os.path.dirname(os.path.dirname(os.path.realpath(__file__)))
 FIND_OPTIONS = "in", "out", "count", "budget", "steps", "input", "table", "leader"
-# Prints the fault line of a call, by all that it printed and its status, and behind a zero byte what that says.
-IN_WORDS = r'''root=$1; . "$root/script/explain.sh"; IFS= read -r -d '' printed; call=$(call_of "${@:3}")
-line=$(fault_line "$printed" "$2" "$call" && echo .) || exit; line=${line%$'\n'.}
-printf '%s\0' "$line"; explain_fault "$line" "$call"'''
 COLUMNS = 80
 # The values of the options that are no numbers and no files.
 ADDRESS = re.compile("0x[0-9A-Fa-f]{1,8}")
@@ -34,8 +30,7 @@ class Refused(Exception):
 
 @functools.cache
 def program():
-    """The built program: the one that the variable RUMTSAFI of the environment names, or what `./rumtsafi` runs, which
-    builds it where it has to be built."""
+    """The program that the variable RUMTSAFI of the environment names, or that `./rumtsafi` runs."""
     script = os.path.join(TOP, "rumtsafi")
     if os.environ.get("RUMTSAFI"):
         return os.path.abspath(os.environ["RUMTSAFI"])
@@ -52,10 +47,11 @@ def call(*words):
         fail(f"{program()} can't be run: {error.strerror}")
     if done.returncode == 0:
         return done.stdout
-    said = subprocess.run(["bash", "-c", IN_WORDS, "bash", TOP, str(done.returncode), *words], stdout=subprocess.PIPE,
-                          input=done.stdout.replace(b"\0", b"") + b"\0", check=False).stdout.decode(errors="replace")
-    line, _, meaning = said.partition("\0")
-    raise Refused(line or done.stdout.decode(errors="replace").rstrip() or f"status {done.returncode}", meaning.strip())
+    said = subprocess.run(["awk", "-f", os.path.join(TOP, "script", "explain.awk"), "--", "fault", str(done.returncode),
+                           *words], env={**os.environ, "TOP": TOP}, stdout=subprocess.PIPE,
+                          input=done.stdout.replace(b"\0", b"") + b".\n", check=False).stdout.decode(errors="replace")
+    line = done.stdout.decode(errors="replace").rstrip()
+    raise Refused(line or f"status {done.returncode}", said.partition(": ")[2].rstrip())
 
 
 def told(*words):

@@ -3,10 +3,10 @@ import re
 import struct
 from collections import Counter, namedtuple
 
-import executable
-import folds
-from folds import is_cput, is_cread, is_unit
-from instructions import mnemonic, ways
+from readers import executable
+from readers import folds
+from readers.folds import is_cput, is_cread, is_unit
+from readers.instructions import mnemonic, ways
 from program import fail, told
 
 # The type of a symbol that is a function.

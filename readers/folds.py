@@ -1,9 +1,9 @@
 """A naive reading of what a folded block is, by sets of nodes and all walks along the arcs of its graph, where words
 may be units with their `cput` and `cread`. It shares nothing with the program, so that the checks can compare the
 two."""
-import instructions
-from instructions import mnemonic
-from latencies import MEMORY, NO_OPERATION, may_join
+from readers import instructions
+from readers.instructions import mnemonic
+from readers.latencies import MEMORY, NO_OPERATION, may_join
 
 # The opcodes of unit words, and of `cread` and `cput`.
 UNIT, HIDDEN = 0x0B, 0x2B

@@ -2,7 +2,7 @@
 a table gives. It shares nothing with the program, so that the checks can compare the two."""
 from collections import namedtuple
 
-from instructions import LOADS, STORES, mnemonic, writes
+from readers.instructions import LOADS, STORES, mnemonic, writes
 
 # A class: its key, its instructions, their usual latency in cycles, and their usual delay in thousandths of a cycle,
 # which only those have that may join a cut.
