@@ -1,9 +1,8 @@
-#!/usr/bin/env python3
 """Times `rumtsafi best` on long blocks.
 
-    best.py [PROGRAM]
+    python3 -m benchmarks.best [PROGRAM]
 
-PROGRAM is the built program; with none the script at the top of the repository builds it, if need be. The blocks are
+PROGRAM is bin/rumtsafi if left out. The blocks are
 chains of one `xor`, each of which reads the one before it, and those of LEAST to LONGEST instructions in what GCC makes
 of ciphers.c, each at the default budget, with each of PORTS. A line for each has the seconds of the faster of two runs,
 the greatest resident memory (which is this script's own where the program takes less), the beginning of the answer, and
@@ -22,7 +21,7 @@ import struct
 import sys
 import tempfile
 
-from common import CROSS, bare_executable, build, faster, measure, missing, port_name, port_words, program
+from benchmarks.common import CROSS, bare_executable, faster, measure, missing, port_name, port_words, program
 
 XOR = 0x00A2C2B3
 LEAST, LONGEST, SMALL = 100, 256, 64
@@ -131,7 +130,6 @@ def rates(*words):
 
 
 def main():
-    build()
     with tempfile.TemporaryDirectory() as folder:
         passed, absent = chains(folder), missing(CROSS)
         if absent:

@@ -1,9 +1,8 @@
-#!/usr/bin/env python3
 """Times `rumtsafi blocks` on executables with as much text as may be, and `rumtsafi best --at` on the longest block.
 
-    blocks.py [PROGRAM]
+    python3 -m benchmarks.blocks [PROGRAM]
 
-PROGRAM is the built program; with none the script at the top of the repository builds it, if need be. Each shape of
+PROGRAM is bin/rumtsafi if left out. Each shape of
 text is made with WORDS words and with a quarter of them. A line for each file has the seconds of the faster of two
 runs, the greatest resident memory and the number of blocks; behind that of the longer text stand how many times longer
 it took, and what misses its limit. `best --at` and `blocks` on a block of 256 instructions, the fastest of RUNS runs
@@ -15,8 +14,9 @@ import struct
 import sys
 import tempfile
 
-from common import build, executable, faster, measure, program, write
-from instructions import with_offset
+from benchmarks.common import faster, measure, program, write
+from readers import executable
+from readers.instructions import with_offset
 
 WORDS, BASE = 262_144, 0x10000
 SECONDS, MEBIBYTES, TIMES = 2.0, 300, 5
@@ -177,7 +177,6 @@ def graph_in_time(file):
 
 
 def main():
-    build()
     with tempfile.TemporaryDirectory() as folder:
         file = os.path.join(folder, "file")
         passed = [compare(shape, file) for shape in SHAPES]

@@ -1,10 +1,7 @@
-"""What the benchmarks share: where the program is, how files are made, and how long a call takes and how much memory.
-The modules of checks/ are found from here on."""
+"""What the benchmarks share: where the program is, how files are made, and what a call takes of time and memory."""
 import functools
 import multiprocessing
 import os
-import re
-import shutil
 import signal
 import subprocess
 import sys
@@ -12,13 +9,12 @@ import tempfile
 import threading
 import time
 
+from checks import common
+from checks.common import SHIPPED
+
 # The seconds after which a call is stopped.
 PATIENCE = 120
 HERE = os.path.dirname(os.path.abspath(__file__))
-TOP = os.path.join(HERE, "..")
-sys.path.insert(0, os.path.join(TOP, "checks"))
-import shared  # noqa: E402, F401  (these stand in other folders)
-import executable  # noqa: E402, F401
 
 # The compilers, each with the Debian package that has it.
 CROSS, HOST = "riscv64-unknown-elf-gcc", "gcc"
@@ -28,17 +24,8 @@ TARGET = ["-march=rv32im", "-mabi=ilp32", "-ffreestanding", "-nostdlib", "-nosta
 
 @functools.cache
 def program():
-    """The built program: the first word, or what the script at the top of the repository runs."""
-    if len(sys.argv) > 1:
-        return os.path.abspath(sys.argv[1])
-    told = subprocess.run([os.path.join(TOP, "rumtsafi"), "--version"], stdout=subprocess.PIPE, text=True, check=True)
-    return os.path.join(TOP, re.search(r"^program (\S+),", told.stdout, re.M)[1])
-
-
-def build():
-    """Lets the script build the program, where no word names one."""
-    if len(sys.argv) == 1:
-        subprocess.run([os.path.join(TOP, "rumtsafi"), "dis", os.devnull], check=True)
+    """The program: the first word, or the one that ships."""
+    return os.path.abspath(sys.argv[1]) if len(sys.argv) > 1 else SHIPPED
 
 
 def call(*words):
@@ -110,10 +97,7 @@ def port_name(ports):
 
 def missing(*compilers):
     """A line that says which of the compilers are not there; None where none is missing."""
-    absent = [compiler for compiler in compilers if not shutil.which(compiler)]
-    if not absent:
-        return None
-    return f"skipped: {', '.join(absent)} not found (Debian's {', '.join(PACKAGES[name] for name in absent)})"
+    return common.missing({compiler: PACKAGES[compiler] for compiler in compilers})
 
 
 def bare_executable(source, file, *options):

@@ -1,10 +1,9 @@
-#!/usr/bin/env python3
 """Times `rumtsafi run` on files that are as large as they may be and made to be slow to read, and on files of many
 ranges of text and many segments that are made to be slow to run.
 
-    files.py [PROGRAM]
+    python3 -m benchmarks.files [PROGRAM]
 
-PROGRAM is the built program; with none the script at the top of the repository builds it, if need be. A line for each
+PROGRAM is bin/rumtsafi if left out. A line for each
 file that is slow to read has the seconds of the faster of two runs, the limit, the greatest resident memory, and the
 answer.
 
@@ -23,10 +22,11 @@ import struct
 import sys
 import tempfile
 
-from common import HOST, build, executable, least_times, measure, missing, native, program, write
-from executable import header, load, section
-from instructions import with_offset
-from operations import with_registers
+from benchmarks.common import HOST, least_times, measure, missing, native, program, write
+from checks.oracles.operations import with_registers
+from readers import executable
+from readers.executable import header, load, section
+from readers.instructions import with_offset
 
 FILE_SIZE, COUNT = 16_777_216, 65_535
 # A prime, so that its multiples modulo COUNT are all numbers below it, in an order that no sort has from the start.
@@ -268,7 +268,6 @@ def step_table():
 
 
 def main():
-    build()
     passed = []
     with tempfile.TemporaryDirectory() as folder:
         file, small = os.path.join(folder, "file"), os.path.join(folder, "small.elf")

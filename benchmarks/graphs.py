@@ -1,7 +1,6 @@
-#!/usr/bin/env python3
 """Writes the graph of a block for search.c.
 
-    graphs.py FILE [ADDRESS]
+    python3 -m benchmarks.graphs FILE [ADDRESS]
 
 FILE has the words of a block; with ADDRESS it is an executable, and the block begins there. The graph is made from the
 block's words by checks/cuts.py, and its live registers by checks/blocks.py, which share nothing with the program.
@@ -9,10 +8,9 @@ block's words by checks/cuts.py, and its live registers by checks/blocks.py, whi
 import struct
 import sys
 
-import common  # noqa: F401  (it lets the modules of checks/ be imported)
-import executable
-from blocks import Text, live_sets
-from cuts import Graph, Table
+from checks.oracles.blocks import Text, live_sets
+from checks.oracles.cuts import Graph, Table
+from readers import executable
 
 ENTRY = 256
 

@@ -1,9 +1,8 @@
-#!/usr/bin/env python3
 """Times `rumtsafi run` with and without --units on programs that have no unit words.
 
-    machines.py [PROGRAM]
+    python3 -m benchmarks.machines [PROGRAM]
 
-PROGRAM is the built program; with none the script at the top of the repository builds it, if need be. The programs are
+PROGRAM is bin/rumtsafi if left out. The programs are
 those of checks/programs, with -O2 and with -Os, the executables of samples/, and work.c, of more than 200 million
 steps. Each runs by the plain machine and by the extended one without modules, in turn, ROUNDS times (work.c LONG_ROUNDS
 times); the least time of each counts. What both print has to be the same. A line each has the seconds of the short
@@ -15,8 +14,8 @@ import os
 import sys
 import tempfile
 
-from common import CROSS, bare_executable, build, measure, missing, program
-import compiled
+from benchmarks.common import CROSS, bare_executable, measure, missing, program
+from checks.tools import compiled
 
 ROUNDS, LONG_ROUNDS, LIMIT = 15, 3, 1.05
 STEPS = ("--steps", "4294967296")
@@ -37,11 +36,10 @@ def least(file, rounds, units):
 
 
 def main():
-    absent = missing(CROSS) or compiled.missing({})
+    absent = missing(CROSS) or compiled.missing()
     if absent:
         print(absent)
         return 0
-    build()
     slow = 0
     with tempfile.TemporaryDirectory() as folder:
         units, work = os.path.join(folder, "none.v"), os.path.join(folder, "work.elf")

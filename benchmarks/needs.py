@@ -1,11 +1,9 @@
-#!/usr/bin/env python3
 """Prints the needs of long blocks by the ports: how many branches the search for the best cut takes.
 
-    needs.py SOURCES [PROGRAM]
+    python3 -m benchmarks.needs SOURCES [PROGRAM]
 
-SOURCES is the folder of packages.py, and PROGRAM is the built program; with none the script at the top of the
-repository builds it, if need be. The blocks are those of LEAST to LONGEST instructions in what GCC makes of ciphers.c
-with each of LEVELS, and of the packages.
+SOURCES is the folder of packages.py, and PROGRAM is bin/rumtsafi if left out. The blocks are those of LEAST to LONGEST
+instructions in what GCC makes of ciphers.c with each of LEVELS, and of the packages.
 
 A line for each block has its instructions, its need with each of PORTS, and, with the last of them, the nanoseconds of
 processor time that `best` and search.c take for a prefix, or dashes where the search is over too soon to tell. search.c
@@ -16,12 +14,12 @@ import os
 import sys
 import tempfile
 
-from best import LEVELS, LONGEST
-from common import HOST, PACKAGES, bare_executable, build, port_name
-from graphs import blocks_of
-from packages import PACKAGES as OTHERS, compile_to, sources_of
-from searches import MOST, SHORT, Comparison
-import compiled
+from benchmarks.best import LEVELS, LONGEST
+from benchmarks.common import HOST, PACKAGES, bare_executable, port_name
+from benchmarks.graphs import blocks_of
+from benchmarks.packages import PACKAGES as OTHERS, compile_to, sources_of
+from benchmarks.searches import MOST, SHORT, Comparison
+from checks.tools import compiled
 
 LEAST = 60
 PORTS = ((2, 1), (3, 1), (3, 2), (4, 2), (5, 3))
@@ -64,7 +62,6 @@ def main():
         print(absent)
         return 0
     sources = [sources_of(package, folder) for package in OTHERS]
-    build()
     columns = " ".join(f"{port_name(ports):>8}" for ports in PORTS)
     print(f"{'block':20} {'length':>6} {columns} {'best':>7} {'plain C':>7}")
     with tempfile.TemporaryDirectory() as out:

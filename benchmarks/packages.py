@@ -1,12 +1,11 @@
-#!/usr/bin/env python3
 """Tries `rumtsafi find`, `check` and `run` on programs that others wrote: what is saved, and how long it takes.
 
-    packages.py SOURCES [PROGRAM] [--ports IN/OUT,..] [--count N,..] [--budget N,..]
+    python3 -m benchmarks.packages SOURCES [PROGRAM] [--ports IN/OUT,..] [--count N,..] [--budget N,..]
 
 SOURCES is a folder in which `apt-get source bzip2 libgsm lua5.4 mujs zlib` unpacked the sources of these packages of
 Debian: two compressors, the speech coder of GSM, and the interpreters of Lua and of JavaScript. GCC compiles each with
--O2, with picolibc and with its main function in packages/, which reads up to 256 KiB of input. PROGRAM is the built
-program; with none the script at the top of the repository builds it, if need be. The options are those of `find` and
+-O2, with picolibc and with its main function in packages/, which reads up to 256 KiB of input. PROGRAM is
+bin/rumtsafi if left out. The options are those of `find` and
 `check`, --ports its --in and --out; of each option several can be told, and all are combined.
 
 `find` runs each program on one input, and `check` has to accept what it writes. Then the old program and the new one
@@ -29,8 +28,8 @@ import sys
 import tempfile
 from collections import namedtuple
 
-from common import HERE, build, least_times, port_name, port_words, processor_time, program
-import compiled
+from benchmarks.common import HERE, least_times, port_name, port_words, processor_time, program
+from checks.tools import compiled
 
 ROUNDS = 3
 STEPS = ("--steps", "4294967296")
@@ -156,12 +155,11 @@ def read_words():
 
 def main():
     folder, choices = read_words()
-    absent = compiled.missing({})
+    absent = compiled.missing()
     if absent:
         print(absent)
         return 0
     sources = [sources_of(package, folder) for package in PACKAGES]
-    build()
     print(f"{'program':8} {'ports':>5} {'count':>5} {'budget':>7} {'instructions':>12} {'Msteps':>7} {'Mcycles':>8} "
           f"{'cuts':>5} {'units':>6} {'given up':>8} {'saved':>6} {'other':>6} {'run':>6} {'find':>6} {'check':>6}")
     with tempfile.TemporaryDirectory() as out:

@@ -1,9 +1,8 @@
-#!/usr/bin/env python3
 """Times `rumtsafi run` and a plain interpreter in C on long runs.
 
-    run.py [PROGRAM]
+    python3 -m benchmarks.run [PROGRAM]
 
-PROGRAM is the built program; with none the script at the top of the repository builds it, if need be. Both run the
+PROGRAM is bin/rumtsafi if left out. Both run the
 executables that GCC makes of work.c and of the programs in guests/, tens of millions of steps each, in one go, the
 interpreter by decoding at each step and by decoding each word once. They run in turn, ROUNDS times; the least processor
 time of each counts. All have to print the same, with the line before the end that the programs are known to print.
@@ -19,7 +18,7 @@ import re
 import sys
 import tempfile
 
-from common import CROSS, HOST, bare_executable, build, least_times, missing, native, program
+from benchmarks.common import CROSS, HOST, bare_executable, least_times, missing, native, program
 
 ROUNDS = 3
 STEPS = ("--steps", "4294967296")
@@ -66,7 +65,6 @@ def main():
     if absent:
         print(absent)
         return 0
-    build()
     table()
     return 0
 

@@ -1,9 +1,8 @@
-#!/usr/bin/env python3
 """Times the search of `rumtsafi best` and the check of its log, and a plain search and check in C.
 
-    searches.py [PROGRAM]
+    python3 -m benchmarks.searches [PROGRAM]
 
-PROGRAM is the built program; with none the script at the top of the repository builds it, if need be. The blocks are
+PROGRAM is bin/rumtsafi if left out. The blocks are
 CHAINS of `xor`, each of which reads the one before it, and the blocks of LEAST to LONGEST instructions in what GCC
 makes of ciphers.c with each of LEVELS, with each of PORTS. search.c tells the need of each, the least budget that isn't
 spent: `best` has to be spent by one branch less and to print with it the line of search.c. So the prefixes opened and
@@ -25,10 +24,10 @@ import sys
 import tempfile
 from collections import namedtuple
 
-from best import LEAST, LEVELS, LONGEST, PORTS, XOR, write_chain
-from common import (CROSS, HOST, bare_executable, build, least_times, missing, native, port_name, port_words, program)
-from cuts import Graph, Table
-from graphs import blocks_of, text_of
+from benchmarks.best import LEAST, LEVELS, LONGEST, PORTS, XOR, write_chain
+from benchmarks.common import CROSS, HOST, bare_executable, least_times, missing, native, port_name, port_words, program
+from benchmarks.graphs import blocks_of, text_of
+from checks.oracles.cuts import Graph, Table
 
 CHAINS = (64, 256)
 # Every register is live after a block that stands alone.
@@ -139,7 +138,6 @@ def main():
     if absent:
         print(absent)
         return 0
-    build()
     table()
     return 0
 

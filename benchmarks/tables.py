@@ -1,10 +1,9 @@
-#!/usr/bin/env python3
 """Prints how fast the program is beside plain C programs of the same work, in one run: whole runs by the emulator, the
 search for a best cut and the check of its log, and steps on files of many ranges and segments.
 
-    tables.py [PROGRAM]
+    python3 -m benchmarks.tables [PROGRAM]
 
-PROGRAM is the built program; with none the script at the top of the repository builds it, if need be. The tables are
+PROGRAM is bin/rumtsafi if left out. The tables are
 those of run.py, searches.py and files.py, which say what they hold. All are of processor time, the least of several
 rounds in which the programs take turns, so that other work on the machine tells little; still, only figures of one run
 can be compared. It ends with status 0 where all answers are right, and where the tools are missing, with a line that
@@ -12,10 +11,8 @@ says so.
 """
 import sys
 
-import files
-import run
-import searches
-from common import CROSS, HOST, build, missing
+from benchmarks import files, run, searches
+from benchmarks.common import CROSS, HOST, missing
 
 
 def main():
@@ -23,7 +20,6 @@ def main():
     if absent:
         print(absent)
         return 0
-    build()
     for title, table in (("Runs", run.table), ("Search and check", searches.table), ("Steps", files.step_table)):
         print(f"\n{title}\n", flush=True)
         table()

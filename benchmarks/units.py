@@ -1,9 +1,8 @@
-#!/usr/bin/env python3
 """Times `rumtsafi eval` on texts of units that are as large as they may be.
 
-    units.py [PROGRAM]
+    python3 -m benchmarks.units [PROGRAM]
 
-PROGRAM is the built program; with none the script at the top of the repository builds it, if need be. A line for each
+PROGRAM is bin/rumtsafi if left out. A line for each
 text has the seconds of the faster of two runs, the greatest resident memory, their limits, and the answer. What the
 values of 2,048 wires take is shown by two modules of one text, a small one and that one, each by the fastest of several
 runs. It ends with status 0 where each answer is the right one and comes within its limits.
@@ -12,8 +11,8 @@ import os
 import sys
 import tempfile
 
-from common import build, measure, program, write
-from made_units import HEADER
+from benchmarks.common import measure, program, write
+from readers.templates import HEADER
 
 SIZE, LIMIT, MEMORY = 4_194_304, 1.0, 100.0
 # Each item of a concatenation holds its name by itself, and one text can have 1.6 million of them.
@@ -150,7 +149,6 @@ def values(file):
 
 
 def main():
-    build()
     passed = []
     with tempfile.TemporaryDirectory() as folder:
         file = os.path.join(folder, "units")

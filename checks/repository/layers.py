@@ -1,0 +1,49 @@
+"""Compares the figure of the layers in docs/ARCHITECTURE.md with crates.txt: a row for each layer, highest first.
+
+A crate that stands on no other is in layer 1, and each other one in the layer above the highest that it stands on.
+With `--write` the figure is made anew. It ends with status 1 where the figure is another one, and where crates.txt
+names a crate in a circle.
+"""
+import os
+import re
+
+from checks.common import TOP, end, text_of, words
+
+DOCUMENT = "docs/ARCHITECTURE.md"
+FIGURE = re.compile(r"(?<=<!-- layers -->\n```text\n).*?(?=```\n<!-- /layers -->\n)", re.S)
+
+
+def crates():
+    """The crates of crates.txt, each with those that it stands on."""
+    lines = re.sub("#.*", "", text_of("crates.txt")).splitlines()
+    stands_on = {name.strip(): rest.split() for name, _, rest in (line.partition(":") for line in lines if line.strip())}
+    return {name: [other for other in others if other in stands_on] for name, others in stands_on.items()}
+
+
+def layers(below):
+    """The layers from the lowest on, each as the list of its crates in the order of crates.txt, and the crates that are
+    in none."""
+    done, found = set(), []
+    while layer := [name for name in below if name not in done and done.issuperset(below[name])]:
+        found.append(layer)
+        done.update(layer)
+    return found, [name for name in below if name not in done]
+
+
+def main():
+    parser = words(__doc__)
+    parser.add_argument("--write", action="store_true", help="makes the figure anew")
+    write = parser.parse_args().write
+    found, circle = layers(crates())
+    faults = [f"crates.txt: {name} stands in a circle" for name in circle]
+    made = "".join(f"{number}  {'  '.join(layer)}\n" for number, layer in reversed(list(enumerate(found, 1))))
+    text = text_of(DOCUMENT)
+    if write:
+        with open(os.path.join(TOP, DOCUMENT), "w", encoding="utf-8") as file:
+            file.write(FIGURE.sub(lambda _: made, text))
+    elif FIGURE.findall(text) != [made]:
+        faults.append(f"{DOCUMENT} has another figure of the layers: call {parser.prog} --write")
+    end(faults, f"{len(found)} layers")
+
+
+main()

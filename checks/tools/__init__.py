@@ -1,0 +1,1 @@
+"""Calls of other tools: GCC, QEMU, strace, and those that read Verilog."""

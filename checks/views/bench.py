@@ -1,0 +1,81 @@
+"""Runs the testbenches that `views/bench` writes, and the lines that it tells.
+
+The units of a sample pass by Icarus, by the line that the view tells and by its own run; Verilator takes the testbench
+too. Wide units pass as well, and units that were changed don't. Yosys tells the area and the longest path of a unit by
+a small library of cells. A text that is no units is refused, and wrong calls end with the usage and status 2.
+"""
+import os
+import re
+import subprocess
+
+from checks.common import SAMPLES
+from checks.views import viewing
+from readers.templates import WIDE_HEADER
+
+SAMPLE = os.path.join(SAMPLES, "sha256.elf")
+CELLS = (("INV", 1, "A", "!A"), ("BUF", 2, "A", "A"), ("NAND2", 2, "AB", "!(A*B)"), ("NOR2", 2, "AB", "!(A+B)"))
+AXES = 'index_1 ("0.01, 1"); index_2 ("0.01, 1");'
+TABLES = " ".join(f'{name} (delays) {{ {AXES} values ("0.02, 0.1", "0.1, 0.2"); }}'
+                  for name in ("cell_rise", "cell_fall", "rise_transition", "fall_transition"))
+UNIT = 3
+# What stands behind the header of a wide unit.
+WIDE_REST = "assign y = a ^ d;\nassign z = e - b;\nassign x = c;\nendmodule\n"
+
+
+def library():
+    """A small library of cells."""
+    lines = ['library (small) { time_unit : "1ns"; capacitive_load_unit (1, pf); delay_model : table_lookup;',
+             "lu_table_template (delays) { variable_1 : input_net_transition;",
+             f"variable_2 : total_output_net_capacitance; {AXES} }}"]
+    for name, area, pins, function in CELLS:
+        sense = "positive_unate" if name == "BUF" else "negative_unate"
+        inputs = " ".join(f"pin ({pin}) {{ direction : input; capacitance : 0.01; }}" for pin in pins)
+        timing = " ".join(f'timing () {{ related_pin : "{pin}"; timing_sense : {sense}; {TABLES} }}' for pin in pins)
+        lines.append(f'cell ({name}) {{ area : {area}; {inputs} pin (Y) {{ direction : output; '
+                     f'function : "{function}"; max_capacitance : 1; {timing} }} }}')
+    return "\n".join([*lines, "}", ""])
+
+
+def shell(views, line):
+    """What a line of the shell prints, and its status."""
+    done = subprocess.run(["bash", "-o", "pipefail", "-c", line], cwd=views.folder, stdout=subprocess.PIPE,
+                          stderr=subprocess.STDOUT, text=True, timeout=viewing.LIMIT, check=False)
+    return done.returncode, done.stdout
+
+
+def look(views):
+    """Looks at the testbenches."""
+    views.told("find", SAMPLE, "new", "units.v", "logs", "report")
+    text = views.read("units.v").decode()
+    wide = text + WIDE_HEADER.format(cycles=1, number=text.count("endmodule")) + WIDE_REST
+    for name, part in (("CELLS.lib", library()), ("changed.v", text.replace(" t3 = p3 | q3;", " t3 = p3 & q3;")),
+                       ("none.v", ""), ("fault.v", "module"),
+                       ("wide.v", wide), ("third.v", wide.replace("assign x = c;", "assign x = d;"))):
+        views.write(name, part)
+    before = views.hashes("units.v", "CELLS.lib")
+    told = views.works("bench", "units.v", "--unit", str(UNIT)).splitlines()
+    lines = {title.split(",")[0].rstrip(":"): line.strip() for title, line in zip(told[1::2], told[2::2])}
+    count = re.search(r"of (\d+) units", told[0])[1]
+    status, printed = shell(views, lines["Icarus"])
+    views.need(status == 0 and re.search(r"^\d+ vectors, 0 wrong$", printed, re.M), f"Icarus prints {printed}")
+    views.need(count == str(text.count("endmodule")), told[0])
+    status, printed = shell(views, lines["Yosys"])
+    delay, area = re.search(r"Delay = +[\d.]+ ps", printed), re.search(rf"ci_{UNIT}'?: [\d.]+", printed)
+    views.need(status == 0 and delay and area, f"Yosys prints {printed[-300:]}")
+    status, printed = shell(views, "verilator --lint-only " + lines["Verilator"].split("--binary ")[1].split(" && ")[0])
+    views.need(status == 0, f"Verilator says {printed[:600]}")
+    views.need(views.works("bench", "units.v", "--run", "icarus").endswith(" vectors, 0 wrong\n"), "the view's own run")
+    views.need(views.works("bench", "wide.v", "--run", "icarus").endswith(" vectors, 0 wrong\n"), "a wide unit")
+    views.told("find", SAMPLE, "new", "greatest.v", "logs", "report", *viewing.GREATEST)
+    views.need(views.works("bench", "greatest.v", "--run", "icarus").endswith(" vectors, 0 wrong\n"), "wide units")
+    status, printed = shell(views, lines["Icarus"].replace("units_bench.v units.v", "wide_bench.v third.v"))
+    views.need(status != 0 and re.search(r"^\d+ vectors, [1-9]\d* wrong$", printed, re.M), f"third: {printed[-300:]}")
+    views.need(views.works("bench", "none.v", "--run", "icarus") == "0 vectors, 0 wrong\n", "no units")
+    status, printed = shell(views, lines["Icarus"].replace(" units.v", " changed.v"))
+    views.need(status != 0 and re.search(r"^\d+ vectors, [1-9]\d* wrong$", printed, re.M), f"changed: {printed[-300:]}")
+    views.need(views.hashes(*before) == before, "an input was changed")
+    views.refuses("bench", "fault.v")
+    views.wrong("bench", (), ("units.v", "units.v"), ("units.v", "--run", "other"))
+
+
+viewing.check(__doc__, look, "views/bench", {"iverilog": "iverilog", "yosys": "yosys", "verilator": "verilator"})

@@ -1,0 +1,87 @@
+"""Compares what `views/block` shows with what the program says of the same blocks.
+
+The hottest blocks of samples and of programs that GCC compiled are shown, by the usual limits on inputs and outputs and
+by the greatest ones: the marked instructions have to be the members of the cut that `best` prints, the sum of the gain
+has to be right, no line may have more than 80 columns, and the graph has to be one for Graphviz, with the members in
+its cluster. One is shown in tmux, in a window of 80 columns. The picture in docs/ has to be the one that the view
+makes. Wrong calls end with the usage and status 2.
+"""
+import os
+import re
+import subprocess
+import time
+import xml.etree.ElementTree
+
+from checks.common import TOP, text_of
+from checks.views import viewing
+
+COLUMNS, BLOCKS = 80, 2
+SHOWN = "samples/sha256.elf", "0x102b0", "--svg", "--near"
+GRAPHVIZ = "2.43.0"
+SUM = re.compile(r"^gain +(\d+) = (\d+) software - (\d+) hardware \([\d.]+\) - (\d+) read - (\d+) pad$", re.M)
+
+
+def compare_block(views, path, leader, *options):
+    """Compares what is shown of a block, with these limits."""
+    told = views.told("best", path, "--at", leader, *options).split()
+    members = told[1:-2] if told[0] == "cut" else []
+    shown = views.works("block", path, leader, *options)
+    views.need(re.findall(r"^\* +(\d+) ", shown, re.M) == members, f"{path} {leader}: {shown} and not {told}")
+    views.need(all(len(line) <= COLUMNS for line in shown.splitlines()), f"{path} {leader}: {shown} is too wide")
+    if members:
+        found = SUM.search(shown)
+        if views.need(found, f"{path} {leader}: no sum in {shown}"):
+            gain, software, hardware, read, pad = map(int, found.groups())
+            views.need(gain == software - hardware - read - pad == int(told[-1]), f"{path} {leader}: {found[0]}")
+    for more in ((), ("--near",)):
+        dot = views.works("block", path, leader, "--dot", *more, *options)
+        cluster = re.search(r"subgraph cluster_cut \{(.*?)\n  \}", dot, re.S)
+        views.need(re.findall(r"^ +n(\d+) ", cluster[1], re.M) == members, f"{path} {leader}: {dot}")
+        subprocess.run(["dot", "-Tcanon"], input=dot, text=True, stdout=subprocess.DEVNULL, check=True)
+    xml.etree.ElementTree.fromstring(views.works("block", path, leader, "--svg", *options))
+
+
+def compare_terminal(views):
+    """A window of 80 columns of tmux shows each line as it is printed."""
+    lines = views.works("block", os.path.join(TOP, SHOWN[0]), SHOWN[1]).splitlines()
+    name = f"views-{os.getpid()}"
+    tmux = ["tmux", "-L", name]
+    command = f"RUMTSAFI={views.program} {TOP}/views/block {TOP}/{SHOWN[0]} {SHOWN[1]}; sleep 60"
+    subprocess.run([*tmux, "-f", os.devnull, "new-session", "-d", "-x", str(COLUMNS), "-y", "70", command], check=True)
+    try:
+        for _ in range(100):
+            seen = subprocess.run([*tmux, "capture-pane", "-p"], stdout=subprocess.PIPE, text=True, check=True).stdout
+            if seen.rstrip().splitlines()[-1:] == lines[-1:]:
+                break
+            time.sleep(0.1)
+    finally:
+        subprocess.run([*tmux, "kill-server"], check=True)
+    views.need([line.rstrip() for line in seen.rstrip().splitlines()] == lines, f"tmux shows {seen}")
+
+
+def look(views):
+    """Looks at blocks of all programs."""
+    for name, (path, given) in views.programs().items():
+        views.choose(name, path, "--input", given)
+        before = views.hashes(path)
+        report = views.read(os.path.join(name, "report.txt")).decode()
+        blocks = re.findall(r"^block (\w+) length (\d+) entries (\d+)$", report, re.M)
+        blocks.sort(key=lambda block: -int(block[1]) * int(block[2]))
+        for leader, _, _ in blocks[:BLOCKS]:
+            compare_block(views, path, f"0x{leader}")
+            compare_block(views, path, f"0x{leader}", *viewing.GREATEST)
+        views.need(views.hashes(path) == before, f"{path} was changed")
+    compare_terminal(views)
+    version = subprocess.run(["dot", "-V"], stderr=subprocess.PIPE, text=True, check=True).stderr
+    is_same = views.works("block", os.path.join(TOP, SHOWN[0]), *SHOWN[1:]) == text_of("docs/sha256_cut.svg")
+    views.need(is_same or GRAPHVIZ not in version, f"docs/ has another picture than views/block {' '.join(SHOWN)}")
+    sample = os.path.join(TOP, SHOWN[0])
+    skipped = views.works("block", sample, SHOWN[1], "--budget", "1")
+    views.need("skipped budget 1" in skipped and "*" not in skipped, skipped)
+    views.refuses("block", os.path.join(TOP, "README.md"), SHOWN[1])
+    views.refuses("block", sample, "0x10")
+    views.refuses("block", sample, SHOWN[1], "--table", sample)
+    views.wrong("block", (), (sample,), (sample, "102b0"), (sample, SHOWN[1], "--in", "6"), (sample, SHOWN[1], "--no"))
+
+
+viewing.check(__doc__, look, "views/block", {"dot": "graphviz", "tmux": "tmux"})

@@ -1,0 +1,184 @@
+"""Compares the pages that `views/report` makes with REPORT and with what the program says.
+
+Pages are made of choices for samples and for programs that GCC compiled, by the usual limits on inputs and outputs and
+by the greatest ones, one without a cut and one with a skipped block. The numbers on top, of blocks, of cuts and of
+units have to be those of REPORT, with the units by what they save, which sums up to its total, and what a unit's
+expressions give has to be what `eval` prints. A page may ask for nothing from outside and have no script; its parts
+have to be well nested, named and described. Chromium opens two pages at two widths, where nothing may stand out on the
+right side. Files that are no choice are refused; wrong calls end with the usage and status 2.
+"""
+import html.parser
+import os
+import random
+import re
+import subprocess
+
+from checks.common import SAMPLES, TOP
+from checks.oracles.expressions import values
+from checks.views import viewing
+from readers.corners import vectors
+
+CHROMIUM, WIDTHS, SHOWN = "chromium", (1200, 500), ("sha256", "matrix")
+# Parts that stand apart from what is before them, and those that have no end.
+CELLS = {"td", "th", "dt", "dd", "span", "summary"}
+VOID = {"meta", "br", "hr", "img", "input", "link"}
+MEASURE = ("<script>const page = document.documentElement;"
+           "document.title = `width ${page.scrollWidth} of ${page.clientWidth}`</script></body>")
+VECTORS = 3
+
+
+class Parts(html.parser.HTMLParser):
+    """The parts of a page: whether they are well nested, their texts by their names, and what they refer to."""
+
+    def __init__(self):
+        super().__init__()
+        self.open, self.texts, self.faults, self.refers, self.all = [], {}, [], set(), ""
+
+    def handle_starttag(self, tag, attrs):
+        self.handle_data(" " if tag in CELLS else "")
+        given = dict(attrs)
+        name = given.get("id", "")
+        if name in self.texts:
+            self.faults.append(f"two parts are named {name}")
+        if name:
+            self.texts[name] = ""
+        self.refers |= {given[key].lstrip("#") for key in ("aria-labelledby", "href") if key in given}
+        outside = [value for key, value in given.items() if key in ("src", "href") and not value.startswith("#")]
+        if tag in ("script", "link", "iframe") or outside:
+            self.faults.append(f"{tag} with {outside}")
+        if tag == "th" and "scope" not in given or tag == "svg" and not given.get("aria-label"):
+            self.faults.append(f"{tag} that isn't described: {given}")
+        if tag not in VOID:
+            self.open.append((tag, name))
+
+    def handle_startendtag(self, tag, attrs):
+        pass
+
+    def handle_endtag(self, tag):
+        if not self.open or self.open.pop()[0] != tag:
+            self.faults.append(f"an end of {tag} where another is due")
+
+    def handle_data(self, data):
+        self.all += data
+        for _, name in self.open:
+            if name:
+                self.texts[name] += data
+
+
+def parts_of(views, name):
+    """The texts of a page's parts by their names, all that it says, and its source."""
+    text, parts = views.read(os.path.join(name, "report.html")).decode(), Parts()
+    parts.feed(text)
+    parts.close()
+    lost = parts.refers - parts.texts.keys()
+    views.need(not (parts.faults or parts.open or lost), f"page of {name}: {parts.faults[:5]}, {parts.open}, {lost}")
+    views.need("http:" not in text.replace("http://www.w3.org/2000/svg", "") and "https:" not in text, f"{name}: links")
+    return parts.texts, parts.all, text
+
+
+def words(text):
+    """The words of a text, with numbers as REPORT has them."""
+    return re.sub(r"(?<=\d),(?=\d{3})", "", text).split()
+
+
+def compare_page(views, name):
+    """Compares a page's numbers with REPORT's."""
+    texts, said, _ = parts_of(views, name)
+    report = views.read(os.path.join(name, "report.txt")).decode()
+    cost, total = (int(re.search(rf"{word} (\d+)$", report, re.M)[1]) for word in ("cost", "total"))
+    counted = {name: len(re.findall(rf"^{line} ", report, re.M))
+               for name, line in (("units", "unit"), ("cuts", "cut"), ("skipped", "skip"))}
+    for part, due in {"cost-before": cost, "cost-after": cost - total, "saved": total, **counted}.items():
+        views.need(words(texts.get(part, "")) == [str(due)], f"{name}: {part} is {texts.get(part)} and not {due}")
+    cycles = words(said)
+    for leader, length, entries in re.findall(r"^block (\w+) length (\d+) entries (\d+)$", report, re.M):
+        at = cycles.index(leader)
+        views.need([length, entries] == [word for word in cycles[at + 1:at + 4] if word.isdigit()][:2],
+                   f"{name}: block {leader} is {cycles[at:at + 5]}")
+    for number, leader, unit, gain, entries, nodes in re.findall(
+            r"^cut (\d+) block (\w+) unit (\d+) gain (\d+) entries (\d+) nodes([ \d]+) word", report, re.M):
+        shown = " ".join(words(texts[f"cut-{number}"]))
+        count, saved = len(nodes.split()), int(gain) * int(entries)
+        due = (f"Cut {number}, unit {unit}: {count} operation", leader,
+               f"gain {gain} × {entries} entries = {saved} cycle", f"pad = {gain} ", f"{saved} cycle",
+               f"module ci_{unit}(")
+        views.need(all(part in shown for part in due), f"{name}: cut {number} is {shown[:400]}, and not {due}")
+    compare_units(views, name, texts, report)
+    views.need("accepted" in said, f"{name}: not accepted")
+
+
+def compare_units(views, name, texts, report):
+    """Compares the rows of units with the lines of REPORT: each sum and share, and their order."""
+    cost, total = (int(re.search(rf"{word} (\d+)$", report, re.M)[1]) for word in ("cost", "total"))
+    saved = {}
+    for unit, gain, entries in re.findall(r"^cut .* unit (\d+) gain (\d+) entries (\d+) ", report, re.M):
+        saved.setdefault(unit, []).append(int(gain) * int(entries))
+    due, so_far = {}, 0
+    for place, unit in enumerate(sorted(saved, key=lambda unit: (-sum(saved[unit]), int(unit))), 1):
+        cycles, operations = re.search(rf"^unit {unit} cycles (\d+) operations (\d+) ", report, re.M).groups()
+        mine = sum(saved[unit])
+        so_far += mine
+        due[f"unit-{unit}"] = (f"{unit} {len(saved[unit])} {operations} {cycles} {mine} {100 * mine / cost:.1f} % "
+                               f"{place} {so_far} {100 * so_far / cost:.1f} %")
+    found = {part: " ".join(words(text)) for part, text in texts.items() if re.fullmatch(r"unit-\d+", part)}
+    views.need(list(found.items()) == list(due.items()) and so_far == total, f"{name}: units are {found} and not {due}")
+
+
+def compare_expressions(views, name, source):
+    """Compares what the expressions of each unit give with what `eval` prints."""
+    source_text = parts_of(views, name)[2]
+    found = dict(re.findall(r'aria-label="What unit (\d+) computes">(.*?)</pre>', source_text, re.S))
+    for number, lines in found.items():
+        lines = html.unescape(lines).strip().splitlines()
+        for vector in source.sample(vectors(source), VECTORS):
+            a, b, c, d, e = (f"0x{word:x}" for word in vector)
+            due = views.told("eval", os.path.join(name, "units.v"), number, a, b, c, "--d", d, "--e", e)
+            # A narrow unit has two results.
+            found = " ".join(f"{word:08x}" for word in values(lines, vector)[:len(due.split())]) + "\n"
+            views.need(found == due, f"{name}: unit {number} of {vector} gives {found} and not {due}: {lines}")
+
+
+def compare_widths(views, name):
+    """Opens a page at two widths: nothing may need more room."""
+    page = views.read(os.path.join(name, "report.html")).decode()
+    measured = views.write("measured.html", page.replace("</body>", MEASURE))
+    for width in WIDTHS:
+        done = subprocess.run([CHROMIUM, "--headless", "--no-sandbox", "--disable-gpu", f"--window-size={width},900",
+                               f"--user-data-dir={views.path('chromium')}", "--dump-dom", measured],
+                              stdout=subprocess.PIPE, stderr=subprocess.DEVNULL, text=True, timeout=120, check=False)
+        found = re.search("<title>width ([0-9]+) of ([0-9]+)</title>", done.stdout)
+        if views.need(found, f"{name}: Chromium opens no page at {width}"):
+            views.need(int(found[1]) <= int(found[2]), f"{name}: a width of {found[1]} where there are {found[2]}")
+
+
+def look(views):
+    """Looks at the pages of all programs."""
+    source = random.Random(1)
+    choices = [(name + tail, path, given, options) for name, (path, given) in views.programs().items()
+               for tail, options in (("", ()), ("-greatest", viewing.GREATEST))]
+    for name, path, given, options in choices:
+        views.choose(name, path, "--input", given, *options)
+        before = views.hashes(*(os.path.join(name, file) for file in viewing.FILES))
+        views.works("report", name, "--input", given)
+        compare_page(views, name)
+        compare_expressions(views, name, source)
+        views.need(views.hashes(*before) == before, f"the files of {name} were changed")
+    sample = os.path.join(SAMPLES, "sha256.elf")
+    views.choose("skipped", sample, "--budget", "2000")
+    views.works("report", *(os.path.join("skipped", name) for name in viewing.FILES), "--page", "skipped/report.html")
+    compare_page(views, "skipped")
+    said = " ".join(words(parts_of(views, "skipped")[1]))
+    views.need("--budget 8000 3098" in said, "the skipped block lacks its budget")
+    for name in SHOWN:
+        compare_widths(views, name)
+    views.choose("refused", os.path.join(TOP, "README.md"))
+    status, _, said = views.look("report", "refused")
+    views.need(status == 1 and said.count("\n") == 1, f"refused: {status} {said}")
+    status, _, said = views.look("report", "crc32")
+    views.need(status == 1 and "give --input" in said, f"another input: {status} {said}")
+    views.write("no_table", "read = [")
+    views.refuses("report", "sha256", "--table", "no_table")
+    views.wrong("report", (), ("a", "b"), ("sha256", "--out", "4"), ("sha256", "--page", "sha256/new.elf"))
+
+
+viewing.check(__doc__, look, "views/report", {"dot": "graphviz", CHROMIUM: CHROMIUM}, ("jinja2",))
