@@ -1,0 +1,147 @@
+# Says in words what the program tells by a status, a fault line or a report. ARGV[1] is what is asked for; behind it
+# stand the status, the words of the call, or OLD. The variable TOP of the environment is the top of the repository.
+BEGIN {
+    if (ARGV[1] == "words") explain_words(ARGV[2])
+    else if (ARGV[1] == "fault") explain_fault(ARGV[2], ARGV[3])
+    else explain_choice(ARGV[2])
+    exit
+}
+
+# Says a line, also where a name in it has line breaks.
+function say(line) {
+    gsub(/[[:cntrl:]]/, "?", line)
+    if (line != "") print "rumtsafi: " line
+}
+
+# After status 1: the lines on use of a command, or all lines where there is none, and which word has no reading.
+function explain_words(command,    n) {
+    read_usage()
+    for (n = 1; n <= count; n++)
+        if (!(command in names) || of[n] == command || (command, about[n]) in takes) print lines[n]
+    say(misread(command))
+}
+
+# Reads docs/usage.txt: the command or the word that a line is of; what commands take, what of it has to stand, and what
+# may stand again; and what values are.
+function read_usage(    line, command, part, n, i, name) {
+    while ((getline line < (ENVIRON["TOP"] "/docs/usage.txt")) > 0) {
+        lines[++count] = line
+        split(line, part, " ")
+        if (line ~ /^rumtsafi/) command = part[2]
+        if (line ~ /^(rumtsafi|   )/) of[count] = command
+        if (line ~ /^  (--|[A-Z])/) for (i = 1; i == 1 || part[i - 1] ~ /,$/; i++) {
+            name = part[i]
+            gsub(/^--|,$/, "", name)
+            if (i == 1) about[count] = name
+            if (match(line, /[0-9]+ (to|or) [0-9]+/)) kind[name] = substr(line, RSTART, RLENGTH)
+            else if (part[2] == "ADDR" || line ~ /0x/) kind[name] = "address"
+        }
+        if (line !~ /^rumtsafi [a-z]|^   +\[?--/) continue
+        sub(/^(rumtsafi [a-z]+ ?| +)/, "", line)
+        sub(/  .*/, "", line)
+        if (!(command in names)) commands = commands " " command
+        names[command] = names[command] ""
+        n = split(line, part, " ")
+        for (i = 1; i <= n; i++) {
+            name = part[i]
+            if (!sub(/--/, "", name)) names[command] = names[command] " " name
+            else {
+                if (!sub(/\[/, "", name)) needs[command] = needs[command] " " name
+                if (part[++i] ~ /\.\.$/) repeated[name]
+            }
+            takes[command, name]
+        }
+    }
+}
+
+# Why words have no reading, where that can be told.
+function misread(command,    i, word, why, ended, given, wanted, some, n) {
+    if (ARGC < 3) return "a command is missing; there are:" commands
+    if (command ~ /^(-h|--help|--version|--build)$/) return command " stands alone"
+    if (!(command in names)) return "there is no command '" command "'; there are:" commands
+    for (i = 3; i < ARGC && why == ""; i++) {
+        word = ARGV[i]
+        if (ended || word !~ /^-./) given[++some] = word
+        else if (word == "--") ended = 1
+        else if (word !~ /^--/) why = command " has no option '" word "'"
+        else if ((why = misread_option(command, word, i + 1)) == "" && word !~ /=/) i++
+    }
+    n = split(names[command], wanted, " ")
+    for (i = 1; i <= n && why == ""; i++)
+        if (i > some) why = command " takes" names[command] ", and " wanted[i] " is missing"
+        else why = misread_value(wanted[i], wanted[i], given[i])
+    if (why == "" && some > n) why = command " takes" names[command] ", and '" given[n + 1] "' is a word too many"
+    n = split(needs[command], wanted, " ")
+    for (i = 1; i <= n && why == ""; i++) if (!(wanted[i] in seen)) why = command " needs --" wanted[i]
+    return why == "" && twice != "" ? command " can't write '" twice "', which it names twice" : why
+}
+
+function misread_option(command, word, behind,    option, at) {
+    at = index(word "=", "=")
+    option = substr(word, 3, at - 3)
+    if (option !~ /^[a-z]+$/ || !((command, option) in takes)) return command " has no option '--" option "'"
+    if (option in seen && !(option in repeated)) return "--" option " stands twice"
+    seen[option]
+    if (word !~ /=/ && behind >= ARGC) return "--" option " lacks its value"
+    return misread_value("--" option, option, word ~ /=/ ? substr(word, at + 1) : ARGV[behind])
+}
+
+function misread_value(shown, name, value,    n, to) {
+    if (value == "") return shown " is empty"
+    if (value ~ /^-/) return shown " can't be '" value "': no name or value begins with -"
+    n = split(kind[name], to, " ")
+    if (n == 0 && value in files && twice == "") twice = value
+    if (n == 0) files[value]
+    if (n == 1 && (value !~ /^0x[0-9A-Fa-f]+$/ || length(value) > 10))
+        return shown " takes 0x and one to eight hex digits, which '" value "' is not"
+    if (n == 3 && (value ~ /[^0-9]/ || length(value) > 10 || value + 0 < to[1] + 0 || value + 0 > to[3] + 0))
+        return shown " takes a number from " to[1] " to " to[3] ", which '" value "' is not"
+}
+
+# Says a fault line by the first row of docs/faults.tsv that fits it and its call. What the call printed is read, with a
+# dot behind it: as a name may have newlines, all of that is the line. A part of the answer stands before it only where
+# standard output didn't take the rest; `asm` and `find` put none that begins so, and there it is a line with a name.
+function explain_fault(status, call,    i, line, text, row, part, n) {
+    for (i = 4; i < ARGC && call !~ / /; i++) if (ARGV[i] ~ /^--at(=|$)/) call = call " --at"
+    while ((getline line < "-") > 0) text = text line "\n"
+    if (!sub(/\n\.\n$/, "", text) || status <= 1) return
+    if (status == 3 && text ~ /fault 3 write -$/ && !(text ~ /^fault 3 write / && call ~ /^(asm|find)$/))
+        text = "fault 3 write -"
+    if (index(text, "fault " status " ") != 1) return
+    while ((getline row < (ENVIRON["TOP"] "/docs/faults.tsv")) > 0) {
+        split(row, part, "\t")
+        if (row ~ /^#/ || part[2] != "*" && part[2] != call || !fits(part[1], text)) continue
+        n = split(part[3], part, /[{}]/)
+        for (i = 2; i < n; i += 2) part[1] = part[1] value[part[i]] part[i + 1]
+        say(part[1])
+        return
+    }
+}
+
+# Whether a row fits a line; then `value` has what its names stand for. The name of a file ends its line.
+function fits(pattern, line,    part, n, i, at) {
+    n = split(pattern, part, " ")
+    for (i = 1; i <= n; i++) {
+        at = part[i] == "{NAME}" ? length(line) + 1 : index(line " ", " ")
+        if (part[i] ~ /^[{]/) value[substr(part[i], 2, length(part[i]) - 2)] = substr(line, 1, at - 1)
+        else if (part[i] != substr(line, 1, at - 1)) return 0
+        line = substr(line, at + 1)
+    }
+    return line == ""
+}
+
+# Says what a choice for OLD rests on and what may be missing from it, by its report, which is read.
+function explain_choice(old,    end, given_up, budget) {
+    while ((getline < "-") > 0)
+        if ($1 == "skip") { given_up++; budget = $6 }
+        else if ($1 == "profile" && $2 != "exit") {
+            end = substr($0, 9, index($0, " steps ") - 9)
+            end = end == "limit" ? "--steps cut it off" : "'" end "' ended it"
+            end = end " after " $(NF - 2) " steps"
+            say("the run of '" old "' didn't exit: " end ", and the choice rests on these alone")
+        }
+    if (given_up)
+        say(given_up (given_up == 1 ? " search that needs" : " searches that need") " more than " budget " branches " \
+            (given_up == 1 ? "was" : "were") " given up: " (budget < 4194304 ? "a greater --budget" : "--out 1") \
+            " may find more")
+}
