@@ -18,8 +18,8 @@ fn line_of(rt: &(impl Abort + AllocGlobal), text: &str) -> Result<Vec<u8>, Alloc
     line
 }
 
-/// The line of seed 7, which a plain reading of generated programs and of rounds gives (`checks/generated.py` and
-/// `checks/choices.py` of the repository).
+/// The line of seed 7, which a plain reading of generated programs and of rounds gives (`checks/oracles/generated.py`
+/// and `checks/oracles/choices.py` of the repository).
 fn line_of_seven() -> &'static [u8] {
     b"load 7 blocks 1802 cuts 32 units 32 skipped 0 gain 192 cost 18010 17818 output 3f38b0fc\n"
 }

@@ -1,5 +1,5 @@
 //! Choices under several limits: which blocks are taken in which order, which are skipped, and what ends the choice.
-//! Reports are those of a plain reading of rounds (`checks/choices.py` of the repository).
+//! Reports are those of a plain reading of rounds (`checks/oracles/choices.py` of the repository).
 use crate::common::{answer, calls, expect_of_texts, expect_over, files_of, hold, program};
 use ci_io::{SureShelf, SureSink};
 use std::alloc::AllocError;

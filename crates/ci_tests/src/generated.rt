@@ -1,5 +1,5 @@
 //! The file of seed 7. Its words are those of a plain reading of the description in another language
-//! (`checks/generated.py` of the repository).
+//! (`checks/oracles/generated.py` of the repository).
 use ci_gen::program;
 use std::process::Abort;
 use std::test::Fail;
