@@ -103,3 +103,27 @@ build_alone() {
     fi
     exec 9>&-
 }
+
+# Says the version, by CHANGELOG.md, and what the program was built from.
+show_version() {
+    local from='other sources'
+    awk '$1 == "##" && $2 == "Unreleased" { more = ", and later changes"; next }
+         $1 == "##" { print "rumtsafi " $2 more; exit }' "$root/CHANGELOG.md"
+    [ -e "$program" ] || { echo "program none: ./rumtsafi --build builds it"; exit; }
+    [ "$(built_from "$program" sources)" != "$(sources)" ] || from='these sources'
+    runs "$program" || from+="; it doesn't run on this machine"
+    echo "program ${program#"$root/"}, built from $from"
+    [ ! -r "$program.sources" ] || cat -- "$program.sources"
+}
+
+# Builds the program into out/, and compares it with the shipped one where that was built from the same.
+build_only() {
+    build_alone
+    if cmp -s -- "$shipped" "$built"; then
+        echo "out/rumtsafi has the same bits as bin/rumtsafi"
+    elif cmp -s -- "$shipped.sources" "$built.sources"; then
+        fail "out/rumtsafi and bin/rumtsafi differ, though they were built from the same sources by the same toolchain"
+    else
+        echo "out/rumtsafi is built; there is no bin/rumtsafi of the same sources and toolchain to compare it with"
+    fi
+}

@@ -12,9 +12,9 @@ most=262144
 run_at_terminal() {
     local kept=/proc/$$/fd/1 begin=0 flags watching
     if [ -t 1 ]; then
-        kept=$(mktemp)
-        exec 3>&1 4> "$kept"
-        rm -f -- "$kept"
+        exec 3>&1 4> /dev/null
+        # A file without a name; without one, no fault line is said in words.
+        if kept=$(mktemp); then exec 4> "$kept"; rm -f -- "$kept"; fi
         kept=/proc/$$/fd/4
         exec > >(outlive; { await_output; exec cat; } | { tee >(tail -c "$most" >&4); wait "$!"; })
     else

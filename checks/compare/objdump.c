@@ -1,4 +1,4 @@
-/* A program for compare_with_objdump.py: it is compiled and linked, and never run. Floating point and 64-bit arithmetic
+/* A program for objdump.py: it is compiled and linked, and never run. Floating point and 64-bit arithmetic
    bring the routines of libgcc into it, so that its text has some thousands of words. */
 typedef unsigned int word;
 typedef unsigned long long wide;

@@ -29,7 +29,7 @@ WORDS = {mnemonic(word): word for opcode in (0x13, 0x33) for funct7 in (0x20, 1,
          for word in [funct7 << 25 | funct3 << 12 | opcode] if mnemonic(word) in {*ALU, *IMMEDIATE}}
 SHIFTS = "slli", "srli", "srai"
 
-# The operations, each a name with two arguments, as in made_units.py; the keys of the latency table of their
+# The operations, each a name with two arguments, as in generators/units.py; the keys of the latency table of their
 # instructions; the numbers of the outputs; and the cycles of a use.
 Unit = namedtuple("Unit", "operations keys outputs cycles")
 

@@ -1,6 +1,6 @@
-/* Loaded before the C library by checks/refuse_memory.py: refuses the growths of memory, the calls of malloc and realloc,
-   from the number REFUSED_FROM to REFUSED_TO, counted from 1. On standard error it says that the system has started the
-   program, and at the end how many growths were asked for. */
+/* Loaded before the C library by checks/refusals/memory.py: refuses the growths of memory, the calls of malloc and
+   realloc, from the number REFUSED_FROM to REFUSED_TO, counted from 1. On standard error it says that the system has
+   started the program, and at the end how many growths were asked for. */
 #include <errno.h>
 #include <stdio.h>
 #include <stdlib.h>
