@@ -1,22 +1,20 @@
 # shellcheck shell=bash disable=SC2154
-# What the program is made from, and how it is built into out/: `rumtsafi`, beside it what it was built from, and what
-# the build said. The script that reads this file has `root`, the top of the repository, and `say` and `fail`.
+# What the program is made from, how it is built into out/, and the answers to --version and --build. The script that
+# reads this file has `root`, the top of the repository, `say` and `fail`; for the answers also the places of programs.
 
-main=ci_main
-out=$root/out
+main=ci_main out=$root/out
 # The seconds after which a line says again how far a build is, and the memory in kB that the check of a crate may take.
-pause=30
-share=3000000
+pause=30 share=3000000
 
 # A hash of crates.txt and of the names and contents of the code of the crates that the program is made of. The
 # definitions and proofs in specs/ and proofs/ leave nothing in it.
 sources() {
     cd -- "$root" || return
     awk -F '[:, \t]+' -v main="$main" '
-        { sub(/#.*/, ""); count[$1] = NF; for (i = 2; i <= NF; i++) uses[$1, i] = $i }
-        function visit(name, i) {
-            if (!(name in count) || seen[name]++) return
-            for (i = 2; i <= count[name]; i++) visit(uses[name, i])
+        { sub(/#.*/, ""); uses[$1] = $0 }
+        function visit(name, part, n) {
+            if (!(name in uses) || seen[name]++) return
+            for (n = split(uses[name], part); n > 1; n--) visit(part[n])
             print "crates/" name "/src"
         }
         END { print "crates.txt"; visit(main) }' crates.txt |
@@ -24,29 +22,21 @@ sources() {
         cut -d ' ' -f 1
 }
 
-# What a program was built from, `sources` or `toolchain`, by the file that stands beside it.
-built_from() {
-    [ ! -r "$1.sources" ] || sed -n "s/^$2 //p" "$1.sources"
-}
-
-# The same of a program that is built now.
-stamp() {
-    printf 'sources %s\ntoolchain %s\n' "$1" "$(rt version)"
-}
+# What a program was built from, `sources` or `toolchain`, by the file that stands beside it; and that file's text for a
+# program that is built now.
+built_from() { [ ! -r "$1.sources" ] || sed -n "s/^$2 //p" "$1.sources"; }
+stamp() { printf 'sources %s\ntoolchain %s\n' "$1" "$(rt version)"; }
 
 # Puts a program into a place, with what it was built from.
 keep_program() {
     cp -- "$1" "$2.new"
     rm -f -- "$2.sources"
     mv -f -- "$2.new" "$2"
-    echo "$3" > "$2.sources.new"
-    mv -f -- "$2.sources.new" "$2.sources"
+    echo "$3" > "$2.sources"
 }
 
 # Whether a program runs on this machine. To list an empty file is a call of the program that succeeds.
-runs() {
-    { [ -x "$1" ] && "$1" dis /dev/null; } > /dev/null 2>&1
-}
+runs() { { [ -x "$1" ] && "$1" dis /dev/null; } > /dev/null 2>&1; }
 
 # Runs `rt` in a folder, and says now and then how far it is. Its text goes into the log, and a failure is shown.
 call_rt() {
@@ -54,9 +44,7 @@ call_rt() {
     (cd -- "$1" && exec rt "${@:2}") >> "$out/build.log" 2>&1 < /dev/null 9>&- &
     child=$!
     while sleep 0.1 9>&- && kill -0 "$child" 2> /dev/null; do
-        ((SECONDS >= said + pause)) || continue
-        said=$SECONDS
-        say "$(grep -c '^== ' "$out/build.log") crates are done ($said s)"
+        ((SECONDS < said + pause)) || say "$(grep -c '^== ' "$out/build.log") crates are done ($((said = SECONDS)) s)"
     done
     failed=$child child=''
     wait "$failed" && return
@@ -98,9 +86,7 @@ build_alone() {
     { mkdir -p -- "$out" && : >> "$out/lock"; } 2> /dev/null || fail "$out can't be written to"
     exec 9>> "$out/lock"
     flock -n 9 || { say "waiting for another call to build the program"; flock 9; }
-    if ! runs "$out/rumtsafi" || [ "$(stamp "$(sources)")" != "$(cat -- "$out/rumtsafi.sources")" ]; then
-        build
-    fi
+    runs "$out/rumtsafi" && [ "$(stamp "$(sources)")" = "$(cat -- "$out/rumtsafi.sources")" ] || build
     exec 9>&-
 }
 
@@ -109,7 +95,7 @@ show_version() {
     local from='other sources'
     awk '$1 == "##" && $2 == "Unreleased" { more = ", and later changes"; next }
          $1 == "##" { print "rumtsafi " $2 more; exit }' "$root/CHANGELOG.md"
-    [ -e "$program" ] || { echo "program none: ./rumtsafi --build builds it"; exit; }
+    [ -e "$program" ] || { echo "program none: ./rumtsafi --build builds it"; return; }
     [ "$(built_from "$program" sources)" != "$(sources)" ] || from='these sources'
     runs "$program" || from+="; it doesn't run on this machine"
     echo "program ${program#"$root/"}, built from $from"

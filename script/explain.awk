@@ -101,7 +101,7 @@ function misread_value(shown, name, value,    n, to) {
 # Says a fault line by the first row of docs/faults.tsv that fits it and its call. What the call printed is read, with a
 # dot behind it: as a name may have newlines, all of that is the line. A part of the answer stands before it only where
 # standard output didn't take the rest; `asm` and `find` put none that begins so, and there it is a line with a name.
-function explain_fault(status, call,    i, line, text, row, part, n) {
+function explain_fault(status, call,    i, line, text, row, part, n, name, fits, at) {
     for (i = 4; i < ARGC && call !~ / /; i++) if (ARGV[i] ~ /^--at(=|$)/) call = call " --at"
     while ((getline line < "-") > 0) text = text line "\n"
     if (!sub(/\n\.\n$/, "", text) || status <= 1) return
@@ -110,24 +110,22 @@ function explain_fault(status, call,    i, line, text, row, part, n) {
     if (index(text, "fault " status " ") != 1) return
     while ((getline row < (ENVIRON["TOP"] "/docs/faults.tsv")) > 0) {
         split(row, part, "\t")
-        if (row ~ /^#/ || part[2] != "*" && part[2] != call || !fits(part[1], text)) continue
+        fits = part[1]
+        # The name of a file ends its line, and may hold blanks.
+        sub(/[{]NAME}/, ".*", fits)
+        gsub(/[{][A-Z]+}/, "[^ ]+", fits)
+        if (row ~ /^#/ || part[2] != "*" && part[2] != call || text !~ ("^" fits "$")) continue
+        n = split(part[1], name, /[ {}]+/)
+        for (i = 1; i <= n; i++) {
+            at = name[i] == "NAME" ? length(text) + 1 : index(text " ", " ")
+            value[name[i]] = substr(text, 1, at - 1)
+            text = substr(text, at + 1)
+        }
         n = split(part[3], part, /[{}]/)
         for (i = 2; i < n; i += 2) part[1] = part[1] value[part[i]] part[i + 1]
         say(part[1])
         return
     }
-}
-
-# Whether a row fits a line; then `value` has what its names stand for. The name of a file ends its line.
-function fits(pattern, line,    part, n, i, at) {
-    n = split(pattern, part, " ")
-    for (i = 1; i <= n; i++) {
-        at = part[i] == "{NAME}" ? length(line) + 1 : index(line " ", " ")
-        if (part[i] ~ /^[{]/) value[substr(part[i], 2, length(part[i]) - 2)] = substr(line, 1, at - 1)
-        else if (part[i] != substr(line, 1, at - 1)) return 0
-        line = substr(line, at + 1)
-    }
-    return line == ""
 }
 
 # Says what a choice for OLD rests on and what may be missing from it, by its report, which is read.
@@ -136,8 +134,7 @@ function explain_choice(old,    end, given_up, budget) {
         if ($1 == "skip") { given_up++; budget = $6 }
         else if ($1 == "profile" && $2 != "exit") {
             end = substr($0, 9, index($0, " steps ") - 9)
-            end = end == "limit" ? "--steps cut it off" : "'" end "' ended it"
-            end = end " after " $(NF - 2) " steps"
+            end = (end == "limit" ? "--steps cut it off" : "'" end "' ended it") " after " $(NF - 2) " steps"
             say("the run of '" old "' didn't exit: " end ", and the choice rests on these alone")
         }
     if (given_up)

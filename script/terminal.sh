@@ -2,15 +2,13 @@
 # Runs the program where standard error is a terminal: says how long a command runs, and a fault line in words. The
 # script that reads this file has `run_program`, `explain`, `endings` and `status`.
 
-# The seconds after which a command says how long it has run, and more bytes than any fault line has: a word has at most
-# 131,071.
-patience=2
-most=262144
+# The seconds after which a command says how long it has run, and more bytes than a fault line has: a word has 131,071.
+patience=2 most=262144
 
 # Output to the terminal goes through a process that passes it on and keeps its end. Elsewhere it is left alone, and a
 # fault line is read back from a file; one that went into a pipe is not seen.
 run_at_terminal() {
-    local kept=/proc/$$/fd/1 begin=0 flags watching
+    local kept=/proc/$$/fd/1 begin=0 flags=0 watching
     if [ -t 1 ]; then
         exec 3>&1 4> /dev/null
         # A file without a name; without one, no fault line is said in words.
@@ -19,7 +17,7 @@ run_at_terminal() {
         exec > >(outlive; { await_output; exec cat; } | { tee >(tail -c "$most" >&4); wait "$!"; })
     else
         exec 3> >(outlive; await_output)
-        { read -r _ begin; read -r _ flags; } < "/proc/$$/fdinfo/1"
+        [ ! -f "$kept" ] || { read -r _ begin; read -r _ flags; } < "/proc/$$/fdinfo/1"
         # Behind the last byte, where a file is appended to (O_APPEND).
         ((!(flags & 02000))) || begin=$(stat -L -c %s "$kept")
     fi
