@@ -1,4 +1,5 @@
-"""Compares the figure of the layers in docs/ARCHITECTURE.md with crates.txt: a row for each layer, highest first.
+"""Compares the figure of the layers in docs/ARCHITECTURE.md with crates.txt and the modules of crates: a row for each
+crate, those of the highest layer first, with its layer and the modules of its src/.
 
 A crate that stands on no other is in layer 1, and each other one in the layer above the highest that it stands on.
 With `--write` the figure is made anew. It ends with status 1 where the figure is another one, and where crates.txt
@@ -6,6 +7,7 @@ names a crate in a circle.
 """
 import os
 import re
+import textwrap
 
 from checks.common import TOP, end, text_of, words
 
@@ -30,13 +32,20 @@ def layers(below):
     return found, [name for name in below if name not in done]
 
 
+def row(layer, crate):
+    """A crate with its layer and its modules."""
+    files = sorted(os.listdir(os.path.join(TOP, "crates", crate, "src")))
+    modules = " ".join(name.removesuffix(".rt") for name in files if name.endswith(".rt") and name != "lib.rt")
+    return textwrap.fill(modules, 100, initial_indent=f"{layer}  {crate:13}  ", subsequent_indent=" " * 18) + "\n"
+
+
 def main():
     parser = words(__doc__)
     parser.add_argument("--write", action="store_true", help="makes the figure anew")
     write = parser.parse_args().write
     found, circle = layers(crates())
     faults = [f"crates.txt: {name} stands in a circle" for name in circle]
-    made = "".join(f"{number}  {'  '.join(layer)}\n" for number, layer in reversed(list(enumerate(found, 1))))
+    made = "".join(row(number, crate) for number, layer in reversed(list(enumerate(found, 1))) for crate in layer)
     text = text_of(DOCUMENT)
     if write:
         with open(os.path.join(TOP, DOCUMENT), "w", encoding="utf-8") as file:
