@@ -3,7 +3,8 @@
     python3 -m benchmarks.graphs FILE [ADDRESS]
 
 FILE has the words of a block; with ADDRESS it is an executable, and the block begins there. The graph is made from the
-block's words by checks/oracles/cuts.py, and its live registers by checks/oracles/blocks.py, which share nothing with the program.
+block's words by checks/oracles/cuts.py, and its live registers by checks/oracles/blocks.py, which share nothing with
+the program.
 """
 import struct
 import sys

@@ -53,9 +53,14 @@ class Check:
             self.need(count >= least, f"only {count} of these, and not {least}: {kind}")
 
 
-def called(words, timeout=LIMIT, **options):
-    """What a call prints, in bytes where nothing else is said, and its status."""
-    return subprocess.run(words, **{"stdout": subprocess.PIPE, "check": False, "timeout": timeout, **options})
+def called(words, timeout=LIMIT, text=False, errors="strict", **options):
+    """What a call prints, in bytes or as a text, and its status. Of a text each byte is seen, a carriage return too."""
+    if isinstance(options.get("input"), str):
+        options["input"] = options["input"].encode()
+    done = subprocess.run(words, **{"stdout": subprocess.PIPE, "check": False, "timeout": timeout, **options})
+    if text:
+        done.stdout = done.stdout.decode(errors=errors)
+    return done
 
 
 def read(path):

@@ -12,7 +12,7 @@ run_at_terminal() {
     if [ -t 1 ]; then
         exec 3>&1 4> /dev/null
         # A file without a name; without one, no fault line is said in words.
-        if kept=$(mktemp); then exec 4> "$kept"; rm -f -- "$kept"; fi
+        if kept=$(mktemp 2> /dev/null); then exec 4> "$kept"; rm -f -- "$kept"; fi
         kept=/proc/$$/fd/4
         exec > >(outlive; { await_output; exec cat; } | { tee >(tail -c "$most" >&4); wait "$!"; })
     else
@@ -27,7 +27,7 @@ run_at_terminal() {
     exec 3>&-
     wait "$watching" || true
     [ "$status" = 0 ] || [ ! -f "$kept" ] ||
-        { tail -c "+$((begin + 1))" "$kept" | tail -c "$most" | tr -d '\0'; echo .; } | explain fault "$status" "$@" >&2
+        { tail -c "+$((begin + 1))" "$kept" 2> /dev/null | tail -c "$most" | tr -d '\0'; echo .; } | explain fault "$status" "$@" >&2
 }
 
 # What a signal ends is the program, and that ends what calls this.

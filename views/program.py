@@ -48,7 +48,7 @@ def call(*words):
     if done.returncode == 0:
         return done.stdout
     said = subprocess.run(["awk", "-f", os.path.join(TOP, "script", "explain.awk"), "--", "fault", str(done.returncode),
-                           *words], env={**os.environ, "TOP": TOP}, stdout=subprocess.PIPE,
+                           *words], env={**os.environ, "TOP": TOP, "LC_ALL": "C"}, stdout=subprocess.PIPE,
                           input=done.stdout.replace(b"\0", b"") + b".\n", check=False).stdout.decode(errors="replace")
     line = done.stdout.decode(errors="replace").rstrip()
     raise Refused(line or f"status {done.returncode}", said.partition(": ")[2].rstrip())

@@ -58,8 +58,9 @@ class Folds:
 def best_cut(check, path, leader, limits):
     """The best cut of the block at a leader, or None where there is none or the search for it is too long."""
     inputs, outputs = limits
-    kind, *words = check.call("best", path, "--at", f"0x{leader:x}", "--in", inputs, "--out", outputs, text=True,
-                              timeout=120).stdout.split()
+    done = check.call("best", path, "--at", f"0x{leader:x}", "--in", inputs, "--out", outputs, text=True, timeout=120)
+    check.same(f"the status of best --at 0x{leader:x}", done.returncode, 0)
+    kind, *words = done.stdout.split()
     return set(map(int, words[:-2])) if kind == "cut" else None
 
 

@@ -77,7 +77,9 @@ def look(check):
     program, text = check.path("program"), check.path("text.bin")
     subprocess.run([TOOLS["gcc"], *TARGET, SOURCE, "-lgcc", "-o", program], check=True)
     subprocess.run([TOOLS["objcopy"], "-O", "binary", "--only-section=.text", program, text], check=True)
-    lines, rows = check.call("dis", text, text=True).stdout.splitlines(), objdump_rows(program)
+    listed = check.call("dis", text, text=True)
+    check.same("the status of dis", listed.returncode, 0)
+    lines, rows = listed.stdout.split("\n")[:-1], objdump_rows(program)
     check.same("the number of words", len(lines), len(rows))
     for line, row in zip(lines, rows):
         check.same(line, from_dis(line[9:]), row)
