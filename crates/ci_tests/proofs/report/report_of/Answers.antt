@@ -7,4 +7,4 @@ pub report_on-text-requires : goal.report_on-text-requires
 report_on-text-requires c =
     let image = c.in_ok-image.image in
     let is = c.in_ok-image.ensures in
-    subst (λ (bytes : List ℕ). IsReadAs bytes (Ok image)) (sym is.1.same_bytes) is
+    record { image = subst (λ (bytes : List ℕ). IsReadAs bytes (Ok image)) (sym is.1.same_bytes) is }
