@@ -59,7 +59,7 @@ def called(words, timeout=LIMIT, text=False, errors="strict", **options):
         options["input"] = options["input"].encode()
     done = subprocess.run(words, **{"stdout": subprocess.PIPE, "check": False, "timeout": timeout, **options})
     if text:
-        done.stdout = done.stdout.decode(errors=errors)
+        done.stdout, done.stderr = ((printed or b"").decode(errors=errors) for printed in (done.stdout, done.stderr))
     return done
 
 

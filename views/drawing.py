@@ -2,6 +2,7 @@
 import re
 import subprocess
 
+import beside  # noqa: F401 (readers/ is found from here on)
 from readers.instructions import mnemonic
 from readers.latencies import MEMORY
 from program import disassembled, tool

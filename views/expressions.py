@@ -1,6 +1,7 @@
 """What a unit computes, as expressions: read from its module as `find` writes it."""
 import re
 
+import beside  # noqa: F401 (readers/ is found from here on)
 from readers.templates import LINES
 
 WIRE = re.compile(r"^wire \[(\d+):0\] ([a-z])(\d+);\nassign \2\3 = (.*);$", re.M)

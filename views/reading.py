@@ -3,6 +3,7 @@ import re
 import struct
 from collections import Counter, namedtuple
 
+import beside  # noqa: F401 (readers/ is found from here on)
 from readers import executable
 from readers import folds
 from readers.folds import is_cput, is_cread, is_unit
