@@ -26,7 +26,7 @@ RUN = "crates/ci_find/src/lib.rt", "run"
 COMMANDS = "crates/ci_find/specs/Commands.antt", "call_by"
 # The folder of the definitions that serve private contracts, models or lemmas, and how their first comments say so.
 PRIVATE = "/specs/private/"
-TOLD_PRIVATE = re.compile(r"private contracts|no public clause|^lemmas\b|the model of `\w+` alone", re.I)
+TOLD_PRIVATE = "For private contracts: "
 CHOICES = "Find", "Check"
 LAWS = "crates/ci_find/src/laws.rt"
 READERS = "Best", "Blocks", "Run", *CHOICES
@@ -99,7 +99,7 @@ def private(found):
 def misplaced(reader, files):
     """The files of definitions whose first comment says something else than their folder of whom they are for."""
     for file in sorted(files):
-        if (PRIVATE in file) != bool(TOLD_PRIVATE.search(reader.sources.definitions(file).comment)):
+        if (PRIVATE in file) != reader.sources.definitions(file).comment.startswith(TOLD_PRIVATE):
             yield f"{file} says by its first comment something else than by its folder of whom it is for"
 
 
@@ -148,7 +148,7 @@ def untold(reader, found):
             (text + item, (0, 0, 0, 0), "a definition that nothing names"),
             (field + item, (1, 4, 0, 0), "a definition that a field names"),
             (field, (0, 1, 1, 0), "a field that names nothing"),
-            ("-- For private contracts only.\n" + text, (0, 0, 0, 1), "a file that is for private contracts")):
+            (f"-- {TOLD_PRIVATE}what is made up.\n{text}", (0, 0, 0, 1), "a file that is for private contracts")):
         other = reached.Reader(reached.Sources({file: changed}))
         after = find(other, CLAIMS["headline"])
         told = tuple(there - here for there, here in zip(counts(other, after), counts(reader, found)))

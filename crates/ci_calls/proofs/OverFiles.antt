@@ -20,11 +20,6 @@ use Rattle.ci_calls.proofs.Told.{IsAbsent-told, longer_told}
 -- ---- files that are read one after the other
 
 module _ (told : Option Files) where
-  -- a refusal of one of the files behind the first
-  refusal_behind : (input : Input) (inputs : List Input) (bytes : List ℕ) (refusal : Refusal) → IsGood told input bytes
-      → IsFileRefusal told inputs refusal → IsFileRefusal told (input ∷ inputs) refusal
-  refusal_behind input inputs bytes refusal good is = inr (bytes, good, is)
-
   -- the file holds what its read answered
   answer_held : (name : List ℕ) (limit : ℕ) (bytes : List ℕ)
       → IfSome told (λ held. IsReadOf held name limit (Ok bytes)) → MayHold told name bytes

@@ -1,5 +1,5 @@
 //! Why a call of the program is refused, and the fault lines that say it.
-ghost use Rattle.std.specs.Prelude.{◌≡◌, ◌++◌, IfOk, OnOk};
+ghost use Rattle.std.specs.Prelude.{◌≡◌, IfOk};
 ghost use Rattle.std.specs.String.{string_bytes};
 ghost use Rattle.std.specs.Prelude.{List};
 ghost use Rattle.ci_io.specs.CallLists.{Call};

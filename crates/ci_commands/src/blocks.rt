@@ -2,7 +2,6 @@
 ghost use Rattle.std.specs.Prelude.{◌≡◌, ◌++◌, [], IfOk, IfErr, OnOk, map};
 ghost use Rattle.std.specs.List.{flat_map, Contains};
 ghost use Rattle.std.specs.String.{string_bytes};
-ghost use Rattle.ci_block.specs.declared.blocks.Block.{Block as BasicBlock};
 ghost use Rattle.ci_block.specs.CustomWords.{IsFirstCustomWord};
 ghost use Rattle.ci_calls.specs.Reads.{IsSuccessOf, IsRefusalOf};
 ghost use Rattle.ci_commands.specs.BlocksCommand.{blocks_inputs, IsBlocksMade, IsBlocksRefused, IsBlocksText};

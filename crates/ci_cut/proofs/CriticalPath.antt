@@ -152,11 +152,3 @@ is_chain-more graph cut other more (a ∷ []) is_one = more a is_one
 is_chain-more graph cut other more (a ∷ b ∷ chain) is_one =
     let parts = chain_parts graph cut a b chain is_one in
     chain_onward graph other a b chain (more a (chain_first graph cut a (b ∷ chain) is_one)) parts.0 (is_chain-more graph cut other more (b ∷ chain) parts.1)
-
--- a greater set has no less delay
-pub critical_path_delay-mono : (graph : FlowGraph) (cut other : ℕ → Bool)
-    → ((k : ℕ) → IsTrue (cut k) → IsTrue (other k))
-    → critical_path_delay graph cut ≤ critical_path_delay graph other
-critical_path_delay-mono graph cut other more =
-    maximum_of-mono (is_chain graph cut) (is_chain graph other) (delay_along graph)
-    (is_chain-more graph cut other more) (descending_lists (length graph.nodes))

@@ -12,63 +12,6 @@ use Rattle.ci_dfg.proofs.ArcLaws.{has_outer_arc, outer_there, outer_test}
 -- ---- spans
 
 module _ (joined : ℕ → Bool) where
-  pub span_alone : (k : ℕ) → IsSpan joined k k
-  span_alone k = record { rises = omega arith; inside = λ i above below. absurd (omega arith) }
-
-  -- one node more, at the front and at the end
-  pub span_earlier : (first last : ℕ) → 0 < first → joined first ≡ true → IsSpan joined first last → IsSpan joined (first - 1) last
-  span_earlier first last above is span = record {
-    rises = let rises = span.rises in omega arith;
-    inside = λ i over under. elim (cases_eq i first) [
-      | inl same ↦ ap joined same ∙ is
-      | inr other ↦ span.inside i (omega arith) under
-    ];
-  }
-
-  pub span_later : (first last : ℕ) → joined (suc last) ≡ true → IsSpan joined first last → IsSpan joined first (suc last)
-  span_later first last is span = record {
-    rises = let rises = span.rises in omega arith;
-    inside = λ i over under. elim (cases_eq i (suc last)) [
-      | inl same ↦ ap joined same ∙ is
-      | inr other ↦ span.inside i over (omega arith)
-    ];
-  }
-
-  -- node j alone leaves what it leaves, where it isn't the last of its bundle, or is the whole of it
-  pub left_by_itself : (j i : ℕ) → (joined j ≡ false) ⊎ (joined (suc j) ≡ true) → ComesFrom joined i j ↔ ((j ≤ i) × (i ≤ j))
-  left_by_itself j i alone = (there alone, λ (low, high). inl (omega arith))
-    where
-      there : (joined j ≡ false) ⊎ (joined (suc j) ≡ true) → ComesFrom joined i j → (j ≤ i) × (i ≤ j)
-      there alone (inl same) = (omega arith, omega arith)
-      there (inr more) (inr (span, none)) = absurd (true≢false (sym more ∙ none))
-      there (inl none) (inr (span, ends)) = elim (cases_lt i j) [
-        | inl below ↦ absurd (true≢false (sym (span.inside j below (omega arith)) ∙ none))
-        | inr least ↦ (least, span.rises)
-      ]
-
-  -- the nodes of its bundle leave what the last of them does
-  pub left_by_bundle : (first j i : ℕ) → IsSpan joined first j → joined first ≡ false → joined (suc j) ≡ false
-      → ComesFrom joined i j ↔ ((first ≤ i) × (i ≤ j))
-  left_by_bundle first j i whole begins ends = (
-    there,
-    λ (low, high). inr (record { rises = high; inside = λ n over under. whole.inside n (omega arith) under }, ends),
-  )
-    where
-      there : ComesFrom joined i j → (first ≤ i) × (i ≤ j)
-      there (inl same) = let rises = whole.rises in (omega arith, omega arith)
-      there (inr (span, none)) = elim (cases_lt i first) [
-        | inl below ↦ absurd (true≢false (sym (span.inside first below whole.rises) ∙ begins))
-        | inr least ↦ (least, span.rises)
-      ]
-
-  -- node k alone is entered by what enters it, where it isn't the first of its bundle
-  pub entered_by_itself : (k l : ℕ) → joined k ≡ true → LeadsTo joined l k ↔ ((k ≤ l) × (l ≤ k))
-  entered_by_itself k l is = (there, λ (low, high). inl (omega arith))
-    where
-      there : LeadsTo joined l k → (k ≤ l) × (l ≤ k)
-      there (inl same) = (omega arith, omega arith)
-      there (inr (span, none)) = absurd (true≢false (sym is ∙ none))
-
   -- the first of a bundle is entered by what enters the nodes of it
   pub entered_by_bundle : (k last l : ℕ) → IsSpan joined k last → joined k ≡ false → joined (suc last) ≡ false
       → LeadsTo joined l k ↔ ((k ≤ l) × (l ≤ last))
@@ -109,14 +52,6 @@ same_test false false there back = refl
 
 module _ (insns : List Insn) where
   -- ---- what is read of the words
-
-  pub joined_above : (k : ℕ) → is_joined insns k ≡ true → 0 < k
-  joined_above zero is = cc
-  joined_above (suc k) is = omega arith
-
-  pub joined_first : (k : ℕ) → k ≤ 0 → is_joined insns k ≡ false
-  joined_first zero least = refl
-  joined_first (suc k) least = absurd (omega arith)
 
   pub joined_there : (k : ℕ) (first second : Insn) → 0 < k → k < length insns
       → first ≡ get_or insns (k - 1) first → second ≡ get_or insns k second → stay_together first second ≡ is_joined insns k

@@ -1,5 +1,5 @@
 -- A call that doesn't succeed has a cause, unless memory ran out.
-use Rattle.std.proofs.Common.{◌≢◌, ℕ, inl, inr, List, [], ◌∷◌, ◌++◌, Contains, Err, refl, arith}
+use Rattle.std.proofs.Common.{ℕ, inl, inr, List, [], ◌∷◌, ◌++◌, Contains, Err, refl, arith}
 use Rattle.std.proofs.lemmas.List.Elements.{Contains-append_right}
 use Rattle.ci_io.specs.declared.shelves.ShelfErr.TheVariants as shelf
 use Rattle.ci_io.specs.declared.sinks.SinkErr.TheVariants as sink

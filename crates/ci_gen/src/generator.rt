@@ -1,5 +1,5 @@
 //! A linear congruential generator.
-ghost use Rattle.std.specs.Prelude.{◌≡◌, ◌+◌, ◌/◌, ◌%◌, ◌<◌, ◌≤◌};
+ghost use Rattle.std.specs.Prelude.{◌≡◌, ◌+◌, ◌/◌, ◌%◌};
 ghost use Rattle.ci_gen.specs.Draws.{following};
 
 use ci_isa::Reg;

@@ -1,5 +1,5 @@
 //! The text of a program: its instructions and their words.
-ghost use Rattle.std.specs.Prelude.{◌≡◌, ℕ, ◌+◌, ◌*◌, ◌<◌, ◌≤◌, [], ◌∷◌, ◌++◌, pos, length, IfOk, OnOk};
+ghost use Rattle.std.specs.Prelude.{◌≡◌, ℕ, ◌+◌, ◌*◌, ◌<◌, [], ◌∷◌, pos, IfOk, OnOk};
 ghost use Rattle.ci_isa.specs.declared.instruction.Insn.{Insn};
 ghost use Rattle.ci_isa.specs.FieldBounds.{FieldsFit};
 ghost use Rattle.ci_gen.specs.Draws.{state_of};

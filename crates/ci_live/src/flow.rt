@@ -1,5 +1,5 @@
 //! What matters of a block for liveness: what it reads and writes, and where it leads.
-ghost use Rattle.std.specs.Prelude.{◌≡◌, ℕ, ◌<◌, ◌↔◌, length, map, slice_index, IfOk, MatchOption};
+ghost use Rattle.std.specs.Prelude.{◌≡◌, ℕ, ◌<◌, ◌↔◌, length, slice_index, IfOk, MatchOption};
 ghost use Rattle.std.specs.List.{AllPairs, Contains};
 ghost use Rattle.ci_isa.specs.Sequences.{ReadFirst, Write};
 ghost use Rattle.ci_live.specs.private.Flows.{AreFlows, AreSuccessorNumbers, Has};

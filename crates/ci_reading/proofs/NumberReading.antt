@@ -252,9 +252,6 @@ record IsClosed (numbers : Numbers) (value : ℕ) (rest : List ℕ) (x : ℕ × 
   same : value ≡ x.0
   is : ends numbers value x.1 ≡ true
 
-pub least_number : (numbers : Numbers) → numbers.low ≤ numbers.high → IsNumber numbers (decimal numbers.low ++ numbers.end ∷ []) (numbers.low, numbers.end)
-least_number numbers range = record { low = omega arith; high = range; ended = end_ends numbers numbers.low (omega arith); text = refl }
-
 module _ {K : Type 0} where
   -- a number's digits are taken, whatever follows them
   taken_digits : (numbers : Numbers) → numbers.high ≤ 9999999 → (n : ℕ) → n < 2 ^ 64 → (rest : List ℕ)

@@ -1,10 +1,9 @@
 //! The search.
-ghost use Rattle.std.specs.Prelude.{◌≡◌, ◌≢◌, ◌↔◌, ℕ, suc, ◌≤◌, ◌+◌, ◌-◌, ◌^◌, IsTrue, [], MatchOption, Some, None};
+ghost use Rattle.std.specs.Prelude.{◌≡◌, ◌≢◌, ◌↔◌, suc, ◌≤◌, ◌+◌, ◌-◌, IsTrue, [], MatchOption, Some, None};
 ghost use Rattle.std.specs.Prelude.{pos};
-ghost use Rattle.std.specs.FinMap as map;
 ghost use Rattle.ci_region.specs.BoundedMap.{used};
-ghost use Rattle.ci_cut.specs.Prefixes.{Prefix, eligible_nodes};
-ghost use Rattle.ci_cut.specs.Need.{IsNeed, NeedExceeds};
+ghost use Rattle.ci_cut.specs.Prefixes.{Prefix};
+ghost use Rattle.ci_cut.specs.Need.{NeedExceeds};
 ghost use Rattle.ci_cut.specs.Representation.{AreRowsOf, AreKeptFrom};
 ghost use Rattle.ci_check.specs.Representation.{IsMeasured};
 ghost use Rattle.ci_log.specs.declared.flattening.LogNode.{LogNode};

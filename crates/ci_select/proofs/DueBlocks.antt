@@ -18,7 +18,7 @@ use Rattle.ci_select.specs.PresentBlocks.{IsPresent}
 use Rattle.ci_select.specs.Dues.{IsDue, IsSearchDue, at_first, after_take}
 use Rattle.ci_select.specs.LegalBooks.{IsLegalHistory, IsRight, IsSearched, searched}
 use Rattle.ci_select.specs.GivenUp.{IsGivenUp, IsGivenUpByNeed}
-use Rattle.ci_select.specs.Followed.{Follows, IsDueGraph, instance_in}
+use Rattle.ci_select.specs.private.Followed.{Follows, IsDueGraph, instance_in}
 use Rattle.ci_select.proofs.PresentLaws.{block_of_present, due_search, take_is_due}
 
 -- ---- the block

@@ -10,7 +10,7 @@ use Rattle.ci_select.specs.Instances.{Instance}
 use Rattle.ci_select.specs.UnitNumbers.{IsUnitAt}
 use Rattle.ci_select.specs.Candidates.{HasNoCandidate}
 use Rattle.ci_select.specs.Dues.{HasNoSearchDue, IsDue, IsNextTake, IsSearchDue, ends_empty, ends_full, searches, takes_known, takes_new}
-use Rattle.ci_select.specs.Followed.{IsNumberFor}
+use Rattle.ci_select.specs.private.Followed.{IsNumberFor}
 use Rattle.ci_select.specs.Laws.{DueIsOne}
 pub use Rattle.ci_select.proofs.SearchDues.{search_due_is_one}
 use Rattle.ci_select.proofs.CandidateLaws.{due_candidate_is_one}

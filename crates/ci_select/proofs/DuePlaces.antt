@@ -23,7 +23,7 @@ use Rattle.ci_select.specs.Instances.{AreOfSomeFile}
 use Rattle.ci_select.specs.PresentBlocks.{IsPresent}
 use Rattle.ci_select.specs.Candidates.{HasNoCandidate, IsCandidate, IsDueCandidate}
 use Rattle.ci_select.specs.Dues.{HasNoSearchDue, IsDue, IsNextTake, IsSearchDue}
-use Rattle.ci_select.specs.Followed.{Follows, IsFirst, instance_in}
+use Rattle.ci_select.specs.private.Followed.{Follows, IsFirst, instance_in}
 use Rattle.ci_select.proofs.CandidateLaws.{due_candidate_is_one, saved_is_one}
 use Rattle.ci_select.proofs.DueLaws.{next_of_take, search_due_is_one}
 use Rattle.ci_select.proofs.PresentIsOne.{blocks_in_order}

@@ -10,7 +10,7 @@ use Rattle.ci_word.proofs.NumberLaws.{numbers_below-suc, numbers_below-zero}
 use Rattle.ci_block.specs.declared.blocks.Block.{Block}
 use Rattle.ci_emu.specs.declared.profile.Profile.{Profile}
 use Rattle.ci_emu.specs.Profiles.{entries_in}
-use Rattle.ci_select.specs.Followed.{entered_from, leaders_of}
+use Rattle.ci_select.specs.private.Followed.{entered_from, leaders_of}
 
 -- ---- numbers that pass a test
 

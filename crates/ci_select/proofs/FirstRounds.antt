@@ -15,7 +15,7 @@ use Rattle.ci_select.specs.Instances.{AreOfSomeFile}
 use Rattle.ci_select.specs.PresentBlocks.{original}
 use Rattle.ci_select.specs.UnitNumbers as units
 use Rattle.ci_select.specs.Savings as savings
-use Rattle.ci_select.specs.Followed.{Follows, entered_from, instance_in}
+use Rattle.ci_select.specs.private.Followed.{Follows, entered_from, instance_in}
 use Rattle.ci_select.proofs.BlockSums.{few_instructions}
 use Rattle.ci_select.proofs.EnteredPlaces.{leaders_of_entered}
 

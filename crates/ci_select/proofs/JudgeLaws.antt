@@ -25,7 +25,7 @@ use Rattle.ci_select.specs.Dues.{IsDue}
 use Rattle.ci_select.specs.LegalBooks.{IsLegal, IsLegalHistory, IsRight}
 use Rattle.ci_select.specs.WrongPlaces.{IsFirstWrongPart, IsWrongPart, Place, entry as part_of, finish as finish_of}
 use Rattle.ci_select.specs.WrongPlaces.{no_end, no_search, no_take, place, wrong_log}
-use Rattle.ci_select.specs.Followed.{Follows, IsDueGraph, instance_in}
+use Rattle.ci_select.specs.private.Followed.{Follows, IsDueGraph, instance_in}
 use Rattle.ci_select.specs.private.Judged.{IsEndJudged, IsJudged, IsSearchJudged, is_at}
 use Rattle.ci_select.proofs.PresentLaws.{due_search}
 use Rattle.ci_select.proofs.DueBlocks.{present_of_search, search_is_no_take, search_is_right}

@@ -9,7 +9,7 @@ use Rattle.ci_elf.specs.Executables.{Executable, IsTextWord, text_word}
 use Rattle.ci_block.specs.declared.blocks.Block.{Block}
 use Rattle.ci_block.specs.Blocks.{size_of}
 use Rattle.ci_select.specs.declared.rounds.Rounds.{Rounds}
-use Rattle.ci_select.specs.Followed.{Follows, FollowsSome, instance_in}
+use Rattle.ci_select.specs.private.Followed.{Follows, FollowsSome, instance_in}
 use Rattle.ci_select.specs.Histories.{History}
 use Rattle.ci_select.specs.Instances.{AreBlocksOf}
 use Rattle.ci_select.specs.NewFiles.{IsNewFile, with_bytes}

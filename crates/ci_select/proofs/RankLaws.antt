@@ -11,7 +11,7 @@ use Rattle.std.proofs.lemmas.List.Elements.{All-contains}
 use Rattle.std.proofs.lemmas.Option.{get_or_from_slice_get, slice_get_within}
 use Rattle.ci_select.specs.declared.rounds.Candidate.{Candidate}
 use Rattle.ci_select.specs.declared.rounds.Rank.{Rank}
-use Rattle.ci_select.specs.Followed.{IsFirst}
+use Rattle.ci_select.specs.private.Followed.{IsFirst}
 
 -- more saved goes first, and then the lesser leader
 abbrev pub rank_order : Rank → Rank → Ordering

@@ -9,7 +9,7 @@ use Rattle.std.proofs.lemmas.Cmp.{by_ranked, nat_cmp_total, ranked, tied_itself}
 use Rattle.std.proofs.lemmas.List.Elements.{All-cons, All-contains, All-weaker}
 use Rattle.ci_select.specs.declared.rounds.Candidate.{Candidate}
 use Rattle.ci_select.specs.declared.rounds.Rank.{Rank}
-use Rattle.ci_select.specs.Followed.{IsFirst}
+use Rattle.ci_select.specs.private.Followed.{IsFirst}
 use Rattle.ci_select.proofs.RankLaws.{first_of_all, mapped_there, rank_order}
 
 -- equal numbers are tied,

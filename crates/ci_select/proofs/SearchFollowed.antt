@@ -29,7 +29,7 @@ use Rattle.ci_select.specs.UnitNumbers.{of_search as units_of_search}
 use Rattle.ci_select.specs.Candidates.{IsCandidate}
 use Rattle.ci_select.specs.Savings.{of_search as saved_of_search}
 use Rattle.ci_select.specs.Dues.{searches}
-use Rattle.ci_select.specs.Followed.{Follows, IsDueGraph, IsRanked, instance_in, searches_due, steps_left}
+use Rattle.ci_select.specs.private.Followed.{Follows, IsDueGraph, IsRanked, instance_in, searches_due, steps_left}
 use Rattle.ci_select.specs.LegalBooks.{IsRight}
 use Rattle.ci_select.proofs.DuePlaces.{last_is_at, last_of_pushed, last_within, order_of, present_at}
 use Rattle.ci_select.proofs.EntryLaws.{entry_cases, first_there, later_there, new_is_there, others_stay}

@@ -13,7 +13,7 @@ use Rattle.ci_log.specs.declared.book.Entry.TheVariants.{Best, Without, Spent, T
 use Rattle.ci_select.specs.Histories.{History, is_take, round}
 use Rattle.ci_select.specs.Instances.{Instance, entered}
 use Rattle.ci_select.specs.Dues.{IsSearchDue, HasNoSearchDue, at_first, after_take}
-use Rattle.ci_select.specs.Followed.{leaders_of, searches_due}
+use Rattle.ci_select.specs.private.Followed.{leaders_of, searches_due}
 
 -- ---- lists from a place on
 

@@ -33,7 +33,7 @@ use Rattle.ci_select.specs.UnitNumbers.{AreUnits, IsUnitAt, known as known_unit,
 use Rattle.ci_select.specs.Candidates.{IsCandidate}
 use Rattle.ci_select.specs.Savings.{of_take}
 use Rattle.ci_select.specs.Dues.{HasNoSearchDue, IsDue, IsSearchDue, after_take, takes_known, takes_new}
-use Rattle.ci_select.specs.Followed.{Follows, IsRanked, instance_in, operations_left, steps_left}
+use Rattle.ci_select.specs.private.Followed.{Follows, IsRanked, instance_in, operations_left, steps_left}
 use Rattle.ci_select.specs.LegalBooks.{taken}
 use Rattle.ci_select.proofs.CandidateLaws.{saved_is_one}
 use Rattle.ci_select.proofs.DuePlaces.{order_of}

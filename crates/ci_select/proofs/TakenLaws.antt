@@ -32,7 +32,7 @@ use Rattle.ci_select.specs.PresentBlocks.{HasPresentCut, graph_at}
 use Rattle.ci_select.specs.Dues.{IsDue}
 use Rattle.ci_select.specs.LegalBooks.{IsLegalHistory}
 use Rattle.ci_select.specs.Takes.{IsTaken}
-use Rattle.ci_select.specs.Followed.{Follows, IsFirst, IsRanked, instance_in}
+use Rattle.ci_select.specs.private.Followed.{Follows, IsFirst, IsRanked, instance_in}
 use Rattle.ci_select.proofs.DuePlaces.{first_leads}
 use Rattle.ci_select.proofs.PresentLaws.{blocks_in_order, cut_is_found, due_take, present_is_sound, take_is_small}
 use Rattle.ci_select.proofs.SearchFollowed.{present_here}

@@ -16,7 +16,7 @@ use Rattle.ci_select.specs.Instances.{Instance}
 use Rattle.ci_select.specs.PresentBlocks.{graph_at}
 use Rattle.ci_select.specs.UnitNumbers.{AreUnits, IsUnitAt, none, of_search, known, new}
 use Rattle.ci_select.specs.Dues.{IsDue, takes_known, takes_new}
-use Rattle.ci_select.specs.Followed.{IsNumberFor}
+use Rattle.ci_select.specs.private.Followed.{IsNumberFor}
 use Rattle.ci_select.specs.LegalBooks.{IsLegalHistory, IsRight, searched, taken}
 use Rattle.ci_select.specs.Laws.{UnitsAreOne}
 use Rattle.ci_select.proofs.HistoryLaws.{cut_is_one}

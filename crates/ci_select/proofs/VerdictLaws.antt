@@ -30,7 +30,7 @@ use Rattle.ci_select.specs.Histories.{History, leader_of, round}
 use Rattle.ci_select.specs.Instances.{Instance, AreBlocksOf}
 use Rattle.ci_select.specs.UnitNumbers.{AreUnits}
 use Rattle.ci_select.specs.NewFiles.{IsNewFile}
-use Rattle.ci_select.specs.Followed.{Follows, instance_in}
+use Rattle.ci_select.specs.private.Followed.{Follows, instance_in}
 use Rattle.ci_select.specs.PresentBlocks.{IsPresent, graph_at}
 use Rattle.ci_select.specs.Dues.{IsDue}
 use Rattle.ci_select.specs.LegalBooks.{IsLegal, IsLegalHistory, IsRight, IsSearched, searched, taken}

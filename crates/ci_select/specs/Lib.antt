@@ -12,5 +12,4 @@ pub mod GivenUp
 pub mod NewFiles
 pub mod WrongPlaces
 pub mod Laws
-pub mod Followed
 pub mod private

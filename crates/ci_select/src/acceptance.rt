@@ -9,7 +9,7 @@ ghost use Rattle.ci_select.specs.Dues.{IsDue};
 ghost use Rattle.ci_select.specs.LegalBooks.{IsLegal};
 ghost use Rattle.ci_select.specs.NewFiles.{IsNewFile};
 ghost use Rattle.ci_select.specs.WrongPlaces.{IsAcceptable, IsVerdict, IsFirstWrongPart};
-ghost use Rattle.ci_select.specs.Followed.{Follows, FollowsSome, instance_in};
+ghost use Rattle.ci_select.specs.private.Followed.{Follows, FollowsSome, instance_in};
 ghost use Rattle.ci_select.specs.private.Judged.{IsEndJudged, IsJudged, IsSearchJudged, is_at};
 
 use crate::choosing::bytes_are_small;

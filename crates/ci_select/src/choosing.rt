@@ -12,7 +12,7 @@ ghost use Rattle.ci_select.specs.GivenUp.{IsGivenUp, IsGivenUpByNeed, GivesUpByN
 ghost use Rattle.ci_select.specs.Savings.{IsSaved};
 ghost use Rattle.ci_select.specs.Takes.{AreTaken};
 ghost use Rattle.ci_select.specs.NewFiles.{IsNewFile, with_bytes};
-ghost use Rattle.ci_select.specs.Followed.{Follows, instance_in, steps_left};
+ghost use Rattle.ci_select.specs.private.Followed.{Follows, instance_in, steps_left};
 
 use crate::plan::Plan;
 use crate::rounds::{Due, Rounds};

@@ -1,12 +1,11 @@
 //! How far a choice has come: what the entries of a book so far make of the blocks, and what is due behind them.
-ghost use Rattle.std.specs.Prelude.{◌≡◌, ◌≢◌, ◌<◌, ◌^◌, ◌∷◌, ◌++◌, ℕ, false, [], reverse, length, map, slice_index_or};
+ghost use Rattle.std.specs.Prelude.{◌≡◌, ◌≢◌, ◌<◌, ◌^◌, ◌∷◌, ◌++◌, ℕ, false, [], reverse, length, map};
 ghost use Rattle.std.specs.Prelude.{pos, ◌<ℤ◌, ◌*ℤ◌, Ok, IfOk, OnOk, MatchOption};
 ghost use Rattle.std.specs.FinSet as finite;
 ghost use Rattle.std.specs.List.{Contains};
 ghost use Rattle.ci_cut.specs.Gain as terms;
 ghost use Rattle.ci_unit.specs.Operands.{FitsSomeLimits};
 ghost use Rattle.ci_elf.specs.Rules.{IsReadAs};
-ghost use Rattle.ci_block.specs.declared.blocks.Block.{Block as BasicBlock};
 ghost use Rattle.ci_log.specs.declared.book.Entry.TheVariants.{Take};
 ghost use Rattle.ci_select.specs.Histories.{History, is_take, round};
 ghost use Rattle.ci_select.specs.Instances.{instance_of, AreBlocksOf, AreOfSomeFile};
@@ -16,8 +15,8 @@ ghost use Rattle.ci_select.specs.Savings.{IsSaved};
 ghost use Rattle.ci_select.specs.Takes.{IsTaken};
 ghost use Rattle.ci_select.specs.LegalBooks.{IsRight};
 ghost use Rattle.ci_select.specs.NewFiles.{IsNewFile, with_bytes};
-ghost use Rattle.ci_select.specs.Followed.{Follows, FollowsSome, HasDueSearch, IsDueGraph, IsNumberFor};
-ghost use Rattle.ci_select.specs.Followed.{IsFirst, entered_from, instance_in, steps_left};
+ghost use Rattle.ci_select.specs.private.Followed.{Follows, FollowsSome, HasDueSearch, IsDueGraph, IsNumberFor};
+ghost use Rattle.ci_select.specs.private.Followed.{IsFirst, entered_from, instance_in, steps_left};
 
 use crate::new_file::patch_block;
 use crate::plan::Plan;

@@ -90,23 +90,6 @@ module _ (p : ℕ → Bool) where
         let found = number_at n i (omega (arith, count)) in
         subst (λ k. IsTrue (p k)) (sym (found.1.there 0) ∙ ap (λ (l : List ℕ). get_or l i 0) same) found.1.passes
 
-    pub is_among_them : (k : ℕ) → k < n → IsTrue (p k) → list_any (λ j. j == k) numbers ≡ true
-    is_among_them k below passes =
-        ap (list_any (λ j. j == k)) (sym same) ∙ list_any-numbers_below n p k ∙ and_from (nat_lt k n) (p k) (lt-ltb k n below) passes
-
-  -- of two the first is less
-  pub two_rise : (n a b : ℕ) → numbers_below n p ≡ a ∷ b ∷ [] → a < b
-  two_rise n a b same =
-      let count : count_below n p ≡ 2 = sym (length-numbers_below n p) ∙ ap length same in
-      let one = number_at n 0 (omega (arith, count)) in
-      let two = number_at n 1 (omega (arith, count)) in
-      let a_is : a ≡ one.0 = ap (λ (l : List ℕ). get_or l 0 0) (sym same) ∙ one.1.there 0 in
-      let b_is : b ≡ two.0 = ap (λ (l : List ℕ). get_or l 1 0) (sym same) ∙ two.1.there 0 in
-      elim (cases_lt one.0 two.0) [
-        | inl rises ↦ omega (arith, a_is, b_is)
-        | inr falls ↦ absurd (omega (arith, count_below-rises p two.0 one.0 falls, one.1.counted, two.1.counted))
-      ]
-
   -- ---- a list made of those below k, and one step more
 
   module _ {X : Type 0} (f : ℕ → X) (k : ℕ) (items : List X) (so_far : items ≡ map f (numbers_below k p)) where

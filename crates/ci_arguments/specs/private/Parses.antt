@@ -1,4 +1,4 @@
--- For private contracts only: what is asked of `clap`, and what its matches say.
+-- For private contracts: what is asked of `clap`, and what its matches say.
 use Rattle.std.specs.Prelude.{◌≡◌, ℕ, Bool, ◌==◌, ◌&&◌, ◌<◌, not, List, [], ◌∷◌, map, codes, Some, true, false}
 use Rattle.std.specs.Prelude.{unwrap_or, if◌then◌else◌}
 use Rattle.std.specs.List.{list_all, list_any, slice_index_or}

@@ -1,6 +1,5 @@
 -- For private contracts: what the two passes over a text compute. The public definitions of programs and faults are in
--- Assembly.
--- The words of a text, or its first fault.
+-- Assembly. The words of a text, or its first fault.
 use Rattle.std.specs.Prelude.{◌≡◌, ℕ, ◌+◌, ◌-◌, ◌*◌, ◌==◌, Bool, true, false, take_while, if◌then◌else◌, List, [], ◌∷◌}
 use Rattle.std.specs.Prelude.{◌++◌, Option, Some, None, Result, Ok, Err, nat_lt, ⊤}
 use Rattle.std.specs.Option.{option_to_list}

@@ -1,5 +1,5 @@
--- For private contracts: what the table of statements computes. The public definitions of statements are in Forms.
--- The table of statements: the mnemonics, their names, and the shape of each statement, slot by slot.
+-- For private contracts: what the table of statements computes. The public definitions of statements are in Forms. The
+-- table of statements: the mnemonics, their names, and the shape of each statement, slot by slot.
 use Rattle.std.specs.Prelude.{ℕ, ◌%◌, ◌==◌, Bool, true, false, ◌&&◌, if◌then◌else◌, List, [], ◌∷◌, codes, Option, Some}
 use Rattle.std.specs.Prelude.{None, is_some, nat_le, not, find}
 use Rattle.std.specs.Str.{bytes_eq}

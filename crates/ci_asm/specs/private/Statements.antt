@@ -1,5 +1,5 @@
--- For private contracts: what the reader of a line computes. The public definitions of lines are in Assembly.
--- The statement of a line, or the first fault in it.
+-- For private contracts: what the reader of a line computes. The public definitions of lines are in Assembly. The
+-- statement of a line, or the first fault in it.
 use Rattle.std.specs.Prelude.{◌≡◌, ◌<◌, ◌≤◌, IfSome, ℕ, ◌*◌, ◌==◌, Bool, true, false, if◌then◌else◌, List, [], ◌∷◌}
 use Rattle.std.specs.Prelude.{Option, Some, None, Result, Ok, Err, ℤ, pos, neg_ℤ}
 use Rattle.ci_isa.specs.declared.instruction.Insn.{Insn}

@@ -1,6 +1,5 @@
--- For private contracts: what the scanner computes. The public definitions of tokens are in Lexicon.
--- The tokens of a line. A place in a line is the number of bytes before it, and a token is the longest one that begins
--- at its place.
+-- For private contracts: what the scanner computes. The public definitions of tokens are in Lexicon. The tokens of a
+-- line. A place in a line is the number of bytes before it, and a token is the longest one that begins at its place.
 use Rattle.std.specs.Prelude.{ℕ, ◌+◌, ◌-◌, ◌*◌, ◌==◌, Bool, true, false, ◌&&◌, not, ◌||◌, List, [], ◌∷◌, length, take}
 use Rattle.std.specs.Prelude.{drop, Option, Some, None, nat_le, nat_lt, if◌then◌else◌, slice_index, slice_range}
 use Rattle.std.specs.List.{prefix_len}

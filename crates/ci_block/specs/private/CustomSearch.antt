@@ -1,4 +1,4 @@
--- For private contracts only: words of the custom opcodes, range by range.
+-- For private contracts: words of the custom opcodes, range by range.
 use Rattle.std.specs.Prelude.{◌≡◌, ℕ, ◌+◌, ◌*◌, ◌<◌}
 use Rattle.ci_isa.specs.Fields.{HasCustomOpcode}
 use Rattle.ci_elf.specs.Executables.{Executable, text_word}

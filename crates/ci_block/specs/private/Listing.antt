@@ -1,4 +1,4 @@
--- Leaders listed in the order of their addresses, for private contracts.
+-- For private contracts: leaders listed in the order of their addresses.
 use Rattle.std.specs.Prelude.{◌≡◌, ℕ, ◌+◌, ◌*◌, ◌<◌, ◌≤◌, ◌⊎◌, Bool, true, false, List, Option, Some, None}
 use Rattle.std.specs.List.{AllPairs, Contains}
 use Rattle.ci_elf.specs.declared.ranges.Range.{Range}

@@ -1,4 +1,4 @@
--- The data words that segments load, for private contracts.
+-- For private contracts: the data words that segments load.
 use Rattle.std.specs.Prelude.{ℕ, ◌+◌, ◌*◌, ◌/◌, ◌<◌, ◌≤◌, List, slice_index_or}
 use Rattle.ci_elf.specs.declared.segments.Segment.{Segment}
 use Rattle.ci_elf.specs.Executables.{Executable}

@@ -1,4 +1,4 @@
--- The ranges of a text by number, for private contracts.
+-- For private contracts: the ranges of a text by number.
 use Rattle.std.specs.Prelude.{◌≡◌, ℕ, ◌%◌, ◌<◌, ◌≤◌, List, length, slice_index_or}
 use Rattle.ci_elf.specs.declared.ranges.Range.{Range}
 use Rattle.ci_elf.specs.Executables.{IsAscending, end_of}

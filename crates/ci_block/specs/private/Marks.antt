@@ -1,4 +1,4 @@
--- Marks on words, for private contracts.
+-- For private contracts: marks on words.
 use Rattle.std.specs.Prelude.{◌≡◌, ℕ, ◌⊎◌, List, Some, true, false, slice_index_or}
 use Rattle.ci_elf.specs.Executables.{Executable, IsTextWord}
 use Rattle.ci_elf.specs.WordPlaces.{word_place}

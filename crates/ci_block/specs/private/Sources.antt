@@ -1,4 +1,4 @@
--- What marks words, part by part, for private contracts.
+-- For private contracts: what marks words, part by part.
 use Rattle.std.specs.Prelude.{◌≡◌, ℕ, ◌+◌, ◌-◌, ◌*◌, ◌<◌, ◌⊎◌, true, List, Some, length}
 use Rattle.ci_isa.specs.declared.instruction.Insn.{Insn}
 use Rattle.ci_isa.specs.Effects.{ends_block}

@@ -1,4 +1,4 @@
--- Stretches of text from a leader to the next one or to the end of its range, for private contracts.
+-- For private contracts: stretches of text from a leader to the next one or to the end of its range.
 use Rattle.std.specs.Prelude.{◌≡◌, ℕ, ◌+◌, ◌*◌, ◌%◌, ◌<◌, ◌≤◌, ◌⊎◌, List, length, map, take, slice_index_or}
 use Rattle.std.specs.List.{Contains}
 use Rattle.ci_isa.specs.declared.instruction.Insn.{Insn}

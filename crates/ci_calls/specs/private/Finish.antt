@@ -1,4 +1,4 @@
--- For private contracts only: the steps from a success to the end of the call.
+-- For private contracts: the steps from a success to the end of the call.
 use Rattle.std.specs.Prelude.{◌≡◌, ◌≢◌, ℕ, ◌≤◌, Bool, IsTrue, List, [], ◌∷◌, ◌++◌, Option, Err, take}
 use Rattle.std.specs.Option.{option_map}
 use Rattle.std.specs.String.{string_bytes}

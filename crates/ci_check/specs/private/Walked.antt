@@ -1,4 +1,4 @@
--- For private contracts only: what a walk over the prefixes has found.
+-- For private contracts: what a walk over the prefixes has found.
 use Rattle.std.specs.Prelude.{◌≡◌, ℕ, ◌+◌, ◌≤◌}
 use Rattle.ci_cut.specs.declared.graph.Limits.{Limits}
 use Rattle.ci_cut.specs.FlowGraph.{FlowGraph}

@@ -1,4 +1,4 @@
--- For private contracts only: the file of a block once it is read.
+-- For private contracts: the file of a block once it is read.
 use Rattle.std.specs.Prelude.{◌≡◌, ℕ, ◌≤◌, List, length, Option, Some, None}
 use Rattle.ci_elf.specs.Executables.{IsImageOf}
 use Rattle.ci_commands.specs.declared.best.file.BlockFile.{BlockFile}

@@ -1,4 +1,4 @@
--- For private contracts only: why there is no answer on a file.
+-- For private contracts: why there is no answer on a file.
 use Rattle.std.specs.Prelude.{ℕ, List, ⊤}
 use Rattle.ci_asm.specs.declared.faults.AsmFault.{AsmFault}
 use Rattle.ci_asm.specs.declared.faults.AsmFault.TheVariants as assembly

@@ -1,5 +1,5 @@
 //! The best cut of a graph, by a search whose log is checked.
-ghost use Rattle.std.specs.Prelude.{◌≡◌, ◌≤◌, ◌<◌, ◌^◌, IfOk, OnOk, MatchOption};
+ghost use Rattle.std.specs.Prelude.{◌≤◌, ◌<◌, ◌^◌, IfOk, OnOk, MatchOption};
 ghost use Rattle.std.specs.FinSet as set;
 ghost use Rattle.std.specs.String.{string_bytes};
 ghost use Rattle.ci_region.specs.BoundedMap.{BoundedMap};

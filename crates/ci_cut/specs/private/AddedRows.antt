@@ -1,4 +1,4 @@
--- For private contracts only: numbers that are put into some of the rows beside each other.
+-- For private contracts: numbers that are put into some of the rows beside each other.
 use Rattle.std.specs.Prelude.{◌≡◌, ℕ, Bool, ◌&&◌, ◌||◌, List}
 use Rattle.std.specs.Ordering.{nat_cmp}
 use Rattle.std.specs.FinSet as set

@@ -1,5 +1,5 @@
--- For private contracts only: what one loop of the hardware time finds: the maximum of the delays at the nodes among
--- an instruction's sources.
+-- For private contracts: what one loop of the hardware time finds: the maximum of the delays at the nodes among an
+-- instruction's sources.
 use Rattle.std.specs.Prelude.{◌≡◌, ℕ, ◌≤◌, ◌⊎◌, List, slice_index, IsTrue}
 use Rattle.std.specs.List.{list_any}
 use Rattle.ci_cut.specs.declared.graph.Source.{Source}

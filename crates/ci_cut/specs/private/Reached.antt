@@ -1,5 +1,4 @@
--- For private contracts only: the sets that go on from a prefix, and the gain that a walk over the prefixes has
--- reached.
+-- For private contracts: the sets that go on from a prefix, and the gain that a walk over the prefixes has reached.
 use Rattle.std.specs.Prelude.{◌≡◌, ℕ, ◌≤◌, Bool, ℤ, pos, ◌≤ℤ◌, ◌⊎◌, IsTrue}
 use Rattle.ci_cut.specs.declared.graph.Limits.{Limits}
 use Rattle.ci_cut.specs.FlowGraph.{FlowGraph}

@@ -1,4 +1,4 @@
--- For private contracts and for `Represents`: sets of sources, and the nodes on either side of a set of nodes.
+-- For private contracts: sets of sources, and the nodes on either side of a set of nodes. `Represents` cites it too.
 use Rattle.std.specs.Prelude.{◌≡◌, ℕ, Bool, true, false, not, ◌&&◌, List, IsTrue}
 use Rattle.std.specs.List.{list_any}
 use Rattle.std.specs.FinSet as set

@@ -1,5 +1,4 @@
--- For private contracts only: what is known once every set has been tried that fits and agrees with a cut from some
--- node on.
+-- For private contracts: what is known once every set has been tried that fits and agrees with a cut from some node on.
 use Rattle.std.specs.Prelude.{◌≡◌, ℕ, ◌≤◌, Bool, ℤ, ◌≤ℤ◌, ◌<ℤ◌, ◌⊎◌, Some}
 use Rattle.std.specs.Ordering.{nat_cmp}
 use Rattle.std.specs.FinSet as set

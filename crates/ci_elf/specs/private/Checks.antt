@@ -1,4 +1,4 @@
--- What tests of some of the rules answer, for private contracts.
+-- For private contracts: what tests of some of the rules answer.
 use Rattle.std.specs.Prelude.{◌≢◌, ℕ, ◌+◌, ◌*◌, ◌≤◌, ◌⊎◌, List, length, Result, Ok, Err, Option, Some, None}
 use Rattle.std.specs.Prelude.{if◌then◌else◌}
 use Rattle.std.specs.List.{Contains}

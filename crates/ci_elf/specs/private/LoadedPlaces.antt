@@ -1,4 +1,4 @@
--- The segments of an image by address, and what they load, for the model of `Image` and private contracts.
+-- For private contracts: the segments of an image by address, and what they load. The model of `Image` cites it too.
 use Rattle.std.specs.Prelude.{◌≡◌, ℕ, ◌+◌, ◌-◌, List, IsTrue}
 use Rattle.std.specs.List.{Contains}
 use Rattle.std.specs.List.Sorted.{IsNonDecreasingBy, IsPermutation}

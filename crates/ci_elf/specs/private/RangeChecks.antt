@@ -1,4 +1,4 @@
--- What is known of ranges of text while they are read, and what is kept of them, for private contracts.
+-- For private contracts: what is known of ranges of text while they are read, and what is kept of them.
 use Rattle.std.specs.Prelude.{◌≡◌, ◌<◌, ◌^◌, length, take, slice_index, ℕ, ◌+◌, ◌-◌, ◌*◌, ◌/◌, List, Option, Some, None}
 use Rattle.std.specs.Prelude.{if◌then◌else◌}
 use Rattle.ci_elf.specs.declared.ranges.Range.{Range}

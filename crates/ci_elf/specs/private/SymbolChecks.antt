@@ -1,4 +1,4 @@
--- What is known of symbols while they are read, for private contracts.
+-- For private contracts: what is known of symbols while they are read.
 use Rattle.std.specs.Prelude.{◌≡◌, ℕ, ◌+◌, ◌-◌, ◌*◌, ◌/◌, ◌%◌, ◌<◌, ◌≤◌, ◌||◌, Bool, true, false, not, List, [], length}
 use Rattle.std.specs.Prelude.{if◌then◌else◌, nat_lt, slice_index}
 use Rattle.ci_elf.specs.declared.parts.Part.{Part}

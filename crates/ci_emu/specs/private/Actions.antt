@@ -1,4 +1,4 @@
--- The instructions that actions stand for. For private contracts.
+-- For private contracts: the instructions that actions stand for.
 use Rattle.ci_word.specs.declared.arithmetic.Op.TheVariants as op
 use Rattle.ci_isa.specs.declared.instruction.Cond.TheVariants as cond
 use Rattle.ci_isa.specs.declared.instruction.LoadKind.TheVariants as kind

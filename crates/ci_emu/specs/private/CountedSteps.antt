@@ -1,4 +1,4 @@
--- What the count of a step needs, what it tells of the step, and what it leaves for the next. For private contracts.
+-- For private contracts: what the count of a step needs, what it tells of the step, and what it leaves for the next.
 use Rattle.std.specs.Prelude.{◌≡◌, ℕ, ◌+◌, ◌-◌, ◌<◌, ◌≤◌, ◌^◌, ◌==◌, if◌then◌else◌, length}
 use Rattle.ci_isa.specs.declared.instruction.Insn.{Insn}
 use Rattle.ci_elf.specs.Executables.{IsTextWord}

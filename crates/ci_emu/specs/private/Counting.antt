@@ -1,4 +1,4 @@
--- What is counted while a run is made. For private contracts.
+-- For private contracts: what is counted while a run is made.
 use Rattle.std.specs.Prelude.{◌≡◌, ℕ, ◌+◌, ◌<◌, ◌==◌, if◌then◌else◌, Option, Some, None, IsTrue, ◌↔◌, ◌⊎◌}
 use Rattle.std.specs.List.{AllPairs, Contains}
 use Rattle.std.specs.Option.{option_map}

@@ -1,4 +1,4 @@
--- What a decoded word keeps, and what may change the word that stands in memory. For private contracts.
+-- For private contracts: what a decoded word keeps, and what may change the word that stands in memory.
 use Rattle.std.specs.Prelude.{◌≡◌, ℕ, ◌<◌, ◌≤◌, ⊤, Bool, true, false, None, is_some, find}
 use Rattle.ci_isa.specs.declared.instruction.Insn.{Insn}
 use Rattle.ci_isa.specs.declared.instruction.Insn.TheVariants.{Store, Ecall, Cread}

@@ -1,4 +1,4 @@
--- What the lines of decoded words keep, and what is known of them while a program runs. For private contracts.
+-- For private contracts: what the lines of decoded words keep, and what is known of them while a program runs.
 use Rattle.std.specs.Prelude.{◌≡◌, ℕ, ◌<◌, ◌≤◌, true, List, length, Option, Some, slice_index_or}
 use Rattle.std.specs.List.{All, list_all}
 use Rattle.ci_elf.specs.WordPlaces.{word_place}

@@ -1,4 +1,4 @@
--- The places of the words of the range of a text that is near. For private contracts.
+-- For private contracts: the places of the words of the range of a text that is near.
 use Rattle.std.specs.Prelude.{◌≡◌, ℕ, ◌+◌, ◌-◌, ◌/◌, true, List, Some}
 use Rattle.ci_elf.specs.declared.ranges.Range.{Range}
 use Rattle.ci_elf.specs.Executables.{has_byte}

@@ -1,4 +1,4 @@
--- For private contracts only: settings and names, as definitions take them.
+-- For private contracts: settings and names, as definitions take them.
 use Rattle.std.specs.Prelude.{◌≤◌}
 use Rattle.ci_lat.specs.Latencies.{Latencies}
 use Rattle.ci_select.specs.declared.plan.Plan.{Plan}

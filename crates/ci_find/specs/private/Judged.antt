@@ -1,4 +1,4 @@
--- For private contracts only: the verdict on the files of a choice.
+-- For private contracts: the verdict on the files of a choice.
 use Rattle.std.specs.Prelude.{◌≡◌, [], codes, Result, Ok, Err, ⊤}
 use Rattle.ci_reading.specs.Lines.{line}
 use Rattle.ci_elf.specs.Executables.{Executable}

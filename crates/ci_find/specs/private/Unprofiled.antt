@@ -1,4 +1,4 @@
--- For private contracts only: why no choice can be made.
+-- For private contracts: why no choice can be made.
 use Rattle.std.specs.Prelude.{◌≡◌, ℕ, ◌⊎◌, List}
 use Rattle.ci_elf.specs.Executables.{Executable}
 use Rattle.ci_calls.specs.declared.refusals.Refusal.{Refusal}

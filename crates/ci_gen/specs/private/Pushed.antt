@@ -1,4 +1,4 @@
--- For private contracts only: instructions whose words were appended to a text.
+-- For private contracts: instructions whose words were appended to a text.
 use Rattle.std.specs.Prelude.{◌≡◌, ℕ, List, ◌++◌}
 use Rattle.std.specs.List.{AllZip}
 use Rattle.ci_isa.specs.declared.instruction.Insn.{Insn}

@@ -1,4 +1,4 @@
--- For private contracts only: how the logic stores a list of calls.
+-- For private contracts: how the logic stores a list of calls.
 use Rattle.std.specs.Prelude.{◌≡◌, ℕ, ◌==◌, cond, List, [], Ok, Err, refl}
 use Rattle.std.specs.Coded.{Coded, code_by, coded×, coded_ℕ, coded_list}
 use Rattle.ci_io.specs.declared.shelves.ShelfErr.TheVariants.{Absent, Fault, TooLarge, NoMemory}

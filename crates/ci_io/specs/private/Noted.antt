@@ -1,4 +1,4 @@
--- For private contracts only: the call that the code notes.
+-- For private contracts: the call that the code notes.
 use Rattle.ci_io.specs.declared.histories.NotedCall.{NotedCall}
 use Rattle.ci_io.specs.declared.histories.NotedCall.TheVariants as noted
 use Rattle.ci_io.specs.CallLists.{Call, read, write, put, answer_of}

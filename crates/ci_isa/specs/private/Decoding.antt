@@ -1,5 +1,5 @@
--- For private contracts only: the instruction that a word reads as, found by its opcode and then by its other codes.
--- What a word means is said by the table, and the public calls promise that.
+-- For private contracts: the instruction that a word reads as, found by its opcode and then by its other codes. What a
+-- word means is said by the table, and the public calls promise that.
 use Rattle.std.specs.Prelude.{ℕ, ◌+◌, ◌*◌, Bool, ◌==◌, ◌&&◌, ◌||◌, filter, if◌then◌else◌, List, [], ◌∷◌, Option, Some}
 use Rattle.std.specs.Prelude.{None, option_map, find, pos, nat_lt}
 use Rattle.ci_word.specs.declared.arithmetic.Op.{Op}

@@ -1,4 +1,4 @@
--- How a table's fields stand for its model. It serves the model of `Table` alone.
+-- For private contracts: how a table's fields stand for the model of `Table`.
 use Rattle.std.specs.Prelude.{ℕ, List}
 use Rattle.ci_lat.specs.Latencies.{Latencies}
 

@@ -1,4 +1,4 @@
--- Blocks by their numbers: what each one reads and writes, and where it leads. For private contracts.
+-- For private contracts: blocks by their numbers: what each one reads and writes, and where it leads.
 use Rattle.std.specs.Prelude.{◌≡◌, ℕ, ◌<◌, ◌⊎◌, ◌↔◌, List, length, Some, None, IfSome, IsTrue, slice_index}
 use Rattle.std.specs.Prelude.{slice_index_or}
 use Rattle.std.specs.Ordering.{nat_cmp}

@@ -1,4 +1,4 @@
--- Live sets that are found step by step, for private contracts.
+-- For private contracts: live sets that are found step by step.
 use Rattle.std.specs.Prelude.{◌≡◌, ℕ, ◌-◌, ◌<◌, ◌≤◌, ◌↔◌, Bool, List, length, Option, Some, None, slice_index}
 use Rattle.std.specs.Prelude.{slice_index_or, MatchBool}
 use Rattle.std.specs.FinSet as set

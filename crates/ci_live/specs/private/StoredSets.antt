@@ -1,4 +1,4 @@
--- For the model of `LiveSets` alone: how it holds the sets.
+-- For private contracts: how `LiveSets` holds the sets of its model.
 use Rattle.std.specs.Prelude.{◌≡◌, ℕ, ◌<◌, List, length, refl}
 use Rattle.std.specs.Coded.{Coded, code_by, coded×, coded_ℕ, coded_list}
 use Rattle.std.specs.FinSet as set

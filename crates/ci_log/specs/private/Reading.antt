@@ -1,5 +1,5 @@
--- For private contracts: what the reader computes. The public definitions are in Books and Faults.
--- Each function reads what stands at the beginning of a list of bytes, and gives it with the bytes behind it.
+-- For private contracts: what the reader computes. The public definitions are in Books and Faults. Each function reads
+-- what stands at the beginning of a list of bytes, and gives it with the bytes behind it.
 use Rattle.std.specs.Prelude.{◌≡◌, ℕ, zero, suc, ◌+◌, ◌-◌, ◌≤◌, ◌==◌, true, false, if◌then◌else◌}
 use Rattle.std.specs.Prelude.{List, [], ◌∷◌, ◌++◌, length, codes, Option, Some, None, Result, Ok, Err}
 use Rattle.std.specs.Ordering.{nat_cmp}

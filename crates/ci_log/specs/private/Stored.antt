@@ -1,4 +1,4 @@
--- For the model of `LogBook` alone: how its value is stored, for proofs to tell values apart.
+-- For private contracts: how the value of `LogBook` is stored, for proofs to tell values apart.
 use Rattle.std.specs.Prelude.{◌≡◌, ℕ, zero, suc, Bool, true, false, List, refl, ◌⊎◌}
 use Rattle.std.proofs.Common.{inl, inr}
 use Rattle.std.specs.Ordering.{nat_cmp}

@@ -1,4 +1,4 @@
--- How a region keeps its slots. No public clause cites this file.
+-- For private contracts: how a region keeps its slots.
 use Rattle.std.specs.Prelude.{◌≡◌, ◌≢◌, ℕ, ◌+◌, ◌<◌, Bool, Option, Some, None, is_some, ⊤}
 use Rattle.std.specs.Prelude.{List, [], ◌∷◌, length, get_or, count_by}
 use Rattle.std.specs.Ordering.{nat_cmp}

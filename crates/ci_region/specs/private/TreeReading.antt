@@ -1,4 +1,4 @@
--- For private contracts, also of crates above: trees read by a walk with a list of children that wait.
+-- For private contracts: trees read by a walk with a list of children that wait. Crates above use it too.
 use Rattle.std.specs.Prelude.{◌≡◌, ℕ, List, [], ◌∷◌, ◌++◌, reverse, Some}
 use Rattle.std.specs.Ordering.{nat_cmp}
 use Rattle.std.specs.FinMap as map

@@ -1,4 +1,4 @@
--- For private contracts alone: bundles of words, that is a `cput`, the unit word behind it, and the `cread` words behind
+-- For private contracts: bundles of words, that is a `cput`, the unit word behind it, and the `cread` words behind
 -- that; and what each of them finds in the hidden registers.
 use Rattle.std.specs.Prelude.{◌≡◌, ◌≢◌, ℕ, zero, suc, ◌<◌, ◌≤◌, ⊤, ◌⊎◌, Bool, true, false, ◌&&◌, ◌||◌}
 use Rattle.std.specs.Prelude.{if◌then◌else◌, List, [], ◌∷◌, length, slice_index, slice_index_or}

@@ -1,4 +1,4 @@
--- For private contracts alone: lists of which each instruction is one that what stands before it allows.
+-- For private contracts: lists of which each instruction is one that what stands before it allows.
 use Rattle.std.specs.Prelude.{ℕ, ⊤, List, [], ◌∷◌}
 use Rattle.ci_isa.specs.declared.instruction.Insn.{Insn}
 use Rattle.ci_isa.specs.declared.instruction.Insn.TheVariants.{Unit}

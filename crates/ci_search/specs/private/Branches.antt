@@ -1,4 +1,4 @@
--- For private contracts only: two trees in a region, and a branch that joins them.
+-- For private contracts: two trees in a region, and a branch that joins them.
 use Rattle.std.specs.Prelude.{◌≡◌, ◌+◌, ◌<◌, List, ◌∷◌, ◌++◌}
 use Rattle.ci_region.specs.BoundedMap.{BoundedMap, used}
 use Rattle.ci_log.specs.declared.log.Item.{Item}

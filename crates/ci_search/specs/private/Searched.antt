@@ -1,4 +1,4 @@
--- For private contracts only: what a search has found at a prefix.
+-- For private contracts: what a search has found at a prefix.
 use Rattle.std.specs.Prelude.{◌≡◌, ℕ, suc, ◌-◌, ◌<ℤ◌, ◌⊎◌, List, length, Option, Some, None}
 use Rattle.std.specs.List.{AllByRecursion}
 use Rattle.std.specs.FinSet as set

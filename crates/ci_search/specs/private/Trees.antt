@@ -1,4 +1,4 @@
--- For private contracts only: the tree that a search has made at a prefix.
+-- For private contracts: the tree that a search has made at a prefix.
 use Rattle.std.specs.Prelude.{◌≡◌, ℕ, ◌≤◌, true, List, ◌∷◌, Option, Some, None, MatchOption, IsTrue}
 use Rattle.ci_region.specs.BoundedMap.{BoundedMap, used}
 use Rattle.ci_cut.specs.declared.graph.Limits.{Limits}

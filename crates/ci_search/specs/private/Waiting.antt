@@ -1,4 +1,4 @@
--- For private contracts only: branches that wait for what is found where their nodes are left out.
+-- For private contracts: branches that wait for what is found where their nodes are left out.
 use Rattle.std.specs.Prelude.{◌≡◌, ℕ, zero, suc, ◌+◌, ◌<◌, true, false, List, ◌∷◌, length, slice_index_or, IsTrue}
 use Rattle.ci_region.specs.BoundedMap.{BoundedMap}
 use Rattle.ci_cut.specs.declared.graph.Limits.{Limits}

@@ -1,4 +1,4 @@
--- For the private contracts of `accept`: what it answers of one entry, and of the end.
+-- For private contracts: what `accept` answers of one entry, and of the end.
 use Rattle.std.specs.Prelude.{◌≡◌, ℕ, ◌⊎◌, ◌∷◌, Option, Some, None}
 use Rattle.ci_cut.specs.FlowGraph.{FlowGraph}
 use Rattle.ci_log.specs.declared.book.Entry.{Entry}
@@ -11,7 +11,7 @@ use Rattle.ci_select.specs.declared.rounds.Rounds.{Rounds}
 use Rattle.ci_select.specs.Histories.{History, leader_of, round}
 use Rattle.ci_select.specs.LegalBooks.{IsRight, IsSearched}
 use Rattle.ci_select.specs.WrongPlaces.{Place, HasWrongLog, IsOtherSearch, IsWrongPart, place, entry as part_of}
-use Rattle.ci_select.specs.Followed.{Follows, instance_in}
+use Rattle.ci_select.specs.private.Followed.{Follows, instance_in}
 
 -- what is wrong, in this round
 abbrev pub is_at : Wrong → ℕ → Place

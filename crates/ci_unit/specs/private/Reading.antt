@@ -1,4 +1,4 @@
--- For private contracts only: the inputs of a cut, read from the block step by step, and the ranges of what is read.
+-- For private contracts: the inputs of a cut, read from the block step by step, and the ranges of what is read.
 use Rattle.std.specs.Prelude.{◌≡◌, ℕ, zero, suc, Bool, ◌&&◌, not, if◌then◌else◌, List, [], ◌∷◌, ◌++◌, fold, map}
 use Rattle.std.specs.Prelude.{slice_get, Option, option_map, unwrap_or}
 use Rattle.std.specs.Prelude.{◌<◌, ◌^◌, ⊤}

@@ -1,4 +1,4 @@
--- Lemmas: which numbers the set of the numbers below a bound contains.
+-- For private contracts: which numbers the set of the numbers below a bound contains.
 use Rattle.std.specs.Prelude.{◌≡◌, ℕ, suc, zero, Bool, ◌&&◌, ◌||◌, if◌then◌else◌, [], ◌∷◌, nat_lt, nat_eq}
 use Rattle.std.specs.List.{list_any}
 use Rattle.std.specs.FinSet as set

@@ -1,4 +1,4 @@
--- Lemmas: what the bits of words say of the set that the words hold.
+-- For private contracts: what the bits of words say of the set that the words hold.
 use Rattle.std.specs.Prelude.{◌≡◌, ℕ, suc, zero, ◌+◌, ◌-◌, ◌*◌, ◌^◌, ◌<◌, Bool, true, false, ◌&&◌, nat_lt, nat_eq}
 use Rattle.std.specs.Prelude.{if◌then◌else◌, List, [], ◌∷◌, length, slice_index}
 use Rattle.std.specs.FinSet as set

@@ -1,4 +1,4 @@
--- For the model of `Row` alone: a set of numbers below 256 as the bits of four words of 64.
+-- For private contracts: a set of numbers below 256 as the bits of four words of 64, for the model of `Row`.
 use Rattle.std.specs.Prelude.{◌≡◌, ℕ, suc, zero, ◌+◌, ◌*◌, ◌/◌, ◌%◌, ◌^◌, ◌<◌, Bool, nat_eq, if◌then◌else◌, List, []}
 use Rattle.std.specs.Prelude.{◌∷◌, length, slice_index}
 use Rattle.std.specs.Ordering.{nat_cmp}

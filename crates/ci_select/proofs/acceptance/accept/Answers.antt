@@ -7,7 +7,7 @@ use Rattle.ci_select.specs.declared.acceptance.Verdict.TheVariants.{Accepted}
 use Rattle.ci_select.specs.Instances.{AreBlocksOf, AreOfSomeFile, instance_of}
 use Rattle.ci_select.specs.LegalBooks.{IsLegal}
 use Rattle.ci_select.specs.WrongPlaces.{IsAcceptable, IsFirstWrongPart, IsFirstWrongPlace, in_book, place}
-use Rattle.ci_select.specs.Followed.{Follows, instance_in}
+use Rattle.ci_select.specs.private.Followed.{Follows, instance_in}
 use Rattle.ci_select.specs.private.Judged.{is_at}
 use Rattle.ci_select.proofs.PresentIsOne.{blocks_in_order}
 use Rattle.ci_select.proofs.VerdictLaws.{accepted_decides, accepted_here, other_file_here, other_modules_here}

@@ -1,5 +1,5 @@
 use Rattle.std.proofs.Common.{◌≡◌, ◌<◌, ◌≤◌, sym, subst, length, reverse, get_or}
-use Rattle.ci_select.specs.Followed.{Follows}
+use Rattle.ci_select.specs.private.Followed.{Follows}
 use Rattle.ci_select.specs.private.Judged.{IsJudged}
 use Rattle.ci_select.proofs.JudgeLaws.{follows_all, if_none, judged_end, wrong_followed}
 use Rattle.ci_select.proofs.acceptance.first_wrong.Goals as goal

@@ -1,5 +1,5 @@
 use Rattle.std.proofs.Common.{◌≡◌, reverse, take}
-use Rattle.ci_select.specs.Followed.{Follows, instance_in}
+use Rattle.ci_select.specs.private.Followed.{Follows, instance_in}
 use Rattle.ci_select.proofs.acceptance.first_wrong.Given as goal
 
 abbrev pub invariant-loop-entry : goal.invariant-loop-entry

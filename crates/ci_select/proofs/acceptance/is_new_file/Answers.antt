@@ -4,7 +4,7 @@ use Rattle.std.proofs.lemmas.Slice.Eq.{slice_eq-Decides}
 use Rattle.ci_elf.proofs.TextPlaceLaws.{formed}
 use Rattle.ci_machine.specs.Words.{AreBytes}
 use Rattle.ci_select.specs.NewFiles.{IsNewFile}
-use Rattle.ci_select.specs.Followed.{instance_in}
+use Rattle.ci_select.specs.private.Followed.{instance_in}
 use Rattle.ci_select.proofs.VerdictLaws.{new_file_decided}
 use Rattle.ci_select.proofs.acceptance.is_new_file.Goals as goal
 

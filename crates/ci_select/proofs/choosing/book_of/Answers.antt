@@ -17,7 +17,7 @@ use Rattle.ci_select.specs.Dues.{IsDue}
 use Rattle.ci_select.specs.LegalBooks.{HasShortLog, IsLegal}
 use Rattle.ci_select.specs.GivenUp.{IsGivenUpByNeed, GivesUpByNeed}
 use Rattle.ci_select.specs.Takes.{AreTaken, IsTaken, none, of_search, of_take}
-use Rattle.ci_select.specs.Followed.{Follows, instance_in}
+use Rattle.ci_select.specs.private.Followed.{Follows, instance_in}
 use Rattle.ci_select.proofs.BookLaws.{legal_books_are_books}
 use Rattle.ci_select.proofs.EntryLists.{all_and_one}
 use Rattle.ci_select.proofs.choosing.book_of.Goals as goal

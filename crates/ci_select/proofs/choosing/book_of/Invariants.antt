@@ -3,7 +3,7 @@ use Rattle.std.specs.List.{AllByRecursion}
 use Rattle.ci_select.specs.LegalBooks.{HasShortLog}
 use Rattle.ci_select.specs.GivenUp.{GivesUpByNeed}
 use Rattle.ci_select.specs.Takes.{AreTaken}
-use Rattle.ci_select.specs.Followed.{Follows, instance_in, steps_left}
+use Rattle.ci_select.specs.private.Followed.{Follows, instance_in, steps_left}
 use Rattle.ci_select.proofs.choosing.book_of.Given as goal
 
 abbrev pub invariant-loop-leader : goal.invariant-loop-leader

@@ -1,5 +1,5 @@
 use Rattle.std.proofs.Common.{◌≡◌, reverse}
-use Rattle.ci_select.specs.Followed.{entered_from}
+use Rattle.ci_select.specs.private.Followed.{entered_from}
 use Rattle.ci_select.proofs.EnteredPlaces.{entered_below}
 use Rattle.ci_select.proofs.rounds.entered_places.Given as goal
 

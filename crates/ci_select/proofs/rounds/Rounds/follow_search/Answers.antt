@@ -5,7 +5,7 @@ use Rattle.ci_log.specs.declared.book.Entry.TheVariants.{Best}
 use Rattle.ci_unit.specs.Units.{unit_of}
 use Rattle.ci_select.specs.declared.rounds.Candidate.{Candidate}
 use Rattle.ci_select.specs.declared.rounds.Rank.{Rank}
-use Rattle.ci_select.specs.Followed.{instance_in}
+use Rattle.ci_select.specs.private.Followed.{instance_in}
 use Rattle.ci_select.specs.LegalBooks.{IsRight}
 use Rattle.ci_select.proofs.SearchFollowed.{IsMade, cut_is_made, follows_entry, follows_search_best}
 use Rattle.ci_select.proofs.SearchFollowed.{follows_search_without, new_is_ranked, place_is}

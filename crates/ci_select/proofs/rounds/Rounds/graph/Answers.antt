@@ -4,7 +4,7 @@ use Rattle.std.proofs.lemmas.Result.{IfOk-weaker}
 use Rattle.ci_dfg.specs.BlockGraph.{graph_of}
 use Rattle.ci_dfg.specs.Bundles.{AreBundled}
 use Rattle.ci_live.specs.Sets.{after_block}
-use Rattle.ci_select.specs.Followed.{IsDueGraph, instance_in}
+use Rattle.ci_select.specs.private.Followed.{IsDueGraph, instance_in}
 use Rattle.ci_select.proofs.DuePlaces.{block_of_file, last_is_at, last_is_live, last_within}
 use Rattle.ci_select.proofs.DuePlaces.{none_unsearched, order_of, present_at}
 use Rattle.ci_select.proofs.PresentLaws.{due_search, present_is_one, present_is_sound}

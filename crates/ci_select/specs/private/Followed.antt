@@ -1,4 +1,4 @@
--- For the contracts of `Rounds`: what it holds behind the entries of a book so far.
+-- For private contracts: what `Rounds` holds behind the entries of a book so far.
 use Rattle.std.specs.Prelude.{◌≡◌, ℕ, ◌+◌, ◌*◌, ◌^◌, ◌<◌, ◌≤◌, ◌==◌, ◌⊎◌, if◌then◌else◌, ℤ, pos, nat_lt}
 use Rattle.std.specs.Prelude.{List, [], ◌∷◌, length, filter, map, reverse, drop}
 use Rattle.std.specs.Prelude.{slice_get, slice_index, slice_index_or, Option, Some, None}
