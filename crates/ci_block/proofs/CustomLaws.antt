@@ -4,6 +4,7 @@ use Rattle.std.proofs.lemmas.Bool.{cases_lt}
 use Rattle.ci_isa.specs.Fields.{HasCustomOpcode}
 use Rattle.ci_elf.specs.declared.ranges.Range.{Range}
 use Rattle.ci_elf.specs.Executables.{Executable, IsTextWord, IsWellFormed, text_word}
+use Rattle.ci_elf.specs.MemoryMap.{memory_top}
 use Rattle.ci_block.specs.private.Marking.{range_at}
 use Rattle.ci_elf.proofs.WordPlaceLaws.{nowhere}
 use Rattle.ci_block.proofs.RangeLaws.{apart, holder, text_below_top, text_ranges, word_of_range}
@@ -18,7 +19,7 @@ module _ (image : Executable) (formed : IsWellFormed image) where
         subst (λ rs. IsTextWord image.ranges ((range_at rs index).start + 4 * place)) (sym is)
         (word_of_range image.ranges (text_ranges image formed) index place (subst (λ rs. place < (range_at rs index).words) is within))
 
-    pub below_top : (range_at ranges index).start + 4 * place < 0xffff0000
+    pub below_top : (range_at ranges index).start + 4 * place < memory_top
     below_top = text_below_top image.ranges (text_ranges image formed) ((range_at ranges index).start + 4 * place) word_there.1
 
   -- a word of the text is a word of a range

@@ -4,6 +4,7 @@ use Rattle.std.specs.List.{Contains}
 use Rattle.std.proofs.lemmas.Bool.{cases_lt}
 use Rattle.ci_elf.specs.declared.ranges.Range.{Range}
 use Rattle.ci_elf.specs.Executables.{Executable, IsTextWord}
+use Rattle.ci_elf.specs.MemoryMap.{memory_top}
 use Rattle.ci_block.specs.declared.marks.Marks.{Marks}
 use Rattle.ci_block.specs.Leaders.{IsBehindFullBlock, IsListing, IsMark, entry, target_of_jump, behind_terminator}
 use Rattle.ci_block.specs.Leaders.{where_ranges_meet, symbol, data_word, target_of_jalr, named_by_user}
@@ -82,7 +83,7 @@ module _ (image : Executable) (targets named : List ℕ) where
   -- ---- the listed words are the leaders
 
   module _ (text : AreTextRanges image.ranges) (marks : Marks) (marked : AreMarksOf image targets named marks) (leaders : List ℕ)
-      (listed : IsListedBelow image.ranges (IsMarked marks) 0xffff0000 leaders) where
+      (listed : IsListedBelow image.ranges (IsMarked marks) memory_top leaders) where
     full_of : (a : ℕ) → IsBehindFullBlock image leaders a → IsFull image.ranges leaders a
     full_of a f =
         let i = number_of image.ranges f.range f.there in

@@ -7,6 +7,7 @@ use Rattle.std.proofs.lemmas.List.Elements.{Contains-append_left, Contains-get_o
 use Rattle.std.proofs.lemmas.List.Quantifiers.{all_pairs_push}
 use Rattle.ci_elf.specs.declared.ranges.Range.{Range}
 use Rattle.ci_elf.specs.Executables.{IsTextWord, end_of}
+use Rattle.ci_elf.specs.MemoryMap.{memory_top}
 use Rattle.ci_block.specs.private.Marking.{range_at, AreTextRanges}
 use Rattle.ci_block.specs.private.Listing.{IsFull, IsFullBefore, IsLastFrom, IsListedBelow}
 use Rattle.ci_block.proofs.RangeLaws.{apart, before_first, between, held_at, one_range, word_of_range}
@@ -184,7 +185,7 @@ module _ (ranges : List Range) (text : AreTextRanges ranges) (P : ℕ → Type 0
 -- the leaders of the ranges before this one are listed
 pub record AreListedBefore (ranges : List Range) (P : ℕ → Type 0) (i : ℕ) (leaders : List ℕ) : Type 0 where
   pub more : i < length ranges → IsListedBelow ranges P (range_at ranges i).start leaders
-  pub all : length ranges ≤ i → IsListedBelow ranges P 0xffff0000 leaders
+  pub all : length ranges ≤ i → IsListedBelow ranges P memory_top leaders
 
 module _ (ranges : List Range) (text : AreTextRanges ranges) (P : ℕ → Type 0) where
   nothing_listed : IsListedBelow ranges P 0 []
@@ -200,7 +201,7 @@ module _ (ranges : List Range) (text : AreTextRanges ranges) (P : ℕ → Type 0
   before_ranges = record {
     more = λ h. skipped ranges P [] 0 nothing_listed (range_at ranges 0).start (omega arith)
         (λ a l m t r. before_first ranges text a (λ _. m) t.1);
-    all = λ h. skipped ranges P [] 0 nothing_listed 0xffff0000 (omega arith)
+    all = λ h. skipped ranges P [] 0 nothing_listed memory_top (omega arith)
         (λ a l m t r. before_first ranges text a (λ some. absurd (omega arith)) t.1);
   }
 
@@ -209,6 +210,6 @@ module _ (ranges : List Range) (text : AreTextRanges ranges) (P : ℕ → Type 0
   range_listed i leaders within so_far = record {
     more = λ h. skipped ranges P leaders (end_of (range_at ranges i)) so_far (range_at ranges (i + 1)).start
         (apart ranges text i (i + 1) (omega arith) h) (λ a l m t r. between ranges text i a within l (λ _. m) t.1);
-    all = λ h. skipped ranges P leaders (end_of (range_at ranges i)) so_far 0xffff0000
+    all = λ h. skipped ranges P leaders (end_of (range_at ranges i)) so_far memory_top
         (text.below_top i) (λ a l m t r. between ranges text i a within l (λ more. absurd (omega arith)) t.1);
   }

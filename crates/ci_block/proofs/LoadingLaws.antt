@@ -9,6 +9,7 @@ use Rattle.ci_elf.specs.declared.ranges.Range.{Range}
 use Rattle.ci_elf.specs.declared.segments.Segment.{Segment}
 use Rattle.ci_elf.specs.Executables.{Executable, InText, IsLoaded, IsWellFormed}
 use Rattle.ci_elf.specs.Fields.{field}
+use Rattle.ci_elf.specs.MemoryMap.{memory_top}
 use Rattle.ci_elf.proofs.ImageLaws.{loaded_from, loaded_to}
 use Rattle.ci_block.specs.private.Loading.{IsFromDataWords, IsFromSegments, end_word, first_word, segment_at}
 use Rattle.ci_block.specs.private.Marking.{AreTextRanges}
@@ -20,7 +21,7 @@ use Rattle.ci_block.proofs.RangeLaws.{holder, text_at}
 abbrev nothing : Segment
 nothing = record { address = 0; memory_size = 0; offset = 0; file_size = 0 }
 
-pub segment_top : (image : Executable) → IsWellFormed image → (s : Segment) → Contains image.segments s → s.address + s.file_size ≤ 0xffff0000
+pub segment_top : (image : Executable) → IsWellFormed image → (s : Segment) → Contains image.segments s → s.address + s.file_size ≤ memory_top
 segment_top image formed s there = omega (arith, formed.filled s there, formed.below_top s there)
 
 -- ---- words

@@ -5,6 +5,7 @@ use Rattle.std.proofs.lemmas.Bool.{cases_lt}
 use Rattle.std.proofs.lemmas.List.{get_or_default, get_or_past}
 use Rattle.ci_elf.specs.declared.ranges.Range.{Range}
 use Rattle.ci_elf.specs.Executables.{Executable, HoldsAddress, InText, IsTextWord, IsWellFormed, end_of}
+use Rattle.ci_elf.specs.MemoryMap.{memory_top}
 use Rattle.ci_elf.proofs.WordPlaceLaws.{nowhere}
 use Rattle.ci_elf.proofs.RangeLaws.{range_holding, text_held}
 use Rattle.ci_block.specs.private.Marking.{range_at, AreTextRanges}
@@ -91,7 +92,7 @@ module _ (ranges : List Range) (text : AreTextRanges ranges) where
       ]
 
   -- text lies below the top of memory
-  pub text_below_top : (address : ℕ) → InText ranges address → address < 0xffff0000
+  pub text_below_top : (address : ℕ) → InText ranges address → address < memory_top
   text_below_top address h =
       let held = holder ranges address h in
       omega (arith, held.1.to nowhere, text.below_top held.0)

@@ -1,6 +1,7 @@
 //! The blocks, and where they lead.
 ghost use Rattle.std.specs.Prelude.{◌+◌, ◌*◌, ◌<◌, ◌↔◌, [], ◌∷◌, length, slice_index, IfOk, IsTrue};
 ghost use Rattle.ci_elf.specs.Executables.{IsTextWord};
+ghost use Rattle.ci_elf.specs.MemoryMap.{memory_top};
 ghost use Rattle.ci_block.specs.Blocks.{AreBlocks, AreSuccessors, IsNext};
 ghost use Rattle.ci_block.specs.Leaders.{AreLeaders};
 ghost use Rattle.ci_block.specs.private.Stretches.{AreInsns, EndsStretch, IsBlockOf, IsRangeEnd, IsStretch};
@@ -101,7 +102,7 @@ fn branch_successors(image: &Image, target: u32, following: u32) -> Next
 
 /// The successors of a block whose last instruction stands at this address.
 fn successors(image: &Image, last: u32, insn: &Insn) -> Next
-    requires { last < 0xffff0000 }
+    requires { last < memory_top }
     ensures { IsNext image.now last insn.now result }
 {
     match *insn {

@@ -1,6 +1,7 @@
 //! The listed leaders.
 ghost use Rattle.std.specs.Prelude.{◌+◌, ◌*◌, ◌<◌, ◌↔◌, length, IfOk, IfSome, IsTrue, OnOk};
 ghost use Rattle.ci_elf.specs.Executables.{end_of};
+ghost use Rattle.ci_elf.specs.MemoryMap.{memory_top};
 ghost use Rattle.ci_block.specs.Leaders.{IsListing};
 ghost use Rattle.ci_block.specs.private.Listing.{IsFullBefore, IsLeaderTest, IsListedBelow};
 ghost use Rattle.ci_block.specs.private.Marking.{range_at};
@@ -59,7 +60,7 @@ fn list_range(marks: &Marks, index: usize, addresses: &mut Vec<u32>) -> Result<(
 
 /// The marked words and those behind full blocks.
 fn listed(alloc: Global, marks: &Marks) -> Result<Vec<u32>, AllocError>
-    ensures { IfOk result (λ addresses. IsListedBelow marks.now.places (IsMarked marks.now) 0xffff0000
+    ensures { IfOk result (λ addresses. IsListedBelow marks.now.places (IsMarked marks.now) memory_top
         addresses.items) }
 {
     let mut addresses = Vec::new(alloc);

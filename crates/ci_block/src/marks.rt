@@ -17,9 +17,8 @@ pub(crate) struct Marks {
 }
 
 impl Marks {
-    ghost use Rattle.std.specs.Prelude.{◌≡◌, ℕ, ◌+◌, ◌*◌, ◌<◌, ◌⊎◌, ◌↔◌, Some, IfOk, IsTrue};
+    ghost use Rattle.std.specs.Prelude.{◌≡◌, ℕ, ◌+◌, ◌*◌, ◌<◌, ◌↔◌, Some, IfOk, IsTrue};
     ghost use Rattle.std.specs.List.{Contains};
-    ghost use Rattle.ci_elf.specs.Executables.{IsTextWord};
     ghost use Rattle.ci_block.specs.private.Marking.{AreTextRanges, range_at};
     ghost use Rattle.ci_block.specs.private.Marks.{IsMarked, Adds};
 

@@ -6,6 +6,7 @@ ghost use Rattle.ci_word.specs.Arithmetic.{operation, word_of};
 ghost use Rattle.ci_isa.specs.declared.instruction.Insn.{Insn as Instruction};
 ghost use Rattle.ci_isa.specs.Effects.{ends_block};
 ghost use Rattle.ci_elf.specs.Executables.{IsTextWord, end_of};
+ghost use Rattle.ci_elf.specs.MemoryMap.{memory_top};
 ghost use Rattle.ci_block.specs.private.Marking.{AreTextRanges};
 ghost use Rattle.ci_block.specs.private.Marks.{Adds};
 ghost use Rattle.ci_block.specs.private.Sources.{IsFromMeeting, IsFromText, IsFromWords, Leads, Meets};
@@ -45,7 +46,7 @@ pub(crate) fn insn_in(image: &Image, address: u32) -> Insn
 
 /// Marks the word behind the instruction at an address if that is a terminator.
 fn mark_behind(marks: &mut Marks, address: u32, insn: &Insn)
-    requires { address < 0xffff0000 }
+    requires { address < memory_top }
     ensures { Adds marks.old marks.new (λ a. (ends_block insn.now ≡ true) × (address + 4 ≡ a)) }
 {
     if is_terminator(insn) {
@@ -55,7 +56,7 @@ fn mark_behind(marks: &mut Marks, address: u32, insn: &Insn)
 
 /// Marks the target of the instruction at an address, and the word behind it if it is a terminator.
 fn mark_from(marks: &mut Marks, address: u32, insn: &Insn)
-    requires { address < 0xffff0000 }
+    requires { address < memory_top }
     ensures { Adds marks.old marks.new (Leads address insn.now) }
 {
     marks.mark_if_some(target_of(address, insn));

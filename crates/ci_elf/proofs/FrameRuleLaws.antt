@@ -5,6 +5,7 @@ use Rattle.ci_elf.specs.declared.segments.Segment.{Segment}
 use Rattle.ci_elf.specs.declared.ranges.Range.{Range}
 use Rattle.ci_elf.specs.Fields.{e_phnum, e_shnum, is_symbol_table, is_text}
 use Rattle.ci_reading.specs.Broken.{each_below}
+use Rattle.ci_elf.specs.MemoryMap.{stack_start}
 use Rattle.ci_elf.specs.Rules.{Rule, NamesNoInterpreter, HasFilePart, IsPlaced, MemoryIsApart, MemoryIsBounded}
 use Rattle.ci_elf.specs.Rules.{HasSymbols, TextIsLoaded, TextIsAlone, TextIsUnshared, TextIsBounded, EntryIsText, Holds}
 use Rattle.ci_elf.specs.Rules.{KeepsRules, rules, file_header_rules, kind_rules, table_rules, segment_rules}
@@ -34,7 +35,7 @@ module _ (bytes : List ℕ) (t c v : ℕ) (h : HasFrameHeaders bytes t c v) wher
   )
 
   load_kept :
-      (n from to long : ℕ) → IsLoad bytes n from to long → from + long ≤ length bytes → to + long ≤ 0x7ff00000
+      (n from to long : ℕ) → IsLoad bytes n from to long → from + long ≤ length bytes → to + long ≤ stack_start
       → KeepsRules bytes (segment_list n)
   load_kept n from to long load in_file below = (
     λ names. absurd (omega (arith, load.kind, names)),

@@ -16,6 +16,7 @@ use Rattle.ci_elf.specs.declared.ranges.Range.{Range}
 use Rattle.ci_elf.specs.Fields.{e_phnum, e_shnum, is_text, is_loadable, sh_addr, sh_offset, sh_size, p_vaddr, p_memsz}
 use Rattle.ci_reading.specs.Broken.{each_below, those_below}
 use Rattle.ci_elf.specs.Executables.{range_of, has_words, ranges_of, end_of, has_byte, HoldsAddress, InText, IsAscending}
+use Rattle.ci_elf.specs.MemoryMap.{memory_top}
 use Rattle.ci_elf.specs.Rules.{NamesNoInterpreter, HasFilePart, IsPlaced, HasSymbols, TextIsLoaded, TextIsAlone, Holds}
 use Rattle.ci_elf.specs.Rules.{FitsMemory, IsLoadedBy, IsAlone, KeepsRules, segment_rules, memory_rules, section_rules}
 use Rattle.ci_reading.proofs.BrokenLaws.{kept_at, contained_those}
@@ -58,7 +59,7 @@ module _ (bytes : List ℕ) (placed : KeepsRules bytes (segment_rules bytes)) (s
   alone_at n h is = (kept_at (Holds bytes) (e_shnum bytes) n (λ k. HasSymbols k ∷ TextIsLoaded k ∷ TextIsAlone k ∷ []) h sections).1.1.0 is
 
   -- text lies below the top of memory
-  pub text_top : (n : ℕ) → n < e_shnum bytes → is_text bytes n ≡ true → sh_addr bytes n + sh_size bytes n ≤ 0xffff0000
+  pub text_top : (n : ℕ) → n < e_shnum bytes → is_text bytes n ≡ true → sh_addr bytes n + sh_size bytes n ≤ memory_top
   text_top n h is =
       let l = loaded_at n h is in
       let by = l.1 in

@@ -6,6 +6,7 @@ use borrow.Author.Tests.{ltb-true}
 use Rattle.ci_elf.specs.declared.segments.Segment.{Segment}
 use Rattle.ci_elf.specs.Fields.{is_loadable, p_type, p_vaddr, p_memsz}
 use Rattle.ci_elf.specs.Executables.{segment_of}
+use Rattle.ci_elf.specs.MemoryMap.{stack_start, stack_size}
 use Rattle.ci_elf.specs.Rules.{FitsMemory, Apart}
 use Rattle.ci_elf.specs.private.Checks.{SegmentFits, loadable_at}
 
@@ -55,12 +56,12 @@ module _ (bytes : List ℕ) (n : ℕ) where
   fits_from fits = record {
     filled = fits.filled;
     below_top = fits.below_top;
-    off_stack = means_apart (p_vaddr bytes n) (p_memsz bytes n) 0x7ff00000 0x100000 fits.off_stack;
+    off_stack = means_apart (p_vaddr bytes n) (p_memsz bytes n) stack_start stack_size fits.off_stack;
   }
 
   pub fits_to : 0 < p_memsz bytes n → FitsMemory bytes n → SegmentFits (segment_of bytes n)
   fits_to memory fits = record {
     filled = fits.filled;
     below_top = fits.below_top;
-    off_stack = apart_means (p_vaddr bytes n) (p_memsz bytes n) 0x7ff00000 0x100000 memory (lit< tt) fits.off_stack;
+    off_stack = apart_means (p_vaddr bytes n) (p_memsz bytes n) stack_start stack_size memory (lit< tt) fits.off_stack;
   }

@@ -8,6 +8,7 @@ use Rattle.ci_elf.specs.declared.segments.Segment.{Segment}
 use Rattle.ci_elf.specs.declared.ranges.Range.{Range}
 use Rattle.ci_elf.specs.Fields.{field, e_entry, e_phnum, e_shnum, p_offset, p_vaddr, p_filesz, p_memsz, is_loadable}
 use Rattle.ci_elf.specs.Fields.{sh_addr, sh_offset, sh_size, is_symbol_table, is_text, st_value}
+use Rattle.ci_elf.specs.MemoryMap.{memory_top, stack_start, stack_size, stack_end, most_memory}
 use Rattle.ci_reading.specs.Broken.{each_below, those_below}
 
 -- an executable file and what it means
@@ -158,7 +159,7 @@ abbrev pub ShareNoMemory : Segment → Segment → Type 0
 ShareNoMemory s t = (s.address + s.memory_size ≤ t.address) ⊎ (t.address + t.memory_size ≤ s.address)
 
 -- What holds of every image: its text is whole words in file parts of its segments, by address. Its segments have their
--- bytes in the file and their memory below FFFF0000, apart from the stack and from each other, and small enough.
+-- bytes in the file and their memory below the top, apart from the stack and from each other, and small enough.
 pub record IsWellFormed (image : Executable) : Type 0 where
   pub ascending : IsAscending image.ranges
   pub aligned : (range : Range) → Contains image.ranges range → range.start % 4 ≡ 0
@@ -172,10 +173,10 @@ pub record IsWellFormed (image : Executable) : Type 0 where
   pub filled : (segment : Segment) → Contains image.segments segment → segment.file_size ≤ segment.memory_size
   pub has_memory : (segment : Segment) → Contains image.segments segment → 0 < segment.memory_size
   pub below_top :
-      (segment : Segment) → Contains image.segments segment → segment.address + segment.memory_size ≤ 0xffff0000
+      (segment : Segment) → Contains image.segments segment → segment.address + segment.memory_size ≤ memory_top
   pub off_stack :
       (segment : Segment) → Contains image.segments segment
-      → (segment.address + segment.memory_size ≤ 0x7ff00000) ⊎ (0x80000000 ≤ segment.address)
+      → (segment.address + segment.memory_size ≤ stack_start) ⊎ (stack_end ≤ segment.address)
   pub apart : AllPairs ShareNoMemory image.segments
-  pub bounded : sum_by (λ segment. segment.memory_size) image.segments + 0x100000 ≤ 67108864
+  pub bounded : sum_by (λ segment. segment.memory_size) image.segments + stack_size ≤ most_memory
   pub entry : IsTextWord image.ranges image.entry

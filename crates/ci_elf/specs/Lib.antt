@@ -1,4 +1,5 @@
 pub mod Fields
+pub mod MemoryMap
 pub mod Executables
 pub mod Rules
 pub mod WordPlaces

@@ -10,6 +10,7 @@ use Rattle.ci_elf.specs.Fields.{program_header, p_type, p_offset, p_vaddr, p_fil
 use Rattle.ci_elf.specs.Fields.{sh_offset, sh_size, sh_entsize, is_symbol_table, is_text}
 use Rattle.ci_reading.specs.Broken.{IsFirstBroken, each_below}
 use Rattle.ci_elf.specs.Executables.{Executable, IsImageOf, segments_of, ranges_of, IsTextWord}
+use Rattle.ci_elf.specs.MemoryMap.{memory_top, stack_start, stack_size, most_memory}
 
 -- ---- parts of a file, and of memory
 
@@ -49,11 +50,11 @@ pub data Rule : Type 0 where
   TextIsBounded : Rule
   EntryIsText : Rule
 
--- the loadable segment n has its file bytes in its memory, below FFFF0000 and apart from the stack
+-- the loadable segment n has its file bytes in its memory, below the top of memory and apart from the stack
 pub record FitsMemory (bytes : List ℕ) (n : ℕ) : Type 0 where
   pub filled : p_filesz bytes n ≤ p_memsz bytes n
-  pub below_top : p_vaddr bytes n + p_memsz bytes n ≤ 0xffff0000
-  pub off_stack : Apart (p_vaddr bytes n) (p_memsz bytes n) 0x7ff00000 0x100000
+  pub below_top : p_vaddr bytes n + p_memsz bytes n ≤ memory_top
+  pub off_stack : Apart (p_vaddr bytes n) (p_memsz bytes n) stack_start stack_size
 
 -- section n lies in the file, as entries of 16 bytes
 pub record IsSymbolTable (bytes : List ℕ) (n : ℕ) : Type 0 where
@@ -100,7 +101,7 @@ Holds bytes (IsPlaced n) = IsTrue (is_loadable bytes n) → FitsMemory bytes n
 Holds bytes (MemoryIsApart m n) =
     IsTrue (is_loadable bytes m) → IsTrue (is_loadable bytes n)
     → Apart (p_vaddr bytes m) (p_memsz bytes m) (p_vaddr bytes n) (p_memsz bytes n)
-Holds bytes MemoryIsBounded = sum_by (λ segment. segment.memory_size) (segments_of bytes) + 0x100000 ≤ 67108864
+Holds bytes MemoryIsBounded = sum_by (λ segment. segment.memory_size) (segments_of bytes) + stack_size ≤ most_memory
 Holds bytes (HasSymbols n) = IsTrue (is_symbol_table bytes n) → IsSymbolTable bytes n
 Holds bytes (TextIsLoaded n) = IsTrue (is_text bytes n) → (k : ℕ) × IsLoadedBy bytes k n
 Holds bytes (TextIsAlone n) = IsTrue (is_text bytes n) → IsAlone bytes n

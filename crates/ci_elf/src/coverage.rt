@@ -1,5 +1,5 @@
 //! Which places some parts cover, asked in a time that grows like the logarithm of their number.
-ghost use Rattle.std.specs.Prelude.{◌≡◌, ◌^◌, ◌<◌, ◌≤◌, IfOk, EachIndex, slice_index_or};
+ghost use Rattle.std.specs.Prelude.{◌<◌, IfOk};
 ghost use Rattle.std.specs.List.Sorted.{IsNonDecreasingBy};
 ghost use Rattle.ci_elf.specs.private.Parts.{IsCoverage, IsNext, IsRising};
 

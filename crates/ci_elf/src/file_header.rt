@@ -1,5 +1,5 @@
 //! The rules on the file header, and that the tables of headers lie in the file.
-ghost use Rattle.std.specs.Prelude.{◌≡◌, ◌≢◌, ◌+◌, ◌<◌, ◌≤◌, ◌⊎◌, MatchResult, [], ◌∷◌, length, IsTrue, OnOk, ◌↔◌};
+ghost use Rattle.std.specs.Prelude.{◌≡◌, ◌≢◌, ◌+◌, ◌<◌, ◌≤◌, ◌⊎◌, MatchResult, [], ◌∷◌, length, IsTrue, ◌↔◌};
 ghost use Rattle.ci_elf.specs.Fields.{field};
 ghost use Rattle.ci_elf.specs.Rules.{LiesIn, FieldIs, HasNoCompressedCode, HasProgramEntrySize, HasSectionEntrySize};
 ghost use Rattle.ci_elf.specs.Rules.{HasProgramTable, HasSectionTable, file_header_rules, kind_rules, table_rules};

@@ -8,7 +8,7 @@ ghost use Rattle.ci_elf.specs.private.SectionChecks.{AreLaidOut};
 ghost use Rattle.ci_elf.specs.private.LoadedPlaces.{IsLoadedFrom};
 
 use crate::fields::word_at;
-use crate::memory::{by_address, segment_before};
+use crate::memory::segment_before;
 use crate::ranges::range_with;
 use crate::{Range, Segment};
 use byteorder::{ByteOrder, LittleEndian};
@@ -66,32 +66,34 @@ fn write_word(bytes: &mut [u8], place: usize, word: u32)
 
 impl Image {
     ghost use Rattle.std.specs.Prelude.{◌≡◌, ℕ, ◌+◌, ◌≤◌, ◌↔◌, length, Some, IfOk, IfSome, IsTrue};
+    ghost use Rattle.std.specs.List.Sorted.{IsNonDecreasingBy, IsPermutation};
     ghost use Rattle.ci_elf.specs.Executables.{executable, place_of, text_word};
     ghost use Rattle.ci_elf.specs.TextChanges.{with_word};
     ghost use Rattle.ci_elf.specs.Executables.{InText, IsLoaded, IsTextWord, IsWellFormed};
 
     /// The image of these parts.
     pub(crate) fn new(
-        alloc: Global,
         bytes: Vec<u8>,
         entry: u32,
         segments: Vec<Segment>,
         ranges: Vec<Range>,
         symbols: Vec<u32>,
-    ) -> Result<Self, AllocError>
-        requires { IsWellFormed (executable bytes.items entry segments.items ranges.items symbols.items) }
-        ensures { IfOk result (λ image.
-            image ≡ executable bytes.items entry segments.items ranges.items symbols.items) }
+        by_address: Vec<Segment>,
+    ) -> Self
+        requires well_formed { IsWellFormed
+            (executable bytes.items entry segments.items ranges.items symbols.items) }
+        requires order { IsNonDecreasingBy (λ segment. segment.address) by_address.items }
+        requires same { IsPermutation segments.items by_address.items }
+        ensures { result ≡ executable bytes.items entry segments.items ranges.items symbols.items }
     {
-        let by_address = by_address(alloc, &segments)?;
-        Ok(Image {
+        Image {
             bytes,
             entry,
             segments,
             ranges,
             symbols,
             by_address,
-        })
+        }
     }
 
     /// The bytes of the file.
@@ -121,6 +123,15 @@ impl Image {
         ensures well_formed { IsWellFormed self.now }
     {
         &self.segments
+    }
+
+    /// The same segments, in the order of their addresses.
+    pub fn segments_by_address(&self) -> &[Segment]
+        ensures order { IsNonDecreasingBy (λ segment. segment.address) result.now }
+        ensures same { IsPermutation self.now.segments result.now }
+        ensures well_formed { IsWellFormed self.now }
+    {
+        &self.by_address
     }
 
     /// The ranges of the text, by address.

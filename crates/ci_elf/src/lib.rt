@@ -12,6 +12,7 @@
 pub use faults::ElfFault;
 pub use frames::frame;
 pub use image::Image;
+pub use memory_map::{MEMORY_TOP, MOST_MEMORY, STACK_END, STACK_SIZE, STACK_START};
 pub use places::Places;
 pub use ranges::{Range, range_with};
 pub use reading::{read, read_vec};
@@ -25,6 +26,7 @@ mod frames;
 mod image;
 pub mod laws;
 mod memory;
+mod memory_map;
 mod parts;
 mod places;
 mod ranges;

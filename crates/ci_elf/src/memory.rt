@@ -1,24 +1,20 @@
 //! The memory of all segments: that no two overlap, that it isn't too large, and which segment an
 //! address belongs to.
-ghost use Rattle.std.specs.Prelude.{◌≡◌, ℕ, ◌+◌, ◌<◌, ◌≤◌, length, IfOk, MatchOption, MatchResult};
+ghost use Rattle.std.specs.Prelude.{◌≡◌, ◌+◌, ◌<◌, ◌≤◌, length, IfOk, MatchOption, MatchResult};
 ghost use Rattle.std.specs.List.{Contains, sum_by};
 ghost use Rattle.std.specs.List.Sorted.{IsNonDecreasingBy, IsPermutation};
 ghost use Rattle.ci_elf.specs.Fields.{e_phnum};
+ghost use Rattle.ci_elf.specs.MemoryMap.{most_memory, stack_size};
 ghost use Rattle.ci_elf.specs.Rules.{memory_rules};
 ghost use Rattle.ci_elf.specs.private.Checks.{HasTables, IsLastBefore, IsTestOf};
 ghost use Rattle.ci_elf.specs.private.Parts.{memory_of, parts_below};
 
 use crate::fields::program_count;
+use crate::memory_map::{MOST_MEMORY, STACK_SIZE};
 use crate::parts::{Part, first_overlap};
 use crate::segments::segment_at;
 use crate::{ElfFault, Segment};
 use std::alloc::{AllocError, Global};
-
-/// The most bytes of memory that segments and stack have.
-const MOST_MEMORY: u64 = 67_108_864;
-
-/// How many bytes the stack has.
-const STACK_SIZE: u64 = 0x10_0000;
 
 /// The memory of segment `n`, or none where it isn't loadable.
 fn memory_part(bytes: &[u8], n: u32) -> Part
@@ -70,10 +66,11 @@ fn memory_size(segments: &[Segment]) -> u64
 /// That segments and stack have no more memory than they may.
 pub(crate) fn check_size(segments: &[Segment]) -> Result<(), ElfFault>
     requires { length segments.now < 65536 }
-    ensures { MatchResult result (λ _. sum_by (λ s. s.memory_size) segments.now + 0x100000 ≤ 67108864)
-        (λ fault. ¬ (sum_by (λ s. s.memory_size) segments.now + 0x100000 ≤ 67108864) × (fault ≡ ElfFault.TooLarge)) }
+    ensures { MatchResult result (λ _. sum_by (λ s. s.memory_size) segments.now + stack_size ≤ most_memory)
+        (λ fault. ¬ (sum_by (λ s. s.memory_size) segments.now + stack_size ≤ most_memory)
+        × (fault ≡ ElfFault.TooLarge)) }
 {
-    if memory_size(segments) > MOST_MEMORY - STACK_SIZE {
+    if memory_size(segments) > u64::from(MOST_MEMORY - STACK_SIZE) {
         return Err(ElfFault::TooLarge);
     }
     Ok(())

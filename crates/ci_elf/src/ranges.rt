@@ -3,6 +3,7 @@ ghost use Rattle.std.specs.Prelude.{◌≡◌, ◌+◌, ◌-◌, ◌*◌, ◌/�
 ghost use Rattle.std.specs.List.{sum_by};
 ghost use Rattle.ci_elf.specs.Fields.{e_shnum};
 ghost use Rattle.ci_elf.specs.Executables.{HoldsAddress, InText, IsAscending, IsTextWord, ranges_of};
+ghost use Rattle.ci_elf.specs.MemoryMap.{memory_top};
 ghost use Rattle.ci_elf.specs.Rules.{KeepsRules, section_rules, segment_rules};
 ghost use Rattle.ci_elf.specs.private.Checks.{HasTables};
 ghost use Rattle.ci_elf.specs.private.RangeChecks.{range_at, words_of};
@@ -37,7 +38,7 @@ const MOST_WORDS: u64 = 262_144;
 
 /// The whole words at multiples of four in a section.
 fn words_in(section: Section) -> Range
-    requires { section.address + section.size ≤ 0xffff0000 }
+    requires { section.address + section.size ≤ memory_top }
     ensures { result ≡ words_of section }
 {
     let first = (section.address + 3) / 4;

@@ -1,6 +1,6 @@
 //! From the bytes of a file to its image.
-ghost use Rattle.std.specs.Prelude.{◌≡◌, ◌+◌, ◌<◌, ◌≤◌, ◌++◌, [], ◌∷◌, length, IfOk, OnOk};
-ghost use Rattle.std.specs.List.Sorted.{IsPermutation};
+ghost use Rattle.std.specs.Prelude.{◌≡◌, ◌≤◌, ◌++◌, [], ◌∷◌, length, IfOk};
+ghost use Rattle.std.specs.List.Sorted.{IsNonDecreasingBy, IsPermutation};
 ghost use Rattle.ci_elf.specs.Executables.{IsAscending, ranges_of, segments_of};
 ghost use Rattle.ci_elf.specs.Rules.{EntryIsText, IsReadAs, KeepsRules, MemoryIsBounded, TextIsBounded};
 ghost use Rattle.ci_elf.specs.Rules.{file_header_rules, kind_rules, memory_rules, section_rules, segment_rules};
@@ -9,7 +9,7 @@ ghost use Rattle.ci_elf.specs.private.Checks.{HasTables, IsTestOf};
 
 use crate::fields::entry;
 use crate::file_header::{check_file_header, check_kind, check_tables};
-use crate::memory::{check_apart, check_size};
+use crate::memory::{by_address, check_apart, check_size};
 use crate::ranges::{check_entry, check_text_size, text_ranges};
 use crate::sections::check_sections;
 use crate::segments::{check_segments, segments_of};
@@ -51,12 +51,13 @@ fn check_loading(alloc: Global, bytes: &[u8]) -> Result<Vec<Segment>, ElfFault>
     checked_segments(alloc, bytes)
 }
 
-/// The rules on the sections.
+/// The rules on the sections, by the segments in the order of their addresses.
 fn check_texts(alloc: Global, bytes: &[u8], segments: &[Segment]) -> Result<(), ElfFault>
     requires tables { HasTables bytes.now }
-    requires segments { segments.now ≡ segments_of bytes.now }
     requires placed { KeepsRules bytes.now (segment_rules bytes.now) }
     requires memory { KeepsRules bytes.now (memory_rules bytes.now) }
+    requires order { IsNonDecreasingBy (λ segment. segment.address) segments.now }
+    requires same { IsPermutation (segments_of bytes.now) segments.now }
     ensures { IsTestOf bytes.now (section_rules bytes.now ++ sharing_rules bytes.now) result }
 {
     check_sections(alloc, bytes, segments)?;
@@ -101,10 +102,11 @@ pub fn read_vec(alloc: Global, bytes: Vec<u8>) -> Result<Image, ElfFault>
     let file = bytes.as_slice();
     check_headers(file)?;
     let segments = check_loading(alloc, file)?;
-    check_texts(alloc, file, &segments)?;
+    let by_address = by_address(alloc, &segments)?;
+    check_texts(alloc, file, &by_address)?;
     let ranges = checked_ranges(alloc, file)?;
     let symbols = symbol_values(alloc, file)?;
     let entry = entry(file);
-    let image = Image::new(alloc, bytes, entry, segments, ranges, symbols)?;
+    let image = Image::new(bytes, entry, segments, ranges, symbols, by_address);
     Ok(image)
 }

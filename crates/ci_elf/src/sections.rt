@@ -1,7 +1,7 @@
 //! The rules on each section header.
-ghost use Rattle.std.specs.Prelude.{◌≡◌, ◌+◌, ◌*◌, ◌<◌, ◌≤◌, ◌↔◌, [], ◌∷◌, length, IfOk, IsTrue};
+ghost use Rattle.std.specs.Prelude.{◌≡◌, ◌+◌, ◌*◌, ◌<◌, ◌≤◌, ◌↔◌, [], ◌∷◌, IfOk, IsTrue};
 ghost use Rattle.std.specs.List.{Contains};
-ghost use Rattle.std.specs.List.Sorted.{IsNonDecreasingBy};
+ghost use Rattle.std.specs.List.Sorted.{IsNonDecreasingBy, IsPermutation};
 ghost use Rattle.ci_elf.specs.declared.segments.Segment.{Segment as LoadedSegment};
 ghost use Rattle.ci_elf.specs.Fields.{e_shnum, sh_entsize};
 ghost use Rattle.ci_elf.specs.Executables.{segments_of};
@@ -18,7 +18,7 @@ use crate::fields::{
     word_at,
 };
 use crate::file_header::lies_in;
-use crate::memory::{by_address, segment_before};
+use crate::memory::segment_before;
 use crate::parts::{Part, first_overlap};
 use crate::{ElfFault, Segment};
 use std::alloc::{AllocError, Global};
@@ -154,8 +154,6 @@ fn table_parts(alloc: Global, bytes: &[u8]) -> Result<Vec<Part>, AllocError>
 /// What the text of a section is compared with.
 #[derive(Drop)]
 struct Surroundings {
-    /// The loadable segments, in the order of their addresses.
-    segments: Vec<Segment>,
     /// What the headers and the symbol tables cover.
     tables: Vec<Part>,
     /// The first section whose text meets that of an earlier one, or how many sections there are.
@@ -175,18 +173,12 @@ fn first_meeting(alloc: Global, bytes: &[u8]) -> Result<u32, AllocError>
 }
 
 /// What is compared with each section.
-fn surroundings_of(
-    alloc: Global,
-    bytes: &[u8],
-    segments: &[Segment],
-) -> Result<Surroundings, AllocError>
-    requires tables { HasTables bytes.now }
-    requires segments { segments.now ≡ segments_of bytes.now }
+fn surroundings_of(alloc: Global, bytes: &[u8]) -> Result<Surroundings, AllocError>
+    requires { HasTables bytes.now }
     ensures { IfOk result (AreSurroundings bytes.now) }
 {
     let tables = table_parts(alloc, bytes)?;
     Ok(Surroundings {
-        segments: by_address(alloc, segments)?,
         tables: coverage(alloc, &tables)?,
         first_meeting: first_meeting(alloc, bytes)?,
     })
@@ -239,19 +231,20 @@ fn is_loaded(segments: &[Segment], text: Section) -> bool
     }
 }
 
-/// That section `n`, where it is text, is loaded.
-fn check_loaded(bytes: &[u8], n: u32, surroundings: &Surroundings) -> Result<(), ElfFault>
+/// That section `n`, where it is text, is loaded by one of the segments, in the order of their addresses.
+fn check_loaded(bytes: &[u8], n: u32, segments: &[Segment]) -> Result<(), ElfFault>
     requires tables { HasTables bytes.now }
     requires exists { n < e_shnum bytes.now }
-    requires segments { KeepsRules bytes.now (segment_rules bytes.now) }
+    requires placed { KeepsRules bytes.now (segment_rules bytes.now) }
     requires memory { KeepsRules bytes.now (memory_rules bytes.now) }
-    requires surroundings { AreSurroundings bytes.now surroundings.now }
+    requires order { IsNonDecreasingBy (λ segment. segment.address) segments.now }
+    requires same { IsPermutation (segments_of bytes.now) segments.now }
     ensures { IsTestOf bytes.now (TextIsLoaded n ∷ []) result }
 {
     let Some(text) = text_at(bytes, n) else {
         return Ok(());
     };
-    if is_loaded(&surroundings.segments, text) {
+    if is_loaded(segments, text) {
         Ok(())
     } else {
         Err(ElfFault::BadSection(n))
@@ -281,35 +274,43 @@ fn check_alone(bytes: &[u8], n: u32, surroundings: &Surroundings) -> Result<(), 
 }
 
 /// The rules on section header `n`.
-fn check_section(bytes: &[u8], n: u32, surroundings: &Surroundings) -> Result<(), ElfFault>
+fn check_section(
+    bytes: &[u8],
+    n: u32,
+    segments: &[Segment],
+    surroundings: &Surroundings,
+) -> Result<(), ElfFault>
     requires tables { HasTables bytes.now }
     requires exists { n < e_shnum bytes.now }
-    requires segments { KeepsRules bytes.now (segment_rules bytes.now) }
+    requires placed { KeepsRules bytes.now (segment_rules bytes.now) }
     requires memory { KeepsRules bytes.now (memory_rules bytes.now) }
+    requires order { IsNonDecreasingBy (λ segment. segment.address) segments.now }
+    requires same { IsPermutation (segments_of bytes.now) segments.now }
     requires surroundings { AreSurroundings bytes.now surroundings.now }
     requires before { n ≤ surroundings.now.first_meeting }
     ensures { IsTestOf bytes.now (HasSymbols n ∷ TextIsLoaded n ∷ TextIsAlone n ∷ []) result }
 {
     check_symbols(bytes, n)?;
-    check_loaded(bytes, n, surroundings)?;
+    check_loaded(bytes, n, segments)?;
     check_alone(bytes, n, surroundings)
 }
 
-/// The rules on each section header.
+/// The rules on each section header, by the segments in the order of their addresses.
 pub(crate) fn check_sections(
     alloc: Global,
     bytes: &[u8],
     segments: &[Segment],
 ) -> Result<(), ElfFault>
     requires tables { HasTables bytes.now }
-    requires segments { segments.now ≡ segments_of bytes.now }
     requires placed { KeepsRules bytes.now (segment_rules bytes.now) }
     requires memory { KeepsRules bytes.now (memory_rules bytes.now) }
+    requires order { IsNonDecreasingBy (λ segment. segment.address) segments.now }
+    requires same { IsPermutation (segments_of bytes.now) segments.now }
     ensures { IsTestOf bytes.now (section_rules bytes.now) result }
 {
-    let surroundings = surroundings_of(alloc, bytes, segments)?;
+    let surroundings = surroundings_of(alloc, bytes)?;
     for n in 0..section_count(bytes) {
-        check_section(bytes, n, &surroundings)?;
+        check_section(bytes, n, segments, &surroundings)?;
     }
     Ok(())
 }

@@ -1,6 +1,6 @@
 //! Segments, and the rules on each program header.
-ghost use Rattle.std.specs.Prelude.{◌≡◌, ◌+◌, ◌<◌, ◌≤◌, ◌↔◌, [], ◌∷◌, length, IsTrue, IfOk, Some};
-ghost use Rattle.ci_elf.specs.Fields.{e_phnum, p_type, is_loadable};
+ghost use Rattle.std.specs.Prelude.{◌≡◌, ◌+◌, ◌<◌, ◌↔◌, [], ◌∷◌, IsTrue, IfOk, Some};
+ghost use Rattle.ci_elf.specs.Fields.{e_phnum};
 ghost use Rattle.ci_elf.specs.Executables.{segments_of};
 ghost use Rattle.ci_elf.specs.private.Parts.{part};
 ghost use Rattle.ci_elf.specs.private.Checks.{IsTestOf, HasTables, SegmentFits, loadable_at};
@@ -9,6 +9,7 @@ ghost use Rattle.ci_elf.specs.Rules.{NamesNoInterpreter, HasFilePart, IsPlaced, 
 use crate::ElfFault;
 use crate::fields::{program_count, program_header_at, program_type, word_at};
 use crate::file_header::lies_in;
+use crate::memory_map::{MEMORY_TOP, STACK_END, STACK_START};
 use crate::parts::Part;
 use std::alloc::{AllocError, Global};
 
@@ -26,13 +27,10 @@ pub struct Segment {
     pub file_size: u32,
 }
 
-/// Where addresses end that segments may have.
-const TOP: u64 = 0xffff_0000;
-
 /// The memory of the stack.
 const STACK: Part = Part {
-    start: 0x7ff0_0000,
-    end: 0x8000_0000,
+    start: STACK_START as u64,
+    end: STACK_END as u64,
 };
 
 impl Segment {
@@ -61,7 +59,9 @@ impl Segment {
         ensures { IsTrue result ↔ SegmentFits self }
     {
         let memory = self.memory();
-        self.file_size <= self.memory_size && memory.end <= TOP && !memory.overlaps(STACK)
+        self.file_size <= self.memory_size
+            && memory.end <= u64::from(MEMORY_TOP)
+            && !memory.overlaps(STACK)
     }
 }
 

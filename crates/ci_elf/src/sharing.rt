@@ -1,9 +1,9 @@
 //! That no byte of the text lies in the file parts of two segments.
-ghost use Rattle.std.specs.Prelude.{◌≡◌, ℕ, ◌<◌, IfOk, vec_len};
-ghost use Rattle.ci_elf.specs.Fields.{e_phnum, e_shnum};
+ghost use Rattle.std.specs.Prelude.{◌<◌, IfOk};
+ghost use Rattle.ci_elf.specs.Fields.{e_phnum};
 ghost use Rattle.ci_elf.specs.Rules.{sharing_rules};
 ghost use Rattle.ci_elf.specs.private.Checks.{HasTables, IsTestOf};
-ghost use Rattle.ci_elf.specs.private.Parts.{ArePartsFromText, IsCoverage, IsPartFromText, IsRising, parts_below, text_of};
+ghost use Rattle.ci_elf.specs.private.Parts.{ArePartsFromText, IsPartFromText, IsRising};
 
 use crate::ElfFault;
 use crate::coverage::{coverage, next_covered};

@@ -1,5 +1,5 @@
 //! The values of symbols.
-ghost use Rattle.std.specs.Prelude.{◌≡◌, ◌<◌, ◌≤◌, ◌++◌, length, IfOk, OnOk};
+ghost use Rattle.std.specs.Prelude.{◌≡◌, ◌<◌, ◌++◌, IfOk, OnOk};
 ghost use Rattle.ci_elf.specs.Fields.{e_shnum};
 ghost use Rattle.ci_elf.specs.Executables.{begins_entry, symbols_of};
 ghost use Rattle.ci_elf.specs.Rules.{KeepsRules, section_rules};

@@ -21,7 +21,7 @@ pub(crate) struct TakenPlaces {
 }
 
 impl TakenPlaces {
-    ghost use Rattle.std.specs.Prelude.{◌≡◌, ◌-◌, ◌<◌, ◌==◌, false, length, slice_index, IfOk};
+    ghost use Rattle.std.specs.Prelude.{◌≡◌, ◌-◌, ◌==◌, false, length, slice_index, IfOk};
     ghost use Rattle.ci_elf.specs.private.SymbolChecks.{IsAmong, IsRun, TakesToo, is_taken};
 
     /// The places of a part of the file, all of them free.

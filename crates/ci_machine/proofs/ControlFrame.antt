@@ -7,6 +7,7 @@ use Rattle.ci_word.specs.Arithmetic.{operation, word_of}
 use Rattle.ci_isa.specs.declared.instruction.Insn.{Insn}
 use Rattle.ci_isa.specs.declared.instruction.Insn.TheVariants.{Auipc, Jal, Jalr, Branch, Fence, Ecall, Ebreak, Illegal}
 use Rattle.ci_isa.specs.Effects.{ends_block, is_among}
+use Rattle.ci_elf.specs.MemoryMap.{memory_top, stack_start, stack_end, most_memory}
 use Rattle.ci_machine.specs.declared.ends.End.{End}
 use Rattle.ci_machine.specs.declared.ends.End.TheVariants as ends
 use Rattle.ci_machine.specs.Cores.{Core, register, with_register}
@@ -14,7 +15,7 @@ use Rattle.ci_machine.specs.Accesses.{addresses, bytes_at, joined, with_bytes}
 use Rattle.ci_machine.specs.Outcomes.{Next, Ended, reached, at_start}
 use Rattle.ci_machine.specs.Actions.{Units, address_from}
 use Rattle.ci_machine.specs.Agreement.{reads, writes, AgreeOutside, AgreeOn, AreRelated}
-use Rattle.ci_machine.specs.Programs.{Program, State, at_pc, lies_in, stack_start, stack_end}
+use Rattle.ci_machine.specs.Programs.{Program, State, at_pc, lies_in}
 use Rattle.ci_machine.specs.Calls.{bad_file, bad_address, no_such_call, answering, range_at, read_length, read_into}
 use Rattle.ci_machine.specs.Calls.{read_call, written_from, is_output, write_call, may_end_at, with_heap_end, heap_call}
 use Rattle.ci_machine.specs.Calls.{numbered_call}
@@ -198,8 +199,8 @@ module _ (text set : ℕ → Bool) (old new : Program) (layout : HaveSameLayout 
 
     abbrev may_end : ℕ → ℕ → ℕ → Bool
     may_end start size address =
-        nat_le start address && nat_le address 0xffff0000 && (nat_le address stack_start || nat_le stack_end start)
-        && nat_le (size + (address - start)) 67108864
+        nat_le start address && nat_le address memory_top && (nat_le address stack_start || nat_le stack_end start)
+        && nat_le (size + (address - start)) most_memory
 
     heap : AreRelated text (with_answer set) (at_start (heap_call old left)) (at_start (heap_call new right))
     heap =

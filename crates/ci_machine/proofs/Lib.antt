@@ -21,6 +21,7 @@ pub mod SearchLaws
 pub mod PageLaws
 pub mod MissingPages
 pub mod ByteLaws
+pub mod PageWriteLaws
 pub mod SpanLaws
 pub mod AccessLaws
 pub mod MemoryLaws

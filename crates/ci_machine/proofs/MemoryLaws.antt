@@ -4,10 +4,11 @@ use Rattle.std.proofs.Common.{List, [], ◌∷◌, length, get_or, Option, Some,
 use Rattle.std.proofs.lemmas.Bool.{cases_eq, cases_lt}
 use Rattle.std.proofs.lemmas.Bool.Decides.{nat_tests}
 use Rattle.ci_elf.specs.declared.segments.Segment.{Segment}
+use Rattle.ci_elf.specs.MemoryMap.{memory_top, stack_start, stack_end, most_memory}
 use Rattle.ci_machine.specs.declared.spans.Span.{Span}
 use Rattle.ci_machine.specs.declared.pages.Pages.{Pages}
 use Rattle.ci_machine.specs.Accesses.{addresses, bytes_at, joined, with_bytes}
-use Rattle.ci_machine.specs.Programs.{lies_in, stack_start, stack_end}
+use Rattle.ci_machine.specs.Programs.{lies_in}
 use Rattle.ci_machine.specs.Spans.{in_spans}
 use Rattle.ci_machine.specs.Pages.{content, has, room}
 use Rattle.ci_machine.specs.PageTables.{missing, run_of, written, zeroed, with_pages, without_pages, pages_to}
@@ -99,7 +100,7 @@ or_true false c is = is
 -- a heap from the start may end there, where the segments and the stack take so many bytes
 abbrev pub fits_there : ℕ → ℕ → ℕ → Bool
 fits_there start loaded end =
-    leb start end && leb end 0xffff0000 && (leb end stack_start || leb stack_end start) && leb (loaded + (end - start)) 67108864
+    leb start end && leb end memory_top && (leb end stack_start || leb stack_end start) && leb (loaded + (end - start)) most_memory
 
 both : (a b : Bool) → (a && b) ≡ true → (a ≡ true) × (b ≡ true)
 both true b h = (refl, h)
@@ -107,15 +108,15 @@ both false b h = absurd (let e : false ≡ true = h in cc)
 
 pub record IsRoom (start loaded end : ℕ) : Type 0 where
   pub ordered : start ≤ end
-  pub top : end ≤ 0xffff0000
+  pub top : end ≤ memory_top
   pub clear : (leb end stack_start || leb stack_end start) ≡ true
-  pub small : loaded + (end - start) ≤ 67108864
+  pub small : loaded + (end - start) ≤ most_memory
 
 pub room_tells : (start loaded end : ℕ) → fits_there start loaded end ≡ true → IsRoom start loaded end
 room_tells start loaded end h =
     let a = both _ _ h in let b = both _ _ a.0 in let c = both _ _ b.0 in
-    let first : leb start end ≡ true = c.0 in let second : leb end 0xffff0000 ≡ true = c.1 in
-    let last : leb (loaded + (end - start)) 67108864 ≡ true = a.1 in
+    let first : leb start end ≡ true = c.0 in let second : leb end memory_top ≡ true = c.1 in
+    let last : leb (loaded + (end - start)) most_memory ≡ true = a.1 in
     record { ordered = grind (arith, nat_tests); top = grind (arith, nat_tests); clear = b.1; small = grind (arith, nat_tests) }
 
 -- the heap is below the stack or above it

@@ -12,10 +12,11 @@ use Rattle.std.proofs.lemmas.List.Elements.{Contains-get_or}
 use Rattle.std.specs.List.{AllPairs, Contains, sum_by}
 use Rattle.ci_elf.specs.declared.segments.Segment.{Segment}
 use Rattle.ci_elf.specs.Executables.{Executable, IsWellFormed, ShareNoMemory}
+use Rattle.ci_elf.specs.MemoryMap.{memory_top, stack_start, stack_size, stack_end, most_memory}
 use Rattle.ci_elf.proofs.ImageLaws.{contains_tail}
 use Rattle.ci_machine.specs.private.Loading.{holders, in_segments, loaded_content}
 use Rattle.ci_machine.specs.PageTables.{written}
-use Rattle.ci_machine.specs.Programs.{extent_of, lies_in, maximum_end, loaded_memory, loaded_size, stack_start, stack_end}
+use Rattle.ci_machine.specs.Programs.{extent_of, lies_in, maximum_end, loaded_memory, loaded_size}
 use Rattle.ci_machine.proofs.MemoryLaws.{or_true}
 use Rattle.ci_machine.proofs.TestLaws.{by_test, lies_in-bounds, taken, passed, neither_first, neither_second, or_second}
 
@@ -27,15 +28,15 @@ ends_below (s ∷ ss) top each =
     omega (arith, each s (0, omega arith, refl), ends_below ss top (λ t c. each t (contains_tail s ss t c)))
 
 size_counted : (segments : List Segment)
-    → loaded_size (map extent_of segments) ≡ sum_by (λ s. s.memory_size) segments + 0x100000
+    → loaded_size (map extent_of segments) ≡ sum_by (λ s. s.memory_size) segments + stack_size
 size_counted [] = refl
 size_counted (s ∷ ss) = omega (arith, size_counted ss, sum_by-cons (λ (t : Segment). t.memory_size) s ss)
 
 module _ (file : Executable) (formed : IsWellFormed file) where
-  pub segments_end : maximum_end (map extent_of file.segments) ≤ 0xffff0000
-  segments_end = ends_below file.segments 0xffff0000 formed.below_top
+  pub segments_end : maximum_end (map extent_of file.segments) ≤ memory_top
+  segments_end = ends_below file.segments memory_top formed.below_top
 
-  pub segments_fit : loaded_size (map extent_of file.segments) ≤ 67108864
+  pub segments_fit : loaded_size (map extent_of file.segments) ≤ most_memory
   segments_fit = omega (arith, size_counted file.segments, formed.bounded)
 
 -- ---- which segments have an address
@@ -44,7 +45,7 @@ abbrev covers : Segment → ℕ → Bool
 covers s x = lies_in s.address (s.address + s.memory_size) x
 
 abbrev IsOffStack : Segment → Type 0
-IsOffStack s = (s.address + s.memory_size ≤ 0x7ff00000) ⊎ (0x80000000 ≤ s.address)
+IsOffStack s = (s.address + s.memory_size ≤ stack_start) ⊎ (stack_end ≤ s.address)
 
 missed : (s t : Segment) (x : ℕ) → ShareNoMemory s t → covers s x ≡ true → covers t x ≡ false
 missed s t x (inl h) is = grind (arith, nat_tests)
@@ -237,7 +238,7 @@ module _ (file : Executable) (formed : IsWellFormed file) where
   pub record IsSegment (s : Segment) : Type 0 where
     pub filled : s.file_size ≤ s.memory_size
     pub some : 0 < s.memory_size
-    pub top : s.address + s.memory_size ≤ 0xffff0000
+    pub top : s.address + s.memory_size ≤ memory_top
     pub held : (x : ℕ) → covers s x ≡ true → in_segments file.segments x ≡ true
 
   pub segment_read : (items : List Segment) (i : ℕ) (d : Segment) → items ≡ file.segments → i < length items → IsSegment (get_or items i d)

@@ -27,10 +27,11 @@ use Rattle.ci_machine.specs.Agreement.{acted}
 use Rattle.ci_elf.specs.WordLists.{AreWords}
 use Rattle.ci_elf.specs.Executables.{Executable, InText, IsWellFormed}
 use Rattle.ci_elf.specs.declared.segments.Segment.{Segment}
+use Rattle.ci_elf.specs.MemoryMap.{memory_top, stack_start, stack_end}
 use Rattle.ci_isa.specs.Table.{IsInsnAt}
 use Rattle.ci_machine.specs.declared.ends.End.{End}
 use Rattle.ci_machine.specs.declared.ends.End.TheVariants as ends
-use Rattle.ci_machine.specs.Programs.{Program, State, at_pc, lies_in, stack_start, stack_end, loaded_byte, loaded_memory, opening}
+use Rattle.ci_machine.specs.Programs.{Program, State, at_pc, lies_in, loaded_byte, loaded_memory, opening}
 use Rattle.ci_machine.specs.Calls.{bad_file, bad_address, no_such_call, answering, range_at, read_length, read_into}
 use Rattle.ci_machine.specs.Calls.{read_call, written_from, is_output, write_call, may_end_at, with_heap_end, heap_call}
 use Rattle.ci_machine.specs.Calls.{call}
@@ -409,7 +410,7 @@ plain_gives_words meaning plain word = by_insn (meaning.insn word) (plain word)
 -- ---- the opening state
 
 module _ (file : Executable) (formed : IsWellFormed file) where
-  pub text_top : (address : ℕ) → InText file.ranges address → address < 0xffff0000
+  pub text_top : (address : ℕ) → InText file.ranges address → address < memory_top
   text_top address text =
       let held = holder file.ranges address text in
       let loader = formed.loaded held.range held.there in

@@ -2,11 +2,12 @@
 -- and answers are those of Linux. The number is in x17, the arguments are in x10 to x12, and x10 takes the answer.
 use Rattle.std.specs.Prelude.{ℕ, ◌+◌, ◌-◌, ◌^◌, Bool, ◌==◌, ◌&&◌, ◌||◌, nat_le, min, if◌then◌else◌, List, ◌++◌}
 use Rattle.std.specs.Prelude.{length, take, drop, Option, Some, None}
+use Rattle.ci_elf.specs.MemoryMap.{memory_top, stack_start, stack_end, most_memory}
 use Rattle.ci_machine.specs.declared.ends.End.TheVariants as ends
 use Rattle.ci_machine.specs.Cores.{Core, register, with_register}
 use Rattle.ci_machine.specs.Accesses.{addresses, bytes_at, with_bytes}
 use Rattle.ci_machine.specs.Outcomes.{Outcome, Next, Ended}
-use Rattle.ci_machine.specs.Programs.{Program, loaded_size, heap_start, lies_in, stack_start, stack_end}
+use Rattle.ci_machine.specs.Programs.{Program, loaded_size, heap_start, lies_in}
 
 -- ---- answers
 
@@ -68,13 +69,13 @@ write_call core =
 
 -- ---- the heap
 
--- The heap may end there: not below its start nor above FFFF0000, with no byte of the stack in it, and with the
--- segments and the stack in 64 mebibytes.
+-- The heap may end there: not below its start nor above the top of memory, with no byte of the stack in it, and with
+-- no more bytes than there may be beside those of the segments and the stack.
 abbrev pub may_end_at : Program → ℕ → Bool
 may_end_at program address =
-    nat_le (heap_start program) address && nat_le address 0xffff0000
+    nat_le (heap_start program) address && nat_le address memory_top
     && (nat_le address stack_start || nat_le stack_end (heap_start program))
-    && nat_le (loaded_size program.segments + (address - heap_start program)) 67108864
+    && nat_le (loaded_size program.segments + (address - heap_start program)) most_memory
 
 -- the bytes up to the new end are mapped, new ones with 0, and those past it are not
 abbrev pub with_heap_end : Core → ℕ → Core

@@ -5,11 +5,12 @@ use native.Mathlib.Nat.{ℕ_set}
 use native.Mathlib.Bridge.{le_prop}
 use Rattle.std.proofs.Props.{props}
 use Rattle.ci_elf.specs.declared.segments.Segment.{Segment}
+use Rattle.ci_elf.specs.MemoryMap.{memory_top, stack_start, stack_end, most_memory}
 use Rattle.ci_machine.specs.declared.pages.Pages.{Pages}
 use Rattle.ci_machine.specs.declared.spans.Span.{Span}
 use Rattle.ci_machine.specs.Pages.{content, has, room}
 use Rattle.ci_machine.specs.PageTables.{missing, pages_to}
-use Rattle.ci_machine.specs.Programs.{extent_of, lies_in, loaded_size, maximum_end, stack_start, stack_end}
+use Rattle.ci_machine.specs.Programs.{extent_of, lies_in, loaded_size, maximum_end}
 use Rattle.ci_machine.specs.Spans.{in_spans}
 
 -- the address lies in a span or in the heap
@@ -18,17 +19,17 @@ mapped_in spans heap_start heap_end address = in_spans spans address || lies_in 
 
 -- the greatest address at which the heap may end, where the segments and the stack take so many bytes
 abbrev pub heap_limit : ℕ → ℕ → ℕ
-heap_limit start loaded = start + min (67108864 - loaded) (0xffff0000 - start)
+heap_limit start loaded = start + min (most_memory - loaded) (memory_top - start)
 
 -- Where the heap lies: behind the segments, of which it has no byte, and clear of the stack. The segments' bytes and
 -- the stack's are counted, and the heap's fit beside them.
 pub record IsLaidOut (spans : List Span) (segments : List Segment) (start end loaded : ℕ) : Type 0 where
   pub begins : start ≡ (maximum_end (map extent_of segments) + 15) / 16 * 16
   pub ordered : start ≤ end
-  pub top : end ≤ 0xffff0000
+  pub top : end ≤ memory_top
   pub clear : start < end → (nat_le end stack_start || nat_le stack_end start) ≡ true
   pub counted : loaded ≡ loaded_size (map extent_of segments)
-  pub fits : loaded + (end - start) ≤ 67108864
+  pub fits : loaded + (end - start) ≤ most_memory
   pub below : (address : ℕ) → in_spans spans address ≡ true
       → (nat_lt address start || lies_in stack_start stack_end address) ≡ true
 

@@ -5,6 +5,7 @@ use Rattle.ci_elf.specs.declared.ranges.Range.{Range}
 use Rattle.ci_elf.specs.declared.segments.Segment.{Segment}
 use Rattle.ci_elf.specs.Executables.{Executable}
 use Rattle.ci_elf.specs.Executables as elf
+use Rattle.ci_elf.specs.MemoryMap.{stack_start, stack_size, stack_end}
 use Rattle.ci_machine.specs.Cores.{Core}
 
 -- where a segment lies in memory
@@ -34,13 +35,6 @@ in_text program address = elf.in_text program.text address
 
 -- ---- memory
 
--- the stack takes the megabyte below 80000000
-abbrev pub stack_start : ℕ
-stack_start = 0x7ff00000
-
-abbrev pub stack_end : ℕ
-stack_end = 0x80000000
-
 -- The byte of a segment that is so far behind its first one: its part of the file, and zeros behind that.
 abbrev pub loaded_byte : List ℕ → Segment → ℕ → ℕ
 loaded_byte bytes segment distance =
@@ -56,7 +50,7 @@ loaded_memory bytes (segment ∷ segments) address =
 
 -- how many bytes the segments and the stack take
 abbrev pub loaded_size : List Extent → ℕ
-loaded_size [] = stack_end - stack_start
+loaded_size [] = stack_size
 loaded_size (segment ∷ segments) = segment.size + loaded_size segments
 
 abbrev pub maximum_end : List Extent → ℕ
@@ -81,7 +75,7 @@ abbrev pub opening : Executable → List ℕ → State
 opening file input = record {
   pc = file.entry;
   core = record {
-    registers = λ r. if r == 2 then 0x7ffffff0 else 0;
+    registers = λ r. if r == 2 then stack_end - 16 else 0;
     memory = loaded_memory file.bytes file.segments;
     heap_end = heap_start (loaded_program file);
     input = input;

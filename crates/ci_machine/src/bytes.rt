@@ -1,5 +1,5 @@
 //! Numbers as bytes of a slice, the lowest first.
-ghost use Rattle.std.specs.Prelude.{◌≡◌, ℕ, ◌+◌, ◌<◌, ◌≤◌, length};
+ghost use Rattle.std.specs.Prelude.{◌≡◌, ◌+◌, ◌≤◌, length};
 ghost use Rattle.ci_isa.specs.Effects.{width_bytes};
 ghost use Rattle.ci_machine.specs.Accesses.{bytes_of_number, number_of_bytes};
 ghost use Rattle.ci_machine.specs.ByteLists.{bytes_from, overwritten};

@@ -24,8 +24,8 @@ fn is_output(file: u32) -> bool
 }
 
 impl State {
-    ghost use Rattle.std.specs.Prelude.{◌≡◌, ◌++◌, Option, Some, None, OnOk, OnErr, IfOk, is_some, min, length, ◌==◌};
-    ghost use Rattle.ci_machine.specs.Calls.{answering, bad_address, bad_file, heap_call, no_such_call, read_call};
+    ghost use Rattle.std.specs.Prelude.{◌≡◌, OnOk, OnErr, IfOk, min, ◌==◌};
+    ghost use Rattle.ci_machine.specs.Calls.{answering, heap_call, read_call};
     ghost use Rattle.ci_machine.specs.Calls.{range_at, write_call, written_from};
     ghost use Rattle.ci_machine.specs.Cores.{register};
     ghost use Rattle.ci_machine.specs.States.{called, end_of, state_of, program_of};

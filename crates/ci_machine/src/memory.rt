@@ -1,15 +1,16 @@
 //! Memory: pages, the spans that the segments and the stack take, and the heap.
-#![tactic(auto, unfolding(crate::specs::Layouts::HasLayout, crate::specs::Layouts::HasPages, crate::specs::Memories::segments_of))]
+#![tactic(auto, unfolding(crate::proofs::StateViews::layouts))]
 
 ghost use Rattle.std.specs.Prelude.{◌≡◌, ℕ, ◌+◌, ◌-◌, ◌*◌, ◌/◌, ◌%◌, ◌^◌, ◌<◌, ◌≤◌, true, false, ◌&&◌, ◌++◌};
-ghost use Rattle.std.specs.Prelude.{if◌then◌else◌, Option, Some, None, IfSome, IfOk, OnErr, MatchOption, is_some};
-ghost use Rattle.std.specs.Prelude.{length, slice_index_or, List, [], ◌∷◌, IsTrue, ◌↔◌, slice_index, is_ok, replicate};
+ghost use Rattle.std.specs.Prelude.{Some, None, IfSome, is_some};
+ghost use Rattle.std.specs.Prelude.{length, List, [], ◌∷◌};
 ghost use Rattle.std.specs.Prelude.{nat_le, ◌||◌, vec_capacity, vec_len};
 ghost use Rattle.std.specs.Option.{option_map};
 ghost use Rattle.ci_isa.specs.Effects.{width_bytes};
-ghost use Rattle.ci_machine.specs.Accesses.{addresses, bytes_at, bytes_of_number, number_of_bytes, with_bytes};
+ghost use Rattle.ci_machine.specs.Accesses.{addresses, bytes_at, number_of_bytes, with_bytes};
 ghost use Rattle.ci_elf.specs.declared.ranges.Range.{Range};
-ghost use Rattle.ci_machine.specs.Programs.{lies_in, stack_end, stack_start};
+ghost use Rattle.ci_elf.specs.MemoryMap.{memory_top, stack_start, stack_end, most_memory};
+ghost use Rattle.ci_machine.specs.Programs.{lies_in};
 ghost use Rattle.ci_machine.specs.PageTables.{IsGap, IsPlace};
 ghost use Rattle.ci_machine.specs.Windows.{HasWindows, HasWindows-prop, IsWindow};
 ghost use Rattle.ci_machine.specs.Layouts.{HasLayout, HasLayout-prop, HasPages, HasPages-prop};
@@ -18,21 +19,9 @@ use crate::bytes::bytes_of;
 use crate::pages::{PAGE, Pages, pages_to};
 use crate::spans::{Span, Spans};
 use crate::windows::{WINDOWS, Window};
-use ci_elf::Segment;
+use ci_elf::{MEMORY_TOP, MOST_MEMORY, STACK_END, STACK_START, Segment};
 use ci_isa::Width;
 use std::alloc::{AllocError, Global};
-
-/// The address that the heap may not go past.
-pub(crate) const HEAP_LIMIT: u32 = 0xffff0000;
-
-/// Where the stack begins.
-pub(crate) const STACK_START: u32 = 0x7ff00000;
-
-/// Where the stack ends.
-pub(crate) const STACK_END: u32 = 0x80000000;
-
-/// How many bytes the segments, the stack and the heap may take.
-pub(crate) const MEMORY_LIMIT: u32 = 67108864;
 
 /// The memory of a machine.
 #[derive(Drop)]
@@ -458,8 +447,8 @@ impl Memory {
         is_room(self.heap_start, self.loaded, end)
     }
 
-    /// Moves the heap's end, to where it may end. Pages behind it go; those before it are made when they are first used.
-    /// No memory is taken.
+    /// Moves the heap's end, to where it may end. Pages behind it go; those before it are made when they are first
+    /// used. No memory is taken.
     pub(crate) fn set_heap_end(&mut self, end: u32)
         requires { may_end_at (program_in self.old []) end ≡ true }
         ensures moved { memory_of self.new ≡ with_heap_moved self.old.heap_end end (memory_of self.old) }
@@ -502,13 +491,13 @@ impl Memory {
 
 /// Whether a heap from `start` may end there, where the segments and the stack take so many bytes.
 fn is_room(start: u32, loaded: u32, end: u32) -> bool
-    requires { loaded ≤ 67108864 }
-    ensures { result ≡ (nat_le start end && nat_le end 0xffff0000
+    requires { loaded ≤ most_memory }
+    ensures { result ≡ (nat_le start end && nat_le end memory_top
         && (nat_le end stack_start || nat_le stack_end start)
-        && nat_le (loaded + (end - start)) 67108864) }
+        && nat_le (loaded + (end - start)) most_memory) }
 {
     let clear = is_clear(start, end);
-    start <= end && end <= HEAP_LIMIT && clear && loaded + (end - start) <= MEMORY_LIMIT
+    start <= end && end <= MEMORY_TOP && clear && loaded + (end - start) <= MOST_MEMORY
 }
 
 /// Whether no byte of the stack lies there.

@@ -3,9 +3,10 @@
 
 ghost use Rattle.std.specs.Prelude.{◌≡◌, ℕ, ◌+◌, ◌-◌, ◌*◌, ◌/◌, ◌%◌, ◌<◌, ◌≤◌, true, false, Some, None, IfSome, IfOk};
 ghost use Rattle.std.specs.Prelude.{IfErr};
-ghost use Rattle.std.specs.Prelude.{◌^◌, ◌++◌, length, replicate, vec_capacity, vec_len, slice_index, List, []};
+ghost use Rattle.std.specs.Prelude.{◌^◌, ◌++◌, length, replicate, vec_capacity, vec_len, slice_index};
 ghost use Rattle.std.specs.List.{insert};
 ghost use Rattle.ci_isa.specs.Effects.{width_bytes};
+ghost use Rattle.ci_elf.specs.MemoryMap.{memory_top};
 ghost use Rattle.ci_machine.specs.Accesses.{bytes_of_number, number_of_bytes};
 ghost use Rattle.ci_machine.specs.PageTables.{HasTable, HasTable-prop, IsPlace, IsGap, entry_at, run_of, written};
 ghost use Rattle.ci_machine.specs.PageTables.{missing, pages_to, with_pages, without_pages, zeroed};
@@ -50,7 +51,7 @@ fn zeros() -> Page
 
 /// The first page number behind the bytes below an address.
 pub(crate) fn pages_to(end: u32) -> u32
-    requires { end ≤ 0xffff0000 }
+    requires { end ≤ memory_top }
     ensures { result ≡ pages_to end }
 {
     (end + 4095) / PAGE

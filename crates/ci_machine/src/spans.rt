@@ -1,7 +1,7 @@
 //! Spans of addresses, found by halving.
 #![tactic(auto, unfolding(crate::specs::Spans::HasRising))]
 
-ghost use Rattle.std.specs.Prelude.{◌≡◌, ℕ, ◌+◌, ◌-◌, ◌*◌, ◌/◌, ◌^◌, ◌<◌, ◌≤◌, true, false, IfOk, IfErr, OnOk, ◌||◌};
+ghost use Rattle.std.specs.Prelude.{◌≡◌, ℕ, ◌+◌, ◌-◌, ◌/◌, ◌^◌, ◌<◌, ◌≤◌, true, false, IfOk, IfErr, OnOk, ◌||◌};
 ghost use Rattle.std.specs.Prelude.{max, [], length};
 ghost use Rattle.ci_machine.specs.Spans.{HasRising, HasRising-prop, in_spans, lies_at, pages_met, span_at};
 ghost use Rattle.ci_machine.specs.Programs.{lies_in};

@@ -4,30 +4,30 @@
 ghost use Rattle.std.specs.Prelude.{◌≡◌, ℕ, ◌+◌, ◌-◌, ◌*◌, ◌/◌, ◌<◌, ◌≤◌, ◌||◌, true, IfOk, length, map, slice_index};
 ghost use Rattle.std.specs.Prelude.{OnOk, false};
 ghost use Rattle.std.specs.List.{Contains};
-ghost use Rattle.std.specs.List.Sorted.{IsPermutation};
 ghost use Rattle.ci_elf.specs.declared.segments.Segment.{Segment};
+ghost use Rattle.ci_elf.specs.MemoryMap.{memory_top, stack_start, stack_end, most_memory};
 ghost use Rattle.ci_machine.specs.Layouts.{heap_limit};
 ghost use Rattle.ci_machine.specs.private.Loading.{IsInFile, holders, in_segments, loaded_content};
 ghost use Rattle.ci_machine.specs.Memories.{memory_of, segments_of};
 ghost use Rattle.ci_machine.specs.Pages.{content, has, room};
 ghost use Rattle.ci_machine.specs.PageTables.{pages_to};
-ghost use Rattle.ci_machine.specs.Programs.{extent_of, lies_in, maximum_end, stack_end, stack_start, loaded_memory};
+ghost use Rattle.ci_machine.specs.Programs.{extent_of, lies_in, maximum_end, loaded_memory};
 ghost use Rattle.ci_machine.specs.Programs.{loaded_program, loaded_size as loaded_size_of, heap_start as heap_start_of};
 ghost use Rattle.ci_machine.specs.Spans.{in_spans};
 
-use crate::memory::{HEAP_LIMIT, MEMORY_LIMIT, Memory, STACK_END, STACK_START};
+use crate::memory::Memory;
 use crate::pages::{PAGE, Pages, pages_to};
 use crate::spans::{Span, Spans};
 use crate::state::{REGISTERS, State};
 use crate::windows::{WINDOWS, Window};
-use ci_elf::{Image, Places, Segment};
+use ci_elf::{Image, MEMORY_TOP, MOST_MEMORY, Places, STACK_END, STACK_SIZE, STACK_START, Segment};
 use std::alloc::{AllocError, Global};
 
 /// The number of the stack pointer, x2.
 const STACK_POINTER: usize = 2;
 
 /// The stack pointer at the start: the last multiple of 16 in the stack.
-const STACK_TOP: u32 = 0x7ffffff0;
+const STACK_TOP: u32 = STACK_END - 16;
 
 /// A segment's part of the file. One without bytes may lie past the file's end.
 fn file_part(bytes: &[u8], segment: Segment) -> &[u8]
@@ -42,7 +42,7 @@ fn file_part(bytes: &[u8], segment: Segment) -> &[u8]
 
 /// Where the heap begins: behind the last segment, at a multiple of 16.
 fn heap_start(segments: &[Segment]) -> u32
-    requires { maximum_end (map extent_of segments.now) ≤ 0xffff0000 }
+    requires { maximum_end (map extent_of segments.now) ≤ memory_top }
     ensures { result ≡ (maximum_end (map extent_of segments.now) + 15) / 16 * 16 }
 {
     let mut end = 0;
@@ -54,29 +54,20 @@ fn heap_start(segments: &[Segment]) -> u32
 
 /// How many bytes the segments and the stack take.
 fn loaded_size(segments: &[Segment]) -> u32
-    requires { loaded_size_of (map extent_of segments.now) ≤ 67108864 }
+    requires { loaded_size_of (map extent_of segments.now) ≤ most_memory }
     ensures { result ≡ loaded_size_of (map extent_of segments.now) }
 {
-    let mut size = STACK_END - STACK_START;
+    let mut size = STACK_SIZE;
     for segment in segments {
         size += segment.memory_size;
     }
     size
 }
 
-/// The segments in the order of their addresses.
-fn by_address(alloc: Global, segments: &[Segment]) -> Result<Vec<Segment>, AllocError>
-    ensures { IfOk result (λ sorted. IsPermutation segments.now sorted.items) }
-{
-    let mut sorted = Vec::from_slice(alloc, segments)?;
-    sorted.sort_unstable_by_key(|segment| segment.address);
-    Ok(sorted)
-}
-
 /// Puts in the spans of segments, which have no address that another of them or a span has.
 fn insert_all(spans: &mut Spans, segments: &[Segment]) -> Result<(), AllocError>
     requires filled { (segment : Segment) → Contains segments.now segment
-        → (0 < segment.memory_size) × (segment.address + segment.memory_size ≤ 0xffff0000) }
+        → (0 < segment.memory_size) × (segment.address + segment.memory_size ≤ memory_top) }
     requires apart { (address : ℕ) → holders segments.now address ≤ 1 }
     requires free { (address : ℕ) → in_segments segments.now address ≡ true
         → in_spans spans.old.spans.items address ≡ false }
@@ -102,19 +93,18 @@ fn spans_of(alloc: Global, image: &Image) -> Result<Spans, AllocError>
         start: STACK_START,
         end: STACK_END,
     })?;
-    let segments = by_address(alloc, image.segments())?;
-    insert_all(&mut spans, &segments)?;
+    insert_all(&mut spans, image.segments_by_address())?;
     Ok(spans)
 }
 
 /// How many pages the heap that begins there may come to meet.
 fn heap_pages(heap_start: u32, loaded: u32) -> u32
-    requires start { heap_start ≤ 0xffff0000 }
-    requires fits { loaded ≤ 67108864 }
+    requires start { heap_start ≤ memory_top }
+    requires fits { loaded ≤ most_memory }
     ensures value { result ≡ pages_to (heap_limit heap_start loaded) - heap_start / 4096 }
     ensures bounded { result ≤ 1048576 }
 {
-    let limit = heap_start + (MEMORY_LIMIT - loaded).min(HEAP_LIMIT - heap_start);
+    let limit = heap_start + (MOST_MEMORY - loaded).min(MEMORY_TOP - heap_start);
     pages_to(limit) - heap_start / PAGE
 }
 
@@ -125,8 +115,8 @@ fn opening_pages(
     heap_start: u32,
     loaded: u32,
 ) -> Result<Pages, AllocError>
-    requires start { heap_start ≤ 0xffff0000 }
-    requires fits { loaded ≤ 67108864 }
+    requires start { heap_start ≤ memory_top }
+    requires fits { loaded ≤ most_memory }
     ensures content { IfOk result (λ pages. (address : ℕ) → content pages address ≡ 0) }
     ensures covered { IfOk result (λ pages. (address : ℕ) → in_spans spans.now.spans.items address ≡ true
         → has pages (address / 4096) ≡ true) }

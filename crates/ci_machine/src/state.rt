@@ -1,7 +1,7 @@
 //! The state of a machine.
 #![tactic(auto, unfolding(crate::proofs::StateViews::views))]
 
-ghost use Rattle.std.specs.Prelude.{◌≡◌, ℕ, ◌<◌, ◌≤◌, length, slice_index};
+ghost use Rattle.std.specs.Prelude.{◌≡◌, ◌<◌, ◌≤◌, length, slice_index};
 
 use crate::memory::Memory;
 use ci_elf::{Places, Range};
@@ -44,7 +44,7 @@ pub struct State {
 }
 
 impl State {
-    ghost use Rattle.std.specs.Prelude.{◌==◌, ◌&&◌, is_ok, is_some};
+    ghost use Rattle.std.specs.Prelude.{is_ok, is_some};
     ghost use Rattle.std.specs.Option.{option_map};
     ghost use Rattle.std.specs.Result.{result_ok};
     ghost use Rattle.ci_elf.specs.Executables.{IsAscending};

@@ -5,7 +5,7 @@ use crate::state::State;
 use ci_isa::Width;
 
 impl State {
-    ghost use Rattle.std.specs.Prelude.{◌≡◌, ◌+◌, ◌-◌, ◌≤◌, find, length};
+    ghost use Rattle.std.specs.Prelude.{◌≡◌, ◌-◌, find};
     ghost use Rattle.ci_isa.specs.Effects.{width_bytes};
     ghost use Rattle.ci_machine.specs.Accesses.{addresses};
     ghost use Rattle.ci_machine.specs.Calls.{read_length};

@@ -1,6 +1,6 @@
 //! Windows: mapped bytes side by side, all on one page, in which the accesses of a program are made at once.
 
-ghost use Rattle.std.specs.Prelude.{◌≡◌, ◌+◌, ◌-◌, ◌≤◌, ◌%◌, true, max, min};
+ghost use Rattle.std.specs.Prelude.{◌≡◌, ◌+◌, ◌-◌, ◌≤◌, true, max, min};
 
 use crate::pages::PAGE;
 use crate::spans::Span;

@@ -72,8 +72,8 @@ pub record KeepsRuns
   pub have_modules :
       (modules : List Module) → HaveModules modules insns → number < length modules → HaveModules modules folded
   -- Where for each bare unit word of the block the value of its module doesn't depend on d and e, and the module of the
-  -- number has the unit's value, so it is for each bare unit word of the folded block. The modules are such as keep what
-  -- the type of modules keeps.
+  -- number has the unit's value, so it is for each bare unit word of the folded block. The modules are such as keep
+  -- what the type of modules keeps.
   pub stay_bare :
       (modules : List Module) → All IsModule modules → OfBareWords (IgnoreOperands modules) insns
       → ComputeUnit modules number unit

@@ -14,6 +14,7 @@ use Rattle.ci_isa.specs.declared.instruction.Insn.TheVariants.{Branch, Ebreak, E
 use Rattle.ci_isa.specs.Effects.{ends_block}
 use Rattle.ci_isa.specs.Sequences.{nth_insn}
 use Rattle.ci_elf.specs.Executables.{Executable, IsTextWord}
+use Rattle.ci_elf.specs.MemoryMap.{memory_top}
 use Rattle.ci_lat.specs.Latencies.{Latencies as Table}
 use Rattle.ci_block.specs.declared.blocks.Block.{Block}
 use Rattle.ci_block.specs.declared.blocks.Next.{Next}
@@ -47,7 +48,7 @@ use Rattle.ci_runs.proofs.ListedLeaders.{is_listed, listed_there}
 -- ---- addresses behind instructions
 
 -- the address behind a list that lies below the top of memory
-behind_is : (insns : List Insn) (address : ℕ) → address + 4 * length insns ≤ 0xffff0000 → behind insns address ≡ address + 4 * length insns
+behind_is : (insns : List Insn) (address : ℕ) → address + 4 * length insns ≤ memory_top → behind insns address ≡ address + 4 * length insns
 behind_is [] address below = omega arith
 behind_is (insn ∷ insns) address below =
     let next : following address ≡ address + 4 = omega arith in
@@ -160,7 +161,7 @@ module _ (rewriting : Rewriting) (table : Table) (savings : List Saving) (is : I
   last_insn = nth_insn insns (size_of block - 1)
 
   -- the block lies below the top of memory
-  low_end : end_of_block block ≤ 0xffff0000
+  low_end : end_of_block block ≤ memory_top
   low_end =
       let at = at_leader_of rewriting table savings is block there in
       let formed = old_formed rewriting table savings is in

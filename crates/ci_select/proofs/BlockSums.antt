@@ -7,6 +7,7 @@ use Rattle.std.proofs.lemmas.List.Elements.{Contains-get_or}
 use Rattle.std.proofs.lemmas.List.Sums.{sum_by-cons}
 use Rattle.ci_isa.specs.declared.instruction.Insn.TheVariants.{Ebreak}
 use Rattle.ci_elf.specs.Executables.{Executable, IsTextWord, IsWellFormed}
+use Rattle.ci_elf.specs.MemoryMap.{memory_top}
 use Rattle.ci_block.specs.declared.blocks.Block.{Block}
 use Rattle.ci_block.specs.Blocks.{AreInOrder, IsBlockAt, end_of_block, size_of}
 use Rattle.ci_block.proofs.BlockLaws.{blocks_in_order as in_order}
@@ -19,7 +20,7 @@ use Rattle.ci_select.specs.Instances.{AreBlocksOf, AreOfSomeFile}
 -- blocks of well-formed files end below the top of memory
 block_below_top :
     {file : Executable} {leaders : List ℕ} {block : Block} → IsWellFormed file → IsBlockAt file leaders block
-    → end_of_block block ≤ 0xffff0000
+    → end_of_block block ≤ memory_top
 block_below_top formed at =
     let loads = formed.loaded at.range at.there in
     omega (arith, at.within, loads.2.to, formed.filled loads.0 loads.1, formed.below_top loads.0 loads.1)
@@ -78,6 +79,6 @@ sizes_between (block ∷ blocks) from to room apart between =
 
 pub few_instructions : {blocks : List Block} {live : Sets} → AreOfSomeFile blocks live → sum_by size_of blocks ≤ 2 ^ 30
 few_instructions {blocks = blocks} (file, of, formed, bytes) =
-    let few = sizes_between blocks 0 0xffff0000 (omega arith) (all_lie_apart of)
+    let few = sizes_between blocks 0 memory_top (omega arith) (all_lie_apart of)
     (λ block c. (omega arith, block_below_top formed (of.2.blocks_are.each block c))) in
     omega (arith, few)

@@ -9,13 +9,14 @@ use Rattle.ci_isa.specs.Table.{IsWordOf}
 use Rattle.ci_elf.specs.Executables.{Executable, IsTextWord, IsWellFormed, place_of, text_word}
 use Rattle.ci_elf.specs.Rules.{IsReadAs}
 use Rattle.ci_elf.specs.TextChanges.{ChangeText, IsTextPlace, with_word}
+use Rattle.ci_elf.specs.MemoryMap.{memory_top}
 use Rattle.ci_elf.proofs.PatchLaws.{none_written, one_more_written, other_words_stay, word_is_read}
-use Rattle.ci_elf.proofs.RangeLaws.{range_holding}
 use Rattle.ci_elf.proofs.TextChangeLaws.{text_may_change}
 use Rattle.ci_elf.proofs.TextPlaceLaws.{formed}
 use Rattle.ci_block.specs.declared.blocks.Block.{Block}
 use Rattle.ci_block.specs.Blocks.{size_of}
 use Rattle.ci_live.specs.Sets.{Sets}
+use Rattle.ci_machine.proofs.WordLaws.{text_top}
 use Rattle.ci_select.specs.Instances.{AreBlocksOf}
 use Rattle.ci_select.specs.NewFiles.{LiesIn, with_bytes}
 use Rattle.ci_select.specs.private.Patched.{PatchesBlock, PatchesWords}
@@ -28,12 +29,11 @@ read_with file new read same change =
     subst (λ f. IsReadAs new.bytes (Ok f)) (sym same) (text_may_change file.bytes new.bytes file read change)
 
 -- text lies below the top of memory
-pub text_below_top : (file : Executable) → IsReadAs file.bytes (Ok file) → (address : ℕ) → IsTextWord file.ranges address → address < 0xffff0000
+pub text_below_top :
+    (file : Executable) → IsReadAs file.bytes (Ok file) → (address : ℕ) → IsTextWord file.ranges address
+    → address < memory_top
 text_below_top file read address text =
-    let whole = formed file.bytes read.0 file read.1 in
-    let held = range_holding file.ranges address text.1 in
-    let loads = whole.loaded held.1 (held.0, held.2, held.3) in
-    omega (arith, held.4.1, loads.2.to, whole.filled loads.0 loads.1, whole.below_top loads.0 loads.1)
+    text_top file (formed file.bytes read.0 file read.1) address text.1
 
 -- ---- word after word
 

@@ -10,7 +10,6 @@ use Rattle.ci_verilog.specs.declared.expressions.Item.{Item}
 use Rattle.ci_verilog.specs.declared.expressions.Operator.{Operator}
 use Rattle.ci_verilog.specs.declared.expressions.Expr.TheVariants.{Two}
 use Rattle.ci_verilog.specs.declared.expressions.Term.{Term}
-use Rattle.ci_verilog.specs.declared.expressions.Wire.{Wire}
 use Rattle.ci_verilog.specs.Modules.{WireList, vector, known_by, Makes, IsSimple, IsItem, AreItems, IsTerm, IsExpr}
 use Rattle.ci_verilog.specs.Values.{above, joined, simple_bits, item_bits, term_bits}
 use Rattle.ci_verilog.specs.private.Held.{InRange, Fits, Holds, IsHeld, SimpleFits, ItemsFit}

@@ -1,12 +1,12 @@
 //! What modules compute.
-ghost use Rattle.std.specs.Prelude.{◌≡◌, ℕ, ◌-◌, ◌+◌, ◌<◌, ◌≤◌, ◌/◌, ◌%◌, ◌^◌, List, [], ◌∷◌, length, map, All};
+ghost use Rattle.std.specs.Prelude.{◌≡◌, ℕ, ◌<◌, ◌≤◌, ◌^◌, List, [], ◌∷◌, length, map, All};
 ghost use Rattle.std.specs.List.{Contains};
 ghost use Rattle.ci_verilog.specs.declared.vectors.Vector.{Vector};
 ghost use Rattle.ci_verilog.specs.declared.expressions.Wire.{Wire};
-ghost use Rattle.ci_verilog.specs.Modules.{Module, IsModule, known_by, vector, wires_of};
-ghost use Rattle.ci_verilog.specs.Values.{of_width, joined, simple_bits, item_bits, term_bits, expr_value};
+ghost use Rattle.ci_verilog.specs.Modules.{known_by, vector, wires_of};
+ghost use Rattle.ci_verilog.specs.Values.{joined, simple_bits, item_bits, term_bits, expr_value};
 ghost use Rattle.ci_verilog.specs.Values.{IsValueOf, Settles};
-ghost use Rattle.ci_verilog.specs.private.Held.{InRange, Holds, IsHeld, SimpleFits, ItemFits, ItemsFit, TermFits, ExprFits};
+ghost use Rattle.ci_verilog.specs.private.Held.{Holds, IsHeld, SimpleFits, ItemFits, ItemsFit, TermFits, ExprFits};
 
 use crate::expressions::{Expr, Item, Name, Simple, Term, Wire};
 use crate::lookup::{input_named, wire_named};

@@ -1,8 +1,8 @@
 //! What a name stands for.
-ghost use Rattle.std.specs.Prelude.{◌≡◌, ◌≢◌, ℕ, ◌<◌, ◌≤◌, length, codes, IfSome, IsNone, IfNone, IsTrue, ◌↔◌};
-ghost use Rattle.std.specs.List.{slice_index_or, Contains};
+ghost use Rattle.std.specs.Prelude.{◌≡◌, ◌≢◌, ℕ, ◌<◌, length, IfSome, IsNone, IsTrue, ◌↔◌};
+ghost use Rattle.std.specs.List.{slice_index_or};
 ghost use Rattle.ci_verilog.specs.declared.expressions.Wire.{Wire};
-ghost use Rattle.ci_verilog.specs.Modules.{Known, IsInput, vector, inputs};
+ghost use Rattle.ci_verilog.specs.Modules.{IsInput};
 
 use crate::expressions::{Name, Wire};
 

@@ -23,7 +23,7 @@ pub struct Wires {
 }
 
 impl Model for Wires {
-    ghost use Rattle.std.specs.Prelude.{List, ◌≤◌, length};
+    ghost use Rattle.std.specs.Prelude.{◌≤◌, length};
     ghost use Rattle.ci_verilog.specs.declared.expressions.Wire.{Wire};
     ghost use Rattle.ci_verilog.specs.Modules.{WireList, AreWires, AreFree, inputs};
 

@@ -5,18 +5,46 @@ use Rattle.ci_verilog.specs.Modules.{vector}
 use Rattle.ci_vread.specs.Lexicon.{name}
 use Rattle.ci_vread.specs.Grammar.{its_name, read}
 use Rattle.ci_vread.specs.Rules.{HasFault, KeepsRules, Seen, nothing, rule, rules_of}
-use Rattle.ci_vread.proofs.ComputedFaults.{fault_in, has_fault, keeps_rules}
+use Rattle.ci_vread.proofs.ComputedFaults.{fault_in, has_fault as faults, keeps_rules as keeps}
 
 -- up to the token that tells a wide module from a narrow one, 72 bytes
 abbrev begins : List ℕ
 begins = codes "// cycles 1\nmodule ci_0(input [31:0] a, input [31:0] b, input [31:0] c, "
 
--- the first two lines of a narrow module, and of a wide one
+-- the two ports behind it of each direction, in a wide module
+abbrev pairs : List ℕ
+pairs = codes "input [31:0] d, input [31:0] e, output [31:0] y, output [31:0] z"
+
+-- the ports of a narrow module, and of a wide one
+abbrev narrow_ports : List ℕ
+narrow_ports = codes "(input [31:0] a, input [31:0] b, input [31:0] c, output [31:0] y, output [31:0] z);\n"
+
+abbrev wide_ports : List ℕ
+wide_ports =
+    codes "(input [31:0] a, input [31:0] b, input [31:0] c, input [31:0] d, input [31:0] e, "
+    ++ codes "output [31:0] y, output [31:0] z, output [31:0] x);\n"
+
+-- the first two lines of each
 abbrev narrow : List ℕ
-narrow = codes "// cycles 1\nmodule ci_0(input [31:0] a, input [31:0] b, input [31:0] c, output [31:0] y, output [31:0] z);\n"
+narrow = codes "// cycles 1\nmodule ci_0" ++ narrow_ports
 
 abbrev wide : List ℕ
-wide = codes "// cycles 1\nmodule ci_0(input [31:0] a, input [31:0] b, input [31:0] c, input [31:0] d, input [31:0] e, output [31:0] y, output [31:0] z, output [31:0] x);\n"
+wide = codes "// cycles 1\nmodule ci_0" ++ wide_ports
+
+-- the rest of a wide module
+abbrev copies : List ℕ
+copies = codes "assign y = a;\nassign z = b;\nassign x = c;\nendmodule\n"
+
+-- a whole module, and the first two lines of another
+abbrev wide_and_narrow : List ℕ
+wide_and_narrow = wide ++ (copies ++ (codes "// cycles 1\nmodule ci_1" ++ narrow_ports))
+
+abbrev wide_and_wide : List ℕ
+wide_and_wide = wide ++ (copies ++ (codes "// cycles 1\nmodule ci_1" ++ wide_ports))
+
+abbrev narrow_and_wide : List ℕ
+narrow_and_wide =
+    narrow ++ (codes "assign y = a;\nassign z = b;\nendmodule\n// cycles 1\nmodule ci_1" ++ wide_ports)
 
 rows_1 :
     HasFault begins 2 72
@@ -28,7 +56,7 @@ rows_1 :
     × HasFault (begins ++ codes "d") 2 72
     × HasFault (begins ++ codes "input [30:0] d") 2 79
 unfolding fault_in
-rows_1 = (has_fault refl, has_fault refl, has_fault refl, has_fault refl, has_fault refl, has_fault refl, has_fault refl, has_fault refl)
+rows_1 = (faults refl, faults refl, faults refl, faults refl, faults refl, faults refl, faults refl, faults refl)
 
 rows_2 :
     HasFault (begins ++ codes "input [31:0] d") 2 86
@@ -36,23 +64,23 @@ rows_2 :
     × HasFault (begins ++ codes "input [31:0] d,") 2 87
     × HasFault (begins ++ codes "input [31:0] d, output") 2 88
     × HasFault (begins ++ codes "input [31:0] d, input [31:0] d") 2 101
-    × HasFault (begins ++ codes "input [31:0] d, input [31:0] e, output [31:0] y, output [31:0] z)") 2 136
-    × HasFault (begins ++ codes "input [31:0] d, input [31:0] e, output [31:0] y, output [31:0] z, output [31:0] w") 2 152
-    × HasFault (begins ++ codes "input [31:0] d, input [31:0] e, output [31:0] y, output [31:0] z, input") 2 138
+    × HasFault (begins ++ (pairs ++ codes ")")) 2 136
+    × HasFault (begins ++ (pairs ++ codes ", output [31:0] w")) 2 152
+    × HasFault (begins ++ (pairs ++ codes ", input")) 2 138
 unfolding fault_in
-rows_2 = (has_fault refl, has_fault refl, has_fault refl, has_fault refl, has_fault refl, has_fault refl, has_fault refl, has_fault refl)
+rows_2 = (faults refl, faults refl, faults refl, faults refl, faults refl, faults refl, faults refl, faults refl)
 
 rows_3 :
     HasFault (begins ++ codes "output [31:0] y, output [31:0] z, output [31:0] x);") 2 104
     × HasFault (begins ++ codes "output [31:0] y, input") 2 89
     × HasFault (begins ++ codes "input [31:0] dd") 2 85
-    × HasFault (begins ++ codes "input [31:0] d, input [31:0] e, output [31:0] y, output [31:0] z, output [31:0] x,") 2 153
-    × KeepsRules (wide ++ codes "assign y = a;\nassign z = b;\nassign x = c;\nendmodule\n")
+    × HasFault (begins ++ (pairs ++ codes ", output [31:0] x,")) 2 153
+    × KeepsRules (wide ++ copies)
     × KeepsRules (wide ++ codes "assign y = d;\nassign z = d ^ e;\nassign x = {d[31:16], e[15:0]};\nendmodule")
     × KeepsRules (narrow ++ codes "assign y = a;\nassign z = b;\nendmodule\n")
     × HasFault (wide ++ codes "assign y = a;\nassign z = b;\nendmodule\n") 2 184
 unfolding fault_in
-rows_3 = (has_fault refl, has_fault refl, has_fault refl, has_fault refl, keeps_rules refl, keeps_rules refl, keeps_rules refl, has_fault refl)
+rows_3 = (faults refl, faults refl, faults refl, faults refl, keeps refl, keeps refl, keeps refl, faults refl)
 
 rows_4 :
     HasFault (narrow ++ codes "assign y = a;\nassign z = b;\nassign x = c;\nendmodule\n") 2 135
@@ -64,7 +92,7 @@ rows_4 :
     × HasFault (wide ++ codes "assign y = a;\nassign z = b;\nassign d = a;") 2 191
     × HasFault (wide ++ codes "assign x = a;") 2 163
 unfolding fault_in
-rows_4 = (has_fault refl, has_fault refl, has_fault refl, has_fault refl, has_fault refl, has_fault refl, has_fault refl, has_fault refl)
+rows_4 = (faults refl, faults refl, faults refl, faults refl, faults refl, faults refl, faults refl, faults refl)
 
 rows_5 :
     HasFault (wide ++ codes "assign y = a;\nassign z = b;\nassign x = c;\nassign") 2 198
@@ -76,7 +104,7 @@ rows_5 :
     × HasFault (wide ++ codes "assign y = y;") 2 167
     × HasFault (wide ++ codes "assign y = w;") 3 167
 unfolding fault_in
-rows_5 = (has_fault refl, has_fault refl, has_fault refl, has_fault refl, has_fault refl, has_fault refl, has_fault refl, has_fault refl)
+rows_5 = (faults refl, faults refl, faults refl, faults refl, faults refl, faults refl, faults refl, faults refl)
 
 rows_6 :
     HasFault (wide ++ codes "assign y = {2{x") 2 170
@@ -86,13 +114,16 @@ rows_6 :
     × HasFault (wide ++ codes "wire [31:0] e;") 2 168
     × HasFault (wide ++ codes "wire [31:0] x;") 2 168
     × HasFault (wide ++ codes "wire [31:0] a") 2 168
-    × KeepsRules (wide ++ codes "wire [31:0] dx;\nassign dx = e;\nassign y = a;\nassign z = b;\nassign x = c;\nendmodule\n")
+    × KeepsRules (wide ++ (codes "wire [31:0] dx;\nassign dx = e;\n" ++ copies))
 unfolding fault_in
-rows_6 = (has_fault refl, has_fault refl, has_fault refl, has_fault refl, has_fault refl, has_fault refl, has_fault refl, keeps_rules refl)
+rows_6 = (faults refl, faults refl, faults refl, faults refl, faults refl, faults refl, faults refl, keeps refl)
 
 rows_7 :
-    KeepsRules (wide ++ codes "wire [0:0] xx; assign xx = d < e;\nassign y = a;\nassign z = b;\nassign x = c;\nendmodule\n")
-    × KeepsRules (narrow ++ codes "wire [31:0] d;\nassign d = a;\nwire [31:0] e;\nassign e = d;\nwire [31:0] x;\nassign x = e;\nassign y = x;\nassign z = d;\nendmodule\n")
+    KeepsRules (wide ++ (codes "wire [0:0] xx; assign xx = d < e;\n" ++ copies))
+    × KeepsRules
+    (narrow
+    ++ (codes "wire [31:0] d;\nassign d = a;\nwire [31:0] e;\nassign e = d;\nwire [31:0] x;\nassign x = e;\n"
+    ++ codes "assign y = x;\nassign z = d;\nendmodule\n"))
     × HasFault (narrow ++ codes "wire [31:0] d;\nassign d = a;\nwire [31:0] d;") 4 148
     × HasFault (narrow ++ codes "wire [31:0] x;\nassign d = a;") 7 129
     × HasFault (narrow ++ codes "wire [31:0] w;\nassign x = a;") 7 129
@@ -100,7 +131,7 @@ rows_7 :
     × HasFault (wide ++ codes "wire [31:0] w;\nassign x = a;") 2 178
     × HasFault (wide ++ codes "wire [31:0] w;\nassign d = a;") 2 178
 unfolding fault_in
-rows_7 = (keeps_rules refl, keeps_rules refl, has_fault refl, has_fault refl, has_fault refl, has_fault refl, has_fault refl, has_fault refl)
+rows_7 = (keeps refl, keeps refl, faults refl, faults refl, faults refl, faults refl, faults refl, faults refl)
 
 rows_8 :
     HasFault (wide ++ codes "wire [31:0] w;\nassign e = a;") 2 178
@@ -112,43 +143,46 @@ rows_8 :
     × HasFault (wide ++ codes "assign y = {d, e, 1'h0};") 6 174
     × HasFault (codes "// cycles 1\nmodule d(") 9 19
 unfolding fault_in
-rows_8 = (has_fault refl, has_fault refl, has_fault refl, has_fault refl, has_fault refl, has_fault refl, has_fault refl, has_fault refl)
+rows_8 = (faults refl, faults refl, faults refl, faults refl, faults refl, faults refl, faults refl, faults refl)
 
 rows_9 :
     HasFault (codes "// cycles 1\nmodule x") 9 19
     × HasFault (codes "d") 2 0
     × HasFault (codes "x") 2 0
 unfolding fault_in
-rows_9 = (has_fault refl, has_fault refl, has_fault refl)
+rows_9 = (faults refl, faults refl, faults refl)
 
 rows_10 :
-    KeepsRules (wide ++ codes "wire [7:0] w;\nassign w = e[7:0];\nassign y = {w, w, d[15:0]};\nassign z = e >> w;\nassign x = {4{w}};\nendmodule\n")
-    × HasFault (wide ++ codes "assign y = a;\nassign z = b;\nassign x = c;\nendmodule\n// cycles 1\nmodule ci_1(input [31:0] a, input [31:0] b, input [31:0] c, output [31:0] y, output [31:0] z);\nassign y = d;") 3 326
+    KeepsRules
+    (wide
+    ++ (codes "wire [7:0] w;\nassign w = e[7:0];\nassign y = {w, w, d[15:0]};\n"
+    ++ codes "assign z = e >> w;\nassign x = {4{w}};\nendmodule\n"))
+    × HasFault (wide_and_narrow ++ codes "assign y = d;") 3 326
 unfolding fault_in
-rows_10 = (keeps_rules refl, has_fault refl)
+rows_10 = (keeps refl, faults refl)
 
 rows_11 :
-    HasFault (wide ++ codes "assign y = a;\nassign z = b;\nassign x = c;\nendmodule\n// cycles 1\nmodule ci_1(input [31:0] a, input [31:0] b, input [31:0] c, output [31:0] y, output [31:0] z);\nassign y = x;") 3 326
-    × KeepsRules (wide ++ codes "assign y = a;\nassign z = b;\nassign x = c;\nendmodule\n// cycles 1\nmodule ci_1(input [31:0] a, input [31:0] b, input [31:0] c, output [31:0] y, output [31:0] z);\nwire [31:0] d;\nassign d = a;\nassign y = d;\nassign z = d;\nendmodule")
+    HasFault (wide_and_narrow ++ codes "assign y = x;") 3 326
+    × KeepsRules (wide_and_narrow ++ codes "wire [31:0] d;\nassign d = a;\nassign y = d;\nassign z = d;\nendmodule")
 unfolding fault_in
-rows_11 = (has_fault refl, keeps_rules refl)
+rows_11 = (faults refl, keeps refl)
 
 rows_12 :
-    KeepsRules (narrow ++ codes "assign y = a;\nassign z = b;\nendmodule\n// cycles 1\nmodule ci_1(input [31:0] a, input [31:0] b, input [31:0] c, input [31:0] d, input [31:0] e, output [31:0] y, output [31:0] z, output [31:0] x);\nassign y = d;\nassign z = e;\nassign x = a;\nendmodule")
-    × HasFault (narrow ++ codes "assign y = a;\nassign z = b;\nendmodule\n// cycles 1\nmodule ci_1(input [31:0] a, input [31:0] b, input [31:0] c, input [31:0] d, input [31:0] e, output [31:0] y, output [31:0] z, output [31:0] x);\nassign y = x") 2 312
+    KeepsRules (narrow_and_wide ++ codes "assign y = d;\nassign z = e;\nassign x = a;\nendmodule")
+    × HasFault (narrow_and_wide ++ codes "assign y = x") 2 312
 unfolding fault_in
-rows_12 = (keeps_rules refl, has_fault refl)
+rows_12 = (keeps refl, faults refl)
 
 rows_13 :
-    HasFault (wide ++ codes "assign y = a;\nassign z = b;\nassign x = c;\nendmodule\n// cycles 1\nmodule ci_1(input [31:0] a, input [31:0] b, input [31:0] c, input [31:0] d, input [31:0] e, output [31:0] y, output [31:0] z, output [31:0] x);\nwire [31:0] x") 2 376
-    × HasFault (wide ++ codes "assign y = a;\nassign z = b;\nassign x = c;\nendmodule\n// cycles 1\nmodule ci_1(input [31:0] a, input [31:0] b, input [31:0] c, output [31:0] y, output [31:0] z);\nwire [31:0] x") 2 328
+    HasFault (wide_and_wide ++ codes "wire [31:0] x") 2 376
+    × HasFault (wide_and_narrow ++ codes "wire [31:0] x") 2 328
 unfolding fault_in
-rows_13 = (has_fault refl, has_fault refl)
+rows_13 = (faults refl, faults refl)
 
 rows_14 :
-    HasFault (wide ++ codes "assign y = a;\nassign z = b;\nassign x = c;\nendmodule\n// cycles 1\nmodule ci_0(input [31:0] a, input [31:0] b, input [31:0] c, output [31:0] y, output [31:0] z);\n") 9 227
+    HasFault (wide ++ (copies ++ narrow)) 9 227
 unfolding fault_in
-rows_14 = (has_fault refl)
+rows_14 = (faults refl)
 
 -- ---- limits
 
@@ -157,8 +191,12 @@ with_names b count = record nothing { wide = b; known = replicate count (vector 
 
 -- the 2,048th wire of a wide module, and one more: five names are inputs
 most_wires :
-    rules_of (with_names true 2052) (read its_name (name (codes "v")) 7) ≡ rule 2 7 true ∷ rule 4 7 true ∷ rule 8 7 true ∷ []
-    × rules_of (with_names true 2053) (read its_name (name (codes "v")) 7) ≡ rule 2 7 true ∷ rule 4 7 true ∷ rule 8 7 false ∷ []
-    × rules_of (with_names false 2051) (read its_name (name (codes "x")) 7) ≡ rule 2 7 true ∷ rule 4 7 true ∷ rule 8 7 false ∷ []
-    × rules_of (with_names true 5) (read its_name (name (codes "x")) 7) ≡ rule 2 7 false ∷ rule 4 7 true ∷ rule 8 7 true ∷ []
+    rules_of (with_names true 2052) (read its_name (name (codes "v")) 7)
+    ≡ rule 2 7 true ∷ rule 4 7 true ∷ rule 8 7 true ∷ []
+    × rules_of (with_names true 2053) (read its_name (name (codes "v")) 7)
+    ≡ rule 2 7 true ∷ rule 4 7 true ∷ rule 8 7 false ∷ []
+    × rules_of (with_names false 2051) (read its_name (name (codes "x")) 7)
+    ≡ rule 2 7 true ∷ rule 4 7 true ∷ rule 8 7 false ∷ []
+    × rules_of (with_names true 5) (read its_name (name (codes "x")) 7)
+    ≡ rule 2 7 false ∷ rule 4 7 true ∷ rule 8 7 true ∷ []
 most_wires = (refl, refl, refl, refl)

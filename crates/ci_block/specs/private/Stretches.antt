@@ -4,6 +4,7 @@ use Rattle.std.specs.List.{Contains}
 use Rattle.ci_isa.specs.declared.instruction.Insn.{Insn}
 use Rattle.ci_elf.specs.declared.ranges.Range.{Range}
 use Rattle.ci_elf.specs.Executables.{Executable, HoldsAddress, end_of}
+use Rattle.ci_elf.specs.MemoryMap.{memory_top}
 use Rattle.ci_block.specs.declared.blocks.Block.{Block}
 use Rattle.ci_block.specs.Blocks.{IsBlockAt, IsNext}
 use Rattle.ci_block.specs.private.Marking.{range_at, AreTextRanges}
@@ -24,7 +25,7 @@ pub record IsStretch (image : Executable) (start end : ℕ) : Type 0 where
   pub some : start < end
   pub start_aligned : start % 4 ≡ 0
   pub end_aligned : end % 4 ≡ 0
-  pub below_top : end ≤ 0xffff0000
+  pub below_top : end ≤ memory_top
 
 -- the stretch of a leader ends at the next leader or with its range
 pub record EndsStretch (image : Executable) (leaders : List ℕ) (leader end : ℕ) : Type 0 where

@@ -7,6 +7,7 @@ use Rattle.ci_elf.specs.declared.faults.ElfFault.TheVariants.{NoMemory}
 use Rattle.ci_elf.specs.declared.segments.Segment.{Segment}
 use Rattle.ci_elf.specs.Fields.{e_phoff, e_phnum, e_shoff, e_shnum, is_loadable}
 use Rattle.ci_elf.specs.Executables.{segment_of}
+use Rattle.ci_elf.specs.MemoryMap.{memory_top, stack_start, stack_end}
 use Rattle.ci_elf.specs.Rules.{Rule, LiesIn, KeepsRules, BreaksFirst}
 
 -- the file has its header and both tables, and is not too long
@@ -25,11 +26,11 @@ IsTestOf bytes list (Err fault) = fault ≢ NoMemory → BreaksFirst bytes list 
 abbrev pub loadable_at : List ℕ → ℕ → Option Segment
 loadable_at bytes n = if is_loadable bytes n then Some (segment_of bytes n) else None
 
--- the segment has its file bytes in its memory, below FFFF0000 and apart from the stack
+-- the segment has its file bytes in its memory, below the top of memory and apart from the stack
 pub record SegmentFits (segment : Segment) : Type 0 where
   pub filled : segment.file_size ≤ segment.memory_size
-  pub below_top : segment.address + segment.memory_size ≤ 0xffff0000
-  pub off_stack : (segment.address + segment.memory_size ≤ 0x7ff00000) ⊎ (0x80000000 ≤ segment.address)
+  pub below_top : segment.address + segment.memory_size ≤ memory_top
+  pub off_stack : (segment.address + segment.memory_size ≤ stack_start) ⊎ (stack_end ≤ segment.address)
 
 -- the segment begins at or before the address, and no other begins behind it and does so too
 pub record IsLastBefore (segments : List Segment) (address : ℕ) (segment : Segment) : Type 0 where

@@ -1,12 +1,10 @@
 -- For private contracts: what is known of sections while they are tested.
 use Rattle.std.specs.Prelude.{◌≡◌, ℕ, ◌+◌, ◌%◌, ◌<◌, ◌≤◌, List, Option, Some, None, if◌then◌else◌}
 use Rattle.std.specs.List.{Contains}
-use Rattle.std.specs.List.Sorted.{IsNonDecreasingBy, IsPermutation}
 use Rattle.ci_elf.specs.declared.segments.Segment.{Segment}
 use Rattle.ci_elf.specs.declared.sections.Section.{Section}
 use Rattle.ci_elf.specs.declared.sections.Surroundings.{Surroundings}
 use Rattle.ci_elf.specs.Fields.{is_text, is_symbol_table, sh_addr, sh_offset, sh_size}
-use Rattle.ci_elf.specs.Executables.{segments_of}
 use Rattle.ci_elf.specs.Rules.{LiesIn}
 use Rattle.ci_elf.specs.private.Parts.{IsCoverage, IsFirstMeeting, tables_of}
 
@@ -33,8 +31,6 @@ pub record AreLaidOut (segments : List Segment) : Type 0 where
       → s.address ≤ t.address → t.address < s.address + s.memory_size → s ≡ t
 
 pub record AreSurroundings (bytes : List ℕ) (surroundings : Surroundings) : Type 0 where
-  pub order : IsNonDecreasingBy (λ s. s.address) surroundings.segments.items
-  pub segments : IsPermutation (segments_of bytes) surroundings.segments.items
   pub tables : IsCoverage (tables_of bytes) surroundings.tables.items
   pub meeting : IsFirstMeeting bytes surroundings.first_meeting
 

@@ -54,12 +54,16 @@ free_values bytes places table =
 pub record IsSpan (bytes : List ℕ) (count : ℕ) (span : Part) : Type 0 where
   pub in_file : span.end ≤ length bytes
   pub from :
-      (n : ℕ) → n < count → (symbols_at bytes n).start < (symbols_at bytes n).end → span.start ≤ (symbols_at bytes n).start
-  pub to : (n : ℕ) → n < count → (symbols_at bytes n).start < (symbols_at bytes n).end → (symbols_at bytes n).end ≤ span.end
+      (n : ℕ) → n < count → (symbols_at bytes n).start < (symbols_at bytes n).end
+      → span.start ≤ (symbols_at bytes n).start
+  pub to :
+      (n : ℕ) → n < count → (symbols_at bytes n).start < (symbols_at bytes n).end
+      → (symbols_at bytes n).end ≤ span.end
 
 -- the entries of the sections 0, 1, .., n - 1 are taken
 abbrev pub AreTakenBelow : List ℕ → ℕ → TakenPlaces → Type 0
-AreTakenBelow bytes n places = (place : ℕ) → places.first ≤ place → is_taken places place ≡ has_entry_below bytes n place
+AreTakenBelow bytes n places =
+    (place : ℕ) → places.first ≤ place → is_taken places place ≡ has_entry_below bytes n place
 
 -- the values of the symbols of section n, where that is a symbol table, that no section before it has
 abbrev pub symbols_here : List ℕ → ℕ → List ℕ

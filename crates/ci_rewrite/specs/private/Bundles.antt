@@ -40,7 +40,8 @@ given_behind insn given r = writes insn r || (is_cread insn && given r)
 abbrev pub AreGiven : Units → (ℕ → Bool) → List Insn → Type 0
 AreGiven units given [] = ⊤
 AreGiven units given (insn ∷ insns) =
-    ((r : ℕ) → first_hidden ≤ r → reads units insn r ≡ true → given r ≡ true) × AreGiven units (given_behind insn given) insns
+    ((r : ℕ) → first_hidden ≤ r → reads units insn r ≡ true → given r ≡ true)
+    × AreGiven units (given_behind insn given) insns
 
 -- those that are written before place k
 abbrev pub given_at : List Insn → ℕ → ℕ → Bool
@@ -54,7 +55,8 @@ abbrev pub BundlesAreGiven : Type 0
 BundlesAreGiven =
     (units : Units) (insns : List Insn) → AreBundled insns → TakeGiven units insns
     → ((k : ℕ) → k < length insns → FieldsFit (nth_insn insns k))
-    → (k r : ℕ) → k < length insns → first_hidden ≤ r → reads units (nth_insn insns k) r ≡ true → given_at insns k r ≡ true
+    → (k r : ℕ) → k < length insns → first_hidden ≤ r → reads units (nth_insn insns k) r ≡ true
+    → given_at insns k r ≡ true
 
 -- So no hidden register is needed before such a list.
 abbrev pub NoHiddenNeeded : Type 0
@@ -72,9 +74,12 @@ taken_from passes inputs =
 
 -- what the use leaves: each output in its register, and all else but the hidden registers as before
 pub record IsLeft (outputs values : List ℕ) (now behind : Core) : Type 0 where
-  pub others : (q : ℕ) → q < first_hidden → ((i : ℕ) → i < length outputs → slice_index outputs i ≢ q) → register behind q ≡ register now q
+  pub others :
+      (q : ℕ) → q < first_hidden → ((i : ℕ) → i < length outputs → slice_index outputs i ≢ q)
+      → register behind q ≡ register now q
   pub there :
-      (i : ℕ) → i < length outputs → ((j : ℕ) → i < j → j < length outputs → slice_index outputs j ≢ slice_index outputs i)
+      (i : ℕ) → i < length outputs
+      → ((j : ℕ) → i < j → j < length outputs → slice_index outputs j ≢ slice_index outputs i)
       → register behind (slice_index outputs i) ≡ slice_index_or values i 0
   pub memory : behind.memory ≡ now.memory
   pub rest : HaveSameStreams behind now

@@ -1,4 +1,5 @@
 use Rattle.std.proofs.Common.{subst}
+use Rattle.ci_elf.specs.MemoryMap.{memory_top}
 use Rattle.ci_block.specs.private.Listing.{IsListedBelow}
 use Rattle.ci_block.specs.private.Marking.{AreTextRanges}
 use Rattle.ci_block.specs.private.Marks.{IsMarked}
@@ -11,4 +12,4 @@ returns c =
     let marked = c.in_ok-marks.ensures in
     are_listed c.args.image.now c.args.targets.now c.args.given.now (subst AreTextRanges marked.ranges marks.text) marks marked
     c.in_ok-listed.field-0.items
-    (subst (λ rs. IsListedBelow rs (IsMarked marks) 0xffff0000 c.in_ok-listed.field-0.items) marked.ranges c.in_ok-listed.ensures)
+    (subst (λ rs. IsListedBelow rs (IsMarked marks) memory_top c.in_ok-listed.field-0.items) marked.ranges c.in_ok-listed.ensures)

@@ -3,6 +3,7 @@ use Rattle.ci_elf.specs.declared.ranges.Range.{Range}
 use Rattle.ci_block.specs.private.Marks.{Adds}
 use Rattle.ci_block.specs.private.Sources.{IsFromWords, Leads}
 use Rattle.ci_elf.specs.Executables.{IsTextWord, end_of}
+use Rattle.ci_elf.specs.MemoryMap.{memory_top}
 use Rattle.ci_block.proofs.MarkLaws.{added_both}
 use Rattle.ci_block.proofs.RangeLaws.{number_of, word_of_range}
 use Rattle.ci_block.proofs.SourceLaws.{from_word, word_or_before}
@@ -19,7 +20,7 @@ pub mark_from-requires : goal.mark_from-requires
 mark_from-requires c =
     let ranges = c.args.image.now.ranges in
     let i = number_of ranges c.args.range c.requires.there in
-    let top = subst (λ (r : Range). end_of r ≤ 0xffff0000) i.2 (c.requires.text.below_top i.0) in
+    let top = subst (λ (r : Range). end_of r ≤ memory_top) i.2 (c.requires.text.below_top i.0) in
     omega (arith, top)
 
 pub loop-word-preserved : goal.loop-word-preserved

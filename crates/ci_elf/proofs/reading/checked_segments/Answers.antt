@@ -2,6 +2,7 @@ use Rattle.std.proofs.Common.{◌+◌, ◌≤◌, [], ◌∷◌, length, sym, �
 use Rattle.std.specs.List.{sum_by}
 use Rattle.ci_elf.specs.Fields.{e_phnum, is_loadable}
 use Rattle.ci_elf.specs.Executables.{segment_of, segments_of}
+use Rattle.ci_elf.specs.MemoryMap.{most_memory, stack_size}
 use Rattle.ci_elf.specs.Rules.{MemoryIsBounded}
 use Rattle.ci_elf.proofs.FieldLaws.{e_phnum_small}
 use Rattle.ci_reading.proofs.BrokenLaws.{length_those}
@@ -23,5 +24,5 @@ returns-in_err-check_size-clause-test c =
     handed_on c.args.bytes.now (MemoryIsBounded ∷ []) _ _ c.from_residual-in_err-check_size.ensures.1
     (fault_here c.args.bytes.now MemoryIsBounded [] _
     (λ holds. c.in_err-check_size.ensures.0
-    (subst (λ ss. sum_by (λ s. s.memory_size) ss + 0x100000 ≤ 67108864) (sym (c.deref.ensures.value ∙ c.in_ok-segments.ensures)) holds))
+    (subst (λ ss. sum_by (λ s. s.memory_size) ss + stack_size ≤ most_memory) (sym (c.deref.ensures.value ∙ c.in_ok-segments.ensures)) holds))
     c.in_err-check_size.ensures.1)

@@ -78,8 +78,8 @@ symbol_values-requires-clause-sections c =
     kept_front (Holds c.as_slice-file.result.now) (section_rules c.as_slice-file.result.now)
     (sharing_rules c.as_slice-file.result.now) c.in_ok-check_texts.ensures
 
-pub new-requires : goal.new-requires
-new-requires c =
+pub new-image-requires-clause-well_formed : goal.new-image-requires-clause-well_formed
+new-image-requires-clause-well_formed c =
     rw (sym c.as_slice-file.ensures.value, c.entry-entry.ensures, c.in_ok-segments.ensures.value)
     (well_formed_from c.as_slice-file.result.now
     (kept_front (Holds c.as_slice-file.result.now) (segment_rules c.as_slice-file.result.now)
@@ -98,10 +98,10 @@ new-requires c =
 
 pub returns : goal.returns
 returns c =
-    subst (λ (file : List ℕ). IsReadAs file (Ok c.in_ok-image.image)) c.as_slice-file.ensures.value (
+    subst (λ (file : List ℕ). IsReadAs file (Ok c.new-image.result)) c.as_slice-file.ensures.value (
       kept_stages c.as_slice-file.result.now c.in_ok-check_headers.ensures c.in_ok-segments.ensures.test
           c.in_ok-check_texts.ensures c.in_ok-ranges.ensures.test,
-      subst (IsImageOf c.as_slice-file.result.now) (sym c.in_ok-image.ensures)
+      subst (IsImageOf c.as_slice-file.result.now) (sym c.new-image.ensures)
           (rw (sym c.as_slice-file.ensures.value, c.entry-entry.ensures, c.in_ok-segments.ensures.value, c.in_ok-symbols.ensures)
           (image_from c.as_slice-file.result.now
           (kept_front (Holds c.as_slice-file.result.now) (segment_rules c.as_slice-file.result.now)

@@ -1,6 +1,5 @@
 use Rattle.std.proofs.Common.{◌<◌, [], sym, subst, refl}
 use Rattle.std.proofs.lemmas.Bool.Decides.{not_from_Decides}
-use Rattle.std.specs.List.{Contains}
 use Rattle.ci_elf.specs.Fields.{is_text}
 use Rattle.ci_elf.specs.Rules.{TextIsLoaded}
 use Rattle.ci_elf.specs.private.SectionChecks.{HoldsSection, section_of}
@@ -11,7 +10,7 @@ use Rattle.ci_elf.proofs.sections.check_loaded.Goals as goal
 
 pub is_loaded-requires-clause-layout : goal.is_loaded-requires-clause-layout
 is_loaded-requires-clause-layout c =
-    rw c.deref.ensures.value (laid_out c.args.bytes.now c.requires.segments c.requires.memory _ c.requires.surroundings.segments)
+    laid_out c.args.bytes.now c.requires.placed c.requires.memory _ c.requires.same
 
 pub is_loaded-requires-clause-size : goal.is_loaded-requires-clause-size
 is_loaded-requires-clause-size c =
@@ -22,8 +21,8 @@ pub returns-then-is_loaded : goal.returns-then-is_loaded
 returns-then-is_loaded c =
     let is = chosen (is_text c.args.bytes.now c.args.n) c.in-Some.text (section_of c.args.bytes.now c.args.n) c.in-Some.ensures in
     let held = c.is_loaded.ensures.0 c.if-is_loaded.true in (
-      (λ _. loaded_from c.args.bytes.now c.requires.segments c.requires.memory _ c.requires.surroundings.segments c.args.n
-          (held.0, subst (λ xs. Contains xs held.0) c.deref.ensures.value held.1, subst (HoldsSection held.0) is.1 held.2)),
+      (λ _. loaded_from c.args.bytes.now c.requires.placed c.requires.memory _ c.requires.same c.args.n
+          (held.0, held.1, subst (HoldsSection held.0) is.1 held.2)),
       tt,
     )
 
@@ -32,7 +31,7 @@ returns-else-is_loaded c =
     let is = chosen (is_text c.args.bytes.now c.args.n) c.in-Some.text (section_of c.args.bytes.now c.args.n) c.in-Some.ensures in
     fault_here c.args.bytes.now (TextIsLoaded c.args.n) [] _
     (λ holds.
-    let held = loaded_to c.args.bytes.now c.requires.segments c.requires.memory _ c.requires.surroundings.segments c.args.n (holds is.0) in
+    let held = loaded_to c.args.bytes.now c.requires.placed c.requires.memory _ c.requires.same c.args.n (holds is.0) in
     not_from_Decides _ c.is_loaded.ensures c.if-is_loaded.false
-    (held.0, subst (λ xs. Contains xs held.0) (sym c.deref.ensures.value) held.1, subst (HoldsSection held.0) (sym is.1) held.2))
+    (held.0, held.1, subst (HoldsSection held.0) (sym is.1) held.2))
     refl

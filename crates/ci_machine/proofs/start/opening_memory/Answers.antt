@@ -1,5 +1,6 @@
 use Rattle.std.proofs.Common.{◌≡◌, ◌+◌, ◌*◌, ◌/◌, ◌||◌, ◌∙◌, ℕ, List, Bool, Some, None, cond, true, false, map, refl, ap, sym, arith}
 use Rattle.ci_elf.specs.declared.segments.Segment.{Segment}
+use Rattle.ci_elf.specs.MemoryMap.{stack_start, stack_end}
 use Rattle.ci_machine.specs.Layouts.{HasLayout, HasPages, heap_limit}
 use Rattle.ci_machine.specs.Pages.{has}
 use Rattle.ci_machine.specs.PageTables.{pages_to}
@@ -7,7 +8,7 @@ use Rattle.ci_machine.proofs.MissingPages.{missing_few}
 use Rattle.ci_machine.specs.Windows.{HasWindows}
 use Rattle.ci_machine.proofs.WindowLaws.{no_windows}
 use Rattle.ci_machine.specs.Memories.{is_mapped, memory_of, segments_of}
-use Rattle.ci_machine.specs.Programs.{extent_of, loaded_size, lies_in, maximum_end, stack_start, stack_end}
+use Rattle.ci_machine.specs.Programs.{extent_of, loaded_size, lies_in, maximum_end}
 use Rattle.ci_machine.specs.Spans.{in_spans}
 use Rattle.ci_machine.specs.private.Loading.{in_segments, loaded_content}
 use Rattle.ci_machine.proofs.StartLaws.{segments_end, segments_fit, opening_is, opening_clean, opening_below}

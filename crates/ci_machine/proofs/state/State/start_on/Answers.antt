@@ -1,6 +1,7 @@
-use Rattle.std.proofs.Common.{◌≡◌, ℕ, zero, suc, false, ◌∷◌, cond, get_or, replicate, refl, sym, subst, ◌∙◌, nat_eq, arith}
+use Rattle.std.proofs.Common.{◌≡◌, ℕ, zero, suc, false, ◌-◌, ◌∷◌, cond, get_or, replicate, refl, sym, subst, ◌∙◌, nat_eq, arith}
 use Rattle.std.proofs.lemmas.Bool.Decides.{nat_tests}
 use Rattle.ci_elf.specs.Executables.{IsAscending}
+use Rattle.ci_elf.specs.MemoryMap.{stack_end}
 use Rattle.ci_machine.specs.States.{state_of, core_of}
 use Rattle.ci_machine.proofs.TestLaws.{passed}
 use Rattle.ci_machine.proofs.state.State.start_on.Goals as goal
@@ -26,7 +27,7 @@ unfolding state_of core_of
 returns-clause-state c = λ k. record {
   pc = c.entry.ensures k;
   core = record {
-    registers = λ r. registers_at 0x7ffffff0 r k;
+    registers = λ r. registers_at (stack_end - 16) r k;
     memory = c.in_ok-opening_memory.ensures.bytes k;
     heap_end = c.in_ok-opening_memory.ensures.heap k;
     input = c.args.input.items;
