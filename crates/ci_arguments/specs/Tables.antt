@@ -9,7 +9,7 @@ use Rattle.ci_arguments.specs.declared.tables.Kind.{Kind}
 use Rattle.ci_arguments.specs.declared.tables.Kind.TheVariants.{File, Number, Word}
 use Rattle.ci_arguments.specs.declared.tables.OptionName.{OptionName}
 use Rattle.ci_arguments.specs.declared.tables.OptionName.TheVariants.{Inputs, Outputs, Count, Budget, Steps, Units, Table}
-use Rattle.ci_arguments.specs.declared.tables.OptionName.TheVariants.{Input, Leader, At, Fourth, Fifth}
+use Rattle.ci_arguments.specs.declared.tables.OptionName.TheVariants.{Input, Leader, At, ArgumentD, ArgumentE}
 
 -- An option of a command: its name without hyphens, which one it is, the kind of its values, whether it may stand more
 -- than once, and what it is set to where it is not given.
@@ -82,7 +82,7 @@ commands =
     (steps ∷ single (codes "units") Units (File Reads) default.Nothing ∷ table ∷ input ∷ [])
     ∷ command_of (codes "blocks") Blocks (File Reads ∷ []) (leader ∷ [])
     ∷ command_of (codes "eval") Eval (File Reads ∷ Number 0 31 ∷ Word ∷ Word ∷ Word ∷ [])
-    (single (codes "d") Fourth Word default.Nothing ∷ single (codes "e") Fifth Word default.Nothing ∷ [])
+    (single (codes "d") ArgumentD Word default.Nothing ∷ single (codes "e") ArgumentE Word default.Nothing ∷ [])
     ∷ command_of (codes "find") Find
     (File Reads ∷ File Writes ∷ File Writes ∷ File Writes ∷ File Writes ∷ []) choice
     ∷ command_of (codes "check") Check (File Reads ∷ File Reads ∷ File Reads ∷ File Reads ∷ []) choice

@@ -47,9 +47,9 @@ pub enum OptionName {
     /// `--at`
     At,
     /// `--d`
-    Fourth,
+    ArgumentD,
     /// `--e`
-    Fifth,
+    ArgumentE,
 }
 
 /// What a command does with a file.
@@ -224,19 +224,19 @@ const AT: NamedOption<'static> = (
     },
 );
 
-const FOURTH: NamedOption<'static> = (
+const ARGUMENT_D: NamedOption<'static> = (
     "d",
     OptionShape {
-        option: OptionName::Fourth,
+        option: OptionName::ArgumentD,
         kind: Kind::Word,
         repeatable: false,
     },
 );
 
-const FIFTH: NamedOption<'static> = (
+const ARGUMENT_E: NamedOption<'static> = (
     "e",
     OptionShape {
-        option: OptionName::Fifth,
+        option: OptionName::ArgumentE,
         kind: Kind::Word,
         repeatable: false,
     },
@@ -293,8 +293,8 @@ pub const COMMANDS: &[CommandRow<'static>] = &[
         CommandName::Eval,
         &[READ, MODULE, Kind::Word, Kind::Word, Kind::Word],
         &[
-            (FOURTH, DefaultValue::Nothing),
-            (FIFTH, DefaultValue::Nothing),
+            (ARGUMENT_D, DefaultValue::Nothing),
+            (ARGUMENT_E, DefaultValue::Nothing),
         ],
     ),
     (

@@ -1,7 +1,7 @@
 -- Files that are read one after the other.
-use Rattle.std.proofs.Common.{◌≡◌, ◌≢◌, ℕ, ◌≤◌, inl, inr, Bool, List, [], ◌∷◌, ◌++◌, length, Option, Some, Result, Ok, Err, IfOk}
+use Rattle.std.proofs.Common.{◌≡◌, ◌≢◌, ◌⊎◌, ℕ, ◌≤◌, inl, inr, Bool, List, [], ◌∷◌, ◌++◌, length, Option, Some, Result, Ok, Err, IfOk}
 use Rattle.std.proofs.Common.{refl}
-use Rattle.std.specs.Prelude.{Vec}
+use Rattle.std.specs.Prelude.{Vec, IfErr}
 use Rattle.std.specs.declared.alloc.Global.{Global}
 use Rattle.ci_io.specs.CallLists.{Answer, Call, read}
 use Rattle.ci_io.specs.MadeCalls.{AreMade}
@@ -12,8 +12,7 @@ use Rattle.ci_elf.specs.declared.faults.ElfFault.TheVariants as elf
 use Rattle.ci_elf.specs.Rules.{IsReadAs}
 use Rattle.ci_lat.specs.declared.faults.LatFault.{LatFault}
 use Rattle.ci_lat.specs.declared.faults.LatFault.TheVariants as lat
-use Rattle.ci_lat.specs.Latencies.{Latencies}
-use Rattle.ci_lat.specs.Faults.{AreTable, HaveFault}
+use Rattle.ci_lat.specs.Faults.{HaveFault}
 use Rattle.ci_log.specs.declared.faults.LogFault.{LogFault}
 use Rattle.ci_log.specs.declared.faults.LogFault.TheVariants as log
 use Rattle.ci_log.specs.Faults.{IsFaultOf as IsLogFaultOf}
@@ -21,13 +20,13 @@ use Rattle.ci_vread.specs.declared.faults.VFault.{VFault}
 use Rattle.ci_vread.specs.declared.faults.VFault.TheVariants as verilog
 use Rattle.ci_vread.specs.Promised.{IsFaultOf}
 use Rattle.ci_calls.specs.declared.refusals.Refusal.{Refusal}
-use Rattle.ci_calls.specs.declared.refusals.Refusal.TheVariants.{BadUnits, BadLog, NoMemory}
-use Rattle.ci_calls.specs.Files.{book_input, executable_input, table_input, units_input, program_input, optional_bytes}
-use Rattle.ci_calls.specs.Files.{AreGiven, AreLatencies, input_bytes}
-use Rattle.ci_calls.specs.Forms.{IsWellFormed}
+use Rattle.ci_calls.specs.declared.refusals.Refusal.TheVariants.{NoMemory}
+use Rattle.ci_calls.specs.Files.{program_input, input_bytes}
+use Rattle.ci_calls.specs.Forms.{any_bytes}
+use Rattle.ci_calls.specs.Forms.{Form, IsWellFormed, IsMalformed, executable_file, latency_table, verilog_units, log_book}
 use Rattle.ci_calls.specs.Inputs.{Input}
 use Rattle.ci_calls.specs.Reads.{AreFit, reads_of, IsRefusedAs, AreStoppedReads, HaveRead, HaveNotRead, out_of_memory, refused}
-use Rattle.ci_calls.specs.Reads.{one_more}
+use Rattle.ci_calls.specs.Reads.{one_more, IsReadingOf, IsOptionalReadingOf}
 use Rattle.ci_calls.specs.Refused.{elf_refusal, log_refusal, table_refusal, units_refusal}
 
 -- ---- lists of files
@@ -64,6 +63,32 @@ stopped_after [] answered fit = out_of_memory []
 stopped_after (input ∷ inputs) [] fit = absurd fit
 stopped_after (input ∷ inputs) (bytes ∷ answered) fit =
     one_more input inputs bytes (reads_of inputs answered) NoMemory fit.0 (stopped_after inputs answered fit.1)
+
+-- ---- bytes that are refused
+
+-- the refusal of bytes that are not of the form, or for which memory ran out
+abbrev IsRefusedFor : Form → List ℕ → Refusal → Type 0
+IsRefusedFor form bytes refusal = IsMalformed form bytes refusal ⊎ (refusal ≡ NoMemory)
+
+pub bad_executable : (bytes : List ℕ) (fault : ElfFault) → IsReadAs bytes (Err fault)
+    → IsRefusedFor executable_file bytes (elf_refusal fault)
+bad_executable bytes elf.NoMemory broken = inr refl
+bad_executable bytes fault broken = inl (broken (λ e. cc))
+
+pub bad_table : (bytes : List ℕ) (fault : LatFault) → (fault ≢ lat.NoMemory → HaveFault bytes fault)
+    → IsRefusedFor latency_table bytes (table_refusal fault)
+bad_table bytes lat.NoMemory has = inr refl
+bad_table bytes fault has = inl (has (λ e. cc))
+
+pub bad_units : (bytes : List ℕ) (fault : VFault) → IsFaultOf bytes fault
+    → IsRefusedFor verilog_units bytes (units_refusal fault)
+bad_units bytes verilog.NoMemory has = inr refl
+bad_units bytes (verilog.Bad kind offset) has = inl has
+
+pub bad_book : (bytes : List ℕ) (fault : LogFault) → IsLogFaultOf bytes fault
+    → IsRefusedFor log_book bytes (log_refusal fault)
+bad_book bytes log.NoMemory has = inr refl
+bad_book bytes fault has = inl has
 
 module _ (read_may_fail write_may_fail : List ℕ → Bool) where
   abbrev Read : ShelfState → ShelfState → List Input → List (List ℕ) → Type 0
@@ -132,65 +157,23 @@ module _ (read_may_fail write_may_fail : List ℕ → Bool) where
       made = made;
     }
 
-    -- a file that is no executable
-    pub unread_elf : (name bytes : List ℕ) (fault : ElfFault) → MadeOne before after (read name 16777216 (Ok bytes))
-        → length bytes ≤ 16777216 → IsReadAs bytes (Err fault)
-        → NotRead before after (executable_input name ∷ others) (elf_refusal fault)
-    unread_elf name bytes elf.NoMemory made within broken =
-        first_unread (executable_input name) (Ok bytes) NoMemory (within, inr refl) made
-    unread_elf name bytes fault made within broken =
-        first_unread (executable_input name) (Ok bytes) (elf_refusal fault) (within, inl (broken (λ e. cc))) made
-
-    -- a file that is no latency table
-    pub unread_table : (name bytes : List ℕ) (fault : LatFault) → MadeOne before after (read name 65536 (Ok bytes))
-        → length bytes ≤ 65536 → (fault ≢ lat.NoMemory → HaveFault bytes fault)
-        → NotRead before after (table_input name ∷ others) (table_refusal fault)
-    unread_table name bytes lat.NoMemory made within has =
-        first_unread (table_input name) (Ok bytes) NoMemory (within, inr refl) made
-    unread_table name bytes fault made within has =
-        first_unread (table_input name) (Ok bytes) (table_refusal fault) (within, inl (has (λ e. cc))) made
-
-    -- a file that holds no modules
-    pub unread_units : (name bytes : List ℕ) (fault : VFault) → MadeOne before after (read name 4194304 (Ok bytes))
-        → length bytes ≤ 4194304 → IsFaultOf bytes fault
-        → NotRead before after (units_input name ∷ others) (units_refusal fault)
-    unread_units name bytes verilog.NoMemory made within has =
-        first_unread (units_input name) (Ok bytes) NoMemory (within, inr refl) made
-    unread_units name bytes (verilog.Bad kind offset) made within has =
-        first_unread (units_input name) (Ok bytes) (BadUnits kind offset) (within, inl has) made
-
-    -- a file that holds no log book
-    pub unread_book : (name bytes : List ℕ) (fault : LogFault) → MadeOne before after (read name 268435456 (Ok bytes))
-        → length bytes ≤ 268435456 → IsLogFaultOf bytes fault
-        → NotRead before after (book_input name ∷ others) (log_refusal fault)
-    unread_book name bytes log.NoMemory made within has =
-        first_unread (book_input name) (Ok bytes) NoMemory (within, inr refl) made
-    unread_book name bytes log.BadHeader made within has =
-        first_unread (book_input name) (Ok bytes) (BadLog log.BadHeader) (within, inl has) made
-    unread_book name bytes (log.BadItem offset) made within has =
-        first_unread (book_input name) (Ok bytes) (BadLog (log.BadItem offset)) (within, inl has) made
-    unread_book name bytes log.Unfinished made within has =
-        first_unread (book_input name) (Ok bytes) (BadLog log.Unfinished) (within, inl has) made
-    unread_book name bytes (log.Trailing offset) made within has =
-        first_unread (book_input name) (Ok bytes) (BadLog (log.Trailing offset)) (within, inl has) made
-
-  -- ---- files that an option names
+  -- a file that an option names is read as it is where it is named
+  pub named : {T : Type 0} (before after : ShelfState) (input : List ℕ → Input) (name : List ℕ)
+      (Says : List ℕ → T → Type 0) (SaysOf : Option (List ℕ) → T → Type 0) (result : Result T Refusal)
+      → ((bytes : List ℕ) (value : T) → Says bytes value → SaysOf (Some bytes) value)
+      → IsReadingOf read_may_fail write_may_fail before after (input name) result Says
+      → IsOptionalReadingOf read_may_fail write_may_fail before after input (Some name) result SaysOf
+  named before after input name Says SaysOf (Ok value) says (bytes, was, is) = (Some bytes, refl, was, says bytes value is)
+  named before after input name Says SaysOf (Err refusal) says unread = unread
 
   -- the input of a program, where a file is given
   pub input_given : (before after : ShelfState) (name : List ℕ) (result : Result (Vec ℕ Global) Refusal)
       → IfOk result (λ bytes. MadeOne before after (read name 16777216 (Ok bytes.items)))
       → IfOk result (λ bytes. length bytes.items ≤ 16777216)
-      → IfOk result (λ input. (bytes : Option (List ℕ)) × AreGiven (Some name) bytes
-      × Read before after (program_input name ∷ []) (optional_bytes bytes) × (input.items ≡ input_bytes bytes))
-  input_given before after name (Ok bytes) made within =
+      → IfErr result (λ refusal. (form : Form) (others : List Input)
+      → NotRead before after (record { name = name; limit = 16777216; form = form } ∷ others) refusal)
+      → IsOptionalReadingOf read_may_fail write_may_fail before after program_input (Some name) result
+      (λ bytes input. input.items ≡ input_bytes bytes)
+  input_given before after name (Ok bytes) made within unread =
       (Some bytes.items, refl, one_read before after (program_input name) bytes.items made within tt, refl)
-  input_given before after name (Err refusal) made within = tt
-
-  -- a table, where a file is given
-  pub table_given : (before after : ShelfState) (name : List ℕ) (result : Result Latencies Refusal)
-      → IfOk result (λ table. (bytes : List ℕ) × Read before after (table_input name ∷ []) (bytes ∷ [])
-      × AreTable bytes table)
-      → IfOk result (λ table. (bytes : Option (List ℕ)) × AreGiven (Some name) bytes
-      × Read before after (table_input name ∷ []) (optional_bytes bytes) × AreLatencies bytes table)
-  table_given before after name (Ok table) (bytes, was, is) = (Some bytes, refl, was, is)
-  table_given before after name (Err refusal) was = tt
+  input_given before after name (Err refusal) made within unread = unread any_bytes

@@ -1,6 +1,6 @@
 -- For every reader: the reads of a command, over every shelf: its files are read in order, each once and by its name,
 -- up to the first that is refused.
-use Rattle.std.specs.Prelude.{◌≡◌, ℕ, ◌≤◌, ◌⊎◌, ⊤, Bool, List, [], ◌∷◌, length, Ok, Err}
+use Rattle.std.specs.Prelude.{◌≡◌, ℕ, ◌≤◌, ◌⊎◌, ⊤, Bool, List, [], ◌∷◌, ◌++◌, length, Option, Result, Ok, Err}
 use Rattle.ci_io.specs.declared.shelves.ShelfErr.TheVariants as shelf
 use Rattle.ci_io.specs.CallLists.{Answer, Call, read}
 use Rattle.ci_io.specs.MadeCalls.{AreMade}
@@ -8,6 +8,7 @@ use Rattle.ci_io.specs.Outcomes.{ShelfState}
 use Rattle.ci_calls.specs.declared.refusals.Refusal.{Refusal}
 use Rattle.ci_calls.specs.declared.refusals.Refusal.TheVariants.{Read, TooLarge, NoMemory}
 use Rattle.ci_calls.specs.declared.success.Success.{Success}
+use Rattle.ci_calls.specs.Files.{optional_input, optional_bytes, AreGiven}
 use Rattle.ci_calls.specs.Forms.{IsWellFormed, IsMalformed}
 use Rattle.ci_calls.specs.Inputs.{Input}
 
@@ -68,6 +69,22 @@ module _ (read_may_fail write_may_fail : List ℕ → Bool) (before after : Shel
     pub stopped : AreStoppedReads inputs calls refusal
     pub made : AreMade read_may_fail write_may_fail before after calls
 
+  -- ---- readers
+
+  -- The answer of a reader of one file: a value that its bytes say, or a refusal, whatever files come after it.
+  abbrev pub IsReadingOf : {T : Type 0} → Input → Result T Refusal → (List ℕ → T → Type 0) → Type 0
+  IsReadingOf input (Ok value) Says = (bytes : List ℕ) × HaveRead (input ∷ []) (bytes ∷ []) × Says bytes value
+  IsReadingOf input (Err refusal) Says = (others : List Input) → HaveNotRead (input ∷ others) refusal
+
+  -- the answer of a reader of a file that an option may name
+  abbrev pub IsOptionalReadingOf :
+      {T : Type 0} → (List ℕ → Input) → Option (List ℕ) → Result T Refusal → (Option (List ℕ) → T → Type 0) → Type 0
+  IsOptionalReadingOf input name (Ok value) Says =
+      (bytes : Option (List ℕ)) × AreGiven name bytes × HaveRead (optional_input input name) (optional_bytes bytes)
+      × Says bytes value
+  IsOptionalReadingOf input name (Err refusal) Says =
+      (others : List Input) → HaveNotRead (optional_input input name ++ others) refusal
+
   -- ---- commands
 
   -- the success of a command that has read these files, and makes of their bytes what it says
@@ -87,3 +104,10 @@ module _ (read_may_fail write_may_fail : List ℕ → Bool) (before after : Shel
   -- the refusal of a command: its files are not all read, or it refuses their bytes
   abbrev pub IsRefusalOf : List Input → (List (List ℕ) → Refusal → Type 0) → Refusal → Type 0
   IsRefusalOf inputs Refuses refusal = HaveNotRead inputs refusal ⊎ IsRefusedOnceRead inputs Refuses refusal
+
+  -- the answer of a command
+  abbrev pub IsAnswerOf :
+      List Input → (List (List ℕ) → Success → Type 0) → (List (List ℕ) → Refusal → Type 0) → Result Success Refusal
+      → Type 0
+  IsAnswerOf inputs Makes Refuses (Ok success) = IsSuccessOf inputs Makes success
+  IsAnswerOf inputs Makes Refuses (Err refusal) = IsRefusalOf inputs Refuses refusal

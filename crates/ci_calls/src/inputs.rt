@@ -1,18 +1,17 @@
 //! The files that a command reads.
-ghost use Rattle.std.specs.Prelude.{◌≡◌, ◌≤◌, [], ◌∷◌, ◌++◌, ℕ, List, Option, Ok, IfOk, IfErr, length};
+ghost use Rattle.std.specs.Prelude.{◌≡◌, ◌≤◌, [], ◌∷◌, ℕ, List, Ok, Err, IfOk, IfErr, length};
 ghost use Rattle.ci_elf.specs.Executables.{IsImageOf};
 ghost use Rattle.ci_lat.specs.Faults.{AreTable};
 ghost use Rattle.ci_vread.specs.Spelling.{Spell};
 ghost use Rattle.ci_log.specs.Books.{Spells};
 ghost use Rattle.ci_calls.specs.Files.{book_input, executable_input, new_file_input, program_input, table_input};
-ghost use Rattle.ci_calls.specs.Files.{units_input};
-ghost use Rattle.ci_calls.specs.Files.{optional_input, optional_bytes, AreGiven, AreLatencies, AreModules, input_bytes};
+ghost use Rattle.ci_calls.specs.Files.{units_input, AreLatencies, AreModules, input_bytes};
 ghost use Rattle.ci_io.specs.CallLists.{read as made_read};
 ghost use Rattle.ci_io.specs.MadeCalls.{AreMade};
 ghost use Rattle.ci_calls.specs.Refused.{name_in, modules_in};
 ghost use Rattle.ci_calls.specs.Forms.{Form};
 ghost use Rattle.ci_calls.specs.Inputs.{Input};
-ghost use Rattle.ci_calls.specs.Reads.{HaveRead, HaveNotRead};
+ghost use Rattle.ci_calls.specs.Reads.{HaveRead, HaveNotRead, IsRefusedAs, IsReadingOf, IsOptionalReadingOf};
 
 use crate::refusals::Refusal;
 use ci_elf::Image;
@@ -59,10 +58,20 @@ pub fn read_file<'a, F: Shelf>(
 {
     match shelf.read(alloc, name, limit) {
         Ok(bytes) => Ok(bytes),
-        Err(ShelfErr::Absent) => Err(Refusal::Read(name)),
-        Err(ShelfErr::Fault) => Err(Refusal::Read(name)),
-        Err(ShelfErr::TooLarge) => Err(Refusal::TooLarge(name)),
-        Err(ShelfErr::NoMemory) => Err(Refusal::NoMemory),
+        Err(fault) => Err(unread(name, fault)),
+    }
+}
+
+/// The refusal of a file by why its read failed.
+fn unread<'a>(name: &'a str, fault: ShelfErr) -> Refusal<'a>
+    ensures { (limit : ℕ) (form : Form)
+        → IsRefusedAs (record { name = name.now; limit = limit; form = form }) (Err fault) result }
+{
+    match fault {
+        ShelfErr::Absent => Refusal::Read(name),
+        ShelfErr::Fault => Refusal::Read(name),
+        ShelfErr::TooLarge => Refusal::TooLarge(name),
+        ShelfErr::NoMemory => Refusal::NoMemory,
     }
 }
 
@@ -77,11 +86,8 @@ pub fn read_image<'a, F: Shelf>(
     name: &'a str,
     shelf: &mut F,
 ) -> Result<Image, Refusal<'a>>
-    ensures read { IfOk result (λ image. (bytes : List ℕ)
-        × HaveRead F.read_may_fail F.write_may_fail (F.state shelf.old) (F.state shelf.new)
-        (executable_input name.now ∷ []) (bytes ∷ []) × IsImageOf bytes image) }
-    ensures refused { IfErr result (λ refusal. (others : List Input) → HaveNotRead F.read_may_fail F.write_may_fail
-        (F.state shelf.old) (F.state shelf.new) (executable_input name.now ∷ others) refusal) }
+    ensures { IsReadingOf F.read_may_fail F.write_may_fail (F.state shelf.old) (F.state shelf.new)
+        (executable_input name.now) result IsImageOf }
 {
     let bytes = read_file(alloc, name, EXECUTABLE_LIMIT, shelf)?;
     let image = ci_elf::read_vec(alloc, bytes)?;
@@ -98,11 +104,8 @@ fn read_table_file<'a, F: Shelf>(
     name: &'a str,
     shelf: &mut F,
 ) -> Result<Table, Refusal<'a>>
-    ensures read { IfOk result (λ table. (bytes : List ℕ)
-        × HaveRead F.read_may_fail F.write_may_fail (F.state shelf.old) (F.state shelf.new)
-        (table_input name.now ∷ []) (bytes ∷ []) × AreTable bytes table) }
-    ensures refused { IfErr result (λ refusal. (others : List Input) → HaveNotRead F.read_may_fail F.write_may_fail
-        (F.state shelf.old) (F.state shelf.new) (table_input name.now ∷ others) refusal) }
+    ensures { IsReadingOf F.read_may_fail F.write_may_fail (F.state shelf.old) (F.state shelf.new)
+        (table_input name.now) result AreTable }
 {
     let bytes = read_file(alloc, name, TABLE_LIMIT, shelf)?;
     let table = Table::from_toml(alloc, bytes.as_slice())?;
@@ -120,12 +123,8 @@ pub fn read_table<'a, F: Shelf>(
     name: Option<&'a str>,
     shelf: &mut F,
 ) -> Result<Table, Refusal<'a>>
-    ensures read { IfOk result (λ table. (bytes : Option (List ℕ)) × AreGiven (name_in name.entry) bytes
-        × HaveRead F.read_may_fail F.write_may_fail (F.state shelf.old) (F.state shelf.new)
-        (optional_input table_input (name_in name.entry)) (optional_bytes bytes)
-        × AreLatencies bytes table) }
-    ensures refused { IfErr result (λ refusal. (others : List Input) → HaveNotRead F.read_may_fail F.write_may_fail
-        (F.state shelf.old) (F.state shelf.new) (optional_input table_input (name_in name.entry) ++ others) refusal) }
+    ensures { IsOptionalReadingOf F.read_may_fail F.write_may_fail (F.state shelf.old) (F.state shelf.new)
+        table_input (name_in name.entry) result AreLatencies }
 {
     match name {
         Some(name) => read_table_file(alloc, name, shelf),
@@ -144,11 +143,8 @@ pub fn read_units<'a, F: Shelf>(
     name: &'a str,
     shelf: &mut F,
 ) -> Result<Vec<Module>, Refusal<'a>>
-    ensures read { IfOk result (λ modules. (bytes : List ℕ)
-        × HaveRead F.read_may_fail F.write_may_fail (F.state shelf.old) (F.state shelf.new)
-        (units_input name.now ∷ []) (bytes ∷ []) × Spell bytes modules.items) }
-    ensures refused { IfErr result (λ refusal. (others : List Input) → HaveNotRead F.read_may_fail F.write_may_fail
-        (F.state shelf.old) (F.state shelf.new) (units_input name.now ∷ others) refusal) }
+    ensures { IsReadingOf F.read_may_fail F.write_may_fail (F.state shelf.old) (F.state shelf.new)
+        (units_input name.now) result (λ bytes modules. Spell bytes modules.items) }
 {
     let bytes = read_file(alloc, name, UNITS_LIMIT, shelf)?;
     let modules = ci_vread::read(alloc, bytes.as_slice())?;
@@ -165,12 +161,8 @@ pub fn read_optional_units<'a, F: Shelf>(
     name: Option<&'a str>,
     shelf: &mut F,
 ) -> Result<Option<Vec<Module>>, Refusal<'a>>
-    ensures read { IfOk result (λ modules. (bytes : Option (List ℕ)) × AreGiven (name_in name.entry) bytes
-        × HaveRead F.read_may_fail F.write_may_fail (F.state shelf.old) (F.state shelf.new)
-        (optional_input units_input (name_in name.entry)) (optional_bytes bytes)
-        × AreModules bytes (modules_in modules)) }
-    ensures refused { IfErr result (λ refusal. (others : List Input) → HaveNotRead F.read_may_fail F.write_may_fail
-        (F.state shelf.old) (F.state shelf.new) (optional_input units_input (name_in name.entry) ++ others) refusal) }
+    ensures { IsOptionalReadingOf F.read_may_fail F.write_may_fail (F.state shelf.old) (F.state shelf.new)
+        units_input (name_in name.entry) result (λ bytes modules. AreModules bytes (modules_in modules)) }
 {
     match name {
         Some(name) => Ok(Some(read_units(alloc, name, shelf)?)),
@@ -189,11 +181,8 @@ pub fn read_book<'a, F: Shelf>(
     name: &'a str,
     shelf: &mut F,
 ) -> Result<LogBook, Refusal<'a>>
-    ensures read { IfOk result (λ book. (bytes : List ℕ)
-        × HaveRead F.read_may_fail F.write_may_fail (F.state shelf.old) (F.state shelf.new)
-        (book_input name.now ∷ []) (bytes ∷ []) × Spells bytes book) }
-    ensures refused { IfErr result (λ refusal. (others : List Input) → HaveNotRead F.read_may_fail F.write_may_fail
-        (F.state shelf.old) (F.state shelf.new) (book_input name.now ∷ others) refusal) }
+    ensures { IsReadingOf F.read_may_fail F.write_may_fail (F.state shelf.old) (F.state shelf.new)
+        (book_input name.now) result Spells }
 {
     let bytes = read_file(alloc, name, BOOK_LIMIT, shelf)?;
     let book = ci_log::read(alloc, bytes.as_slice())?;
@@ -230,12 +219,8 @@ pub fn read_input<'a, F: Shelf>(
     name: Option<&'a str>,
     shelf: &mut F,
 ) -> Result<Vec<u8>, Refusal<'a>>
-    ensures read { IfOk result (λ input. (bytes : Option (List ℕ)) × AreGiven (name_in name.entry) bytes
-        × HaveRead F.read_may_fail F.write_may_fail (F.state shelf.old) (F.state shelf.new)
-        (optional_input program_input (name_in name.entry)) (optional_bytes bytes)
-        × (input.items ≡ input_bytes bytes)) }
-    ensures refused { IfErr result (λ refusal. (others : List Input) → HaveNotRead F.read_may_fail F.write_may_fail
-        (F.state shelf.old) (F.state shelf.new) (optional_input program_input (name_in name.entry) ++ others) refusal) }
+    ensures { IsOptionalReadingOf F.read_may_fail F.write_may_fail (F.state shelf.old) (F.state shelf.new)
+        program_input (name_in name.entry) result (λ bytes input. input.items ≡ input_bytes bytes) }
 {
     match name {
         Some(name) => read_file(alloc, name, INPUT_LIMIT, shelf),

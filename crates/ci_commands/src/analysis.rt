@@ -10,6 +10,24 @@ use ci_elf::Image;
 use ci_live::Analysis;
 use std::alloc::Global;
 
+/// That the text of an executable has no word of a custom opcode.
+///
+/// # Errors
+///
+/// `Unsupported` where it has one: the first, at its address.
+pub fn refuse_custom_words<'a>(image: &Image) -> Result<(), Refusal<'a>>
+    ensures none { IfOk result (λ _. HasNoCustomWord image.now) }
+    ensures cause { IfErr result (IsCause (IsFirstCustomWord image.now)) }
+{
+    match first_custom_word(image) {
+        Some(CustomWord { address, word }) => Err(Refusal::Unsupported {
+            position: address,
+            word,
+        }),
+        None => Ok(()),
+    }
+}
+
 /// The blocks of an executable whose text has no word of a custom opcode, and their live sets. `named` are addresses
 /// that the user names as leaders.
 pub fn plain_analysis_of<'a>(
@@ -21,12 +39,7 @@ pub fn plain_analysis_of<'a>(
     ensures done { IfOk result (λ analysis. IsAnalysis image.now [] named.now analysis.blocks analysis.live) }
     ensures cause { IfErr result (IsCause (IsFirstCustomWord image.now)) }
 {
-    if let Some(CustomWord { address, word }) = first_custom_word(image) {
-        return Err(Refusal::Unsupported {
-            position: address,
-            word,
-        });
-    }
+    refuse_custom_words(image)?;
     let analysis = ci_live::analysis_of(alloc, image, &[], named)?;
     Ok(analysis)
 }

@@ -3,7 +3,7 @@ ghost use Rattle.std.specs.Prelude.{◌≡◌, ℕ, List, ◌≤◌, length, IfO
 ghost use Rattle.ci_reading.specs.Bytes.{bytes_of_words};
 ghost use Rattle.ci_calls.specs.Evaluations.{RefusesNothing};
 ghost use Rattle.ci_calls.specs.Forms.{IsText};
-ghost use Rattle.ci_calls.specs.Reads.{IsSuccessOf, IsRefusalOf};
+ghost use Rattle.ci_calls.specs.Reads.{IsAnswerOf};
 ghost use Rattle.ci_commands.specs.AsmCommand.{asm_inputs, IsAsmMade};
 ghost use Rattle.ci_commands.specs.private.Causes.{IsTextFault};
 
@@ -29,10 +29,8 @@ pub fn evaluate<'a, F: Shelf>(
     out: &'a str,
     shelf: &mut F,
 ) -> Result<Success<'a>, Refusal<'a>>
-    ensures made { IfOk result (IsSuccessOf F.read_may_fail F.write_may_fail (F.state shelf.old) (F.state shelf.new)
-        (asm_inputs text.now) (IsAsmMade out.now)) }
-    ensures refused { IfErr result (IsRefusalOf F.read_may_fail F.write_may_fail (F.state shelf.old) (F.state shelf.new)
-        (asm_inputs text.now) RefusesNothing) }
+    ensures { IsAnswerOf F.read_may_fail F.write_may_fail (F.state shelf.old) (F.state shelf.new)
+        (asm_inputs text.now) (IsAsmMade out.now) RefusesNothing result }
 {
     let read = read_file(alloc, text, TEXT_LIMIT, shelf)?;
     let bytes = assembled(alloc, read.as_slice())?;

@@ -6,7 +6,7 @@ ghost use Rattle.std.specs.String.{string_bytes};
 ghost use Rattle.ci_dfg.specs.BlockGraph.{graph_of};
 ghost use Rattle.ci_dfg.specs.Bundles.{AreBundled};
 ghost use Rattle.ci_isa.specs.declared.instruction.Insn.{Insn as Instruction};
-ghost use Rattle.ci_calls.specs.Reads.{IsSuccessOf, IsRefusalOf};
+ghost use Rattle.ci_calls.specs.Reads.{IsAnswerOf};
 ghost use Rattle.ci_calls.specs.Refused.{name_in};
 ghost use Rattle.ci_commands.specs.BestCommand.{best_inputs, IsBestMade, IsBestRefused, HoldsBlock, HoldsNoBlock};
 ghost use Rattle.ci_commands.specs.private.BlockFiles.{IsFileOf, IsWithinLimit};
@@ -76,13 +76,11 @@ pub fn evaluate<'a, F: Shelf>(
     shelf: &mut F,
 ) -> Result<Success<'a>, Refusal<'a>>
     requires { settings.now.budget ≤ 4194304 }
-    ensures made { IfOk result (IsSuccessOf F.read_may_fail F.write_may_fail (F.state shelf.old) (F.state shelf.new)
+    ensures { IsAnswerOf F.read_may_fail F.write_may_fail (F.state shelf.old) (F.state shelf.new)
         (best_inputs settings.now.at file.now (name_in settings.now.table))
         (IsBestMade settings.now.at settings.now.leaders.now
-        settings.now.limits settings.now.budget (name_in settings.now.table))) }
-    ensures refused { IfErr result (IsRefusalOf F.read_may_fail F.write_may_fail (F.state shelf.old) (F.state shelf.new)
-        (best_inputs settings.now.at file.now (name_in settings.now.table))
-        (IsBestRefused settings.now.at settings.now.leaders.now)) }
+        settings.now.limits settings.now.budget (name_in settings.now.table))
+        (IsBestRefused settings.now.at settings.now.leaders.now) result }
 {
     let block = read_block_file(alloc, file, settings.at, shelf)?;
     let table = read_table(alloc, settings.table, shelf)?;

@@ -1,9 +1,9 @@
 //! The command `blocks`: the basic blocks of an executable, and the registers that are live where they begin.
-ghost use Rattle.std.specs.Prelude.{◌≡◌, ◌++◌, [], IfOk, IfErr, OnOk, map};
+ghost use Rattle.std.specs.Prelude.{◌≡◌, ◌++◌, IfOk, IfErr, OnOk, map};
 ghost use Rattle.std.specs.List.{flat_map, Contains};
 ghost use Rattle.std.specs.String.{string_bytes};
 ghost use Rattle.ci_block.specs.CustomWords.{IsFirstCustomWord};
-ghost use Rattle.ci_calls.specs.Reads.{IsSuccessOf, IsRefusalOf};
+ghost use Rattle.ci_calls.specs.Reads.{IsAnswerOf};
 ghost use Rattle.ci_commands.specs.BlocksCommand.{blocks_inputs, IsBlocksMade, IsBlocksRefused, IsBlocksText};
 ghost use Rattle.ci_commands.specs.BlocksCommand.{block_line};
 ghost use Rattle.ci_commands.specs.private.Causes.{IsCause};
@@ -31,10 +31,8 @@ pub fn evaluate<'a, F: Shelf>(
     named: &[u32],
     shelf: &mut F,
 ) -> Result<Success<'a>, Refusal<'a>>
-    ensures made { IfOk result (IsSuccessOf F.read_may_fail F.write_may_fail (F.state shelf.old) (F.state shelf.new)
-        (blocks_inputs file.now) (IsBlocksMade named.now)) }
-    ensures refused { IfErr result (IsRefusalOf F.read_may_fail F.write_may_fail (F.state shelf.old) (F.state shelf.new)
-        (blocks_inputs file.now) IsBlocksRefused) }
+    ensures { IsAnswerOf F.read_may_fail F.write_may_fail (F.state shelf.old) (F.state shelf.new)
+        (blocks_inputs file.now) (IsBlocksMade named.now) IsBlocksRefused result }
 {
     let image = read_image(alloc, file, shelf)?;
     let text = block_lines(alloc, &image, named)?;

@@ -1,9 +1,9 @@
 //! The command `dis`: the listing of the words of a file.
-ghost use Rattle.std.specs.Prelude.{◌≡◌, ℕ, List, ◌++◌, IfOk, IfErr, OnOk};
+ghost use Rattle.std.specs.Prelude.{◌≡◌, ℕ, List, ◌++◌, IfOk, OnOk};
 ghost use Rattle.std.specs.String.{string_bytes};
 ghost use Rattle.ci_reading.specs.Bytes.{words_of_bytes};
 ghost use Rattle.ci_calls.specs.Evaluations.{RefusesNothing};
-ghost use Rattle.ci_calls.specs.Reads.{IsSuccessOf, IsRefusalOf};
+ghost use Rattle.ci_calls.specs.Reads.{IsAnswerOf};
 ghost use Rattle.ci_commands.specs.DisCommand.{dis_inputs, IsDisMade, IsTextOf, IsListing, listed};
 
 use ci_asm::show;
@@ -27,10 +27,8 @@ pub fn evaluate<'a, F: Shelf>(
     file: &'a str,
     shelf: &mut F,
 ) -> Result<Success<'a>, Refusal<'a>>
-    ensures made { IfOk result (IsSuccessOf F.read_may_fail F.write_may_fail (F.state shelf.old) (F.state shelf.new)
-        (dis_inputs file.now) IsDisMade) }
-    ensures refused { IfErr result (IsRefusalOf F.read_may_fail F.write_may_fail (F.state shelf.old) (F.state shelf.new)
-        (dis_inputs file.now) RefusesNothing) }
+    ensures { IsAnswerOf F.read_may_fail F.write_may_fail (F.state shelf.old) (F.state shelf.new)
+        (dis_inputs file.now) IsDisMade RefusesNothing result }
 {
     let bytes = read_file(alloc, file, WORDS_LIMIT, shelf)?;
     let text = listing(alloc, bytes.as_slice())?;

@@ -1,7 +1,7 @@
 //! The command `eval`: what a module of a text computes.
-ghost use Rattle.std.specs.Prelude.{◌≡◌, [], ◌∷◌, ◌++◌, IfOk, IfErr, OnOk};
+ghost use Rattle.std.specs.Prelude.{◌≡◌, [], ◌∷◌, ◌++◌, IfOk, OnOk};
 ghost use Rattle.std.specs.String.{string_bytes};
-ghost use Rattle.ci_calls.specs.Reads.{IsSuccessOf, IsRefusalOf};
+ghost use Rattle.ci_calls.specs.Reads.{IsAnswerOf};
 ghost use Rattle.ci_commands.specs.EvalCommand.{eval_inputs, IsEvalMade, IsEvalRefused};
 ghost use Rattle.ci_commands.specs.EvalCommand.{results_line, third_result};
 
@@ -25,11 +25,10 @@ pub fn evaluate<'a, F: Shelf>(
     arguments: (u32, u32, u32, u32, u32),
     shelf: &mut F,
 ) -> Result<Success<'a>, Refusal<'a>>
-    ensures made { IfOk result (IsSuccessOf F.read_may_fail F.write_may_fail (F.state shelf.old) (F.state shelf.new)
-        (eval_inputs file.now) (IsEvalMade number
-        (arguments.0 ∷ arguments.1 ∷ arguments.2 ∷ arguments.3 ∷ arguments.4 ∷ []))) }
-    ensures refused { IfErr result (IsRefusalOf F.read_may_fail F.write_may_fail (F.state shelf.old) (F.state shelf.new)
-        (eval_inputs file.now) (IsEvalRefused number)) }
+    ensures { IsAnswerOf F.read_may_fail F.write_may_fail (F.state shelf.old) (F.state shelf.new)
+        (eval_inputs file.now)
+        (IsEvalMade number (arguments.0 ∷ arguments.1 ∷ arguments.2 ∷ arguments.3 ∷ arguments.4 ∷ []))
+        (IsEvalRefused number) result }
 {
     let modules = read_units(alloc, file, shelf)?;
     let Some(chosen) = modules.get(number as usize) else {

@@ -2,6 +2,8 @@
 //! settings, and know nothing of the words that say them.
 #![tactic(auto)]
 
+pub use analysis::refuse_custom_words;
+
 mod analysis;
 pub mod asm;
 pub mod best;

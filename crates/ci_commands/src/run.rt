@@ -1,5 +1,5 @@
 //! The command `run`: the run of an executable file.
-ghost use Rattle.std.specs.Prelude.{◌≡◌, ◌≤◌, IfOk, IfErr, OnOk, IfSome, All};
+ghost use Rattle.std.specs.Prelude.{◌≡◌, ◌≤◌, IfOk, OnOk, IfSome, All};
 ghost use Rattle.std.specs.String.{string_bytes};
 ghost use Rattle.ci_machine.specs.Runs.{after};
 ghost use Rattle.ci_machine.specs.States.{program_of, state_of};
@@ -7,7 +7,7 @@ ghost use Rattle.ci_machine.specs.Steps.{Meaning};
 ghost use Rattle.ci_emu.specs.Profiles.{IsProfileOf};
 ghost use Rattle.ci_verilog.specs.Modules.{IsModule};
 ghost use Rattle.ci_calls.specs.Evaluations.{RefusesNothing};
-ghost use Rattle.ci_calls.specs.Reads.{IsSuccessOf, IsRefusalOf};
+ghost use Rattle.ci_calls.specs.Reads.{IsAnswerOf};
 ghost use Rattle.ci_calls.specs.Refused.{name_in, modules_in};
 ghost use Rattle.ci_commands.specs.RunCommand.{end_line, run_inputs, IsRunMade, IsRunText};
 ghost use Rattle.ci_commands.specs.RunCommand.{IsMachine, latencies_by};
@@ -52,13 +52,10 @@ pub fn evaluate<'a, F: Shelf>(
     shelf: &mut F,
 ) -> Result<Success<'a>, Refusal<'a>>
     requires { settings.now.steps ≤ 4294967296 }
-    ensures made { IfOk result (IsSuccessOf F.read_may_fail F.write_may_fail (F.state shelf.old) (F.state shelf.new)
+    ensures { IsAnswerOf F.read_may_fail F.write_may_fail (F.state shelf.old) (F.state shelf.new)
         (run_inputs file.now (name_in settings.now.units) (name_in settings.now.table) (name_in settings.now.input))
         (IsRunMade settings.now.steps (name_in settings.now.units) (name_in settings.now.table)
-        (name_in settings.now.input))) }
-    ensures refused { IfErr result (IsRefusalOf F.read_may_fail F.write_may_fail (F.state shelf.old) (F.state shelf.new)
-        (run_inputs file.now (name_in settings.now.units) (name_in settings.now.table) (name_in settings.now.input))
-        RefusesNothing) }
+        (name_in settings.now.input)) RefusesNothing result }
 {
     let image = read_image(alloc, file, shelf)?;
     let modules = read_optional_units(alloc, settings.units, shelf)?;

@@ -1,19 +1,19 @@
 -- The settings of a choice, as words say them: the numbers are in their ranges, and there is one plan of the limits.
-use Rattle.std.proofs.Common.{ℕ, inl, inr, Bool, List, Result, Ok, Err, IfOk, refl}
-use Rattle.std.specs.Prelude.{IfErr}
+use Rattle.std.proofs.Common.{◌≡◌, ℕ, inl, inr, Bool, List, Result, Ok, Err, refl, subst}
 use Rattle.ci_io.specs.Outcomes.{ShelfState}
 use Rattle.ci_select.specs.declared.plan.Plan.{Plan}
 use Rattle.ci_arguments.specs.Ranges.{KeepsRanges}
 use Rattle.ci_arguments.specs.Tables.{commands}
-use Rattle.ci_arguments.specs.Words.{Reading}
+use Rattle.ci_arguments.specs.Words.{Reading, name_at}
 use Rattle.ci_arguments.specs.declared.tables.CommandName.TheVariants.{Find, Check}
 use Rattle.ci_arguments.specs.declared.tables.OptionName.TheVariants as option
 use Rattle.ci_calls.specs.declared.refusals.Refusal.{Refusal}
 use Rattle.ci_calls.specs.declared.success.Success.{Success}
 use Rattle.ci_calls.specs.Inputs.{Input}
-use Rattle.ci_calls.specs.Reads.{IsSuccessOf, IsRefusalOf}
+use Rattle.ci_calls.specs.Reads.{IsAnswerOf}
 use Rattle.ci_find.specs.private.Chosen.{KeepsChoiceRanges}
-use Rattle.ci_find.specs.ChoiceReading.{IsPlanOf}
+use Rattle.ci_find.specs.ChoiceReading.{settings_of, IsPlanOf}
+use Rattle.ci_find.specs.Profiled.{Settings}
 
 -- ---- ranges
 
@@ -42,27 +42,38 @@ check_ranges reading keeps = record {
 -- ---- the plan
 
 module _
-    (reading : Reading) (plan : Plan) (is_plan : IsPlanOf reading plan) (inputs : List Input)
+    (reading : Reading) (plan : Plan) (is_plan : IsPlanOf reading plan)
     (read_may_fail write_may_fail : List ℕ → Bool) (before after : ShelfState) where
-  abbrev IsMadeBy : (List (List ℕ) → Success → Type 0) → Success → Type 0
-  IsMadeBy = IsSuccessOf read_may_fail write_may_fail before after inputs
+  abbrev IsAnswer :
+      List Input → (List (List ℕ) → Success → Type 0) → (List (List ℕ) → Refusal → Type 0) → Result Success Refusal
+      → Type 0
+  IsAnswer = IsAnswerOf read_may_fail write_may_fail before after
 
-  abbrev IsRefusedFor : (List (List ℕ) → Refusal → Type 0) → Refusal → Type 0
-  IsRefusedFor = IsRefusalOf read_may_fail write_may_fail before after inputs
-
-  -- what is made by a plan of the reading
-  pub made_by : (Makes : Plan → List (List ℕ) → Success → Type 0) (result : Result Success Refusal)
-      → IfOk result (IsMadeBy (Makes plan))
-      → IfOk result (IsMadeBy (λ read success. (p : Plan) × IsPlanOf reading p × Makes p read success))
-  made_by Makes (Ok success) made =
+  -- what is answered by a plan of the reading
+  by_plan :
+      (inputs : List Input) (Makes : Plan → List (List ℕ) → Success → Type 0)
+      (Refuses : Plan → List (List ℕ) → Refusal → Type 0) (result : Result Success Refusal)
+      → IsAnswer inputs (Makes plan) (Refuses plan) result
+      → IsAnswer inputs (λ read success. (p : Plan) × IsPlanOf reading p × Makes p read success)
+      (λ read refusal. (p : Plan) × IsPlanOf reading p × Refuses p read refusal) result
+  by_plan inputs Makes Refuses (Ok success) made =
       record { answered = made.answered; read = made.read; made = (plan, is_plan, made.made) }
-  made_by Makes (Err refusal) made = tt
-
-  -- what is refused by one
-  pub refused_by : (Refuses : Plan → List (List ℕ) → Refusal → Type 0) (result : Result Success Refusal)
-      → IfErr result (IsRefusedFor (Refuses plan))
-      → IfErr result (IsRefusedFor (λ read refusal. (p : Plan) × IsPlanOf reading p × Refuses p read refusal))
-  refused_by Refuses (Ok success) refused = tt
-  refused_by Refuses (Err refusal) (inl unread) = inl unread
-  refused_by Refuses (Err refusal) (inr once) =
+  by_plan inputs Makes Refuses (Err refusal) (inl unread) = inl unread
+  by_plan inputs Makes Refuses (Err refusal) (inr once) =
       inr (record { answered = once.answered; read = once.read; refused = (plan, is_plan, once.refused) })
+
+  -- and by a file, names and settings that are those of the words
+  pub answered_by :
+      {Names : Type 0} {file : List ℕ} {names said : Names} {settings : Settings}
+      (inputs : List ℕ → Names → Settings → List Input) (Makes : Names → Settings → List (List ℕ) → Success → Type 0)
+      (Refuses : Settings → List (List ℕ) → Refusal → Type 0) (result : Result Success Refusal)
+      → file ≡ name_at reading 0 → names ≡ said → settings ≡ settings_of reading plan
+      → IsAnswer (inputs file names settings) (Makes names settings) (Refuses settings) result
+      → IsAnswer (inputs (name_at reading 0) said (settings_of reading plan))
+      (λ read success. (p : Plan) × IsPlanOf reading p × Makes said (settings_of reading p) read success)
+      (λ read refusal. (p : Plan) × IsPlanOf reading p × Refuses (settings_of reading p) read refusal) result
+  answered_by {said = said} inputs Makes Refuses result file_is names_are settings_are answer =
+      by_plan (inputs (name_at reading 0) said (settings_of reading plan)) (λ p. Makes said (settings_of reading p))
+      (λ p. Refuses (settings_of reading p)) result
+      (subst (λ T. T) (λ i. IsAnswer (inputs (file_is i) (names_are i) (settings_are i))
+      (Makes (names_are i) (settings_are i)) (Refuses (settings_are i)) result) answer)

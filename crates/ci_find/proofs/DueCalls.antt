@@ -9,7 +9,7 @@ use Rattle.ci_arguments.specs.Words.{Reading, ReadsAs}
 use Rattle.ci_calls.specs.declared.refusals.Refusal.{Refusal}
 use Rattle.ci_calls.specs.declared.success.Success.{Success}
 use Rattle.ci_calls.specs.Reads.{IsSuccessOf, IsRefusalOf, reads_of}
-use Rattle.ci_find.specs.Commands.{inputs_by, inputs_of, IsMade, IsRefusedOf, MakesBy, RefusesBy}
+use Rattle.ci_find.specs.Commands.{inputs_of, IsMade, IsRefusedOf, IsAnswerBy}
 use Rattle.ci_find.specs.EndsBy.{IsDueBy, IsRefusalBy, unread, once_read}
 
 module _ (read_may_fail write_may_fail : List ℕ → Bool) (before after : ShelfState) (words : List (List ℕ))
@@ -48,30 +48,26 @@ module _ (read_may_fail write_may_fail : List ℕ → Bool) (before after : Shel
 
   -- and so a result
   successes_due : (result : Result Success Refusal)
-      → IfOk result (IsSuccessOf read_may_fail write_may_fail before after (inputs_of reading) (IsMade reading))
+      → IsAnswerBy read_may_fail write_may_fail before after reading.command reading result
       → IfOk result (λ success. (reads : List Call) × Made reads × IsDueBy words reads success)
   successes_due (Ok success) is = success_due success is
   successes_due (Err refusal) is = tt
 
   refusals_due : (result : Result Success Refusal)
-      → IfErr result (IsRefusalOf read_may_fail write_may_fail before after (inputs_of reading) (IsRefusedOf reading))
+      → IsAnswerBy read_may_fail write_may_fail before after reading.command reading result
       → IfErr result (λ refusal. (reads : List Call) × Made reads × IsRefusalBy words reads refusal)
   refusals_due (Ok success) is = tt
   refusals_due (Err refusal) is = refusal_due refusal is
 
-  module _ (command : CommandName) (is_command : command ≡ reading.command) (result : Result Success Refusal) where
-    pub due_by_calls :
-        IfOk result
-        (IsSuccessOf read_may_fail write_may_fail before after (inputs_by command reading) (MakesBy command reading))
-        → IfOk result (λ success. (reads : List Call) × Made reads × IsDueBy words reads success)
-    due_by_calls is =
-        successes_due result (subst (λ c. IfOk result
-        (IsSuccessOf read_may_fail write_may_fail before after (inputs_by c reading) (MakesBy c reading))) is_command is)
+  module _
+      (command : CommandName) (is_command : command ≡ reading.command) (result : Result Success Refusal)
+      (is : IsAnswerBy read_may_fail write_may_fail before after command reading result) where
+    by_reading : IsAnswerBy read_may_fail write_may_fail before after reading.command reading result
+    by_reading =
+        subst (λ c. IsAnswerBy read_may_fail write_may_fail before after c reading result) is_command is
 
-    pub refused_by_calls :
-        IfErr result
-        (IsRefusalOf read_may_fail write_may_fail before after (inputs_by command reading) (RefusesBy command reading))
-        → IfErr result (λ refusal. (reads : List Call) × Made reads × IsRefusalBy words reads refusal)
-    refused_by_calls is =
-        refusals_due result (subst (λ c. IfErr result
-        (IsRefusalOf read_may_fail write_may_fail before after (inputs_by c reading) (RefusesBy c reading))) is_command is)
+    pub due_by_calls : IfOk result (λ success. (reads : List Call) × Made reads × IsDueBy words reads success)
+    due_by_calls = successes_due result by_reading
+
+    pub refused_by_calls : IfErr result (λ refusal. (reads : List Call) × Made reads × IsRefusalBy words reads refusal)
+    refused_by_calls = refusals_due result by_reading

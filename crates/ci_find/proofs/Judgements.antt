@@ -1,5 +1,5 @@
 -- What the command `check` makes of a verdict on the files of a choice, and what it refuses.
-use Rattle.std.proofs.Common.{ℕ, inl, inr, Bool, List, [], ◌∷◌, ◌++◌, Option, Result, Ok, Err, IfOk, IfErr, refl}
+use Rattle.std.proofs.Common.{ℕ, inl, inr, Bool, List, [], ◌∷◌, ◌++◌, Option, Result, Ok, Err, refl}
 use Rattle.ci_io.specs.Outcomes.{ShelfState}
 use Rattle.ci_elf.specs.Executables.{Executable, IsImageOf}
 use Rattle.ci_lat.specs.Latencies.{Latencies}
@@ -10,7 +10,7 @@ use Rattle.ci_calls.specs.declared.refusals.Refusal.TheVariants.{Rejected, NoMem
 use Rattle.ci_calls.specs.declared.success.Success.{Success}
 use Rattle.ci_calls.specs.Files.{optional_bytes, AreGiven, AreLatencies, input_bytes}
 use Rattle.ci_calls.specs.Inputs.{Input}
-use Rattle.ci_calls.specs.Reads.{HaveRead, IsSuccessOf, IsRefusalOf}
+use Rattle.ci_calls.specs.Reads.{HaveRead, IsRefusalOf, IsAnswerOf}
 use Rattle.ci_calls.proofs.InputLaws.{HaveRead-append, read_without_memory}
 use Rattle.ci_find.specs.declared.check.ChoiceFiles.{ChoiceFiles}
 use Rattle.ci_find.specs.declared.profiling.Profiled.{Profiled as Run}
@@ -91,32 +91,24 @@ module _
   module _
       (read_may_fail write_may_fail : List ℕ → Bool) (before after : ShelfState) (inputs : List Input)
       (files : HaveRead read_may_fail write_may_fail before after inputs bytes_read) where
-    -- files that are accepted
-    pub judged_made :
-        (profiled : Profiled settings executable others) (result : Result Success Refusal)
-        → IsAnswerOn (instance_by profiled) profiled.files.file choice result
-        → IfOk result (IsSuccessOf read_may_fail write_may_fail before after inputs (IsCheckMade settings))
-    judged_made profiled (Ok success) is = record {
-      answered = bytes_read;
-      read = files;
-      made = record { files = holding; profiled = profiled; accepted = is.0; text_is = is.1; writes_none = is.2 };
-    }
-    judged_made profiled (Err refusal) is = tt
-
     -- memory runs out once they are read
     without_memory : IsRefusalOf read_may_fail write_may_fail before after inputs (IsCheckRefused settings) NoMemory
     without_memory = inl (read_without_memory read_may_fail write_may_fail before after inputs bytes_read files)
 
-    -- files of no choice, by their first wrong place
-    pub judged_refused :
+    -- files that are accepted, or those of no choice, by their first wrong place
+    pub judged :
         (profiled : Profiled settings executable others) (result : Result Success Refusal)
         → IsAnswerOn (instance_by profiled) profiled.files.file choice result
-        → IfErr result (IsRefusalOf read_may_fail write_may_fail before after inputs (IsCheckRefused settings))
-    judged_refused profiled (Ok success) is = tt
-    judged_refused profiled (Err (Rejected round leader item reason)) is =
+        → IsAnswerOf read_may_fail write_may_fail before after inputs (IsCheckMade settings) (IsCheckRefused settings) result
+    judged profiled (Ok success) is = record {
+      answered = bytes_read;
+      read = files;
+      made = record { files = holding; profiled = profiled; accepted = is.0; text_is = is.1; writes_none = is.2 };
+    }
+    judged profiled (Err (Rejected round leader item reason)) is =
         inr (record { answered = bytes_read; read = files; refused = rejected holding profiled is })
-    judged_refused profiled (Err NoMemory) is = without_memory
-    judged_refused profiled (Err refusal) is = absurd is
+    judged profiled (Err NoMemory) is = without_memory
+    judged profiled (Err refusal) is = absurd is
 
     -- an executable that can't be chosen from
     pub unprofiled_refused :

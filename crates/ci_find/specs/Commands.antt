@@ -1,6 +1,7 @@
 -- For every reader: what each command reads, what it makes of that, and what it refuses once all its files are read, by
 -- its reading.
-use Rattle.std.specs.Prelude.{◌≡◌, ℕ, List, [], ◌∷◌, unwrap_or}
+use Rattle.std.specs.Prelude.{◌≡◌, ℕ, Bool, List, [], ◌∷◌, Result, unwrap_or}
+use Rattle.ci_io.specs.Outcomes.{ShelfState}
 use Rattle.ci_cut.specs.declared.graph.Limits.{Limits}
 use Rattle.ci_arguments.specs.Words.{Reading, name_at, number_at, word_at, name_set, number_set, word_set, words_set}
 use Rattle.ci_arguments.specs.declared.tables.CommandName.{CommandName}
@@ -10,6 +11,7 @@ use Rattle.ci_calls.specs.declared.refusals.Refusal.{Refusal}
 use Rattle.ci_calls.specs.declared.success.Success.{Success}
 use Rattle.ci_calls.specs.Evaluations.{RefusesNothing}
 use Rattle.ci_calls.specs.Inputs.{Input}
+use Rattle.ci_calls.specs.Reads.{IsAnswerOf}
 use Rattle.ci_commands.specs.BestCommand.{best_inputs, IsBestMade, IsBestRefused}
 use Rattle.ci_commands.specs.AsmCommand.{asm_inputs, IsAsmMade}
 use Rattle.ci_commands.specs.DisCommand.{dis_inputs, IsDisMade}
@@ -32,8 +34,8 @@ pub record CommandCall : Type 1 where
 -- the values of a, b, c, d and e, of which the last two are 0 where they are not given
 abbrev pub arguments_of : Reading → List ℕ
 arguments_of reading =
-    word_at reading 2 ∷ word_at reading 3 ∷ word_at reading 4 ∷ unwrap_or (word_set reading option.Fourth) 0
-    ∷ unwrap_or (word_set reading option.Fifth) 0 ∷ []
+    word_at reading 2 ∷ word_at reading 3 ∷ word_at reading 4 ∷ unwrap_or (word_set reading option.ArgumentD) 0
+    ∷ unwrap_or (word_set reading option.ArgumentE) 0 ∷ []
 
 -- ---- all commands
 
@@ -105,6 +107,13 @@ MakesBy command reading = (call_by command reading).Makes
 
 abbrev pub RefusesBy : CommandName → Reading → List (List ℕ) → Refusal → Type 0
 RefusesBy command reading = (call_by command reading).Refuses
+
+-- the answer of a command, over a shelf, to a reading
+abbrev pub IsAnswerBy :
+    (List ℕ → Bool) → (List ℕ → Bool) → ShelfState → ShelfState → CommandName → Reading → Result Success Refusal → Type 0
+IsAnswerBy read_may_fail write_may_fail before after command reading =
+    IsAnswerOf read_may_fail write_may_fail before after (inputs_by command reading) (MakesBy command reading)
+    (RefusesBy command reading)
 
 -- ---- by the reading's own command
 

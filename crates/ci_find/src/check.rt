@@ -5,7 +5,7 @@ ghost use Rattle.ci_log.specs.Books.{Spells};
 ghost use Rattle.ci_vread.specs.Spelling.{Spell};
 ghost use Rattle.ci_calls.specs.Files.{book_input, new_file_input, units_input};
 ghost use Rattle.ci_calls.specs.Inputs.{Input};
-ghost use Rattle.ci_calls.specs.Reads.{HaveRead, HaveNotRead, IsSuccessOf, IsRefusalOf};
+ghost use Rattle.ci_calls.specs.Reads.{HaveRead, HaveNotRead, IsAnswerOf};
 ghost use Rattle.ci_calls.specs.Refused.{name_in};
 ghost use Rattle.ci_find.specs.Profiled.{IsProfiled};
 ghost use Rattle.ci_find.specs.CheckCommand.{check_inputs, IsCheckMade, IsCheckRefused};
@@ -55,12 +55,9 @@ pub fn evaluate<'a, F: Shelf>(
     shelf: &mut F,
 ) -> Result<Success<'a>, Refusal<'a>>
     requires { settings.now.steps ≤ 4294967296 }
-    ensures made { IfOk result (IsSuccessOf F.read_may_fail F.write_may_fail (F.state shelf.old) (F.state shelf.new)
+    ensures { IsAnswerOf F.read_may_fail F.write_may_fail (F.state shelf.old) (F.state shelf.new)
         (check_inputs file.now (check_names_of names.now) (name_in settings.now.table) (name_in settings.now.input))
-        (IsCheckMade (settings_by settings.now))) }
-    ensures refused { IfErr result (IsRefusalOf F.read_may_fail F.write_may_fail (F.state shelf.old) (F.state shelf.new)
-        (check_inputs file.now (check_names_of names.now) (name_in settings.now.table) (name_in settings.now.input))
-        (IsCheckRefused (settings_by settings.now))) }
+        (IsCheckMade (settings_by settings.now)) (IsCheckRefused (settings_by settings.now)) result }
 {
     let image = read_image(alloc, file, shelf)?;
     let choice = read_choice(alloc, names, shelf)?;

@@ -3,11 +3,10 @@ ghost use Rattle.std.specs.Prelude.{◌≡◌, ℕ, Bool, List, IfOk, IfErr, map
 ghost use Rattle.std.specs.String.{string_bytes};
 ghost use Rattle.ci_arguments.specs.Ranges.{KeepsRanges, KeepsPlaces};
 ghost use Rattle.ci_arguments.specs.Read.{reading_of};
-ghost use Rattle.ci_calls.specs.Reads.{IsSuccessOf, IsRefusalOf};
 ghost use Rattle.ci_arguments.specs.declared.tables.OptionName.TheVariants as option;
 ghost use Rattle.ci_arguments.specs.Words.{words_set};
 ghost use Rattle.ci_find.specs.ChoiceReading.{settings_of, IsPlanOf};
-ghost use Rattle.ci_find.specs.Commands.{inputs_by, MakesBy, RefusesBy};
+ghost use Rattle.ci_find.specs.Commands.{IsAnswerBy};
 ghost use Rattle.ci_find.specs.private.Chosen.{settings_by, KeepsChoiceRanges};
 ghost use Rattle.ci_find.specs.EndsBy.{IsDueBy, IsRefusalBy};
 ghost use Rattle.ci_io.specs.CallLists.{Call};
@@ -57,10 +56,8 @@ fn evaluate_command<'a, F: Shelf>(
 ) -> Result<Success<'a>, Refusal<'a>>
     requires ranges { KeepsRanges command (reading_of words.now) }
     requires places { KeepsPlaces command (reading_of words.now) }
-    ensures made { IfOk result (IsSuccessOf F.read_may_fail F.write_may_fail (F.state shelf.old) (F.state shelf.new)
-        (inputs_by command (reading_of words.now)) (MakesBy command (reading_of words.now))) }
-    ensures refused { IfErr result (IsRefusalOf F.read_may_fail F.write_may_fail (F.state shelf.old) (F.state shelf.new)
-        (inputs_by command (reading_of words.now)) (RefusesBy command (reading_of words.now))) }
+    ensures { IsAnswerBy F.read_may_fail F.write_may_fail (F.state shelf.old) (F.state shelf.new)
+        command (reading_of words.now) result }
 {
     let file = words.name_at(0);
     match command {
@@ -86,10 +83,8 @@ fn evaluate_best<'a, F: Shelf>(
     shelf: &mut F,
 ) -> Result<Success<'a>, Refusal<'a>>
     requires { KeepsRanges CommandName.Best (reading_of words.now) }
-    ensures made { IfOk result (IsSuccessOf F.read_may_fail F.write_may_fail (F.state shelf.old) (F.state shelf.new)
-        (inputs_by CommandName.Best (reading_of words.now)) (MakesBy CommandName.Best (reading_of words.now))) }
-    ensures refused { IfErr result (IsRefusalOf F.read_may_fail F.write_may_fail (F.state shelf.old) (F.state shelf.new)
-        (inputs_by CommandName.Best (reading_of words.now)) (RefusesBy CommandName.Best (reading_of words.now))) }
+    ensures { IsAnswerBy F.read_may_fail F.write_may_fail (F.state shelf.old) (F.state shelf.new)
+        CommandName.Best (reading_of words.now) result }
 {
     let leaders = words.words(alloc, OptionName::Leader)?;
     let settings = BestSettings {
@@ -112,10 +107,8 @@ fn evaluate_run<'a, F: Shelf>(
     shelf: &mut F,
 ) -> Result<Success<'a>, Refusal<'a>>
     requires { KeepsRanges CommandName.Run (reading_of words.now) }
-    ensures made { IfOk result (IsSuccessOf F.read_may_fail F.write_may_fail (F.state shelf.old) (F.state shelf.new)
-        (inputs_by CommandName.Run (reading_of words.now)) (MakesBy CommandName.Run (reading_of words.now))) }
-    ensures refused { IfErr result (IsRefusalOf F.read_may_fail F.write_may_fail (F.state shelf.old) (F.state shelf.new)
-        (inputs_by CommandName.Run (reading_of words.now)) (RefusesBy CommandName.Run (reading_of words.now))) }
+    ensures { IsAnswerBy F.read_may_fail F.write_may_fail (F.state shelf.old) (F.state shelf.new)
+        CommandName.Run (reading_of words.now) result }
 {
     let settings = RunSettings {
         steps: words.number(OptionName::Steps),
@@ -133,14 +126,12 @@ fn evaluate_eval<'a, F: Shelf>(
     shelf: &mut F,
 ) -> Result<Success<'a>, Refusal<'a>>
     requires { KeepsPlaces CommandName.Eval (reading_of words.now) }
-    ensures made { IfOk result (IsSuccessOf F.read_may_fail F.write_may_fail (F.state shelf.old) (F.state shelf.new)
-        (inputs_by CommandName.Eval (reading_of words.now)) (MakesBy CommandName.Eval (reading_of words.now))) }
-    ensures refused { IfErr result (IsRefusalOf F.read_may_fail F.write_may_fail (F.state shelf.old) (F.state shelf.new)
-        (inputs_by CommandName.Eval (reading_of words.now)) (RefusesBy CommandName.Eval (reading_of words.now))) }
+    ensures { IsAnswerBy F.read_may_fail F.write_may_fail (F.state shelf.old) (F.state shelf.new)
+        CommandName.Eval (reading_of words.now) result }
 {
     let number = words.number_at(1) as u32;
-    let d = words.word(OptionName::Fourth).unwrap_or(0);
-    let e = words.word(OptionName::Fifth).unwrap_or(0);
+    let d = words.word(OptionName::ArgumentD).unwrap_or(0);
+    let e = words.word(OptionName::ArgumentE).unwrap_or(0);
     let arguments = (words.word_at(2), words.word_at(3), words.word_at(4), d, e);
     eval::evaluate(alloc, words.name_at(0), number, arguments, shelf)
 }
@@ -153,10 +144,8 @@ fn evaluate_find<'a, F: Shelf>(
 ) -> Result<Success<'a>, Refusal<'a>>
     requires ranges { KeepsRanges CommandName.Find (reading_of words.now) }
     requires places { KeepsPlaces CommandName.Find (reading_of words.now) }
-    ensures made { IfOk result (IsSuccessOf F.read_may_fail F.write_may_fail (F.state shelf.old) (F.state shelf.new)
-        (inputs_by CommandName.Find (reading_of words.now)) (MakesBy CommandName.Find (reading_of words.now))) }
-    ensures refused { IfErr result (IsRefusalOf F.read_may_fail F.write_may_fail (F.state shelf.old) (F.state shelf.new)
-        (inputs_by CommandName.Find (reading_of words.now)) (RefusesBy CommandName.Find (reading_of words.now))) }
+    ensures { IsAnswerBy F.read_may_fail F.write_may_fail (F.state shelf.old) (F.state shelf.new)
+        CommandName.Find (reading_of words.now) result }
 {
     let leaders = words.words(alloc, OptionName::Leader)?;
     let names = FindNames {
@@ -177,10 +166,8 @@ fn evaluate_check<'a, F: Shelf>(
 ) -> Result<Success<'a>, Refusal<'a>>
     requires ranges { KeepsRanges CommandName.Check (reading_of words.now) }
     requires places { KeepsPlaces CommandName.Check (reading_of words.now) }
-    ensures made { IfOk result (IsSuccessOf F.read_may_fail F.write_may_fail (F.state shelf.old) (F.state shelf.new)
-        (inputs_by CommandName.Check (reading_of words.now)) (MakesBy CommandName.Check (reading_of words.now))) }
-    ensures refused { IfErr result (IsRefusalOf F.read_may_fail F.write_may_fail (F.state shelf.old) (F.state shelf.new)
-        (inputs_by CommandName.Check (reading_of words.now)) (RefusesBy CommandName.Check (reading_of words.now))) }
+    ensures { IsAnswerBy F.read_may_fail F.write_may_fail (F.state shelf.old) (F.state shelf.new)
+        CommandName.Check (reading_of words.now) result }
 {
     let leaders = words.words(alloc, OptionName::Leader)?;
     let names = CheckNames {
@@ -195,12 +182,8 @@ fn evaluate_check<'a, F: Shelf>(
 /// What `load` makes of the seed that the words say.
 fn evaluate_load<'a>(alloc: Global, words: &Words<'a>) -> Result<Success<'a>, Refusal<'a>>
     requires { KeepsPlaces CommandName.Load (reading_of words.now) }
-    ensures made { (read_may_fail write_may_fail : List ℕ → Bool) (shelf : ShelfState)
-        → IfOk result (IsSuccessOf read_may_fail write_may_fail shelf shelf
-        (inputs_by CommandName.Load (reading_of words.now)) (MakesBy CommandName.Load (reading_of words.now))) }
-    ensures refused { (read_may_fail write_may_fail : List ℕ → Bool) (shelf : ShelfState)
-        → IfErr result (IsRefusalOf read_may_fail write_may_fail shelf shelf
-        (inputs_by CommandName.Load (reading_of words.now)) (RefusesBy CommandName.Load (reading_of words.now))) }
+    ensures { (read_may_fail write_may_fail : List ℕ → Bool) (shelf : ShelfState)
+        → IsAnswerBy read_may_fail write_may_fail shelf shelf CommandName.Load (reading_of words.now) result }
 {
     let seed = words.number_at(0) as u32;
     Ok(load::evaluate(alloc, seed)?)

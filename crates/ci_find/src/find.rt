@@ -1,5 +1,5 @@
 //! The command `find`: a whole choice of cuts.
-ghost use Rattle.std.specs.Prelude.{◌≡◌, ◌≤◌, ◌∷◌, [], ℕ, List, Ok, IfOk, IfErr, filter, length, map, reverse};
+ghost use Rattle.std.specs.Prelude.{◌≡◌, ◌≤◌, ◌∷◌, [], ℕ, List, Ok, IfOk, filter, length, map, reverse};
 ghost use Rattle.std.specs.String.{string_bytes};
 ghost use Rattle.ci_elf.specs.Rules.{IsReadAs};
 ghost use Rattle.ci_log.specs.Books.{Spells};
@@ -10,21 +10,20 @@ ghost use Rattle.ci_select.specs.Histories.{is_take};
 ghost use Rattle.ci_select.specs.UnitNumbers.{AreUnits};
 ghost use Rattle.ci_select.specs.Savings.{IsSaved};
 ghost use Rattle.ci_select.specs.Takes.{AreTaken};
-ghost use Rattle.ci_calls.specs.Reads.{IsSuccessOf, IsRefusalOf};
+ghost use Rattle.ci_calls.specs.Reads.{IsAnswerOf};
 ghost use Rattle.ci_calls.specs.Refused.{name_in};
 ghost use Rattle.ci_find.specs.Profiled.{IsProfiled};
 ghost use Rattle.ci_find.specs.FindCommand.{find_inputs, is_spent, summary, summary_line, written};
 ghost use Rattle.ci_find.specs.FindCommand.{IsChoice, IsFindMade, IsFindRefused};
 ghost use Rattle.ci_find.specs.private.Chosen.{instance_from, names_of, settings_by};
 
-use crate::profiling::{
-    ChoiceSettings, Profiled, RunFiles, bytes_are_small, profiled_run, read_run_files,
-};
+use crate::profiling::{ChoiceSettings, Profiled, RunFiles, profiled_run, read_run_files};
 use ci_calls::{Refusal, Success, Written, read_image};
 use ci_elf::Image;
 use ci_io::Shelf;
 use ci_lat::Table;
 use ci_log::Entry;
+use ci_machine::laws::bytes_are_small;
 use ci_report::report;
 use ci_select::{Chosen, Plan, choose};
 use ci_vemit::emit;
@@ -70,12 +69,10 @@ pub fn evaluate<'a, F: Shelf>(
     shelf: &mut F,
 ) -> Result<Success<'a>, Refusal<'a>>
     requires { settings.now.steps ≤ 4294967296 }
-    ensures made { IfOk result (IsSuccessOf F.read_may_fail F.write_may_fail (F.state shelf.old) (F.state shelf.new)
+    ensures { IsAnswerOf F.read_may_fail F.write_may_fail (F.state shelf.old) (F.state shelf.new)
         (find_inputs file.now (name_in settings.now.table) (name_in settings.now.input))
-        (IsFindMade (names_of names.now) (settings_by settings.now))) }
-    ensures refused { IfErr result (IsRefusalOf F.read_may_fail F.write_may_fail (F.state shelf.old) (F.state shelf.new)
-        (find_inputs file.now (name_in settings.now.table) (name_in settings.now.input))
-        (IsFindRefused (settings_by settings.now))) }
+        (IsFindMade (names_of names.now) (settings_by settings.now))
+        (IsFindRefused (settings_by settings.now)) result }
 {
     let image = read_image(alloc, file, shelf)?;
     let RunFiles { table, input } = read_run_files(alloc, settings.table, settings.input, shelf)?;

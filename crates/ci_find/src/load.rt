@@ -8,7 +8,6 @@ ghost use Rattle.ci_find.specs.LoadCommand.{byte_digits, load_line, steps_of_loa
 ghost use Rattle.ci_find.specs.LoadCommand.{IsPlainRun, IsPlanOfLoad};
 
 use crate::find::summary;
-use crate::profiling::bytes_are_small;
 use ci_calls::Success;
 use ci_cut::Limits;
 use ci_elf::{ElfFault, Image, read_vec};
@@ -17,6 +16,7 @@ use ci_gen::program;
 use ci_lat::Table;
 use ci_live::analysis_of;
 use ci_machine::State;
+use ci_machine::laws::bytes_are_small;
 use ci_select::{Chosen, Plan, choose};
 use ci_vemit::modules;
 use ci_xemu::run_x;

@@ -1,21 +1,20 @@
 //! The run that a choice of cuts is made from, and the basic blocks that it enters.
 ghost use Rattle.std.specs.Prelude.{◌≡◌, ◌≤◌, ◌++◌, ℕ, List, Option, IfOk, IfErr};
-ghost use Rattle.ci_block.specs.CustomWords.{HasNoCustomWord};
-ghost use Rattle.ci_machine.specs.Words.{AreBytes};
 ghost use Rattle.ci_calls.specs.Files.{optional_bytes, AreGiven, AreLatencies, input_bytes};
 ghost use Rattle.ci_calls.specs.Reads.{HaveRead, HaveNotRead};
 ghost use Rattle.ci_calls.specs.Refused.{name_in};
 ghost use Rattle.ci_find.specs.Profiled.{IsProfiled, run_files};
 ghost use Rattle.ci_find.specs.private.Unprofiled.{IsUnprofiledCause};
 
-use ci_block::{CustomWord, first_custom_word};
 use ci_calls::{Refusal, read_input, read_table};
+use ci_commands::refuse_custom_words;
 use ci_elf::Image;
 use ci_emu::Profile;
 use ci_io::Shelf;
 use ci_lat::Table;
 use ci_live::{Analysis, analysis_of};
 use ci_machine::State;
+use ci_machine::laws::bytes_are_small;
 use ci_select::Plan;
 use std::alloc::Global;
 
@@ -75,24 +74,6 @@ pub fn read_run_files<'a, F: Shelf>(
     Ok(RunFiles { table, input })
 }
 
-/// That the text of the executable has no word of a custom opcode.
-///
-/// # Errors
-///
-/// `Unsupported` where it has one: the first, at its address.
-fn refuse_custom_words<'a>(image: &Image) -> Result<(), Refusal<'a>>
-    ensures none { IfOk result (λ _. HasNoCustomWord image.now) }
-    ensures cause { (input : List ℕ) (steps : ℕ) → IfErr result (IsUnprofiledCause image.now input steps) }
-{
-    match first_custom_word(image) {
-        Some(CustomWord { address, word }) => Err(Refusal::Unsupported {
-            position: address,
-            word,
-        }),
-        None => Ok(()),
-    }
-}
-
 /// The profile of the run of the executable, and its blocks by the leaders that the file, the run and the call give.
 /// The steps are at most 4,294,967,296.
 ///
@@ -123,8 +104,3 @@ pub fn profiled_run<'a>(
     let analysis = analysis_of(alloc, image, profile.targets(), leaders)?;
     Ok(Profiled { profile, analysis })
 }
-
-/// The law of bytes: each is below 256. Nothing happens when it runs.
-pub fn bytes_are_small(bytes: &[u8])
-    ensures { AreBytes bytes.now }
-{}

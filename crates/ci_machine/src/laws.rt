@@ -1,4 +1,4 @@
-//! What holds of all instructions, lists of instructions and runs, and of the runs of all files.
+//! What holds of all bytes, instructions, lists of instructions and runs, and of the runs of all files.
 ghost use Rattle.ci_machine.specs.ExtendedLaws.{ExtendedExists, ExtendedIsOne, ExtendedGivesWords};
 ghost use Rattle.ci_machine.specs.ExtendedLaws.{ExtendedTakesHidden, ExtendedRunsPlainFiles};
 ghost use Rattle.ci_machine.specs.FileLaws.{OpensWithFileWords, FileInsnsStay, FileInsnsStand, OpensAlike};
@@ -11,6 +11,12 @@ ghost use Rattle.ci_machine.specs.RunLaws.{RunsJoin, EndsStay, RunsEndAt, NoEndB
 ghost use Rattle.ci_machine.specs.RunLaws.{BlockSteps, BlockLeaves, BlockCosts, ControlSteps};
 ghost use Rattle.ci_machine.specs.StateLaws.{WordsStayByLists, WordsStayByControl, WordsStay};
 ghost use Rattle.ci_machine.specs.StateLaws.{OpensInWords, PlainGivesWords, TextStays, OpensWithText};
+ghost use Rattle.ci_machine.specs.Words.{AreBytes};
+
+/// Each byte is below 256.
+pub fn bytes_are_small(bytes: &[u8])
+    ensures { AreBytes bytes.now }
+{}
 
 /// What an instruction does depends on the registers that it reads and the bytes that it moves, and on nothing else.
 pub fn frame()

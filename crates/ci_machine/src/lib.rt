@@ -1,7 +1,7 @@
 //! The machine: its state, and what each instruction does to it (RISC-V Unprivileged ISA 20191213, chapters 2 and 7).
 //!
 //! The definitions stand in `specs/`. The functions of `laws` have no effect: their contracts say what holds of all
-//! instructions, lists of instructions and runs, and of the runs of all files.
+//! bytes, instructions, lists of instructions and runs, and of the runs of all files.
 #![tactic(auto)]
 
 pub use ends::End;

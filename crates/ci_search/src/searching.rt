@@ -63,6 +63,7 @@ pub fn search_reusing(
 ) -> Found
     ensures { IsSearchBy graph.now limits.now region.old region.new result }
 {
+    // Its contract tells that there are no more nodes than rows.
     let _nodes = graph.nodes();
     let budget = region.capacity() - region.used();
     let mut best = Incumbent { cut: None, gain: 0 };

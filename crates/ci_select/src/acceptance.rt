@@ -12,7 +12,6 @@ ghost use Rattle.ci_select.specs.WrongPlaces.{IsAcceptable, IsVerdict, IsFirstWr
 ghost use Rattle.ci_select.specs.private.Followed.{Follows, FollowsSome, instance_in};
 ghost use Rattle.ci_select.specs.private.Judged.{IsEndJudged, IsJudged, IsSearchJudged, is_at};
 
-use crate::choosing::bytes_are_small;
 use crate::plan::Plan;
 use crate::rounds::{Due, Rounds};
 use ci_block::Blocks;
@@ -23,6 +22,7 @@ use ci_emu::Profile;
 use ci_lat::Table;
 use ci_live::LiveSets;
 use ci_log::{Entry, Finish, Log, LogBook};
+use ci_machine::laws::bytes_are_small;
 use ci_unit::UnitTable;
 use ci_verilog::Module;
 use ci_word::Row;

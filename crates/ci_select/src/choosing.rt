@@ -2,7 +2,6 @@
 ghost use Rattle.std.specs.Prelude.{◌≡◌, ◌↔◌, ◌∷◌, ◌<◌, false, [], reverse, Ok, IfOk};
 ghost use Rattle.ci_cut.specs.Need.{NeedExceeds};
 ghost use Rattle.ci_elf.specs.Rules.{IsReadAs};
-ghost use Rattle.ci_machine.specs.Words.{AreBytes};
 ghost use Rattle.ci_select.specs.Histories.{History, is_take, leader_of};
 ghost use Rattle.ci_select.specs.Instances.{instance_of, AreBlocksOf};
 ghost use Rattle.ci_select.specs.UnitNumbers.{AreUnits};
@@ -24,6 +23,7 @@ use ci_emu::Profile;
 use ci_lat::Table;
 use ci_live::LiveSets;
 use ci_log::{Entry, LogBook, LogNode, flatten};
+use ci_machine::laws::bytes_are_small;
 use ci_region::Region;
 use ci_search::{Found, search_reusing};
 use ci_unit::UnitTable;
@@ -93,11 +93,6 @@ pub fn choose(
         image,
     })
 }
-
-/// The law of bytes: each is below 256. Nothing happens when it runs.
-pub(crate) fn bytes_are_small(bytes: &[u8])
-    ensures { AreBytes bytes.now }
-{}
 
 /// Makes each entry that is due, up to the end, and keeps the cuts that are taken.
 fn book_of(alloc: Global, rounds: &mut Rounds) -> Result<(LogBook, Vec<Taken>), AllocError>

@@ -74,7 +74,7 @@ fn eval_shown(alloc: Global, said: &Words) -> Result<String, AllocError> {
         let word = said.word_at(place);
         write!(text, " {word}")?;
     }
-    for (name, option) in [("d", OptionName::Fourth), ("e", OptionName::Fifth)] {
+    for (name, option) in [("d", OptionName::ArgumentD), ("e", OptionName::ArgumentE)] {
         if let Some(word) = said.word(option) {
             push_word(alloc, &mut text, name, word)?;
         }

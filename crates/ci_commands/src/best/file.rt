@@ -1,7 +1,6 @@
 //! The file with the block.
-ghost use Rattle.std.specs.Prelude.{[], ◌∷◌, ℕ, List, IfOk, IfErr};
-ghost use Rattle.ci_calls.specs.Inputs.{Input};
-ghost use Rattle.ci_calls.specs.Reads.{HaveRead, HaveNotRead};
+ghost use Rattle.std.specs.Prelude.{IfOk};
+ghost use Rattle.ci_calls.specs.Reads.{IsReadingOf};
 ghost use Rattle.ci_commands.specs.BestCommand.{block_input};
 ghost use Rattle.ci_commands.specs.private.BlockFiles.{IsFileOf, IsWithinLimit};
 
@@ -29,13 +28,9 @@ pub fn read_block_file<'a, F: Shelf>(
     at: Option<u32>,
     shelf: &mut F,
 ) -> Result<BlockFile, Refusal<'a>>
-    ensures read { IfOk result (λ file. (bytes : List ℕ)
-        × HaveRead F.read_may_fail F.write_may_fail (F.state shelf.old) (F.state shelf.new)
-        (block_input at name.now ∷ []) (bytes ∷ []) × IsFileOf at bytes file) }
+    ensures reading { IsReadingOf F.read_may_fail F.write_may_fail (F.state shelf.old) (F.state shelf.new)
+        (block_input at name.now) result (IsFileOf at) }
     ensures within_limit { IfOk result IsWithinLimit }
-    // Whatever files come after it.
-    ensures refused { IfErr result (λ refusal. (others : List Input) → HaveNotRead F.read_may_fail F.write_may_fail
-        (F.state shelf.old) (F.state shelf.new) (block_input at name.now ∷ others) refusal) }
 {
     match at {
         Some(address) => {

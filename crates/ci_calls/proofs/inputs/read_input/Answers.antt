@@ -2,7 +2,8 @@
 use Rattle.ci_calls.proofs.InputLaws.{input_given}
 use Rattle.ci_calls.proofs.inputs.read_input.Goals as goal
 
-pub returns-in-Some-clause-read : goal.returns-in-Some-clause-read
-returns-in-Some-clause-read g c =
-    rw c.in-Some.is (input_given g.F.Shelf.read_may_fail g.F.Shelf.write_may_fail _ _ _ c.read_file.result
-    c.read_file.ensures.read c.read_file.ensures.within_limit)
+pub returns-in-Some : goal.returns-in-Some
+returns-in-Some g c =
+    let file = c.read_file.ensures in
+    rw c.in-Some.is (input_given g.F.Shelf.read_may_fail g.F.Shelf.write_may_fail _ _ _ c.read_file.result file.read
+    file.within_limit file.refused)

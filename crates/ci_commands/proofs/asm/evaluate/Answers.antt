@@ -5,8 +5,8 @@ use Rattle.ci_calls.proofs.InputLaws.{one_read, read_without_memory}
 use Rattle.ci_commands.proofs.Causes.{unread_text}
 use Rattle.ci_commands.proofs.asm.evaluate.Goals as goal
 
-pub returns-in_err-bytes-clause-refused : goal.returns-in_err-bytes-clause-refused
-returns-in_err-bytes-clause-refused g c =
+pub returns-in_err-bytes : goal.returns-in_err-bytes
+returns-in_err-bytes g c =
     let p = err_from_is_err_and c.from_residual-in_err-bytes.result c.from_residual-in_err-bytes.ensures.1 in
     let bad = rw c.as_slice.ensures.value at c.in_err-bytes.ensures.fault in
     let file = c.in_ok-read.ensures in
@@ -15,16 +15,16 @@ returns-in_err-bytes-clause-refused g c =
     (g.F.Shelf.state c.read_file.new.shelf) c.args.text.now c.in_ok-read.read.items file.read file.within_limit
     c.in_err-bytes.field-0.0 bad))
 
-pub returns-in_err-vec-clause-refused : goal.returns-in_err-vec-clause-refused
-returns-in_err-vec-clause-refused g c =
+pub returns-in_err-vec : goal.returns-in_err-vec
+returns-in_err-vec g c =
     let p = err_from_is_err_and c.from_residual-in_err-vec.result c.from_residual-in_err-vec.ensures.1 in
     let assembled = rw c.as_slice.ensures.value at c.in_ok-bytes.ensures.bytes in
     let file = c.in_ok-read.ensures in
     rw (p.1, p.2) (inl (read_without_memory _ _ _ _ _ _
     (one_read _ _ _ _ _ c.in_ok-read.read.items file.read file.within_limit (assembled.0, assembled.1))))
 
-pub returns-clause-made : goal.returns-clause-made
-returns-clause-made g c =
+pub returns : goal.returns
+returns g c =
     let bytes = c.in_ok-read.read.items in
     let assembled = rw c.as_slice.ensures.value at c.in_ok-bytes.ensures.bytes in
     let file = c.in_ok-read.ensures in

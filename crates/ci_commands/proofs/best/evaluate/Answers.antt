@@ -8,22 +8,22 @@ use Rattle.ci_commands.specs.BestCommand.{best_inputs, HoldsNoBlock, IsBestRefus
 use Rattle.ci_commands.proofs.Causes.{refused_by}
 use Rattle.ci_commands.proofs.best.evaluate.Goals as goal
 
-pub returns-in_err-block-clause-refused : goal.returns-in_err-block-clause-refused
-returns-in_err-block-clause-refused g c =
+pub returns-in_err-block : goal.returns-in_err-block
+returns-in_err-block g c =
     let p = err_from_is_err_and c.from_residual.result c.from_residual.ensures.1 in
-    rw (p.1, p.2) (inl (c.in_err-block.ensures.refused (optional_input table_input (name_in c.args.settings.now.table))))
+    rw (p.1, p.2) (inl (c.in_err-block.ensures.reading (optional_input table_input (name_in c.args.settings.now.table))))
 
-pub returns-in_err-table-clause-refused : goal.returns-in_err-table-clause-refused
-returns-in_err-table-clause-refused g c =
+pub returns-in_err-table : goal.returns-in_err-table
+returns-in_err-table g c =
     let p = err_from_is_err_and c.from_residual-in_err-table.result c.from_residual-in_err-table.ensures.1 in
-    rw (p.1, p.2) (inl (unread_behind _ _ _ _ _ _ _ _ _ c.in_ok-block.ensures.read.1
-    (rw append-nil at (c.in_err-table.ensures.refused []))))
+    rw (p.1, p.2) (inl (unread_behind _ _ _ _ _ _ _ _ _ c.in_ok-block.ensures.reading.1
+    (rw append-nil at (c.in_err-table.ensures []))))
 
-pub returns-in_err-line-clause-refused : goal.returns-in_err-line-clause-refused
-returns-in_err-line-clause-refused g c =
+pub returns-in_err-line : goal.returns-in_err-line
+returns-in_err-line g c =
     let p = err_from_is_err_and c.from_residual-in_err-line.result c.from_residual-in_err-line.ensures.1 in
-    let file = c.in_ok-block.ensures.read in
-    let table = c.in_ok-table.ensures.read in
+    let file = c.in_ok-block.ensures.reading in
+    let table = c.in_ok-table.ensures in
     let settings = c.args.settings.now in
     rw (p.1, p.2)
     (refused_by g.F.Shelf.read_may_fail g.F.Shelf.write_may_fail (g.F.Shelf.state c.args.shelf.now)
@@ -38,10 +38,10 @@ returns-in_err-line-clause-refused g c =
     })
     c.in_err-line.field-0.0 (c.in_err-line.ensures.cause settings.at file.0 file.2))
 
-pub returns-clause-made : goal.returns-clause-made
-returns-clause-made g c =
-    let file = c.in_ok-block.ensures.read in
-    let table = c.in_ok-table.ensures.read in
+pub returns : goal.returns
+returns g c =
+    let file = c.in_ok-block.ensures.reading in
+    let table = c.in_ok-table.ensures in
     let found = c.in_ok-line.ensures.done c.args.settings.now.at file.0 file.2 in
     record {
       answered = file.0 ∷ optional_bytes table.0;

@@ -6,15 +6,15 @@ use Rattle.ci_commands.specs.BlocksCommand.{blocks_inputs, IsBlocksRefused}
 use Rattle.ci_commands.proofs.Causes.{refused_by}
 use Rattle.ci_commands.proofs.blocks.evaluate.Goals as goal
 
-pub returns-in_err-image-clause-refused : goal.returns-in_err-image-clause-refused
-returns-in_err-image-clause-refused g c =
+pub returns-in_err-image : goal.returns-in_err-image
+returns-in_err-image g c =
     let p = err_from_is_err_and c.from_residual.result c.from_residual.ensures.1 in
-    rw (p.1, p.2) (inl (c.in_err-image.ensures.refused []))
+    rw (p.1, p.2) (inl (c.in_err-image.ensures []))
 
-pub returns-in_err-text-clause-refused : goal.returns-in_err-text-clause-refused
-returns-in_err-text-clause-refused g c =
+pub returns-in_err-text : goal.returns-in_err-text
+returns-in_err-text g c =
     let p = err_from_is_err_and c.from_residual-in_err-text.result c.from_residual-in_err-text.ensures.1 in
-    let image = c.in_ok-image.ensures.read in
+    let image = c.in_ok-image.ensures in
     rw (p.1, p.2)
     (refused_by g.F.Shelf.read_may_fail g.F.Shelf.write_may_fail (g.F.Shelf.state c.args.shelf.now)
     (g.F.Shelf.state c.read_image.new.shelf) (blocks_inputs c.args.file.now) (image.0 ∷ []) image.1 IsBlocksRefused
@@ -22,9 +22,9 @@ returns-in_err-text-clause-refused g c =
     (λ refusal custom. record { bytes = image.0; read_is = refl; file = c.in_ok-image.image; file_is = image.2; custom = custom })
     c.in_err-text.field-0.0 c.in_err-text.ensures.cause)
 
-pub returns-clause-made : goal.returns-clause-made
-returns-clause-made g c =
-    let image = c.in_ok-image.ensures.read in
+pub returns : goal.returns
+returns g c =
+    let image = c.in_ok-image.ensures in
     record {
       answered = image.0 ∷ [];
       read = image.1;

@@ -4,15 +4,15 @@ use Rattle.std.proofs.lemmas.Result.{err_from_is_err_and}
 use Rattle.ci_calls.proofs.InputLaws.{one_read, read_without_memory}
 use Rattle.ci_commands.proofs.dis.evaluate.Goals as goal
 
-pub returns-in_err-text-clause-refused : goal.returns-in_err-text-clause-refused
-returns-in_err-text-clause-refused g c =
+pub returns-in_err-text : goal.returns-in_err-text
+returns-in_err-text g c =
     let p = err_from_is_err_and c.from_residual-in_err-text.result c.from_residual-in_err-text.ensures.1 in
     let file = c.in_ok-bytes.ensures in
     rw (p.1, p.2) (inl (read_without_memory _ _ _ _ _ _
     (one_read _ _ _ _ _ c.in_ok-bytes.bytes.items file.read file.within_limit tt)))
 
-pub returns-clause-made : goal.returns-clause-made
-returns-clause-made g c =
+pub returns : goal.returns
+returns g c =
     let bytes = c.in_ok-bytes.bytes.items in
     record {
       answered = bytes ∷ [];

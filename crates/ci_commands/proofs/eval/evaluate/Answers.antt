@@ -7,14 +7,14 @@ use Rattle.ci_calls.proofs.InputLaws.{read_without_memory}
 use Rattle.ci_commands.specs.EvalCommand.{results_line}
 use Rattle.ci_commands.proofs.eval.evaluate.Goals as goal
 
-pub returns-in_err-modules-clause-refused : goal.returns-in_err-modules-clause-refused
-returns-in_err-modules-clause-refused g c =
+pub returns-in_err-modules : goal.returns-in_err-modules
+returns-in_err-modules g c =
     let p = err_from_is_err_and c.from_residual.result c.from_residual.ensures.1 in
-    rw (p.1, p.2) (inl (c.in_err-modules.ensures.refused []))
+    rw (p.1, p.2) (inl (c.in_err-modules.ensures []))
 
-pub returns-in_default-clause-refused : goal.returns-in_default-clause-refused
-returns-in_default-clause-refused g c =
-    let file = c.in_ok-modules.ensures.read in
+pub returns-in_default : goal.returns-in_default
+returns-in_default g c =
+    let file = c.in_ok-modules.ensures in
     inr (record {
       answered = file.0 ∷ [];
       read = file.1;
@@ -27,14 +27,14 @@ returns-in_default-clause-refused g c =
       };
     })
 
-pub returns-in_err-text-clause-refused : goal.returns-in_err-text-clause-refused
-returns-in_err-text-clause-refused g c =
+pub returns-in_err-text : goal.returns-in_err-text
+returns-in_err-text g c =
     let p = err_from_is_err_and c.from_residual-in_err-text.result c.from_residual-in_err-text.ensures.1 in
-    rw (p.1, p.2) (inl (read_without_memory _ _ _ _ _ _ c.in_ok-modules.ensures.read.1))
+    rw (p.1, p.2) (inl (read_without_memory _ _ _ _ _ _ c.in_ok-modules.ensures.1))
 
-pub returns-clause-made : goal.returns-clause-made
-returns-clause-made g c =
-    let file = c.in_ok-modules.ensures.read in
+pub returns : goal.returns
+returns g c =
+    let file = c.in_ok-modules.ensures in
     let modules = c.in_ok-modules.modules.items in
     let found = rw c.deref.ensures.value at c.in-Some.ensures.lookup in
     record {

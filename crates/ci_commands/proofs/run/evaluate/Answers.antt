@@ -26,56 +26,56 @@ four_read a b c d =
 
 pub run_text-requires-clause-modules : goal.run_text-requires-clause-modules
 run_text-requires-clause-modules g c =
-    let units = c.in_ok-modules.ensures.read in
+    let units = c.in_ok-modules.ensures in
     given_are units.0 (modules_in c.in_ok-modules.modules) units.3
 
-pub returns-in_err-image-clause-refused : goal.returns-in_err-image-clause-refused
-returns-in_err-image-clause-refused g c =
+pub returns-in_err-image : goal.returns-in_err-image
+returns-in_err-image g c =
     let p = err_from_is_err_and c.from_residual.result c.from_residual.ensures.1 in
     let settings = c.args.settings.now in
     rw (p.1, p.2)
-    (inl (c.in_err-image.ensures.refused (optional_input units_input (name_in settings.units)
+    (inl (c.in_err-image.ensures (optional_input units_input (name_in settings.units)
     ++ (optional_input table_input (name_in settings.table) ++ optional_input program_input (name_in settings.input)))))
 
-pub returns-in_err-modules-clause-refused : goal.returns-in_err-modules-clause-refused
-returns-in_err-modules-clause-refused g c =
+pub returns-in_err-modules : goal.returns-in_err-modules
+returns-in_err-modules g c =
     let p = err_from_is_err_and c.from_residual-in_err-modules.result c.from_residual-in_err-modules.ensures.1 in
     let settings = c.args.settings.now in
     rw (p.1, p.2)
-    (inl (unread_behind _ _ _ _ _ _ _ _ _ c.in_ok-image.ensures.read.1
-    (c.in_err-modules.ensures.refused (optional_input table_input (name_in settings.table)
+    (inl (unread_behind _ _ _ _ _ _ _ _ _ c.in_ok-image.ensures.1
+    (c.in_err-modules.ensures (optional_input table_input (name_in settings.table)
     ++ optional_input program_input (name_in settings.input)))))
 
-pub returns-in_err-table-clause-refused : goal.returns-in_err-table-clause-refused
-returns-in_err-table-clause-refused g c =
+pub returns-in_err-table : goal.returns-in_err-table
+returns-in_err-table g c =
     let p = err_from_is_err_and c.from_residual-in_err-table.result c.from_residual-in_err-table.ensures.1 in
     rw (p.1, p.2)
-    (inl (unread_behind _ _ _ _ _ _ _ _ _ c.in_ok-image.ensures.read.1
-    (unread_behind _ _ _ _ _ _ _ _ _ c.in_ok-modules.ensures.read.2
-    (c.in_err-table.ensures.refused (optional_input program_input (name_in c.args.settings.now.input))))))
+    (inl (unread_behind _ _ _ _ _ _ _ _ _ c.in_ok-image.ensures.1
+    (unread_behind _ _ _ _ _ _ _ _ _ c.in_ok-modules.ensures.2
+    (c.in_err-table.ensures (optional_input program_input (name_in c.args.settings.now.input))))))
 
-pub returns-in_err-input-clause-refused : goal.returns-in_err-input-clause-refused
-returns-in_err-input-clause-refused g c =
+pub returns-in_err-input : goal.returns-in_err-input
+returns-in_err-input g c =
     let p = err_from_is_err_and c.from_residual-in_err-input.result c.from_residual-in_err-input.ensures.1 in
     rw (p.1, p.2)
-    (inl (unread_behind _ _ _ _ _ _ _ _ _ c.in_ok-image.ensures.read.1
-    (unread_behind _ _ _ _ _ _ _ _ _ c.in_ok-modules.ensures.read.2
-    (unread_behind _ _ _ _ _ _ _ _ _ c.in_ok-table.ensures.read.2
-    (rw append-nil at (c.in_err-input.ensures.refused []))))))
+    (inl (unread_behind _ _ _ _ _ _ _ _ _ c.in_ok-image.ensures.1
+    (unread_behind _ _ _ _ _ _ _ _ _ c.in_ok-modules.ensures.2
+    (unread_behind _ _ _ _ _ _ _ _ _ c.in_ok-table.ensures.2
+    (rw append-nil at (c.in_err-input.ensures []))))))
 
-pub returns-in_err-text-clause-refused : goal.returns-in_err-text-clause-refused
-returns-in_err-text-clause-refused g c =
+pub returns-in_err-text : goal.returns-in_err-text
+returns-in_err-text g c =
     let p = err_from_is_err_and c.from_residual-in_err-text.result c.from_residual-in_err-text.ensures.1 in
     rw (p.1, p.2)
-    (inl (read_without_memory _ _ _ _ _ _ (four_read c.in_ok-image.ensures.read.1 c.in_ok-modules.ensures.read.2
-    c.in_ok-table.ensures.read.2 c.in_ok-input.ensures.read.2)))
+    (inl (read_without_memory _ _ _ _ _ _ (four_read c.in_ok-image.ensures.1 c.in_ok-modules.ensures.2
+    c.in_ok-table.ensures.2 c.in_ok-input.ensures.2)))
 
-pub returns-clause-made : goal.returns-clause-made
-returns-clause-made g c =
-    let image = c.in_ok-image.ensures.read in
-    let units = c.in_ok-modules.ensures.read in
-    let table = c.in_ok-table.ensures.read in
-    let input = c.in_ok-input.ensures.read in
+pub returns : goal.returns
+returns g c =
+    let image = c.in_ok-image.ensures in
+    let units = c.in_ok-modules.ensures in
+    let table = c.in_ok-table.ensures in
+    let input = c.in_ok-input.ensures in
     record {
       answered = image.0 ∷ (optional_bytes units.0 ++ (optional_bytes table.0 ++ optional_bytes input.0));
       read = four_read image.1 units.2 table.2 input.2;

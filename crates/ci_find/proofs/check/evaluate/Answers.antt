@@ -10,7 +10,7 @@ use Rattle.ci_find.specs.private.Chosen.{check_names_of, settings_by}
 use Rattle.ci_find.specs.CheckCommand.{check_inputs}
 use Rattle.ci_find.specs.Profiled.{run_files, RunFiles, IsProfiled, Profiled}
 use Rattle.ci_find.specs.private.Unprofiled.{IsUnprofiledCause}
-use Rattle.ci_find.proofs.Judgements.{all_read, run_held, profiled_held, judged_made, judged_refused, unprofiled_refused}
+use Rattle.ci_find.proofs.Judgements.{all_read, run_held, profiled_held, judged, unprofiled_refused}
 use Rattle.ci_find.proofs.check.evaluate.Given.{Over}
 use Rattle.ci_find.proofs.check.evaluate.Goals as goal
 use Rattle.ci_find.proofs.check.evaluate.Goals.{In_ok-table, In_ok-profiled}
@@ -25,12 +25,12 @@ all_files : (g : Over) (c : In_ok-table g)
     (g.F.Shelf.state c.read_run_files.new.shelf)
     (check_inputs c.args.file.now (check_names_of c.args.names.now) (name_in c.args.settings.now.table)
     (name_in c.args.settings.now.input))
-    (c.in_ok-image.ensures.read.0 ∷ c.in_ok-choice.choice.new.items ∷ c.in_ok-choice.ensures.read.0
+    (c.in_ok-image.ensures.0 ∷ c.in_ok-choice.choice.new.items ∷ c.in_ok-choice.ensures.read.0
     ∷ c.in_ok-choice.ensures.read.1 ∷ bytes_of_run g c)
 all_files g c =
     let names = c.args.names.now in
     let settings = c.args.settings.now in
-    let image = c.in_ok-image.ensures.read in
+    let image = c.in_ok-image.ensures in
     let choice = c.in_ok-choice.ensures.read in
     all_read g.F.Shelf.read_may_fail g.F.Shelf.write_may_fail (g.F.Shelf.state c.args.shelf.now)
     (g.F.Shelf.state c.read_image.new.shelf) (g.F.Shelf.state c.read_choice.new.shelf)
@@ -42,19 +42,19 @@ all_files g c =
 
 -- what the executable, the table and the input say
 abbrev run_of : (g : Over) (c : In_ok-table g)
-    → RunFiles (settings_by c.args.settings.now) c.in_ok-image.ensures.read.0 (bytes_of_run g c)
+    → RunFiles (settings_by c.args.settings.now) c.in_ok-image.ensures.0 (bytes_of_run g c)
 run_of g c =
-    let image = c.in_ok-image.ensures.read in
+    let image = c.in_ok-image.ensures in
     let run = c.in_ok-table.ensures.read in
     run_held (settings_by c.args.settings.now) image.0 c.in_ok-image.image c.in_ok-table.field-0.table run.0 run.1 image.2
     run.2 run.3 run.5
 
 -- with the profile of the run
 abbrev profiled_of : (g : Over) (c : In_ok-profiled g)
-    → Profiled (settings_by c.args.settings.now) c.in_ok-image.ensures.read.0
+    → Profiled (settings_by c.args.settings.now) c.in_ok-image.ensures.0
     (optional_bytes c.in_ok-table.ensures.read.0 ++ optional_bytes c.in_ok-table.ensures.read.1)
 profiled_of g c =
-    let image = c.in_ok-image.ensures.read in
+    let image = c.in_ok-image.ensures in
     let run = c.in_ok-table.ensures.read in
     let profiled = c.in_ok-profiled.profiled in
     profiled_held (settings_by c.args.settings.now) image.0 c.in_ok-image.image c.in_ok-table.field-0.table run.0 run.1
@@ -63,21 +63,21 @@ profiled_of g c =
     c.args.settings.now.leaders.now profiled.profile profiled.analysis.blocks profiled.analysis.live) run.6
     c.in_ok-profiled.ensures.done)
 
-pub returns-in_err-image-clause-refused : goal.returns-in_err-image-clause-refused
-returns-in_err-image-clause-refused g c =
+pub returns-in_err-image : goal.returns-in_err-image
+returns-in_err-image g c =
     let p = err_from_is_err_and c.from_residual.result c.from_residual.ensures.1 in
     let names = c.args.names.now in
     let settings = c.args.settings.now in
     rw (p.1, p.2)
-    (inl (c.in_err-image.ensures.refused (new_file_input names.new.now ∷ units_input names.units.now
+    (inl (c.in_err-image.ensures (new_file_input names.new.now ∷ units_input names.units.now
     ∷ book_input names.logs.now ∷ run_files (name_in settings.table) (name_in settings.input))))
 
-pub returns-in_err-choice-clause-refused : goal.returns-in_err-choice-clause-refused
-returns-in_err-choice-clause-refused g c =
+pub returns-in_err-choice : goal.returns-in_err-choice
+returns-in_err-choice g c =
     let p = err_from_is_err_and c.from_residual-in_err-choice.result c.from_residual-in_err-choice.ensures.1 in
     let names = c.args.names.now in
     let settings = c.args.settings.now in
-    let image = c.in_ok-image.ensures.read in
+    let image = c.in_ok-image.ensures in
     let bytes : List ℕ = image.0 in
     let files = run_files (name_in settings.table) (name_in settings.input) in
     rw (p.1, p.2)
@@ -87,12 +87,12 @@ returns-in_err-choice-clause-refused g c =
     (new_file_input names.new.now ∷ units_input names.units.now ∷ book_input names.logs.now ∷ files)
     (bytes ∷ []) c.in_err-choice.field-0.0 image.1 (c.in_err-choice.ensures.refused files)))
 
-pub returns-in_err-table-clause-refused : goal.returns-in_err-table-clause-refused
-returns-in_err-table-clause-refused g c =
+pub returns-in_err-table : goal.returns-in_err-table
+returns-in_err-table g c =
     let p = err_from_is_err_and c.from_residual-in_err-table.result c.from_residual-in_err-table.ensures.1 in
     let names = c.args.names.now in
     let settings = c.args.settings.now in
-    let image = c.in_ok-image.ensures.read in
+    let image = c.in_ok-image.ensures in
     let choice = c.in_ok-choice.ensures.read in
     let bytes : List ℕ = image.0 in
     let inputs = new_file_input names.new.now ∷ units_input names.units.now ∷ book_input names.logs.now ∷ [] in
@@ -107,15 +107,15 @@ returns-in_err-table-clause-refused g c =
     (executable_input c.args.file.now ∷ inputs) (run_files (name_in settings.table) (name_in settings.input))
     (bytes ∷ answered) c.in_err-table.field-0.0 read c.in_err-table.ensures.refused))
 
-pub returns-in_err-profiled-clause-refused : goal.returns-in_err-profiled-clause-refused
-returns-in_err-profiled-clause-refused g c =
+pub returns-in_err-profiled : goal.returns-in_err-profiled
+returns-in_err-profiled g c =
     let p = err_from_is_err_and c.from_residual-in_err-profiled.result c.from_residual-in_err-profiled.ensures.1 in
-    let here = (goal.at.returns-in_err-profiled-clause-refused g c).In_ok-table in
+    let here = (goal.at.returns-in_err-profiled g c).In_ok-table in
     let settings = c.args.settings.now in
     let choice = c.in_ok-choice.ensures.read in
     let refusal = c.in_err-profiled.field-0.0 in
     rw (p.1, p.2)
-    (unprofiled_refused c.in_ok-choice.choice c.in_ok-image.ensures.read.0 choice.0 choice.1 (bytes_of_run g here) choice.3
+    (unprofiled_refused c.in_ok-choice.choice c.in_ok-image.ensures.0 choice.0 choice.1 (bytes_of_run g here) choice.3
     choice.4 (settings_by settings) g.F.Shelf.read_may_fail g.F.Shelf.write_may_fail
     (g.F.Shelf.state c.args.shelf.now) (g.F.Shelf.state c.read_run_files.new.shelf)
     (check_inputs c.args.file.now (check_names_of c.args.names.now) (name_in settings.table) (name_in settings.input))
@@ -125,29 +125,17 @@ returns-in_err-profiled-clause-refused g c =
 
 pub judge-answer-requires-clause-image : goal.judge-answer-requires-clause-image
 judge-answer-requires-clause-image g c =
-    let read = c.in_ok-image.ensures.read in
+    let read = c.in_ok-image.ensures in
     subst (λ (bytes : List ℕ). IsReadAs bytes (Ok c.in_ok-image.image)) (sym read.2.same_bytes)
     (read.1.fit.0.well_formed, read.2)
 
-pub returns-clause-made : goal.returns-clause-made
-returns-clause-made g c =
-    let here = (goal.at.returns-clause-made g c).In_ok-table in
-    let profiled = profiled_of g (goal.at.returns-clause-made g c).In_ok-profiled in
+pub returns : goal.returns
+returns g c =
+    let here = (goal.at.returns g c).In_ok-table in
+    let profiled = profiled_of g (goal.at.returns g c).In_ok-profiled in
     let settings = c.args.settings.now in
     let choice = c.in_ok-choice.ensures.read in
-    judged_made c.in_ok-choice.choice c.in_ok-image.ensures.read.0 choice.0 choice.1 (bytes_of_run g here) choice.3 choice.4
-    (settings_by settings) g.F.Shelf.read_may_fail g.F.Shelf.write_may_fail
-    (g.F.Shelf.state c.args.shelf.now) (g.F.Shelf.state c.read_run_files.new.shelf)
-    (check_inputs c.args.file.now (check_names_of c.args.names.now) (name_in settings.table) (name_in settings.input))
-    (all_files g here) profiled c.judge-answer.result c.judge-answer.ensures
-
-pub returns-clause-refused : goal.returns-clause-refused
-returns-clause-refused g c =
-    let here = (goal.at.returns-clause-refused g c).In_ok-table in
-    let profiled = profiled_of g (goal.at.returns-clause-refused g c).In_ok-profiled in
-    let settings = c.args.settings.now in
-    let choice = c.in_ok-choice.ensures.read in
-    judged_refused c.in_ok-choice.choice c.in_ok-image.ensures.read.0 choice.0 choice.1 (bytes_of_run g here) choice.3 choice.4
+    judged c.in_ok-choice.choice c.in_ok-image.ensures.0 choice.0 choice.1 (bytes_of_run g here) choice.3 choice.4
     (settings_by settings) g.F.Shelf.read_may_fail g.F.Shelf.write_may_fail
     (g.F.Shelf.state c.args.shelf.now) (g.F.Shelf.state c.read_run_files.new.shelf)
     (check_inputs c.args.file.now (check_names_of c.args.names.now) (name_in settings.table) (name_in settings.input))

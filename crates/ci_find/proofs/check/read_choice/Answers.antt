@@ -13,11 +13,11 @@ two_read : (g : Over) (c : In_ok-modules g)
     → HaveRead g.F.Shelf.read_may_fail g.F.Shelf.write_may_fail (g.F.Shelf.state c.args.shelf.now)
     (g.F.Shelf.state c.read_units.new.shelf)
     (new_file_input c.args.names.now.new.now ∷ units_input c.args.names.now.units.now ∷ [])
-    (c.in_ok-new.new.items ∷ c.in_ok-modules.ensures.read.0 ∷ [])
+    (c.in_ok-new.new.items ∷ c.in_ok-modules.ensures.0 ∷ [])
 two_read g c =
     let names = c.args.names.now in
     let bytes : List ℕ = c.in_ok-new.new.items in
-    let modules = c.in_ok-modules.ensures.read in
+    let modules = c.in_ok-modules.ensures in
     HaveRead-append g.F.Shelf.read_may_fail g.F.Shelf.write_may_fail (g.F.Shelf.state c.args.shelf.now)
     (g.F.Shelf.state c.read_new_file.new.shelf) (g.F.Shelf.state c.read_units.new.shelf)
     (new_file_input names.new.now ∷ []) (units_input names.units.now ∷ []) (bytes ∷ []) (modules.0 ∷ [])
@@ -40,7 +40,7 @@ returns-in_err-modules-clause-refused g c =
     (g.F.Shelf.state c.read_new_file.new.shelf) (g.F.Shelf.state c.read_units.new.shelf)
     (new_file_input names.new.now ∷ []) (units_input names.units.now ∷ book_input names.logs.now ∷ others)
     (bytes ∷ []) c.in_err-modules.field-0.0 c.in_ok-new.ensures.read
-    (c.in_err-modules.ensures.refused (book_input names.logs.now ∷ others)))
+    (c.in_err-modules.ensures (book_input names.logs.now ∷ others)))
 
 pub returns-in_err-book-clause-refused : goal.returns-in_err-book-clause-refused
 returns-in_err-book-clause-refused g c =
@@ -51,15 +51,15 @@ returns-in_err-book-clause-refused g c =
     (λ others. unread_behind g.F.Shelf.read_may_fail g.F.Shelf.write_may_fail (g.F.Shelf.state c.args.shelf.now)
     (g.F.Shelf.state c.read_units.new.shelf) (g.F.Shelf.state c.read_book.new.shelf)
     (new_file_input names.new.now ∷ units_input names.units.now ∷ []) (book_input names.logs.now ∷ others)
-    (bytes ∷ c.in_ok-modules.ensures.read.0 ∷ []) c.in_err-book.field-0.0
-    (two_read g (goal.at.returns-in_err-book-clause-refused g c).In_ok-modules) (c.in_err-book.ensures.refused others))
+    (bytes ∷ c.in_ok-modules.ensures.0 ∷ []) c.in_err-book.field-0.0
+    (two_read g (goal.at.returns-in_err-book-clause-refused g c).In_ok-modules) (c.in_err-book.ensures others))
 
 pub returns-clause-read : goal.returns-clause-read
 returns-clause-read g c =
     let names = c.args.names.now in
     let bytes : List ℕ = c.in_ok-new.new.items in
-    let modules = c.in_ok-modules.ensures.read in
-    let book = c.in_ok-book.ensures.read in (
+    let modules = c.in_ok-modules.ensures in
+    let book = c.in_ok-book.ensures in (
       modules.0,
       book.0,
       HaveRead-append g.F.Shelf.read_may_fail g.F.Shelf.write_may_fail (g.F.Shelf.state c.args.shelf.now)

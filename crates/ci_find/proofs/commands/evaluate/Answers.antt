@@ -13,7 +13,7 @@ returns-in-Ok-clause-done g c =
     rw c.as_slice.ensures.value at c.in-Ok.ensures.ok in
     due_by_calls g.F.Shelf.read_may_fail g.F.Shelf.write_may_fail (g.F.Shelf.state c.args.shelf.now)
     (g.F.Shelf.state c.evaluate_command.new.shelf) (map string_bytes c.args.words.now.items) (reading_of c.in-Ok.said)
-    reads_as c.command.result c.command.ensures c.evaluate_command.result c.evaluate_command.ensures.made
+    reads_as c.command.result c.command.ensures c.evaluate_command.result c.evaluate_command.ensures
 
 pub returns-in-Ok-clause-refused : goal.returns-in-Ok-clause-refused
 returns-in-Ok-clause-refused g c =
@@ -21,7 +21,7 @@ returns-in-Ok-clause-refused g c =
     rw c.as_slice.ensures.value at c.in-Ok.ensures.ok in
     refused_by_calls g.F.Shelf.read_may_fail g.F.Shelf.write_may_fail (g.F.Shelf.state c.args.shelf.now)
     (g.F.Shelf.state c.evaluate_command.new.shelf) (map string_bytes c.args.words.now.items) (reading_of c.in-Ok.said)
-    reads_as c.command.result c.command.ensures c.evaluate_command.result c.evaluate_command.ensures.refused
+    reads_as c.command.result c.command.ensures c.evaluate_command.result c.evaluate_command.ensures
 
 pub returns-in-Err-NoReading-clause-refused : goal.returns-in-Err-NoReading-clause-refused
 returns-in-Err-NoReading-clause-refused g c =

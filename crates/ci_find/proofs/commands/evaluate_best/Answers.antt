@@ -1,5 +1,5 @@
 -- The settings are those that the words say, and the numbers are in the ranges of the options of `best`.
-use Rattle.std.proofs.Common.{◌≡◌, ◌∙◌, ℕ, inl, Bool, List, Option, Result, Ok, Err, IfOk, arith, refl, subst}
+use Rattle.std.proofs.Common.{◌≡◌, ◌∙◌, ℕ, inl, Bool, List, Option, Result, Ok, Err, arith, refl, subst}
 use Rattle.std.proofs.lemmas.Result.{err_from_is_err_and}
 use Rattle.ci_io.specs.Outcomes.{ShelfState}
 use Rattle.ci_cut.specs.declared.graph.Limits.{Limits}
@@ -10,10 +10,10 @@ use Rattle.ci_arguments.specs.declared.tables.CommandName.TheVariants.{Best}
 use Rattle.ci_arguments.specs.declared.tables.OptionName.TheVariants.{At, Inputs, Leader, Outputs, Budget, Table}
 use Rattle.ci_calls.specs.declared.refusals.Refusal.{Refusal}
 use Rattle.ci_calls.specs.declared.success.Success.{Success}
-use Rattle.ci_calls.specs.Reads.{IsSuccessOf}
+use Rattle.ci_calls.specs.Reads.{IsAnswerOf}
 use Rattle.ci_calls.proofs.InputLaws.{nothing_read}
-use Rattle.ci_commands.specs.BestCommand.{best_inputs, IsBestMade}
-use Rattle.ci_find.specs.Commands.{inputs_by, MakesBy}
+use Rattle.ci_commands.specs.BestCommand.{best_inputs, IsBestMade, IsBestRefused}
+use Rattle.ci_find.specs.Commands.{IsAnswerBy}
 use Rattle.ci_find.proofs.commands.evaluate_best.Goals as goal
 
 pub overflow_cast-settings : goal.overflow_cast-settings
@@ -30,40 +30,40 @@ overflow_cast-settings-3 g c = omega (arith, c.requires Budget 1 4194304 refl, c
 
 module _
     (read_may_fail write_may_fail : List ℕ → Bool) (before after : ShelfState) (reading : Reading) (limits : Limits) where
-  -- what is made by settings
-  abbrev IsMadeBy :
+  -- what is answered by settings
+  abbrev IsAnsweredBy :
       (file : List ℕ) (at : Option ℕ) (leaders : List ℕ) (budget : ℕ) (table : Option (List ℕ))
       → Result Success Refusal → Type 0
-  IsMadeBy file at leaders budget table result =
-      IfOk result (IsSuccessOf read_may_fail write_may_fail before after (best_inputs at file table)
-      (IsBestMade at leaders limits budget table))
+  IsAnsweredBy file at leaders budget table =
+      IsAnswerOf read_may_fail write_may_fail before after (best_inputs at file table)
+      (IsBestMade at leaders limits budget table) (IsBestRefused at leaders)
 
   -- by those that the words say
-  abbrev IsMadeBySaid : Result Success Refusal → Type 0
-  IsMadeBySaid =
-      IsMadeBy (name_at reading 0) (word_set reading At) (words_set reading Leader) (number_set reading Budget)
+  abbrev IsAnsweredBySaid : Result Success Refusal → Type 0
+  IsAnsweredBySaid =
+      IsAnsweredBy (name_at reading 0) (word_set reading At) (words_set reading Leader) (number_set reading Budget)
       (name_set reading Table)
 
   -- where they are the same
   same_settings :
       (result : Result Success Refusal) (file : List ℕ) (at : Option ℕ) (leaders : List ℕ) (budget : ℕ)
-      (table : Option (List ℕ)) → IsMadeBy file at leaders budget table result → file ≡ name_at reading 0
+      (table : Option (List ℕ)) → IsAnsweredBy file at leaders budget table result → file ≡ name_at reading 0
       → at ≡ word_set reading At → leaders ≡ words_set reading Leader → budget ≡ number_set reading Budget
-      → table ≡ name_set reading Table → IsMadeBySaid result
-  same_settings result file at leaders budget table made file_is at_is leaders_are budget_is table_is =
-      subst (λ T. T) (λ i. IsMadeBy (file_is i) (at_is i) (leaders_are i) (budget_is i) (table_is i) result) made
+      → table ≡ name_set reading Table → IsAnsweredBySaid result
+  same_settings result file at leaders budget table answer file_is at_is leaders_are budget_is table_is =
+      subst (λ T. T) (λ i. IsAnsweredBy (file_is i) (at_is i) (leaders_are i) (budget_is i) (table_is i) result) answer
 
   -- with the limits of the words
-  made_by :
-      (result : Result Success Refusal) → IsMadeBySaid result → limits.inputs ≡ number_set reading Inputs
+  answered_by :
+      (result : Result Success Refusal) → IsAnsweredBySaid result → limits.inputs ≡ number_set reading Inputs
       → limits.outputs ≡ number_set reading Outputs
-      → IfOk result (IsSuccessOf read_may_fail write_may_fail before after (inputs_by Best reading) (MakesBy Best reading))
-  made_by (Ok success) made inputs outputs =
+      → IsAnswerBy read_may_fail write_may_fail before after Best reading result
+  answered_by (Ok success) made inputs outputs =
       record { answered = made.answered; read = made.read; made = (limits, inputs, outputs, made.made) }
-  made_by (Err refusal) made inputs outputs = tt
+  answered_by (Err refusal) refused inputs outputs = refused
 
-pub returns-in_err-leaders-clause-refused : goal.returns-in_err-leaders-clause-refused
-returns-in_err-leaders-clause-refused g c =
+pub returns-in_err-leaders : goal.returns-in_err-leaders
+returns-in_err-leaders g c =
     let p = err_from_is_err_and c.from_residual.result c.from_residual.ensures.1 in
     rw (p.1, p.2)
     (inl (nothing_read g.F.Shelf.read_may_fail g.F.Shelf.write_may_fail (g.F.Shelf.state c.args.shelf.now) _))
@@ -82,13 +82,13 @@ pub evaluate-requires : goal.evaluate-requires
 unfolding commands
 evaluate-requires g c = omega (arith, c.requires Budget 1 4194304 refl, c.number-3.ensures)
 
-pub returns-clause-made : goal.returns-clause-made
-returns-clause-made g c =
+pub returns : goal.returns
+returns g c =
     let reading = reading_of c.args.words.now in
-    made_by g.F.Shelf.read_may_fail g.F.Shelf.write_may_fail (g.F.Shelf.state c.args.shelf.now)
+    answered_by g.F.Shelf.read_may_fail g.F.Shelf.write_may_fail (g.F.Shelf.state c.args.shelf.now)
     (g.F.Shelf.state c.evaluate.new.shelf) reading _ c.evaluate.result
     (same_settings g.F.Shelf.read_may_fail g.F.Shelf.write_may_fail (g.F.Shelf.state c.args.shelf.now)
     (g.F.Shelf.state c.evaluate.new.shelf) reading _ c.evaluate.result c.name_at.result.now c.word.result
-    c.as_slice.result.now c.number-3.result _ c.evaluate.ensures.made c.name_at.ensures c.word.ensures
+    c.as_slice.result.now c.number-3.result _ c.evaluate.ensures c.name_at.ensures c.word.ensures
     (c.as_slice.ensures.value ∙ c.in_ok-leaders.ensures) c.number-3.ensures c.name.ensures)
     c.number.ensures c.number-2.ensures

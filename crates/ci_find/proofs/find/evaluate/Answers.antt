@@ -23,10 +23,10 @@ all_files : (g : Over) (c : In_ok-table g)
     → HaveRead g.F.Shelf.read_may_fail g.F.Shelf.write_may_fail (g.F.Shelf.state c.args.shelf.now)
     (g.F.Shelf.state c.read_run_files.new.shelf)
     (find_inputs c.args.file.now (name_in c.args.settings.now.table) (name_in c.args.settings.now.input))
-    (c.in_ok-image.ensures.read.0 ∷ bytes_of_run g c)
+    (c.in_ok-image.ensures.0 ∷ bytes_of_run g c)
 all_files g c =
     let settings = c.args.settings.now in
-    let image = c.in_ok-image.ensures.read in
+    let image = c.in_ok-image.ensures in
     let bytes : List ℕ = image.0 in
     HaveRead-append g.F.Shelf.read_may_fail g.F.Shelf.write_may_fail (g.F.Shelf.state c.args.shelf.now)
     (g.F.Shelf.state c.read_image.new.shelf) (g.F.Shelf.state c.read_run_files.new.shelf)
@@ -35,24 +35,24 @@ all_files g c =
 
 -- what the executable, the table and the input say
 abbrev run_of : (g : Over) (c : In_ok-table g)
-    → RunFiles (settings_by c.args.settings.now) c.in_ok-image.ensures.read.0 (bytes_of_run g c)
+    → RunFiles (settings_by c.args.settings.now) c.in_ok-image.ensures.0 (bytes_of_run g c)
 run_of g c =
-    let image = c.in_ok-image.ensures.read in
+    let image = c.in_ok-image.ensures in
     let run = c.in_ok-table.ensures.read in
     files_of (settings_by c.args.settings.now) image.0 run.0 run.1 c.in_ok-image.image c.in_ok-table.field-0.table run.2
     run.3 image.2 run.5
 
-pub returns-in_err-image-clause-refused : goal.returns-in_err-image-clause-refused
-returns-in_err-image-clause-refused g c =
+pub returns-in_err-image : goal.returns-in_err-image
+returns-in_err-image g c =
     let p = err_from_is_err_and c.from_residual.result c.from_residual.ensures.1 in
     let settings = c.args.settings.now in
-    rw (p.1, p.2) (inl (c.in_err-image.ensures.refused (run_files (name_in settings.table) (name_in settings.input))))
+    rw (p.1, p.2) (inl (c.in_err-image.ensures (run_files (name_in settings.table) (name_in settings.input))))
 
-pub returns-in_err-table-clause-refused : goal.returns-in_err-table-clause-refused
-returns-in_err-table-clause-refused g c =
+pub returns-in_err-table : goal.returns-in_err-table
+returns-in_err-table g c =
     let p = err_from_is_err_and c.from_residual-in_err-table.result c.from_residual-in_err-table.ensures.1 in
     let settings = c.args.settings.now in
-    let image = c.in_ok-image.ensures.read in
+    let image = c.in_ok-image.ensures in
     let bytes : List ℕ = image.0 in
     rw (p.1, p.2)
     (inl (unread_behind g.F.Shelf.read_may_fail g.F.Shelf.write_may_fail (g.F.Shelf.state c.args.shelf.now)
@@ -60,13 +60,13 @@ returns-in_err-table-clause-refused g c =
     (executable_input c.args.file.now ∷ []) (run_files (name_in settings.table) (name_in settings.input)) (bytes ∷ [])
     c.in_err-table.field-0.0 image.1 c.in_err-table.ensures.refused))
 
-pub returns-in_err-profiled-clause-refused : goal.returns-in_err-profiled-clause-refused
-returns-in_err-profiled-clause-refused g c =
+pub returns-in_err-profiled : goal.returns-in_err-profiled
+returns-in_err-profiled g c =
     let p = err_from_is_err_and c.from_residual-in_err-profiled.result c.from_residual-in_err-profiled.ensures.1 in
-    let here = (goal.at.returns-in_err-profiled-clause-refused g c).In_ok-table in
+    let here = (goal.at.returns-in_err-profiled g c).In_ok-table in
     let settings = c.args.settings.now in
     rw (p.1, p.2)
-    (find_refused (settings_by settings) c.in_ok-image.ensures.read.0 (bytes_of_run g here)
+    (find_refused (settings_by settings) c.in_ok-image.ensures.0 (bytes_of_run g here)
     (find_inputs c.args.file.now (name_in settings.table) (name_in settings.input)) (run_of g here)
     c.in_ok-table.field-0.input.items c.in_ok-table.ensures.read.6 g.F.Shelf.read_may_fail g.F.Shelf.write_may_fail
     (g.F.Shelf.state c.args.shelf.now) (g.F.Shelf.state c.read_run_files.new.shelf) (all_files g here)
@@ -74,27 +74,27 @@ returns-in_err-profiled-clause-refused g c =
 
 pub success_of-outcome-requires-clause-image : goal.success_of-outcome-requires-clause-image
 success_of-outcome-requires-clause-image g c =
-    let read = c.in_ok-image.ensures.read in
+    let read = c.in_ok-image.ensures in
     subst (λ (bytes : List ℕ). IsReadAs bytes (Ok c.in_ok-image.image)) (sym read.2.same_bytes)
     (read.1.fit.0.well_formed, read.2)
 
-pub returns-in_err-success-clause-refused : goal.returns-in_err-success-clause-refused
-returns-in_err-success-clause-refused g c =
+pub returns-in_err-success : goal.returns-in_err-success
+returns-in_err-success g c =
     let p = err_from_is_err_and c.from_residual-in_err-success.result c.from_residual-in_err-success.ensures.1 in
-    let here = (goal.at.returns-in_err-success-clause-refused g c).In_ok-table in
+    let here = (goal.at.returns-in_err-success g c).In_ok-table in
     let settings = c.args.settings.now in
     rw (p.1, p.2)
     (inl (read_without_memory g.F.Shelf.read_may_fail g.F.Shelf.write_may_fail (g.F.Shelf.state c.args.shelf.now)
     (g.F.Shelf.state c.read_run_files.new.shelf)
     (find_inputs c.args.file.now (name_in settings.table) (name_in settings.input))
-    (c.in_ok-image.ensures.read.0 ∷ bytes_of_run g here) (all_files g here)))
+    (c.in_ok-image.ensures.0 ∷ bytes_of_run g here) (all_files g here)))
 
-pub returns-clause-made : goal.returns-clause-made
-returns-clause-made g c =
-    let here = (goal.at.returns-clause-made g c).In_ok-table in
+pub returns : goal.returns
+returns g c =
+    let here = (goal.at.returns g c).In_ok-table in
     let settings = c.args.settings.now in
     let profiled = c.in_ok-profiled.profiled in
-    find_made (settings_by settings) c.in_ok-image.ensures.read.0 (bytes_of_run g here)
+    find_made (settings_by settings) c.in_ok-image.ensures.0 (bytes_of_run g here)
     (find_inputs c.args.file.now (name_in settings.table) (name_in settings.input)) (run_of g here)
     c.in_ok-table.field-0.input.items c.in_ok-table.ensures.read.6 g.F.Shelf.read_may_fail g.F.Shelf.write_may_fail
     (g.F.Shelf.state c.args.shelf.now) (g.F.Shelf.state c.read_run_files.new.shelf) (all_files g here)

@@ -1,12 +1,19 @@
 -- The plain machine runs from the opening state, and its profile tells whether the text is touched.
 use Rattle.std.proofs.Common.{inl, subst}
+use Rattle.std.proofs.lemmas.Result.{err_from_is_err_and}
 use Rattle.ci_machine.specs.States.{program_of, state_of}
 use Rattle.ci_machine.specs.Words.{AreBytes}
 use Rattle.ci_machine.proofs.PlainMeaning.{plain_exists}
 use Rattle.ci_emu.specs.TableLatencies.{latencies_of}
 use Rattle.ci_find.specs.Profiled.{touches}
-use Rattle.ci_find.proofs.ProfiledRuns.{opened, first_touch}
+use Rattle.ci_find.proofs.ProfiledRuns.{opened, first_touch, custom_refused}
 use Rattle.ci_find.proofs.profiling.profiled_run.Goals as goal
+
+pub returns-in_err-refuse_custom_words-clause-cause : goal.returns-in_err-refuse_custom_words-clause-cause
+returns-in_err-refuse_custom_words-clause-cause c =
+    let p = err_from_is_err_and c.from_residual.result c.from_residual.ensures.1 in
+    rw (p.1, p.2) (custom_refused c.args.image.now c.args.input.items c.args.steps
+    c.in_err-refuse_custom_words.field-0.0 c.in_err-refuse_custom_words.ensures.cause)
 
 pub returns-in-Some-clause-cause : goal.returns-in-Some-clause-cause
 returns-in-Some-clause-cause c =
