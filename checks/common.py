@@ -74,6 +74,12 @@ def text_of(name):
     return read(os.path.join(TOP, name)).decode(errors="replace")
 
 
+def crates():
+    """The crates of crates.txt, in its order, each with the libraries that it stands on."""
+    lines = (line.partition("#")[0].partition(":") for line in text_of("crates.txt").splitlines())
+    return {name.split()[0]: rest.split() for name, colon, rest in lines if colon}
+
+
 def missing(packages):
     """A line that says which tools are not there, by the Debian packages that have them; None where all are."""
     absent = [tool for tool in packages if not shutil.which(tool)]

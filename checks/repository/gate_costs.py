@@ -18,7 +18,7 @@ import sys
 import threading
 import time
 
-from checks.common import TOP, text_of, words
+from checks.common import TOP, crates, text_of, words
 
 DOCUMENT = os.path.join(TOP, "docs", "PROOFS.md")
 PLACE = re.compile(r"(?<=<!-- gate -->\n).*?(?=<!-- /gate -->)", re.S)
@@ -83,12 +83,6 @@ class Sampler(threading.Thread):
         for what, seconds in self.seen.values():
             total[what] += seconds
         return total
-
-
-def crates():
-    """The repository's crates, in the order of crates.txt."""
-    return [line.partition(":")[0].strip() for line in text_of("crates.txt").splitlines()
-            if ":" in line and not line.startswith("#")]
 
 
 def table(sums, edits, minutes):

@@ -9,24 +9,17 @@ import os
 import re
 import textwrap
 
-from checks.common import TOP, end, text_of, words
+from checks.common import TOP, crates, end, text_of, words
 
 DOCUMENT = "docs/ARCHITECTURE.md"
 FIGURE = re.compile(r"(?<=<!-- layers -->\n```text\n).*?(?=```\n<!-- /layers -->\n)", re.S)
-
-
-def crates():
-    """The crates of crates.txt, each with those that it stands on."""
-    lines = re.sub("#.*", "", text_of("crates.txt")).splitlines()
-    stands_on = {name.strip(): rest.split() for name, _, rest in (line.partition(":") for line in lines if line.strip())}
-    return {name: [other for other in others if other in stands_on] for name, others in stands_on.items()}
 
 
 def layers(below):
     """The layers from the lowest on, each as the list of its crates in the order of crates.txt, and the crates that are
     in none."""
     done, found = set(), []
-    while layer := [name for name in below if name not in done and done.issuperset(below[name])]:
+    while layer := [name for name in below if name not in done and done.issuperset(below.keys() & below[name])]:
         found.append(layer)
         done.update(layer)
     return found, [name for name in below if name not in done]

@@ -7,7 +7,7 @@ import functools
 import os
 import re
 
-from checks.common import TOP, text_of
+from checks.common import TOP, crates, text_of
 from checks.repository import definitions
 from checks.repository.definitions import Fault
 
@@ -29,9 +29,7 @@ class Sources:
 
     def __init__(self, changed=None):
         self.changed = changed or {}
-        lines = re.sub(r"#.*", "", text_of("crates.txt")).splitlines()
-        parts = (line.partition(":") for line in lines if line.strip())
-        self.crates = {name.split()[0]: rest.replace(",", " ").split() for name, _, rest in parts}
+        self.crates = crates()
         self.text = functools.lru_cache(maxsize=None)(lambda name: self.changed.get(name) or text_of(name))
         self.definitions = functools.lru_cache(maxsize=None)(self.definitions_of)
         self.code = functools.lru_cache(maxsize=None)(lambda name: Code(name, self.text(name)))

@@ -1,8 +1,7 @@
 -- The faults and the matches of `clap`, against the reading of the words after the command.
-use Rattle.std.proofs.Common.{◌≡◌, ◌∙◌, ◌||◌, ◌&&◌, Bool, true, false, not, List, [], ◌∷◌, ◌++◌, map, codes, refl, sym, ap, subst, fold, append_assoc}
-use Rattle.std.specs.Prelude.{All, Contains, if◌then◌else◌}
+use Rattle.std.proofs.Common.{◌≡◌, ◌∙◌, ◌||◌, ◌&&◌, Bool, true, false, not, List, [], ◌∷◌, map, codes, refl, sym, ap, subst, fold}
+use Rattle.std.specs.Prelude.{Contains, if◌then◌else◌}
 use Rattle.std.specs.List.{list_any}
-use Rattle.std.proofs.lemmas.List.Elements.{All-head, All-tail}
 use Rattle.clap.specs.Kinds.{Kinds, check_kinds, or_else}
 use Rattle.clap.specs.Walk.{Held, Row, Rule, Text, finished, has_row, settled, walked, with_default}
 use Rattle.clap.specs.Walk as w
@@ -10,15 +9,13 @@ use Rattle.clap.specs.Takes.{is_given}
 use Rattle.clap.specs.Simple.{App, matches_of, rows_at}
 use Rattle.clap.specs.Faults.{built_fault, check_fault, defaults_fault, fault_of, settle_fault, walk_fault}
 use Rattle.clap.proofs.FaultLemmas.{leaf_fault}
-use Rattle.ci_arguments.specs.Words.{AreMixed, IsName, Item, options, positionals, spellings}
-use Rattle.ci_arguments.specs.Words as item
 use Rattle.ci_arguments.specs.private.Parses.{Known, app_for}
 use Rattle.ci_arguments.proofs.Rows.{AreOf, no_rows}
 use Rattle.ci_arguments.proofs.Rules.{built_is, names_rule, option_rule, rules, shape}
-use Rattle.ci_arguments.proofs.States.{AreOnce, Holds, IsOption, both_none, first_none, new_option, second_none}
+use Rattle.ci_arguments.proofs.States.{Holds, IsOption, both_none, first_none, second_none}
 use Rattle.ci_arguments.proofs.Steps.{at}
-use Rattle.ci_arguments.proofs.Complete.{ProperAfter, items_pass}
-use Rattle.ci_arguments.proofs.Sound.{words_found}
+use Rattle.ci_arguments.proofs.Complete.{AreRead, mixed_passes}
+use Rattle.ci_arguments.proofs.Sound.{Found, words_found}
 
 -- ---- no argument has a default value, and none is required
 
@@ -93,42 +90,7 @@ module _ (name : Text) (known : Known) (first : Text) (words : List Text) where
       ∙ both_none _ _ walks
       (both_none _ _ settles (both_none _ _ (defaults_none (settled (rules known) end).rows known) (checks_none name known (finished (rules known) end))))
 
--- ---- what is read passes
-
--- words that are these names, and these options of a command that knows such: each option once, and no name or value
--- that begins with a hyphen
-pub record AreRead (known : Known) (words names : List Text) (given : List (Text × Text)) : Type 0 where
-  pub mixed : AreMixed words names given
-  pub of_command : All (λ o. Contains known.names o.0) given
-  pub once : AreOnce known given
-  pub good_names : All IsName names
-  pub good_values : All (λ o. IsName o.1) given
-
--- what is read is names and options that are given once
-proper : (known : Known) (items : List Item) (last : List Text) (given : List (Text × Text)) → All IsName (positionals items ++ last)
-    → All (λ o. Contains known.names o.0) (options items)
-    → All (λ o. IsName o.1) (options items) → AreOnce known (given ++ options items) → ProperAfter known given items
-proper known [] last given names among values once = tt
-proper known (item.positional word ∷ items) last given names among values once = (
-  All-head IsName word (positionals items ++ last) names,
-  proper known items last given (All-tail IsName word (positionals items ++ last) names) among values once,
-)
-proper known (item.option_in_two name value ∷ items) last given names among values once = (
-  All-head (λ o. Contains known.names o.0) (name, value) (options items) among,
-  All-head (λ o. IsName o.1) (name, value) (options items) values,
-  new_option known given name value (options items) once,
-  proper known items last (given ++ (name, value) ∷ []) names (All-tail (λ o. Contains known.names o.0) (name, value) (options items) among)
-      (All-tail (λ o. IsName o.1) (name, value) (options items) values)
-      (subst (AreOnce known) (sym (append_assoc given ((name, value) ∷ []) (options items))) once),
-)
-proper known (item.option_in_one name value ∷ items) last given names among values once = (
-  All-head (λ o. Contains known.names o.0) (name, value) (options items) among,
-  All-head (λ o. IsName o.1) (name, value) (options items) values,
-  new_option known given name value (options items) once,
-  proper known items last (given ++ (name, value) ∷ []) names (All-tail (λ o. Contains known.names o.0) (name, value) (options items) among)
-      (All-tail (λ o. IsName o.1) (name, value) (options items) values)
-      (subst (AreOnce known) (sym (append_assoc given ((name, value) ∷ []) (options items))) once),
-)
+-- ---- what is read
 
 -- what the command's matches are, where they have no fault
 pub record Meets (name : Text) (known : Known) (words names : List Text) (given : List (Text × Text)) : Type 0 where
@@ -137,49 +99,19 @@ pub record Meets (name : Text) (known : Known) (words names : List Text) (given 
 
 module _ (name : Text) (known : Known) (fits : (k : Text) → Contains known.names k → IsOption k) (first : Text) where
   -- what is read has no fault, and the matches have it
-  pub read_meets : (words names : List Text) (given : List (Text × Text)) → AreRead known words names given → Meets name known (first ∷ words) names given
+  pub read_meets : (words names : List Text) (given : List (Text × Text)) → AreRead name known [] words names given
+      → Meets name known (first ∷ words) names given
   read_meets words names given read =
-      let mixed = read.mixed in
-      let is_proper = proper known mixed.items mixed.last [] (subst (All IsName) mixed.in_order read.good_names)
-      (subst (All (λ o. Contains known.names o.0)) mixed.mixed_in read.of_command)
-      (subst (All (λ o. IsName o.1)) mixed.mixed_in read.good_values) (subst (AreOnce known) mixed.mixed_in read.once) in
       let start : Holds known w.nothing_held [] [] = record { settles = refl; stands = no_rows; skips = refl } in
-      let passes = items_pass name known fits mixed.items mixed.ending mixed.last mixed.ends w.idle w.nothing_held [] names [] given tt mixed.in_order
-      mixed.mixed_in is_proper start in
-      subst (λ ws. Meets name known (first ∷ ws) names given) (sym mixed.whole) (record {
-        faultless = no_faults name known first (spellings mixed.items ++ mixed.ending) passes.faultless passes.ends.settles;
-        stands = subst (λ rs. AreOf rs names given) (sym (matches_are name known first (spellings mixed.items ++ mixed.ending))) passes.ends.stands;
-      })
+      let passes = mixed_passes name known fits read.mixed read.plain read.of_command w.idle w.nothing_held [] [] tt read.once start in
+      record {
+        faultless = no_faults name known first words passes.faultless passes.ends.settles;
+        stands = subst (λ rs. AreOf rs names given) (sym (matches_are name known first words)) passes.ends.stands;
+      }
 
-  -- and what passes is read, but for what its names and values look like
-  pub record Reads (words : List Text) : Type 0 where
-    pub names : List Text
-    pub given : List (Text × Text)
-    pub mixed : AreMixed words names given
-    pub of_command : All (λ o. Contains known.names o.0) given
-    pub once : AreOnce known given
-    pub stands : AreOf (matches_of (app_for name known) (first ∷ words)) names given
-
-  -- what has no fault is read
-  pub passed_reads : (words : List Text) → fault_of (app_for name known) (first ∷ words) ≡ [] → Reads words
+  -- and what has no fault is read
+  pub passed_reads : (words : List Text) → fault_of (app_for name known) (first ∷ words) ≡ [] → Found name known [] words
   passed_reads words none =
       let faults = sym (faults_are name known first words) ∙ none in
-      let found = words_found name known fits words (first_none _ _ faults)
-      (first_none _ _ (second_none (walk_fault (shape name known) [] (at w.idle false w.nothing_held) words) _ faults)) in
-      record {
-        names = positionals found.items ++ found.last;
-        given = options found.items;
-        mixed = record {
-          items = found.items;
-          last = found.last;
-          ending = found.ending;
-          whole = found.whole;
-          ends = found.ends;
-          in_order = refl;
-          mixed_in =
-              refl;
-        };
-        of_command = found.of_command;
-        once = found.once;
-        stands = subst (λ rs. AreOf rs (positionals found.items ++ found.last) (options found.items)) (sym (matches_are name known first words)) found.stands;
-      }
+      words_found name known fits words (first_none _ _ faults)
+      (first_none _ _ (second_none (walk_fault (shape name known) [] (at w.idle false w.nothing_held) words) _ faults))

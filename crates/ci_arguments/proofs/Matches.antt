@@ -1,21 +1,18 @@
 -- The values that the matches have, and the first of the words.
 use Rattle.std.proofs.Common.{◌≡◌, ◌∙◌, List, [], ◌∷◌, map, sym, ap}
 use Rattle.std.specs.Prelude.{IfNone, Option, Some, None, option_map, slice_get, unwrap_or}
+use Rattle.std.proofs.lemmas.Option.{same_Some}
 use Rattle.clap.specs.Matches.{matched_of, raw_values}
 use Rattle.clap.specs.Walk.{Text, rows_of}
 use Rattle.clap.specs.declared.parser.matches.Found.{Found}
 use Rattle.clap.proofs.WalkLemmas.{raw_values-rows}
 use Rattle.ci_arguments.specs.private.Parses.{values_in}
 
--- `Some` is injective
-pub some-same : {X : Type 0} (x y : X) → Some x ≡ Some y → x ≡ y
-some-same x y e = ap (λ o. unwrap_or o x) e
-
 -- the first of a list's texts
 pub first_text : {X : Type 0} (f : X → Text) (xs : List X) (x : X) (text : Text)
     → Some x ≡ slice_get xs 0 → text ≡ f x → slice_get (map f xs) 0 ≡ Some text
 first_text f [] x text first is = cc
-first_text f (y ∷ ys) x text first is = ap (λ t. Some t) (ap f (sym (some-same x y first)) ∙ sym is)
+first_text f (y ∷ ys) x text first is = ap (λ t. Some t) (ap f (sym (same_Some x y first)) ∙ sym is)
 
 -- the values that `clap` gives for an argument
 pub values_are : (f : Found) (id : Text) (values : Option (List Text)) → values ≡ option_map raw_values (matched_of f id)

@@ -1,13 +1,14 @@
 -- The readings of words, against the matches of the command that the first word names.
-use Rattle.std.proofs.Common.{◌≡◌, ◌≢◌, ◌∙◌, ◌≤◌, ◌<◌, ◌⊎◌, ◌&&◌, ℕ, Bool, true, false, not, List, [], ◌∷◌, ◌++◌}
-use Rattle.std.proofs.Common.{length, map, codes, Some, refl, sym, ap, ap₂, subst, arith, inl, inr, drop, zero, suc}
+use Rattle.std.proofs.Common.{◌≡◌, ◌≢◌, ◌∙◌, ◌≤◌, ◌<◌, ◌&&◌, ℕ, Bool, true, false, not, List, [], ◌∷◌, ◌++◌}
+use Rattle.std.proofs.Common.{get_or, length, map, codes, Some, refl, sym, ap, ap₂, subst, arith, drop, zero, suc}
 use Rattle.std.specs.Prelude.{All, AllPairs, Contains, slice_get, zip, unwrap_or}
 use Rattle.std.specs.Char.{digit_value}
-use Rattle.std.specs.List.{AllZip, slice_index_or}
+use Rattle.std.specs.List.{AllZip}
 use Rattle.std.specs.Str.{bytes_eq}
-use Rattle.std.proofs.lemmas.List.{get_or-map, length-map}
-use Rattle.std.proofs.lemmas.List.Elements.{All-cons, All-head, All-map, All-nil, All-tail}
-use Rattle.std.proofs.lemmas.List.Folds.{Any-from_list_any, list_any-from_Any}
+use Rattle.std.proofs.lemmas.Bool.{and_parts, not-false, not-true}
+use Rattle.std.proofs.lemmas.Option.{same_Some}
+use Rattle.std.proofs.lemmas.List.Elements.{All-cons, All-head, All-map, All-nil, All-tail, Contains-get_or}
+use Rattle.std.proofs.lemmas.List.Folds.{Any-from_list_any}
 use Rattle.std.proofs.lemmas.Slice.Eq.{bytes_eq-Decides}
 use Rattle.std.proofs.lemmas.Slice.Zip.{seconds-zip}
 use Rattle.clap.specs.Walk.{Row}
@@ -23,13 +24,13 @@ use Rattle.ci_arguments.specs.Words.{AreApart, AreDigits, AreSaid, AreSet, Gives
 use Rattle.ci_arguments.specs.Words.{ReadsAs, ReadsBy, ReadsIn, Says, Sets, Text, Value, file, number, settings_in}
 use Rattle.ci_arguments.specs.Words.{values_of, word}
 use Rattle.ci_arguments.specs.private.Parses.{IsParsed, MatchesGive, app_by, are_rows, is_row, known_in, names_in, values_in}
-use Rattle.ci_arguments.proofs.Levels.{AreRead, passed_reads, read_meets}
-use Rattle.ci_arguments.proofs.Matches.{some-same}
+use Rattle.ci_arguments.proofs.Complete.{AreRead, names_plain}
+use Rattle.ci_arguments.proofs.Elements.{shown_there}
+use Rattle.ci_arguments.proofs.Levels.{passed_reads, read_meets}
 use Rattle.ci_arguments.proofs.Rows.{AreOf, listed}
 use Rattle.ci_arguments.proofs.Rules.{same_text}
-use Rattle.ci_arguments.proofs.SettingLaws.{no_option_row}
 use Rattle.ci_arguments.proofs.States.{AreOnce}
-use Rattle.ci_arguments.proofs.TableLaws.{both_true, fits, good_row, not_false, not_true, one_row}
+use Rattle.ci_arguments.proofs.TableLaws.{fits, good_row, named_has, once_known, one_row}
 
 -- ---- one value for a text
 
@@ -37,12 +38,11 @@ module _ {X Y : Type 0} (R : X → Y → Type 0) where
   -- lists are zipped with one list where each has one
   zipped_one : ((x : X) (y z : Y) → R x y → R x z → y ≡ z) → (xs : List X) (ys zs : List Y) → AllZip R xs ys → AllZip R xs zs → ys ≡ zs
   zipped_one one [] [] [] a b = refl
-  zipped_one one [] [] (z ∷ zs) a b = absurd b
-  zipped_one one [] (y ∷ ys) zs a b = absurd a
-  zipped_one one (x ∷ xs) [] zs a b = absurd a
-  zipped_one one (x ∷ xs) (y ∷ ys) [] a b = absurd b
   zipped_one one (x ∷ xs) (y ∷ ys) (z ∷ zs) a b =
       ap₂ (λ v vs. v ∷ vs) (one x y z a.0 b.0) (zipped_one one xs ys zs a.1 b.1)
+  zipped_one one [] [] (z ∷ zs) a b = absurd b
+  zipped_one one (x ∷ xs) (y ∷ ys) [] a b = absurd b
+  zipped_one one xs ys zs a b = absurd a
 
   -- what each pair says of the first
   zipped_first : (P : X → Type 0) → ((x : X) (y : Y) → R x y → P x) → (xs : List X) (ys : List Y) → AllZip R xs ys → All P xs
@@ -61,26 +61,17 @@ word_one text n m a b = sym a.2.value ∙ (subst (λ digits. AreDigits 16 8 digi
 -- and says one value
 says_one : (kind : Kind) (text : Text) (one other : Value) → Says kind text one → Says kind text other → one ≡ other
 says_one (kind.File access) text (file first name) (file second other) a b = ap₂ file (a.1 ∙ sym b.1) (a.2 ∙ sym b.2)
-says_one (kind.File access) text (file first name) (number n) a b = absurd b
-says_one (kind.File access) text (file first name) (word n) a b = absurd b
-says_one (kind.File access) text (number n) other a b = absurd a
-says_one (kind.File access) text (word n) other a b = absurd a
+says_one (kind.File access) text (file first name) other a b = absurd b
 says_one (kind.Number minimum maximum) text (number n) (number m) a b = ap number (sym a.0.value ∙ b.0.value)
-says_one (kind.Number minimum maximum) text (number n) (file access name) a b = absurd b
-says_one (kind.Number minimum maximum) text (number n) (word m) a b = absurd b
-says_one (kind.Number minimum maximum) text (file access name) other a b = absurd a
-says_one (kind.Number minimum maximum) text (word n) other a b = absurd a
+says_one (kind.Number minimum maximum) text (number n) other a b = absurd b
 says_one kind.Word text (word n) (word m) a b = ap word (word_one text n m a b)
-says_one kind.Word text (word n) (file access name) a b = absurd b
-says_one kind.Word text (word n) (number m) a b = absurd b
-says_one kind.Word text (file access name) other a b = absurd a
-says_one kind.Word text (number n) other a b = absurd a
+says_one kind.Word text (word n) other a b = absurd b
+says_one kind text one other a b = absurd a
 
 -- a default is one
 default_one : (value : DefaultValue) (one other : List Value) → IsDefault value one → IsDefault value other → one ≡ other
-default_one (default.Number n) one other a b = a ∙ sym b
-default_one default.Nothing one other a b = a ∙ sym b
 default_one default.MustStand one other a b = absurd a
+default_one value one other a b = a ∙ sym b
 
 -- an option is set to one list
 sets_one : (option : OptionRow) (given : List Text) (one other : List Value) → Sets option given one → Sets option given other → one ≡ other
@@ -160,15 +151,10 @@ no_zero c is hyphen = absurd (omega (arith, is, hyphen))
 -- a text that says something is a name
 said_name : (kind : Kind) (text : Text) (value : Value) → Says kind text value → IsName text
 said_name (kind.File access) text (file other name) is = is.0
-said_name (kind.File access) text (number n) is = absurd is
-said_name (kind.File access) text (word n) is = absurd is
 said_name (kind.Number minimum maximum) [] (number n) is = absurd (omega (arith, is.0.numeral.0))
 said_name (kind.Number minimum maximum) (c ∷ cs) (number n) is = no_hyphen c is.0.numeral.1.0
-said_name (kind.Number minimum maximum) text (file access name) is = absurd is
-said_name (kind.Number minimum maximum) text (word n) is = absurd is
 said_name kind.Word text (word n) is = subst IsName (sym is.1) (no_zero 48 refl)
-said_name kind.Word text (file access name) is = absurd is
-said_name kind.Word text (number n) is = absurd is
+said_name kind text value is = absurd is
 
 -- as many texts that say something are names
 said_names : (kinds : List Kind) (texts : List Text) (values : List Value) → AreSaid kinds texts values → All IsName texts
@@ -199,95 +185,62 @@ unlisted : (texts : List Text) → unwrap_or (listed texts) [] ≡ texts
 unlisted [] = refl
 unlisted (t ∷ ts) = refl
 
--- an option has no value, or it stands among those that are given
-values_cases : (P : Text → Type 0) (name : Text) (given : List (Text × Text)) → All (λ o. P o.0) given → (values_of name given ≡ []) ⊎ P name
-values_cases P name [] all = inl refl
-values_cases P name (o ∷ os) all = go (bytes_eq o.0 name) refl (values_cases P name os (All-tail (λ p. P p.0) o os all))
+-- a value that is given is among those of its option
+value_there : (given : List (Text × Text)) (k : ℕ) (d : Text × Text) → k < length given
+    → Contains (values_of (get_or given k d).0 given) (get_or given k d).1
+value_there [] k d lt = absurd (omega arith)
+value_there (o ∷ os) zero d lt = rw (same_text o.0) (0, omega arith, refl)
+value_there (o ∷ os) (suc k) d lt = go (bytes_eq o.0 (get_or os k d).0) refl (value_there os k d (omega arith))
   where
-    go : (b : Bool) → bytes_eq o.0 name ≡ b → (values_of name os ≡ []) ⊎ P name → (values_of name (o ∷ os) ≡ []) ⊎ P name
-    go true e rest = inr (subst P ((bytes_eq-Decides o.0 name).0 e) (All-head (λ p. P p.0) o os all))
-    go false e (inl none) = inl (rw e none)
-    go false e (inr some) = inr some
-
--- all values that are given are names where those of each name are
-all_good : (given : List (Text × Text)) → ((name : Text) → All IsName (values_of name given))
-    → All (λ o. IsName o.1) given
-all_good [] good = All-nil (λ (o : Text × Text). IsName o.1)
-all_good (o ∷ os) good = All-cons (λ o. IsName o.1) o os
-    (All-head IsName o.1 (values_of o.0 os) (subst (All IsName) here (good o.0)))
-    (all_good os (λ name. rest name (bytes_eq o.0 name) refl))
-  where
-    here : values_of o.0 (o ∷ os) ≡ o.1 ∷ values_of o.0 os
-    here = rw (same_text o.0) refl
-
-    rest : (name : Text) (b : Bool) → bytes_eq o.0 name ≡ b → All IsName (values_of name os)
-    rest name true e =
-        let first : values_of name (o ∷ os) ≡ o.1 ∷ values_of name os = rw e refl in
-        All-tail IsName o.1 (values_of name os) (subst (All IsName) first (good name))
-    rest name false e =
-        let same : values_of name (o ∷ os) ≡ values_of name os = rw e refl in
-        subst (All IsName) same (good name)
-
--- what stands at a place doesn't depend on what stands nowhere
-get_or-default : {X : Type 0} (xs : List X) (i : ℕ) (d e : X) → i < length xs → slice_index_or xs i e ≡ slice_index_or xs i d
-get_or-default [] i d e lt = absurd (omega arith)
-get_or-default (x ∷ xs) zero d e lt = refl
-get_or-default (x ∷ xs) (suc i) d e lt = get_or-default xs i d e (omega arith)
+    go : (b : Bool) → bytes_eq o.0 (get_or os k d).0 ≡ b → Contains (values_of (get_or os k d).0 os) (get_or os k d).1
+        → Contains (values_of (get_or os k d).0 (o ∷ os)) (get_or os k d).1
+    go true e there = rw e (suc there.0, omega (arith, there.1), there.2)
+    go false e there = rw e there
 
 module _ (options : List OptionRow) where
-  -- what each option has, a name of one has
-  named_has : (P : Text → Type 0) → All (λ (option : OptionRow). P option.name) options → (name : Text) → Contains (names_in options) name → P name
-  named_has P all name there =
-      let lt : there.0 < length options = omega (arith, there.1, length-map options (λ (option : OptionRow). option.name)) in
-      let is = get_or-map (λ (option : OptionRow). option.name) options there.0 no_option_row name lt in
-      subst P (sym is ∙ there.2) (all there.0 no_option_row lt)
-
   -- values that are given to these options are names where those of each option are
   good_values : (given : List (Text × Text)) → All (λ o. Contains (names_in options) o.0) given
       → All (λ (option : OptionRow). All IsName (values_of option.name given)) options → All (λ o. IsName o.1) given
-  good_values given among good = all_good given
-      (λ name. elim (values_cases (Contains (names_in options)) name given among) [
-        | inl none ↦ subst (All IsName) (sym none) (All-nil IsName)
-        | inr there ↦ named_has (λ n. All IsName (values_of n given)) good name there
-      ])
+  good_values given among good k d lt =
+      let there = value_there given k d lt in
+      subst IsName there.2 (named_has options (λ name. All IsName (values_of name given)) good (get_or given k d).0 (among k d lt)
+      there.0 (get_or given k d).1 there.1)
 
   -- options that may stand only once do so
   once_named : (given : List (Text × Text)) → All (λ (option : OptionRow). option.repeatable ≡ false → length (values_of option.name given) ≤ 1) options
       → AreOnce (known_in options) given
   once_named given once name single =
-      let found = Any-from_list_any (λ option. not option.repeatable && bytes_eq option.name name) options (not_false _ single) in
-      let test = both_true (not found.1.repeatable) (bytes_eq found.1.name name) found.4 in
-      let same : found.1.name ≡ name = (bytes_eq-Decides found.1.name name).0 test.1 in
-      let alone : (found.1.repeatable ≡ false → length (values_of found.1.name given) ≤ 1) =
-      subst (λ (option : OptionRow). option.repeatable ≡ false → length (values_of option.name given) ≤ 1) found.3 (once found.0 found.1 found.2) in
-      subst (λ n. length (values_of n given) ≤ 1) same (alone (not_true _ test.0))
+      let found = Any-from_list_any (λ option. not option.repeatable && bytes_eq option.name name) options (not-false _ single) in
+      let test = and_parts (not found.1.repeatable) (bytes_eq found.1.name name) found.4 in
+      subst (λ n. length (values_of n given) ≤ 1) ((bytes_eq-Decides found.1.name name).0 test.1)
+      (subst (λ (option : OptionRow). option.repeatable ≡ false → length (values_of option.name given) ≤ 1) found.3 (once found.0 found.1 found.2)
+      (not-true _ test.0))
 
   -- and the other way round
   named_once : (given : List (Text × Text)) → AreOnce (known_in options) given
       → All (λ (option : OptionRow). option.repeatable ≡ false → length (values_of option.name given) ≤ 1) options
   named_once given once k d lt single =
-      let option = slice_index_or options k d in
-      let test : (not option.repeatable && bytes_eq option.name option.name) ≡ true = rw (single, same_text option.name) refl in
-      once option.name (ap not
-      (list_any-from_Any (λ o. not o.repeatable && bytes_eq o.name option.name) options (k, option, lt, get_or-default options k d option lt, test)))
+      once (get_or options k d).name (once_known options (get_or options k d) (Contains-get_or options k d lt) single)
 
 -- ---- words against matches
 
 -- the words after the first
 rest_of : (words : List Text) (name : Text) → slice_get words 0 ≡ Some name → (rest : List Text) × (words ≡ name ∷ rest)
 rest_of [] name first = cc
-rest_of (x ∷ xs) name first = (xs, ap (λ y. y ∷ xs) (some-same x name first))
+rest_of (x ∷ xs) name first = (xs, ap (λ y. y ∷ xs) (same_Some x name first))
 
 module _ (row : CommandRow) (good : is_row row ≡ true) where
   -- what is asked of the words after the command
-  asked : (words : List Text) (reading : Reading) (reads : ReadsBy row words reading) → AreRead (known_in row.options) reads.rest reads.names reads.given
+  asked : (words : List Text) (reading : Reading) (reads : ReadsBy row words reading)
+      → AreRead row.word (known_in row.options) [] reads.rest reads.names reads.given
   asked words reading reads = record {
     mixed = reads.mixed;
+    plain = names_plain row.word (known_in row.options) reads.mixed
+        (said_names row.positional reads.names reading.values reads.gives.said)
+        (good_values row.options reads.given reads.known
+        (set_names (λ name. values_of name reads.given) row.options reads.gives.set reads.gives.are_set));
     of_command = reads.known;
     once = once_named row.options reads.given reads.once;
-    good_names = said_names row.positional reads.names reading.values reads.gives.said;
-    good_values = good_values row.options reads.given reads.known
-        (set_names (λ name. values_of name reads.given) row.options reads.gives.set reads.gives.are_set);
   }
 
   module _ (rows : List Row) (names : List Text) (given : List (Text × Text)) (are : AreOf rows names given) where
@@ -298,13 +251,8 @@ module _ (row : CommandRow) (good : is_row row ≡ true) where
     -- the values that they have for each option of the row
     values_are : All (λ (option : OptionRow). values_in rows option.name ≡ values_of option.name given) row.options
     values_are k d lt =
-        let option = slice_index_or row.options k d in
-        let there : Contains (names_in row.options) option.name = (
-          k,
-          omega (arith, lt, length-map row.options (λ (o : OptionRow). o.name)),
-          get_or-map (λ (o : OptionRow). o.name) row.options k d option.name lt,
-        ) in
-        ap (λ o. unwrap_or o []) (are.of_option option.name (fits row good option.name there).apart)
+        let option = get_or row.options k d in
+        ap (λ o. unwrap_or o []) (are.of_option option.name (fits row good option.name (shown_there (λ o. o.name) row.options k d lt)).apart)
         ∙ unlisted (values_of option.name given)
 
     -- the same the other way round
@@ -330,18 +278,19 @@ module _ (row : CommandRow) (good : is_row row ≡ true) where
   matches_read words reading first none gives =
       let rest = rest_of words row.word first in
       let rows = matches_of (app_by row) (row.word ∷ rest.0) in
-      let reads = passed_reads row.word (known_in row.options) (fits row good) row.word rest.0 (ap (fault_of (app_by row)) (sym rest.1) ∙ none) in
+      let found = passed_reads row.word (known_in row.options) (fits row good) row.word rest.0 (ap (fault_of (app_by row)) (sym rest.1) ∙ none) in
+      let meets = read_meets row.word (known_in row.options) (fits row good) row.word rest.0 found.names found.given found.reads in
       let here : MatchesGive row rows reading = subst (λ ws. MatchesGive row (matches_of (app_by row) ws) reading) rest.1 gives in
       record {
         rest = rest.0;
-        names = reads.names;
-        given = reads.given;
+        names = found.names;
+        given = found.given;
         command = rest.1;
-        mixed = reads.mixed;
-        known = reads.of_command;
-        once = named_once row.options reads.given reads.once;
-        gives = gives_along row (values_in rows (codes "names")) reads.names (values_in rows) (λ name. values_of name reads.given) reading
-            (names_are rows reads.names reads.given reads.stands) (values_are rows reads.names reads.given reads.stands) here;
+        mixed = found.reads.mixed;
+        known = found.reads.of_command;
+        once = named_once row.options found.given found.reads.once;
+        gives = gives_along row (values_in rows (codes "names")) found.names (values_in rows) (λ name. values_of name found.given) reading
+            (names_are rows found.names found.given meets.stands) (values_are rows found.names found.given meets.stands) here;
       }
 
 module _ (table : List CommandRow) (good : are_rows table ≡ true) (words : List Text) where
@@ -349,7 +298,7 @@ module _ (table : List CommandRow) (good : are_rows table ≡ true) (words : Lis
   reads_here : (row : CommandRow) → Contains table row → slice_get words 0 ≡ Some row.word → (reading : Reading) → ReadsIn table words reading
       → ReadsBy row words reading
   reads_here row there first reading reads =
-      let word : reads.row.word ≡ row.word = some-same reads.row.word row.word (sym (ap (λ ws. slice_get ws 0) reads.reads.command) ∙ first) in
+      let word : reads.row.word ≡ row.word = same_Some reads.row.word row.word (sym (ap (λ ws. slice_get ws 0) reads.reads.command) ∙ first) in
       subst (λ r. ReadsBy r words reading) (one_row table good reads.row row reads.in_table there word) reads.reads
 
   module _ (row : CommandRow) (there : Contains table row) (first : slice_get words 0 ≡ Some row.word) where

@@ -1,6 +1,7 @@
 -- What the matches have of an argument, after one more use.
 use Rattle.std.proofs.Common.{◌≡◌, ◌∙◌, Bool, true, false, List, [], ◌∷◌, ◌++◌, codes, Option, Some, None, refl, sym, ap, subst, is_some}
 use Rattle.std.specs.Prelude.{filter, map, unwrap_or}
+use Rattle.std.proofs.lemmas.Bool.{false_from_ne_true, true≢false}
 use Rattle.std.proofs.lemmas.List.{append-nil, map-append}
 use Rattle.std.proofs.lemmas.List.Elements.{filter-append}
 use Rattle.std.specs.Str.{bytes_eq}
@@ -36,9 +37,8 @@ all_of-other id other how values (r ∷ rs) apart = go (bytes_eq r.id id) (bytes
         let is : r.id ≡ id = (bytes_eq-Decides r.id id).0 e in
         let bad : true ≡ false = sym f ∙ (ap (λ t. bytes_eq t other) is ∙ apart) in
         cc
-    go true false e f rest = rw (e, f) refl
-    go false true e f rest = rw (e, f) refl
     go false false e f rest = rw (e, f) rest
+    go b c e f rest = rw (e, f) refl
 
 -- an argument has a row where it has values
 pub has_row-all : (id : Text) (rows : List Row) → has_row id rows ≡ is_some (all_of id rows)
@@ -113,14 +113,8 @@ has_row-given rows names given name are apart = has_row-all name rows ∙ ap is_
 
 -- a test of two texts that fails fails the other way round
 pub apart_flipped : (a b : Text) → bytes_eq a b ≡ false → bytes_eq b a ≡ false
-apart_flipped a b apart = go (bytes_eq b a) refl
-  where
-    go : (t : Bool) → bytes_eq b a ≡ t → t ≡ false
-    go true e =
-        let is : b ≡ a = (bytes_eq-Decides b a).0 e in
-        let bad : true ≡ false = sym (ap (bytes_eq a) is ∙ same_text a) ∙ apart in
-        cc
-    go false e = refl
+apart_flipped a b apart = false_from_ne_true (bytes_eq b a)
+    (λ e. true≢false (sym (ap (bytes_eq a) ((bytes_eq-Decides b a).0 e) ∙ same_text a) ∙ apart))
 
 -- an option of this name may be given again, or it was not given before
 abbrev pub IsNew : Known → Text → List (Text × Text) → Type 0

@@ -4,6 +4,7 @@ use Rattle.std.proofs.Common.{refl, sym, ap, subst, arith, is_some, suc, length-
 use Rattle.std.specs.Prelude.{Contains, length}
 use Rattle.std.specs.Option.{option_map_or}
 use Rattle.std.specs.Str.{bytes_eq}
+use Rattle.std.proofs.lemmas.Bool.{false_from_ne_true}
 use Rattle.std.proofs.lemmas.Slice.Eq.{bytes_eq-Decides}
 use Rattle.clap.specs.Lexer.{long_of, name_and_value}
 use Rattle.clap.specs.Kinds.{Kinds, or_else}
@@ -16,7 +17,7 @@ use Rattle.ci_arguments.specs.Words.{values_of}
 use Rattle.ci_arguments.specs.private.Parses.{Known}
 use Rattle.ci_arguments.proofs.Rules.{id_known, option_rule, option_with, rules, same_text}
 use Rattle.ci_arguments.proofs.Rows.{AreOf, AreOf-name, AreOf-option, IsNew, has_row-given, listed, values_of-append}
-use Rattle.ci_arguments.proofs.Steps.{named}
+use Rattle.ci_arguments.proofs.Steps.{filled, named, opened}
 
 -- ---- faults in turn
 
@@ -28,9 +29,7 @@ first_none (k ∷ ks) b none = none
 -- nor has the second
 pub second_none : (a b : Kinds) → or_else a b ≡ [] → b ≡ []
 second_none [] b none = none
-second_none (k ∷ ks) b none =
-    let bad : k ∷ ks ≡ [] = none in
-    cc
+second_none (k ∷ ks) b none = cc
 
 -- where neither has a fault, both have none
 pub both_none : (a b : Kinds) → a ≡ [] → b ≡ [] → or_else a b ≡ []
@@ -43,21 +42,14 @@ module _ (option value : Text) (rows : List Row) where
   use_free : (repeatable : Bool) → (repeatable ≡ false → has_row option rows ≡ false)
       → use_fault false (option_with repeatable option) (value ∷ []) rows ≡ []
   use_free true free = refl
-  use_free false free =
-      let none : has_row option rows ≡ false = free refl in
-      rw none refl
+  use_free false free = rw (free refl) refl
 
   -- and only these
   use_taken : (repeatable : Bool) → use_fault false (option_with repeatable option) (value ∷ []) rows ≡ []
       → repeatable ≡ false → has_row option rows ≡ false
   use_taken true none once = cc
-  use_taken false none once = go (has_row option rows) refl
-    where
-      go : (b : Bool) → has_row option rows ≡ b → b ≡ false
-      go true e =
-          let bad : kind.ArgumentConflict ∷ [] ≡ [] = rw e at none in
-          cc
-      go false e = refl
+  use_taken false none once = false_from_ne_true (has_row option rows)
+      (λ e. let bad : kind.ArgumentConflict ∷ [] ≡ [] = rw e at none in cc)
 
 -- an option of a command: not the argument of the names, not empty, without `=`
 pub record IsOption (option : Text) : Type 0 where
@@ -151,14 +143,6 @@ module _ (known : Known) where
     pub settles : settle_fault (rules known) false h ≡ []
     pub stands : AreOf (settled (rules known) h).rows names given
     pub skips : h.skip ≡ 0
-
-  -- an option that waits for its value
-  abbrev pub opened : List Row → Text → Held
-  opened rows option = record { rows = rows; pending = Some (option, []); skip = 0 }
-
-  -- an option with its value that is not used yet
-  abbrev pub filled : List Row → Text → Text → Held
-  filled rows option value = record { rows = rows; pending = Some (option, value ∷ []); skip = 0 }
 
   -- one more name
   pub Holds-named : (h : Held) (names : List Text) (given : List (Text × Text)) (word : Text) → Holds h names given

@@ -16,9 +16,8 @@ use Rattle.ci_arguments.specs.Words.{Reading, number_at, number_set}
 
 module _ (minimum maximum : ℕ) where
   abbrev pub is_kind_within : Kind → Bool
-  is_kind_within (kind.File access) = false
   is_kind_within (kind.Number least most) = nat_le minimum least && nat_le most maximum
-  is_kind_within kind.Word = false
+  is_kind_within other = false
 
   abbrev pub is_default_within : DefaultValue → Bool
   is_default_within (default.Number n) = nat_le minimum n && nat_le n maximum

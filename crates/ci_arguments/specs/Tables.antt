@@ -32,10 +32,6 @@ abbrev pub single : List ℕ → OptionName → Kind → DefaultValue → Option
 single name which values unset =
     record { name = name; option = which; kind = values; repeatable = false; default = unset }
 
--- one that may stand any number of times
-abbrev pub repeated : List ℕ → OptionName → Kind → DefaultValue → OptionRow
-repeated name which values unset = record (single name which values unset) { repeatable = true }
-
 abbrev pub command_of : List ℕ → CommandName → List Kind → List OptionRow → CommandRow
 command_of word which positional options =
     record { word = word; command = which; positional = positional; options = options }
@@ -44,9 +40,9 @@ command_of word which positional options =
 abbrev pub table : OptionRow
 table = single (codes "table") Table (File Reads) default.Nothing
 
--- addresses at which blocks begin too
+-- addresses at which blocks begin too, any number of them
 abbrev pub leader : OptionRow
-leader = repeated (codes "leader") Leader Word default.Nothing
+leader = record (single (codes "leader") Leader Word default.Nothing) { repeatable = true }
 
 -- the limits of a cut, and of the search for one
 abbrev pub inputs : OptionRow

@@ -39,18 +39,15 @@ pub record Reading : Type 0 where
 -- the name of a file, the number, or the word of 32 bits, and nothing for another value
 abbrev pub name_in : Value → Text
 name_in (file access name) = name
-name_in (number n) = []
-name_in (word n) = []
+name_in value = []
 
 abbrev pub number_in : Value → ℕ
-number_in (file access name) = 0
 number_in (number n) = n
-number_in (word n) = 0
+number_in value = 0
 
 abbrev pub word_in : Value → ℕ
-word_in (file access name) = 0
-word_in (number n) = 0
 word_in (word n) = n
+word_in value = 0
 
 -- the name of the file that is the positional word at a place
 abbrev pub name_at : Reading → ℕ → Text
@@ -137,49 +134,20 @@ settings_in set option = map (λ setting. setting.1) (filter (is_of option) set)
 
 -- ---- positional words and options, mixed
 
--- what stands among the words: a positional word, or an option's name and its value, as two words or as one
-pub data Item : Type 0 where
-  positional : Text → Item
-  option_in_two : Text → Text → Item
-  option_in_one : Text → Text → Item
-
--- `WORD`, `--NAME VALUE` and `--NAME=VALUE`
-abbrev pub spelling : Item → List Text
-spelling (positional text) = text ∷ []
-spelling (option_in_two name value) = (codes "--" ++ name) ∷ value ∷ []
-spelling (option_in_one name value) = (codes "--" ++ (name ++ (codes "=" ++ value))) ∷ []
-
-abbrev pub spellings : List Item → List Text
-spellings [] = []
-spellings (item ∷ items) = spelling item ++ spellings items
-
--- the positional words in order
-abbrev pub positionals : List Item → List Text
-positionals [] = []
-positionals (positional text ∷ items) = text ∷ positionals items
-positionals (option_in_two name value ∷ items) = positionals items
-positionals (option_in_one name value ∷ items) = positionals items
-
--- the options in order, each as its name and its value
-abbrev pub options : List Item → List (Text × Text)
-options [] = []
-options (positional text ∷ items) = options items
-options (option_in_two name value ∷ items) = (name, value) ∷ options items
-options (option_in_one name value ∷ items) = (name, value) ∷ options items
-
--- nothing more, or `--` and then positional words alone
-abbrev pub IsEnding : List Text → List Text → Type 0
-IsEnding words last = ((words ≡ []) × (last ≡ [])) ⊎ (words ≡ codes "--" ∷ last)
-
--- The words are these positional words and options, mixed, up to a word `--`, after which all are positional.
-pub record AreMixed (words names : List Text) (given : List (Text × Text)) : Type 0 where
-  pub items : List Item
-  pub last : List Text
-  pub ending : List Text
-  pub whole : words ≡ spellings items ++ ending
-  pub ends : IsEnding ending last
-  pub in_order : names ≡ positionals items ++ last
-  pub mixed_in : given ≡ options items
+-- The words are these positional words and these options, each as its name and its value, mixed, up to a word `--`,
+-- after which all are positional.
+pub data AreMixed : List Text → List Text → List (Text × Text) → Type 0 where
+  nothing : AreMixed [] [] []
+  -- `--` and then positional words alone
+  dashes : (names : List Text) → AreMixed (codes "--" ∷ names) names []
+  -- `WORD`, `--NAME VALUE` and `--NAME=VALUE`
+  positional : (name : Text) {words names : List Text} {given : List (Text × Text)} → AreMixed words names given
+      → AreMixed (name ∷ words) (name ∷ names) given
+  option_in_two : (name value : Text) {words names : List Text} {given : List (Text × Text)}
+      → AreMixed words names given → AreMixed ((codes "--" ++ name) ∷ value ∷ words) names ((name, value) ∷ given)
+  option_in_one : (name value : Text) {words names : List Text} {given : List (Text × Text)}
+      → AreMixed words names given
+      → AreMixed ((codes "--" ++ (name ++ (codes "=" ++ value))) ∷ words) names ((name, value) ∷ given)
 
 abbrev pub is_named : Text → Text × Text → Bool
 is_named name option = bytes_eq option.0 name

@@ -4,6 +4,8 @@
 #![tactic(auto)]
 
 #[cfg(test)]
+mod arguments;
+#[cfg(test)]
 mod asm;
 #[cfg(test)]
 mod block;
@@ -53,7 +55,5 @@ mod verilog;
 mod vread;
 #[cfg(test)]
 mod word;
-#[cfg(test)]
-mod words;
 #[cfg(test)]
 mod xemu;

@@ -1,5 +1,5 @@
 -- For private contracts: what is asked of `clap`, and what its matches say.
-use Rattle.std.specs.Prelude.{◌≡◌, ℕ, Bool, ◌==◌, ◌&&◌, ◌<◌, not, List, [], ◌∷◌, map, codes, Some, true, false}
+use Rattle.std.specs.Prelude.{◌≡◌, ℕ, Bool, ◌==◌, ◌&&◌, ◌||◌, ◌<◌, not, List, [], ◌∷◌, map, codes, Some, true, false}
 use Rattle.std.specs.Prelude.{unwrap_or, if◌then◌else◌}
 use Rattle.std.specs.List.{list_all, list_any, slice_index_or}
 use Rattle.std.specs.Str.{bytes_eq}
@@ -54,14 +54,11 @@ abbrev pub is_option_name : Text → Bool
 is_option_name [] = false
 is_option_name (c ∷ cs) = not (bytes_eq (codes "names") (c ∷ cs)) && list_all (λ d. not (d == 61)) (c ∷ cs)
 
-abbrev pub is_same : Bool → Bool → Bool
-is_same a b = if a then b else not b
-
 -- its options have such names, and one name says whether it may stand more than once
 abbrev pub is_row : CommandRow → Bool
 is_row row =
     list_all
-    (λ option. is_option_name option.name && is_same option.repeatable (repeats_in row.options option.name))
+    (λ option. is_option_name option.name && (not option.repeatable || repeats_in row.options option.name))
     row.options
 
 -- no two are the same
