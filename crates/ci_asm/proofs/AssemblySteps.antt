@@ -2,7 +2,6 @@
 use Rattle.std.proofs.Common.{◌≡◌, ℕ, ◌+◌, ◌≤◌, List, [], ◌∷◌, ◌++◌, refl, ap, ◌∙◌, sym, arith, append-nil, subst, Bool, true, false, cond, Option, Some, None}
 use Rattle.std.proofs.Common.{Result, Ok, Err}
 use mathlib.Core.Path.{fun_ext}
-use Rattle.std.specs.Option.{option_to_list}
 use mathlib.Core.List.{append_assoc}
 use Rattle.ci_isa.specs.declared.instruction.Insn.{Insn}
 use Rattle.ci_isa.specs.Table.{IsWordOf}
@@ -16,16 +15,23 @@ use Rattle.ci_asm.specs.declared.statements.Statement.{Statement}
 use Rattle.ci_asm.specs.declared.labels.Definition.{Definition}
 use Rattle.ci_asm.specs.declared.lines.Line.{Line}
 use Rattle.std.specs.Prelude.{IfSome}
+use Rattle.std.specs.Option.{option_to_list, option_or}
 use Rattle.ci_asm.specs.private.Tokens.{text_of}
 use Rattle.ci_asm.specs.private.Shapes.{fits, field_of}
-use Rattle.ci_asm.specs.declared.statements.Operands.{Operands}
-use Rattle.ci_asm.specs.declared.numbers.Number.{Number}
-use Rattle.ci_asm.proofs.SoundStatements.{same_ok}
-use Rattle.ci_asm.specs.private.Statements.{◌>>=◌, HasRegisters}
-use Rattle.ci_asm.specs.private.LabelMap.{earlier}
-use Rattle.ci_asm.specs.private.Programs.{Position, position, on_line, option_words, words_in, words_behind, line_at, all_read, definition_on, definition_of}
+use Rattle.ci_asm.specs.private.Statements.{◌>>=◌, fault}
+use Rattle.ci_asm.specs.private.Programs.{Position, position, on_line, words_in, words_behind, line_at, all_read, definition_on, definition_of}
 use Rattle.ci_asm.specs.private.Programs.{Definitions, line_insn, insns_of, option_length, offset_between, reaching, resolved, AreWordsOf, IsFaultIn, assembled}
 use Rattle.ci_asm.specs.Lines.{lines_of}
+
+-- ---- faults on a line
+
+pub on_line_ok : {A : Type 0} (n : ℕ) (r : Result A Fault) (x : A) → on_line n r ≡ Ok x → r ≡ Ok x
+on_line_ok n (Ok y) x e = cc
+on_line_ok n (Err f) x e = absurd (cc)
+
+pub on_line_err : {A : Type 0} (n : ℕ) (r : Result A Fault) (p : Position) → on_line n r ≡ Err p → (f : Fault) × (r ≡ Err f) × (position n f ≡ p)
+on_line_err n (Ok x) p e = absurd (cc)
+on_line_err n (Err f) p e = (f, refl, cc)
 
 -- ---- lines that can be read
 
@@ -43,7 +49,7 @@ pub all_read-err : (n words : ℕ) (line : List ℕ) (lines : List (List ℕ)) (
 unfolding all_read
 all_read-err n words line lines p e = ap (λ r. r >>= λ after. all_read (n + 1) after lines) e
 
-words_behind-from : (n words after : ℕ) (r : Result Line Fault) → (on_line n r >>= λ l. Ok (words + option_words l.statement)) ≡ Ok after
+words_behind-from : (n words after : ℕ) (r : Result Line Fault) → (on_line n r >>= λ l. Ok (words + option_length l.statement)) ≡ Ok after
     → after ≡ words + words_in r
 words_behind-from n words after (Ok l) e = cc
 words_behind-from n words after (Err f) e = absurd (cc)
@@ -52,8 +58,12 @@ words_behind-from n words after (Err f) e = absurd (cc)
 pub words_behind-ok : (n words after : ℕ) (line : List ℕ) → words_behind n words line ≡ Ok after → after ≡ words + words_in (line_at words line)
 words_behind-ok n words after line e = words_behind-from n words after (line_at words line) e
 
+pub option_length-small : {A : Type 0} (o : Option A) → option_length o ≤ 1
+option_length-small None = omega arith
+option_length-small (Some x) = omega arith
+
 pub words_in-small : (r : Result Line Fault) → words_in r ≤ 1
-words_in-small (Ok l) = elim l.statement as (λ s. option_words s ≤ 1) [ None ↦ omega arith | Some s ↦ omega arith ]
+words_in-small (Ok l) = option_length-small l.statement
 words_in-small (Err f) = omega arith
 
 -- ---- definitions
@@ -63,18 +73,18 @@ unfolding definition_of
 definition_of-nil name n words = refl
 
 pub definition_of-cons : (name : List ℕ) (n words : ℕ) (line : List ℕ) (lines : List (List ℕ))
-    → definition_of name n words (line ∷ lines) ≡ earlier (definition_on name n words line)
+    → definition_of name n words (line ∷ lines) ≡ option_or (definition_on name n words line)
     (definition_of name (n + 1) (words + words_in (line_at words line)) lines)
 unfolding definition_of
 definition_of-cons name n words line lines = refl
 
-pub earlier-assoc : (a b c : Option Definition) → earlier (earlier a b) c ≡ earlier a (earlier b c)
-earlier-assoc (Some d) b c = refl
-earlier-assoc None b c = refl
+pub option_or-assoc : (a b c : Option Definition) → option_or (option_or a b) c ≡ option_or a (option_or b c)
+option_or-assoc (Some d) b c = refl
+option_or-assoc None b c = refl
 
-pub earlier-none : (a : Option Definition) → earlier a None ≡ a
-earlier-none (Some d) = refl
-earlier-none None = refl
+pub option_or-none : (a : Option Definition) → option_or a None ≡ a
+option_or-none (Some d) = refl
+option_or-none None = refl
 
 -- ---- instructions
 
@@ -108,19 +118,15 @@ insns_of-err definitions n words line lines f e =
     ap (λ r. on_line n r >>= λ first. insns_of definitions (n + 1) (words + option_length first) lines >>= λ others. Ok (option_to_list first ++ others))
     (sym e)
 
-pub option_length-small : (insn : Option Insn) → option_length insn ≤ 1
-option_length-small None = omega arith
-option_length-small (Some i) = omega arith
-
 -- the fault of a label stands where the label stands
-placed : {A : Type 0} (rule : Rule) (n start : ℕ) (f : Fault) → start ≤ n → ◌≡◌ {A = Result A Fault} (Err f) (Err (record { rule = rule; place = start }))
+placed : {A : Type 0} (rule : Rule) (n start : ℕ) (f : Fault) → start ≤ n → ◌≡◌ {A = Result A Fault} (Err f) (Err (fault rule start))
     → f.place ≤ n
 placed rule n start f near e =
-    let same : f ≡ record { rule = rule; place = start } = cc in
+    let same : f ≡ fault rule start = cc in
     subst (λ g. g.place ≤ n) (sym same) near
 
 placed_unless : {A : Type 0} (b : Bool) (x : A) (rule : Rule) (n start : ℕ) (f : Fault) → start ≤ n
-    → Err f ≡ cond b (Ok x) (Err (record { rule = rule; place = start })) → f.place ≤ n
+    → Err f ≡ cond b (Ok x) (Err (fault rule start)) → f.place ≤ n
 placed_unless true x rule n start f near e = absurd (cc)
 placed_unless false x rule n start f near e = placed rule n start f near e
 
@@ -132,22 +138,6 @@ pub resolved-place : (definitions : Definitions) (words n : ℕ) (line : List �
     → IfSome label (λ t. t.start ≤ n) → Err f ≡ resolved definitions words line s label → f.place ≤ n
 resolved-place definitions words n line s None f start e = absurd (cc)
 resolved-place definitions words n line s (Some t) f start e = reaching-place words n s t (definitions (text_of line t)) f start e
-
--- a label's offset changes no register
-keeps_registers : (b : Bool) (o more : Operands) (n : Number) (f : Fault) → HasRegisters o → cond b (Ok (record o { number = n })) (Err f) ≡ Ok more
-    → HasRegisters more
-keeps_registers true o more n f r e = subst HasRegisters (same_ok _ more e) (record { rd = r.rd; rs1 = r.rs1; rs2 = r.rs2; rs3 = r.rs3 })
-keeps_registers false o more n f r e = absurd (cc)
-
-reaching-registers : (words : ℕ) (s : Statement) (t : Token) (d : Option Definition) (more : Operands) → HasRegisters s.operands
-    → reaching words s t d ≡ Ok more → HasRegisters more
-reaching-registers words s t None more r e = absurd (cc)
-reaching-registers words s t (Some d) more r e = keeps_registers (fits (field_of s.mnemonic) (offset_between words d.words)) s.operands more _ _ r e
-
-pub resolved-registers : (definitions : Definitions) (words : ℕ) (line : List ℕ) (s : Statement) (label : Option Token) (more : Operands)
-    → HasRegisters s.operands → resolved definitions words line s label ≡ Ok more → HasRegisters more
-resolved-registers definitions words line s None more r e = subst HasRegisters (same_ok _ more e) r
-resolved-registers definitions words line s (Some t) more r e = reaching-registers words s t (definitions (text_of line t)) more r e
 
 -- ---- words
 

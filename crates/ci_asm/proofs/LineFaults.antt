@@ -1,104 +1,58 @@
 -- The fault of a line that the code tells is the one of the definitions.
-use Rattle.std.proofs.Common.{◌≡◌, ◌≢◌, ℕ, ◌<◌, ◌≤◌, ◌⊎◌, inl, inr, Bool, true, false, cond, eqb, List, [], ◌∷◌, ◌++◌, refl, sym, ap, ◌∙◌, subst, arith, lit<}
-use Rattle.std.proofs.Common.{lit≤, append-nil, Option, Some, None, Result, Ok, Err, ℤ, pos}
+use Rattle.std.proofs.Common.{◌≡◌, ◌≢◌, ℕ, ◌<◌, ◌≤◌, inl, inr, cond, eqb, List, [], ◌∷◌, ◌++◌, refl, sym, ap, ◌∙◌, subst, arith, lit<, lit≤, append-nil, Some}
+use Rattle.std.proofs.Common.{None, Result, Ok, Err, pos, false, true}
 use Rattle.std.specs.Prelude.{codes}
 use Rattle.std.specs.Fmt.{decimal}
 use Rattle.std.proofs.lemmas.Int.{ints}
 use Rattle.std.proofs.lemmas.Bool.Decides.{nat_tests}
 use mathlib.Core.List.{append_assoc}
 use Rattle.ci_reading.specs.Tokens as reading
+use Rattle.ci_reading.specs.Tokens.{text_end, stray_byte}
 use Rattle.ci_asm.specs.declared.scanner.Kind.{Kind}
-use Rattle.ci_asm.specs.declared.scanner.Kind.TheVariants.{Name, End}
+use Rattle.ci_asm.specs.declared.scanner.Kind.TheVariants.{End}
 use Rattle.ci_asm.specs.declared.scanner.Token.{Token}
-use Rattle.ci_asm.specs.declared.numbers.Number.{Number}
 use Rattle.ci_asm.specs.declared.mnemonics.Mnemonic.{Mnemonic}
 use Rattle.ci_asm.specs.declared.mnemonics.Mnemonic.TheVariants.{RegisterRegister, Cread}
 use Rattle.ci_asm.specs.declared.slots.Field.{Field}
-use Rattle.ci_asm.specs.declared.slots.Field.TheVariants.{BranchOffset, JumpOffset}
+use Rattle.ci_asm.specs.declared.slots.Field.TheVariants.{Immediate}
 use Rattle.ci_asm.specs.declared.slots.Slot.{Slot}
-use Rattle.ci_asm.specs.declared.slots.Slot.TheVariants.{Rd, Rs1, Rs2, Rs3, Value, Comma, Open, Close, Further, Second}
+use Rattle.ci_asm.specs.declared.slots.Slot.TheVariants.{Register, Value, Comma, Open, Close, Further, Second}
 use Rattle.ci_asm.specs.declared.faults.Rule.{Rule}
-use Rattle.ci_asm.specs.declared.faults.Rule.TheVariants.{NoToken, NoMnemonic, NoOperand, OutOfField, Surplus}
+use Rattle.ci_asm.specs.declared.faults.Rule.TheVariants.{NoToken, NoMnemonic, Surplus}
 use Rattle.ci_asm.specs.declared.faults.Fault.{Fault}
 use Rattle.ci_asm.specs.declared.statements.Operands.{Operands}
 use Rattle.ci_asm.specs.declared.statements.Statement as code
-use Rattle.ci_asm.specs.private.Tokens.{next_token, register_of}
-use Rattle.ci_asm.specs.private.Shapes.{mnemonic_of, is_statement, is_offset, fits, is_one, slots_of}
-use Rattle.ci_asm.specs.private.Statements.{◌>>=◌, found, fault, at_place, no_operands, number_in, one_in, filled, ends_before, ended, read_slots, mnemonic_in, read_statement}
-use Rattle.ci_asm.specs.private.Statements.{with_statement, read_line}
+use Rattle.ci_asm.specs.declared.lines.Line as code_lines
+use Rattle.ci_asm.specs.private.Tokens.{next_token, text_of}
+use Rattle.ci_asm.specs.private.Shapes.{mnemonic_of, is_statement, slots_of}
+use Rattle.ci_asm.specs.private.Statements.{fault, at_place, no_operands, with_register, read_slots, mnemonic_in, read_statement, with_statement}
+use Rattle.ci_asm.specs.private.Statements.{read_line}
 use Rattle.ci_asm.specs.private.Programs.{kind_of}
 use Rattle.ci_asm.specs.Lexicon as lex
-use Rattle.ci_reading.specs.Tokens.{text_end, stray_byte}
-use Rattle.ci_asm.specs.Lexicon.{name, decimal_number, hex_number, word, comma, open_bracket, close_bracket, colon}
-use Rattle.ci_asm.specs.Forms.{IsIn, IsRegister, IsNumber, Writes, HasNumber, Statement, IsStatement, IsMnemonic}
+use Rattle.ci_asm.specs.Lexicon.{name, decimal_number, hex_number, word, comma, open_bracket, close_bracket, spelling}
+use Rattle.ci_asm.specs.Forms.{IsIn, IsNumber, Statement, IsStatement, IsMnemonic}
 use Rattle.ci_asm.specs.Assembly.{IsGoodFront, IsGoodNext, IsWhole, IsNumberDue, IsKind, no_token, no_statement, no_operand, too_short, out_of_field, surplus}
 use Rattle.ci_asm.specs.Assembly.{too_many, IsFaultOfLine}
-use Rattle.ci_asm.proofs.SoundStatements.{mnemonic_in-statement, at_place_ok}
-use Rattle.ci_asm.specs.private.Tokens.{kind_of as kind_of_token}
+use Rattle.ci_asm.proofs.TestLaws.{by_test, err_same, bind_err, map_err, at_place_ok, at_place_err, found_err}
 use Rattle.ci_asm.proofs.SymbolsMet.{IsShown, Shows, Meets, next_symbol}
-use Rattle.ci_asm.proofs.TestLaws.{by_test}
-use Rattle.ci_asm.proofs.ReadOperands.{number_result, field_form, writes_is_number}
-use Rattle.ci_asm.proofs.FilledSlots.{Values, no_values, Fills, done, fill_rd, fill_rs1, fill_rs2, fill_rs3, fill_number, fill_label, fill_comma, fill_open}
-use Rattle.ci_asm.proofs.FilledSlots.{fill_close, fill_further, no_further, fill_second, further_result, second_result, one_no, second_no, due_rule, ends_parts}
-use Rattle.ci_asm.proofs.FilledSlots.{read_ends, register_result, mark_result, value_result, result_of, register_no, number_in_no, value_no, filled_shown}
-use Rattle.ci_asm.proofs.FilledSlots.{filled_end, filled_bad, filled_token, fill_step, values_of, label_text, read_step, read_stuck, read_nil}
+use Rattle.ci_asm.proofs.ReadOperands.{writes_is_number}
+use Rattle.ci_asm.proofs.FilledSlots.{Values, no_values, Fills, done, fill_register, fill_number, fill_label, fill_comma, fill_open, fill_close, fill_further}
+use Rattle.ci_asm.proofs.FilledSlots.{no_further, fill_second, label_text, Accepts, Fit, FitWhole, fills_fit, IsValue, Stops, stray, over, over_further}
+use Rattle.ci_asm.proofs.FilledSlots.{short, wrong_number, wrong, IsReading, slots_read}
+use Rattle.ci_asm.proofs.SoundStatements.{mnemonic_in-statement}
 use Rattle.ci_asm.proofs.ReadStatements.{mnemonic_token, fills_statement, statement_slots}
-use Rattle.ci_asm.proofs.ReadLines.{mnemonic_result, mnemonic_shown, mnemonic_yes, mnemonic_no, HasBody, body_of, with_other}
+use Rattle.ci_asm.proofs.ReadLines.{mnemonic_result, mnemonic_shown, mnemonic_no, mnemonic_read, HasBody, body_of}
 
--- ---- what a slot accepts
-
-abbrev pub Accepts : Slot → lex.Token → Type 0
-Accepts (Value field) t = ((n : ℤ) × HasNumber (field_form field) t n) ⊎ ((is_offset field ≡ true) × ((label : List ℕ) × (t ≡ name label)))
-Accepts Comma t = t ≡ comma
-Accepts Open t = t ≡ open_bracket
-Accepts Close t = t ≡ close_bracket
-Accepts Further t = t ≡ comma
-Accepts Second t = Writes t (pos 1)
-Accepts other t = (r : ℕ) × IsRegister t r
-
--- tokens in the places of all these slots
-abbrev pub Fit : List Slot → List lex.Token → Type 0
-Fit [] [] = Unit {0}
-Fit [] (t ∷ ts) = ⊥
-Fit (slot ∷ slots) [] = ⊥
-Fit (slot ∷ slots) (t ∷ ts) = Accepts slot t × Fit slots ts
-
--- a statement may end before the slot
-abbrev pub MayEnd : Slot → Type 0
-MayEnd Further = Unit {0}
-MayEnd slot = ⊥
-
--- the same of the slots of a statement, which may end before the last of them
-abbrev pub FitWhole : List Slot → List lex.Token → Type 0
-FitWhole [] [] = Unit {0}
-FitWhole [] (t ∷ ts) = ⊥
-FitWhole (slot ∷ slots) [] = MayEnd slot
-FitWhole (slot ∷ slots) (t ∷ ts) = Accepts slot t × FitWhole slots ts
-
-pub fills_fit : {slots : List Slot} {ts : List lex.Token} {v w : Values} → Fills slots ts v w → FitWhole slots ts
-fills_fit done = tt
-fills_fit (fill_rd {r} is rest) = ((r, is), fills_fit rest)
-fills_fit (fill_rs1 {r} is rest) = ((r, is), fills_fit rest)
-fills_fit (fill_rs2 {r} is rest) = ((r, is), fills_fit rest)
-fills_fit (fill_rs3 {r} is rest) = ((r, is), fills_fit rest)
-fills_fit (fill_number {n} has rest) = (inl (n, has), fills_fit rest)
-fills_fit (fill_label {label} offset rest) = (inr (offset, (label, refl)), fills_fit rest)
-fills_fit (fill_comma rest) = (refl, fills_fit rest)
-fills_fit (fill_open rest) = (refl, fills_fit rest)
-fills_fit (fill_close rest) = (refl, fills_fit rest)
-fills_fit (fill_further rest) = (refl, fills_fit rest)
-fills_fit no_further = tt
-fills_fit (fill_second writes rest) = (writes, fills_fit rest)
+-- ---- tokens that fit
 
 pub fit_fills : (slots : List Slot) (ts : List lex.Token) (v : Values) → FitWhole slots ts → (w : Values) × Fills slots ts v w
 fit_fills [] [] v fit = (v, done)
 fit_fills [] (t ∷ ts) v fit = absurd fit
 fit_fills (Further ∷ slots) [] v fit = (v, no_further)
 fit_fills (slot ∷ slots) [] v fit = absurd fit
-fit_fills (Rd ∷ slots) (t ∷ ts) v fit = let more = fit_fills slots ts (record v { rd = fit.0.0 }) fit.1 in (more.0, fill_rd fit.0.1 more.1)
-fit_fills (Rs1 ∷ slots) (t ∷ ts) v fit = let more = fit_fills slots ts (record v { rs1 = fit.0.0 }) fit.1 in (more.0, fill_rs1 fit.0.1 more.1)
-fit_fills (Rs2 ∷ slots) (t ∷ ts) v fit = let more = fit_fills slots ts (record v { rs2 = fit.0.0 }) fit.1 in (more.0, fill_rs2 fit.0.1 more.1)
-fit_fills (Rs3 ∷ slots) (t ∷ ts) v fit = let more = fit_fills slots ts (record v { rs3 = fit.0.0 }) fit.1 in (more.0, fill_rs3 fit.0.1 more.1)
+fit_fills (Register place ∷ slots) (t ∷ ts) v fit =
+    let more = fit_fills slots ts (record v { registers = with_register place fit.0.0 v.registers }) fit.1 in
+    (more.0, fill_register fit.0.1 more.1)
 fit_fills (Value field ∷ slots) (t ∷ ts) v (inl has, fit) = let more = fit_fills slots ts (record v { number = has.0 }) fit in
     (more.0, fill_number has.1 more.1)
 fit_fills (Value field ∷ slots) (t ∷ ts) v (inr has, fit) =
@@ -137,10 +91,9 @@ default_token Further = comma
 default_token Second = decimal_number false (49 ∷ [])
 default_token other = name (codes "x" ++ decimal 0)
 
-zero_in : (field : Field) → IsIn (field_form field) (pos 0)
-zero_in BranchOffset = ((omega (arith, ints), omega (arith, ints)), refl)
-zero_in JumpOffset = ((omega (arith, ints), omega (arith, ints)), refl)
-zero_in other = (omega (arith, ints), omega (arith, ints))
+zero_in : (field : Field) → IsIn field (pos 0)
+zero_in Immediate = (omega (arith, ints), omega (arith, ints), λ offset. refl)
+zero_in other = (omega (arith, ints), omega (arith, ints), λ offset. refl)
 
 accepts_default : (slot : Slot) → Accepts slot (default_token slot)
 accepts_default (Value field) = inl (pos 0, ((lit≤ tt, refl), zero_in field))
@@ -182,214 +135,6 @@ statement_fit m ts statement named is =
     let rest : ts ≡ h.others = cc in
     let same = same_mnemonic m h.mnemonic named h.named first in
     subst (λ k. FitWhole (slots_of k) ts) (sym same) (subst (FitWhole (slots_of h.mnemonic)) (sym rest) (fills_fit h.fills))
-
--- ---- what stops the code
-
-abbrev IsValue : Slot → Type 0
-IsValue (Value field) = Unit {0}
-IsValue Second = Unit {0}
-IsValue slot = ⊥
-
--- the symbol that doesn't fit where these slots are due, and the rule that it breaks
-data Stops : List Slot → lex.Symbol → Rule → Type 0 where
-  stray : {slots : List Slot} → Stops slots stray_byte NoToken
-  over : {t : lex.Token} → Stops [] (reading.token t) Surplus
-  over_further : {slots : List Slot} {t : lex.Token} → ¬ Accepts Further t → Stops (Further ∷ slots) (reading.token t) Surplus
-  short : {slot : Slot} {slots : List Slot} → ¬ MayEnd slot → Stops (slot ∷ slots) text_end NoOperand
-  wrong_number : {slot : Slot} {slots : List Slot} {t : lex.Token} → IsValue slot → IsNumber t → ¬ Accepts slot t
-      → Stops (slot ∷ slots) (reading.token t) OutOfField
-  wrong : {slot : Slot} {slots : List Slot} {t : lex.Token} → ¬ MayEnd slot → ¬ (IsNumber t × IsValue slot) → ¬ Accepts slot t
-      → Stops (slot ∷ slots) (reading.token t) NoOperand
-
--- an accepted token is read
-accept_ok : (code_token : Token) (slot : Slot) (shown : lex.Token) (o : Operands) → Accepts slot shown
-    → (p : Operands) × (result_of code_token slot shown o ≡ Ok p)
-accept_ok ct Rd shown o (r, is) = (_, ap (λ x. x >>= λ r. Ok (record o { rd = r })) (register_no shown r is))
-accept_ok ct Rs1 shown o (r, is) = (_, ap (λ x. x >>= λ r. Ok (record o { rs1 = r })) (register_no shown r is))
-accept_ok ct Rs2 shown o (r, is) = (_, ap (λ x. x >>= λ r. Ok (record o { rs2 = r })) (register_no shown r is))
-accept_ok ct Rs3 shown o (r, is) = (_, ap (λ x. x >>= λ r. Ok (record o { rs3 = r })) (register_no shown r is))
-accept_ok ct (Value field) shown o (inl (n, has)) =
-    let m = number_in_no field shown o n has in
-    (_, value_no ct field shown o (writes_is_number shown n has.0) ∙ m.1)
-accept_ok ct (Value field) shown o (inr (offset, (label, e))) =
-    (_, ap (λ s. value_result ct field s o) e ∙ ap (λ b. cond b (Ok (record o { label = Some ct })) (Err NoOperand)) offset)
-accept_ok ct Comma shown o e = (_, ap (λ s. mark_result 44 s o) e)
-accept_ok ct Open shown o e = (_, ap (λ s. mark_result 40 s o) e)
-accept_ok ct Close shown o e = (_, ap (λ s. mark_result 41 s o) e)
-accept_ok ct Further shown o e = (_, ap (λ s. further_result s o) e)
-accept_ok ct Second shown o writes =
-    let m = one_no shown o writes in
-    (_, second_no shown o (writes_is_number shown (pos 1) writes) ∙ m.1)
-
-not_accepted : (ct : Token) (slot : Slot) (shown : lex.Token) (o : Operands) (rule : Rule) → result_of ct slot shown o ≡ Err rule → ¬ Accepts slot shown
-not_accepted ct slot shown o rule e = λ accepts. let ok = (accept_ok ct slot shown o accepts).1 in cc
-
--- the rule that is broken by a token
-abbrev IsRuleFor : Slot → lex.Token → Rule → Type 0
-IsRuleFor slot t rule = ((rule ≡ OutOfField) × (IsNumber t × IsValue slot)) ⊎ ((rule ≡ due_rule slot) × (¬ (IsNumber t × IsValue slot)))
-
-pub err_same : {A E : Type 0} (a b : E) → ◌≡◌ {A = Result A E} (Err a) (Err b) → a ≡ b
-err_same a b e = cc
-
-bind_register : (r : Result ℕ Rule) (f : ℕ → Operands) (rule : Rule) → (r >>= λ x. Ok (f x)) ≡ Err rule → r ≡ Err rule
-bind_register (Ok x) f rule e = absurd (cc)
-bind_register (Err x) f rule e = cc
-
-found_rule : (o : Option ℕ) (rule : Rule) → found o NoOperand ≡ Err rule → rule ≡ NoOperand
-found_rule (Some x) rule e = absurd (cc)
-found_rule None rule e = cc
-
-register_rule : (shown : lex.Token) (rule : Rule) → register_result shown ≡ Err rule → rule ≡ NoOperand
-register_rule (name bytes) rule e = found_rule (register_of bytes) rule e
-register_rule other rule e = cc
-
-cond_rule : {A : Type 0} (b : Bool) (x : A) (rule due : Rule) → cond b (Ok x) (Err due) ≡ Err rule → rule ≡ due
-cond_rule true x rule due e = absurd (cc)
-cond_rule false x rule due e = cc
-
-mark_rule : (due : ℕ) (shown : lex.Token) (o : Operands) (rule : Rule) → mark_result due shown o ≡ Err rule → rule ≡ NoOperand
-mark_rule due comma o rule e = cond_rule (eqb 44 due) o rule NoOperand e
-mark_rule due open_bracket o rule e = cond_rule (eqb 40 due) o rule NoOperand e
-mark_rule due close_bracket o rule e = cond_rule (eqb 41 due) o rule NoOperand e
-mark_rule due colon o rule e = cond_rule (eqb 58 due) o rule NoOperand e
-mark_rule due other o rule e = cc
-
-number_rule : (field : Field) (n : Option Number) (o : Operands) (rule : Rule) → number_in field n o ≡ Err rule → rule ≡ OutOfField
-number_rule field None o rule e = cc
-number_rule field (Some n) o rule e = cond_rule (fits field n) (record o { number = n }) rule OutOfField e
-
-further_rule : (shown : lex.Token) (o : Operands) (rule : Rule) → further_result shown o ≡ Err rule → rule ≡ Surplus
-further_rule comma o rule e = absurd (cc)
-further_rule other o rule e = cc
-
-one_rule : (n : Option Number) (o : Operands) (rule : Rule) → one_in n o ≡ Err rule → rule ≡ OutOfField
-one_rule None o rule e = cc
-one_rule (Some n) o rule e = cond_rule (is_one n) (record o { number = n }) rule OutOfField e
-
-rule_for : (ct : Token) (slot : Slot) (shown : lex.Token) (o : Operands) (rule : Rule) → result_of ct slot shown o ≡ Err rule → IsRuleFor slot shown rule
-rule_for ct (Value field) (name bytes) o rule e = inr (cond_rule (is_offset field) (record o { label = Some ct }) rule NoOperand e, λ h. h.0)
-rule_for ct (Value field) (decimal_number negative digits) o rule e = inl
-    (number_rule field (number_result (decimal_number negative digits)) o rule e, (tt, tt))
-rule_for ct (Value field) (hex_number digits) o rule e = inl (number_rule field (number_result (hex_number digits)) o rule e, (tt, tt))
-rule_for ct (Value field) word o rule e = inr (cc, λ h. h.0)
-rule_for ct (Value field) comma o rule e = inr (cc, λ h. h.0)
-rule_for ct (Value field) open_bracket o rule e = inr (cc, λ h. h.0)
-rule_for ct (Value field) close_bracket o rule e = inr (cc, λ h. h.0)
-rule_for ct (Value field) colon o rule e = inr (cc, λ h. h.0)
-rule_for ct Comma shown o rule e = inr (mark_rule 44 shown o rule e, λ h. h.1)
-rule_for ct Open shown o rule e = inr (mark_rule 40 shown o rule e, λ h. h.1)
-rule_for ct Close shown o rule e = inr (mark_rule 41 shown o rule e, λ h. h.1)
-rule_for ct Further shown o rule e = inr (further_rule shown o rule e, λ h. h.1)
-rule_for ct Second (decimal_number negative digits) o rule e = inl (one_rule (number_result (decimal_number negative digits)) o rule e, (tt, tt))
-rule_for ct Second (hex_number digits) o rule e = inl (one_rule (number_result (hex_number digits)) o rule e, (tt, tt))
-rule_for ct Second (name bytes) o rule e = inr (cc, λ h. h.0)
-rule_for ct Second word o rule e = inr (cc, λ h. h.0)
-rule_for ct Second comma o rule e = inr (cc, λ h. h.0)
-rule_for ct Second open_bracket o rule e = inr (cc, λ h. h.0)
-rule_for ct Second close_bracket o rule e = inr (cc, λ h. h.0)
-rule_for ct Second colon o rule e = inr (cc, λ h. h.0)
-rule_for ct other shown o rule e = inr (register_rule shown rule (bind_register (register_result shown) _ rule e), λ h. h.1)
-
-wrong_stops : (slot : Slot) (slots : List Slot) (t : lex.Token) → ¬ (IsNumber t × IsValue slot) → ¬ Accepts slot t
-    → Stops (slot ∷ slots) (reading.token t) (due_rule slot)
-wrong_stops Further slots t plain none = over_further none
-wrong_stops slot slots t plain none = wrong (λ may. may) plain none
-
-end_stops : (slot : Slot) (slots : List Slot) → ends_before slot End ≡ false → Stops (slot ∷ slots) text_end (due_rule slot)
-end_stops Further slots on = absurd (cc)
-end_stops slot slots on = short (λ may. may)
-
--- what stands in a slot's place where it can't be filled
-filled_stops : (line : List ℕ) (slot : Slot) (slots : List Slot) (t : Token) (o : Operands) (rule : Rule) (symbol : lex.Symbol) → Shows line t symbol
-    → ends_before slot t.kind ≡ false → filled line slot t o ≡ Err rule → Stops (slot ∷ slots) symbol rule
-filled_stops line slot slots t o rule (reading.token shown) shows on e =
-    let there = sym (filled_shown line slot t shown o shows) ∙ e in
-    let none = not_accepted t slot shown o rule there in
-    elim (rule_for t slot shown o rule there) [
-      | inl number ↦ subst (Stops (slot ∷ slots) (reading.token shown)) (sym number.0) (wrong_number number.1.1 number.1.0 none)
-      | inr other ↦ subst (Stops (slot ∷ slots) (reading.token shown)) (sym other.0) (wrong_stops slot slots shown other.1 none)
-    ]
-filled_stops line slot slots t o rule text_end shows on e =
-    let same : due_rule slot ≡ rule = err_same {A = Operands} (due_rule slot) rule (sym (filled_end line slot t o shows) ∙ e) in
-    subst (Stops (slot ∷ slots) text_end) same (end_stops slot slots (sym (ap (ends_before slot) shows) ∙ on))
-filled_stops line slot slots t o rule stray_byte shows on e =
-    let same : NoToken ≡ rule = err_same {A = Operands} NoToken rule (sym (filled_bad line slot t o shows) ∙ e) in
-    subst (Stops (slot ∷ slots) stray_byte) same stray
-
--- what stands where the line should end
-ended_stops : (line : List ℕ) (t : Token) (o : Operands) (f : Fault) (symbol : lex.Symbol) → Shows line t symbol → ended t.start o t.kind ≡ Err f
-    → Stops [] symbol f.rule × (f.place ≡ t.start)
-ended_stops line t o f (reading.token shown) shows e =
-    let same : fault Surplus t.start ≡ f = err_same {A = Operands} _ f (sym (over_kind t.start o shown) ∙ (ap (ended t.start o) (sym shows.kind) ∙ e)) in
-    (subst (λ g. Stops [] (reading.token shown) g.rule) same over, sym (ap (λ g. g.place) same))
-  where
-    over_kind : (place : ℕ) (o : Operands) (shown : lex.Token) → ended place o (kind_of_token shown) ≡ Err (fault Surplus place)
-    over_kind place o (name bytes) = refl
-    over_kind place o other = refl
-ended_stops line t o f text_end shows e =
-    let ok : ended t.start o t.kind ≡ Ok o = ap (ended t.start o) shows in
-    absurd (cc)
-ended_stops line t o f stray_byte shows e =
-    let same : fault NoToken t.start ≡ f = err_same {A = Operands} _ f (sym (ap (ended t.start o) shows) ∙ e) in
-    (subst (λ g. Stops [] stray_byte g.rule) same stray, sym (ap (λ g. g.place) same))
-
--- where the slots could not be filled any more
-record IsStopped (line : List ℕ) (t : Token) (slots : List Slot) (f : Fault) : Type 0 where
-  filled_slots : List Slot
-  due : List Slot
-  front : List lex.Token
-  symbol : lex.Symbol
-  split : slots ≡ filled_slots ++ due
-  fit : Fit filled_slots front
-  meets : Meets line t front symbol f.place
-  stops : Stops due symbol f.rule
-
-accepted : (line : List ℕ) (slot : Slot) (t : Token) (o p : Operands) (symbol : lex.Symbol) → Shows line t symbol → filled line slot t o ≡ Ok p
-    → (shown : lex.Token) × IsShown line t shown × Accepts slot shown
-accepted line slot t o p symbol shows e =
-    let f = filled_token line slot t o p symbol shows e in
-    (f.0, f.1, (fills_fit (fill_step line t f.0 slot [] [] o p (values_of line p) f.1 f.2 done)).0)
-
-read_stops : (line : List ℕ) (slots : List Slot) (from : ℕ) (o : Operands) (f : Fault) → read_slots line slots from o ≡ Err f
-    → IsStopped line (next_token line from) slots f
-read_stops line [] from o f e =
-    let s = next_symbol line from in
-    let stop = ended_stops line (next_token line from) o f s.0 s.1 (sym (read_nil line from o) ∙ e) in
-    record { filled_slots = []; due = []; front = []; symbol = s.0; split = refl; fit = tt; meets = (s.1, sym stop.1); stops = stop.0 }
-read_stops line (slot ∷ slots) from o f e = by_test (ends_before slot (next_token line from).kind)
-    (λ ends. let whole = read_ends line slot slots from o ends in absurd (cc))
-    (λ on. by on (filled line slot (next_token line from) o) refl (λ p. read_stops line slots (next_token line from).end p f))
-  where
-    by : ends_before slot (next_token line from).kind ≡ false → (r : Result Operands Rule) → filled line slot (next_token line from) o ≡ r
-        → ((p : Operands) → read_slots line slots (next_token line from).end p ≡ Err f → IsStopped line (next_token line (next_token line from).end) slots f)
-        → IsStopped line (next_token line from) (slot ∷ slots) f
-    by on (Err rule) at rest =
-        let s = next_symbol line from in
-        let same : fault rule (next_token line from).start ≡ f = err_same {A = Operands} _ f (sym (read_stuck line slot slots from o rule on at) ∙ e) in
-        record {
-          filled_slots = [];
-          due = slot ∷ slots;
-          front = [];
-          symbol = s.0;
-          split = refl;
-          fit = tt;
-          meets = (s.1, ap (λ g. g.place) same);
-          stops = subst (λ g. Stops (slot ∷ slots) s.0 g.rule) same (filled_stops line slot slots (next_token line from) o rule s.0 s.1 on at);
-        }
-    by on (Ok p) at rest =
-        let s = next_symbol line from in
-        let a = accepted line slot (next_token line from) o p s.0 s.1 at in
-        let more = rest p (sym (read_step line slot slots from o p at) ∙ e) in
-        record {
-          filled_slots = slot ∷ more.filled_slots;
-          due = more.due;
-          front = a.0 ∷ more.front;
-          symbol = more.symbol;
-          split = ap (λ k. slot ∷ k) more.split;
-          fit = (a.2, more.fit);
-          meets = (a.1, more.meets);
-          stops = more.stops;
-        }
 
 -- ---- the fault of a line
 
@@ -510,17 +255,13 @@ no_mnemonic t rule e (others, statement, is) =
     absurd (cc)
 
 mnemonic_rule : (t : lex.Token) (rule : Rule) → mnemonic_result t ≡ Err rule → rule ≡ NoMnemonic
-mnemonic_rule (name bytes) rule e = by (mnemonic_of bytes) e
-  where
-    by : (o : Option Mnemonic) → found o NoMnemonic ≡ Err rule → rule ≡ NoMnemonic
-    by (Some m) e = absurd (cc)
-    by None e = cc
-mnemonic_rule word rule e = absurd (cc)
+mnemonic_rule (name bytes) rule e = found_err (mnemonic_of bytes) NoMnemonic rule e
+mnemonic_rule word rule e = found_err (mnemonic_of (spelling word)) NoMnemonic rule e
 mnemonic_rule other rule e = cc
 
 -- the fault where no mnemonic stands
 first_stop : (words : ℕ) (line : List ℕ) (t : Token) (symbol : lex.Symbol) (rule : Rule) → Shows line t symbol → t.kind ≢ End
-    → mnemonic_in line t t.kind ≡ Err rule → IsStop words [] symbol (kind_of rule)
+    → mnemonic_in (text_of line t) t.kind ≡ Err rule → IsStop words [] symbol (kind_of rule)
 first_stop words line t (reading.token shown) rule shows inside e =
     let there = sym (mnemonic_shown line t shown shows) ∙ e in
     let none = no_mnemonic shown rule there in
@@ -528,115 +269,68 @@ first_stop words line t (reading.token shown) rule shows inside e =
     (record { bad = no_first words shown none; is_kind = no_statement none })
 first_stop words line t text_end rule shows inside e = absurd (inside shows)
 first_stop words line t stray_byte rule shows inside e =
-    let same : NoToken ≡ rule = err_same {A = Mnemonic} NoToken rule (sym (ap (mnemonic_in line t) shows) ∙ e) in
+    let same : NoToken ≡ rule = err_same {A = Mnemonic} NoToken rule (sym (ap (mnemonic_in (text_of line t)) shows) ∙ e) in
     subst (λ r. IsStop words [] stray_byte (kind_of r)) same (record { bad = λ good. good; is_kind = no_token })
 
--- what the code reads first as a mnemonic
-pub mnemonic_read : (line : List ℕ) (t : Token) (m : Mnemonic) (symbol : lex.Symbol) → Shows line t symbol → mnemonic_in line t t.kind ≡ Ok m
-    → IsShown line t (mnemonic_token m)
-mnemonic_read line t m (reading.token shown) shows e = subst (IsShown line t)
-    (mnemonic_yes shown m shows.proper (sym (mnemonic_shown line t shown shows) ∙ e)) shows
-mnemonic_read line t m text_end shows e = let none : mnemonic_in line t t.kind ≡ Err NoMnemonic = ap (mnemonic_in line t) shows in absurd (cc)
-mnemonic_read line t m stray_byte shows e = let none : mnemonic_in line t t.kind ≡ Err NoToken = ap (mnemonic_in line t) shows in absurd (cc)
+module _ (words : ℕ) (line : List ℕ) (b : HasBody line) (f : Fault) where
+  abbrev body : Token
+  body = next_token line b.from
 
--- the part that has the fault
-pub bind_err : {A B E : Type 0} (r : Result A E) (f : A → Result B E) (e : E) → (r >>= f) ≡ Err e → (r ≡ Err e) ⊎ ((x : A) × (r ≡ Ok x) × (f x ≡ Err e))
-bind_err (Ok x) f e h = inr (x, refl, h)
-bind_err (Err y) f e h = inl (cc)
+  abbrev IsTold : Type 0
+  IsTold = IsFaultOfLine words line (kind_of f.rule) f.place
 
-at_place_err : {A : Type 0} (place : ℕ) (r : Result A Rule) (f : Fault) → at_place place r ≡ Err f → (rule : Rule) × (r ≡ Err rule) × (fault rule place ≡ f)
-at_place_err place (Ok x) f e = absurd (cc)
-at_place_err place (Err rule) f e = (rule, refl, cc)
+  abbrev operands_read : Mnemonic → Result Operands Fault
+  operands_read m = cond (eqb words 262144) (Err (fault Surplus body.start)) (read_slots line (slots_of m) body.end no_operands)
 
-pub ok_not_err : {A E : Type 0} (x : A) (e : E) → ◌≢◌ {A = Result A E} (Ok x) (Err e)
-ok_not_err x e = λ h. absurd (cc)
+  mnemonic_fault : (symbol : lex.Symbol) (rule : Rule) → Shows line body symbol → body.kind ≢ End
+      → mnemonic_in (text_of line body) body.kind ≡ Err rule → fault rule body.start ≡ f → IsTold
+  mnemonic_fault symbol rule shows inside e same =
+      subst (λ g. IsFaultOfLine words line (kind_of g.rule) g.place) same
+      (fault_at words line b [] symbol (kind_of rule) body.start (shows, refl) (inl refl) (first_stop words line body symbol rule shows inside e))
 
-abbrev made : Mnemonic → Operands → Result code.Statement Fault
-made m o = Ok (record { mnemonic = m; operands = o })
+  operands_fault : (m : Mnemonic) → words ≤ 262144 → IsShown line body (mnemonic_token m) → is_statement m ≡ true → operands_read m ≡ Err f → IsTold
+  operands_fault m few shown named e = by_test (eqb words 262144)
+      (λ full.
+      let limit : ¬ (words < 262144) = λ less. absurd (grind (arith, nat_tests)) in
+      let same : fault Surplus body.start ≡ f = err_same {A = Operands} _ f
+      (sym (ap (λ c. cond c (Err (fault Surplus body.start)) (read_slots line (slots_of m) body.end no_operands)) full) ∙ e) in
+      subst (λ g. IsFaultOfLine words line (kind_of g.rule) g.place) same
+      (fault_at words line b [] (reading.token (mnemonic_token m)) 7 body.start (shown, refl) (inl refl)
+      (record { bad = no_room words (mnemonic_token m) limit; is_kind = too_many (mnemonic_begins m named) })))
+      (λ room.
+      let less : words < 262144 = grind (arith, nat_tests) in
+      let stuck : read_slots line (slots_of m) body.end no_operands ≡ Err f =
+      sym (ap (λ c. cond c (Err (fault Surplus body.start)) (read_slots line (slots_of m) body.end no_operands)) room) ∙ e in
+      let stop = subst (IsReading line (slots_of m) body.end no_operands) stuck (slots_read line (slots_of m) body.end no_operands) in
+      fault_at words line b (mnemonic_token m ∷ stop.front) stop.symbol (kind_of f.rule) f.place (shown, stop.meets)
+      (good_here m named stop.filled_slots stop.due stop.front stop.split stop.fit words less)
+      (stop_is words m named stop.filled_slots stop.due stop.front stop.split stop.fit stop.symbol f.rule stop.stops))
 
-statement_fault : (words : ℕ) (line : List ℕ) (b : HasBody line) (f : Fault) → words ≤ 262144 → (next_token line b.from).kind ≢ End
-    → read_statement line (next_token line b.from) (eqb words 262144) ≡ Err f → IsFaultOfLine words line (kind_of f.rule) f.place
-unfolding read_statement
-statement_fault words line b f few inside e =
-    let t = next_token line b.from in
-    let s = next_symbol line b.from in
-    elim (bind_err (at_place t.start (mnemonic_in line t t.kind)) _ f e) [
-      | inl first ↦ first_fault t s (at_place_err t.start (mnemonic_in line t t.kind) f first)
-      | inr later ↦ later_fault t s later.0 (at_place_ok t.start (mnemonic_in line t t.kind) later.0 later.1) (statement_rest later.0 later.2)
-    ]
-  where
-    first_fault : (t : Token) → (symbol : lex.Symbol) × Shows line (next_token line b.from) symbol
-        → (rule : Rule) × (mnemonic_in line (next_token line b.from) (next_token line b.from).kind ≡ Err rule) × (fault rule (next_token line b.from).start ≡ f)
-        → IsFaultOfLine words line (kind_of f.rule) f.place
-    first_fault t (symbol, shows) (rule, e, same) =
-        subst (λ g. IsFaultOfLine words line (kind_of g.rule) g.place) same
-        (fault_at words line b [] symbol (kind_of rule) (next_token line b.from).start (shows, refl) (inl refl)
-        (first_stop words line (next_token line b.from) symbol rule shows inside e))
+  statement_fault : words ≤ 262144 → body.kind ≢ End → read_statement line body (eqb words 262144) ≡ Err f → IsTold
+  unfolding read_statement
+  statement_fault few inside e =
+      let s = next_symbol line b.from in
+      let first = mnemonic_in (text_of line body) body.kind in
+      elim (bind_err (at_place body.start first) _ f e) [
+        | inl unread ↦ let told = at_place_err body.start first f unread in mnemonic_fault s.0 told.0 s.1 inside told.1 told.2
+        | inr read ↦
+            let m = read.0 in
+            let at = at_place_ok body.start first m read.1 in
+            operands_fault m few (mnemonic_read line body m s.0 s.1 at) (mnemonic_in-statement (text_of line body) body.kind m at)
+            (map_err {B = code.Statement} (operands_read m) (λ o. record { mnemonic = m; operands = o }) f read.2)
+      ]
 
-    statement_rest : (m : Mnemonic)
-        → (cond (eqb words 262144) (Err (fault Surplus (next_token line b.from).start))
-        (read_slots line (slots_of m) (next_token line b.from).end no_operands) >>= made m) ≡ Err f
-        → cond (eqb words 262144) (Err (fault Surplus (next_token line b.from).start)) (read_slots line (slots_of m) (next_token line b.from).end no_operands)
-        ≡ Err f
-    statement_rest m e = elim (bind_err
-        (cond (eqb words 262144) (Err (fault Surplus (next_token line b.from).start)) (read_slots line (slots_of m) (next_token line b.from).end no_operands)) _
-        f e) [
-          | inl here ↦ here
-          | inr there ↦ absurd (ok_not_err _ f there.2)
-        ]
-
-    later_fault : (t : Token) → (symbol : lex.Symbol) × Shows line (next_token line b.from) symbol → (m : Mnemonic)
-        → mnemonic_in line (next_token line b.from) (next_token line b.from).kind ≡ Ok m
-        → cond (eqb words 262144) (Err (fault Surplus (next_token line b.from).start)) (read_slots line (slots_of m) (next_token line b.from).end no_operands)
-        ≡ Err f
-        → IsFaultOfLine words line (kind_of f.rule) f.place
-    later_fault t (symbol, shows) m at e =
-        let u = next_token line b.from in
-        let named = mnemonic_in-statement line u u.kind m at in
-        let shown = mnemonic_read line u m symbol shows at in
-        by_test (eqb words 262144)
-        (λ full.
-        let limit : ¬ (words < 262144) = λ less. absurd (grind (arith, nat_tests)) in
-        let same : fault Surplus u.start ≡ f = err_same {A = Operands} _ f
-        (sym (ap (λ c. cond c (Err (fault Surplus u.start)) (read_slots line (slots_of m) u.end no_operands)) full) ∙ e) in
-        subst (λ g. IsFaultOfLine words line (kind_of g.rule) g.place) same
-        (fault_at words line b [] (reading.token (mnemonic_token m)) 7 u.start (shown, refl) (inl refl)
-        (record { bad = no_room words (mnemonic_token m) limit; is_kind = too_many (mnemonic_begins m named) })))
-        (λ room.
-        let less : words < 262144 = grind (arith, nat_tests) in
-        let stuck : read_slots line (slots_of m) u.end no_operands ≡ Err f =
-        sym (ap (λ c. cond c (Err (fault Surplus u.start)) (read_slots line (slots_of m) u.end no_operands)) room) ∙ e in
-        let stop = read_stops line (slots_of m) u.end no_operands f stuck in
-        fault_at words line b (mnemonic_token m ∷ stop.front) stop.symbol (kind_of f.rule) f.place (shown, stop.meets)
-        (good_here m named stop.filled_slots stop.due stop.front stop.split stop.fit words less)
-        (stop_is words m named stop.filled_slots stop.due stop.front stop.split stop.fit stop.symbol f.rule stop.stops))
+  body_fault : (kind : Kind) → body.kind ≡ kind → words ≤ 262144 → with_statement line b.label body (eqb words 262144) kind ≡ Err f → IsTold
+  body_fault End at few e = absurd (cc)
+  body_fault other at few e =
+      statement_fault few (λ end. absurd (cc)) (map_err {B = code_lines.Line} _ (λ s. record { label = b.label; statement = Some s }) f e)
 
 -- what the code tells of a line is its fault
 pub line_fault : (words : ℕ) (line : List ℕ) (f : Fault) → words ≤ 262144 → read_line line (eqb words 262144) ≡ Err f
     → IsFaultOfLine words line (kind_of f.rule) f.place
 line_fault words line f few e =
     let b = body_of line in
-    by b (next_token line b.from).kind refl (sym (b.reads (eqb words 262144)) ∙ e)
-  where
-    other : (b : HasBody line) → (next_token line b.from).kind ≢ End → with_statement line b.label (next_token line b.from) (eqb words 262144)
-        (next_token line b.from).kind ≡ Err f → IsFaultOfLine words line (kind_of f.rule) f.place
-    other b inside e =
-        let full = eqb words 262144 in
-        let t = next_token line b.from in
-        elim (bind_err (read_statement line t full) _ f (sym (with_other line b.label t full t.kind inside) ∙ e)) [
-          | inl here ↦ statement_fault words line b f few inside here
-          | inr there ↦ absurd (ok_not_err _ f there.2)
-        ]
-
-    by : (b : HasBody line) (kind : Kind) → (next_token line b.from).kind ≡ kind
-        → with_statement line b.label (next_token line b.from) (eqb words 262144) (next_token line b.from).kind ≡ Err f
-        → IsFaultOfLine words line (kind_of f.rule) f.place
-    by b End at e =
-        let ok : with_statement line b.label (next_token line b.from) (eqb words 262144) (next_token line b.from).kind ≡ Ok
-        (record { label = b.label; statement = None }) = ap (with_statement line b.label (next_token line b.from) (eqb words 262144)) at in
-        absurd (cc)
-    by b Name at e = other b (λ end. absurd (cc)) e
-    by b it at e = other b (λ end. absurd (cc)) e
+    body_fault words line b f (next_token line b.from).kind refl few (sym (b.reads (eqb words 262144)) ∙ e)
 
 -- ---- a statement goes on another by a comma and a number alone
 

@@ -17,28 +17,27 @@ use Rattle.ci_asm.specs.declared.lines.Line as code_lines
 use Rattle.ci_asm.specs.private.Tokens.{next_token, text_of}
 use Rattle.ci_asm.specs.private.Shapes.{fits, field_of}
 use Rattle.ci_asm.specs.private.Statements.{◌>>=◌, fault, read_line, insn_of, signed_value}
-use Rattle.ci_asm.specs.private.Programs.{position, kind_of, on_line, line_at, option_words, all_read, Definitions, once_at, defined_once, offset_between, reaching}
+use Rattle.ci_asm.specs.private.Programs.{position, kind_of, on_line, line_at, all_read, Definitions, once_at, defined_once, offset_between, reaching}
 use Rattle.ci_asm.specs.private.Programs.{resolved, statement_insn, line_insn, option_length, insns_of, assembled}
 use Rattle.ci_asm.specs.Lines.{lines_of}
 use Rattle.ci_asm.specs.Lexicon as lex
 use Rattle.ci_reading.specs.Tokens.{text_end}
 use Rattle.ci_asm.specs.Lexicon.{name, comma, Stands}
-use Rattle.ci_asm.specs.Forms.{Field, Statement, plain, to_label, IsIn, IsNumber, IsStatement}
+use Rattle.ci_asm.specs.declared.slots.Field.{Field}
+use Rattle.ci_asm.specs.Forms.{Statement, to_label, IsIn, IsNumber, IsStatement}
 use Rattle.ci_asm.specs.Assembly as asm
 use Rattle.ci_asm.specs.Assembly.{Line, label_tokens, StandsInLine, HasStatement, IsLine, AreLines, statements_of, Defines, IsOffset}
 use Rattle.ci_asm.specs.Assembly.{IsResolved, IsGoodFront, IsFaultOfLine, IsFaultOfLabel, twice, undefined, too_far, HasFault, of_line, of_label}
-use Rattle.ci_asm.proofs.FilledSlots.{values_of, label_text}
-use Rattle.ci_asm.proofs.ReadStatements.{HasLabelFor, plain_says}
+use Rattle.ci_asm.proofs.FilledSlots.{label_text}
 use Rattle.ci_asm.proofs.SymbolsMet.{Meets, same_symbol, line_meets}
 use Rattle.ci_asm.proofs.TestLaws.{by_test}
-use Rattle.ci_asm.proofs.ReadOperands.{field_form, fits_in}
+use Rattle.ci_asm.proofs.ReadOperands.{fits_in}
 use Rattle.ci_asm.proofs.AssemblySteps.{all_read-ok, all_read-err, insns_of-ok, insns_of-err, behind, assembled-read, assembled-unread}
-use Rattle.ci_asm.proofs.ReadLines.{statement_says, statement_read, line_says, HasRoom, HasLabels, line_read, body_of, same_label, ReachesInLine}
+use Rattle.ci_asm.proofs.ReadLines.{statement_says, statement_read, line_says, HasRoom, line_read, body_of, same_label, ReachesInLine}
 use Rattle.ci_asm.proofs.ReadPrograms.{AreRead, program_of, words_with, program_read, read-all_read, IsDefinition, AreDefinitions, text_definitions}
-use Rattle.ci_asm.proofs.ReadPrograms.{definitions_known, defined_in, same_length, same_label_place, offset_signed, once_no, line_insn-read, line_no}
+use Rattle.ci_asm.proofs.ReadPrograms.{definitions_known, defined_in, same_length, same_label_place, offset_signed, said_with, once_no, line_insn-read, line_no}
 use Rattle.ci_asm.proofs.ReadPrograms.{IsInsnOfLine, option_size, IsAt, next_at, start_at, AllResolved, resolved_first, resolved_rest}
 use Rattle.ci_asm.proofs.LineFaults.{line_fault, statement_extends, one_kind}
-use Rattle.ci_asm.proofs.ProgramFaults.{reaches_label}
 
 -- ---- what stands in a line
 
@@ -148,18 +147,18 @@ all_read-bad n words [] [] bytes after f read e =
     let count : words + 0 ≡ words = omega arith in
     let place : n + 0 ≡ n = omega arith in
     let here : line_at words bytes ≡ Err f = ap (λ k. line_at k bytes) (sym count) ∙ e in
-    all_read-err n words bytes after (position n f) (ap (λ r. on_line n r >>= λ l. Ok (words + option_words l.statement)) here)
+    all_read-err n words bytes after (position n f) (ap (λ r. on_line n r >>= λ l. Ok (words + option_length l.statement)) here)
     ∙ ap (λ k. Err (position k f)) (sym place)
 all_read-bad n words [] (l ∷ ls) bytes after f read e = absurd read
 all_read-bad n words (line ∷ before) [] bytes after f read e = absurd read
 all_read-bad n words (line ∷ before) (l ∷ ls) bytes after f read e =
     let count = words_with line l.statement (statements_of (program_of before ls)) in
-    let same : words + asm.words_in (program_of (line ∷ before) (l ∷ ls)) ≡ words + option_words l.statement + asm.words_in (program_of before ls) =
+    let same : words + asm.words_in (program_of (line ∷ before) (l ∷ ls)) ≡ words + option_length l.statement + asm.words_in (program_of before ls) =
     omega arith in
     let place : n + length (line ∷ before) ≡ n + 1 + length before = omega arith in
-    all_read-ok n words (words + option_words l.statement) line (before ++ bytes ∷ after)
-    (ap (λ r. on_line n r >>= λ l. Ok (words + option_words l.statement)) read.0)
-    ∙ (all_read-bad (n + 1) (words + option_words l.statement) before ls bytes after f read.1 (ap (λ k. line_at k bytes) (sym same) ∙ e)
+    all_read-ok n words (words + option_length l.statement) line (before ++ bytes ∷ after)
+    (ap (λ r. on_line n r >>= λ l. Ok (words + option_length l.statement)) read.0)
+    ∙ (all_read-bad (n + 1) (words + option_length l.statement) before ls bytes after f read.1 (ap (λ k. line_at k bytes) (sym same) ∙ e)
     ∙ ap (λ k. Err (position k f)) (sym place))
 
 -- ---- labels
@@ -194,7 +193,7 @@ module _ (program : List Line) (definitions : Definitions) (known : AreDefinitio
       by None is = refl
       by (Some d) is = absurd (none (defined_in program is.before is.line is.after (text_of line t) is.split is.labelled))
 
-  far_told : (s : code.Statement) (t : Token) (n : ℤ) → IsOffset program words (text_of line t) n → ¬ IsIn (field_form (field_of s.mnemonic)) n
+  far_told : (s : code.Statement) (t : Token) (n : ℤ) → IsOffset program words (text_of line t) n → ¬ IsIn (field_of s.mnemonic) n
       → reaching words s t (definitions (text_of line t)) ≡ Err (fault OutOfField t.start)
   far_told s t n offset outside = by (definitions (text_of line t)) (known (text_of line t))
     where
@@ -205,36 +204,27 @@ module _ (program : List Line) (definitions : Definitions) (known : AreDefinitio
           let place = same_label_place program (text_of line t) d offset.0 is offset.1 in
           let signed : signed_value number ≡ n = offset_signed words d.words ∙ (ap (λ k. pos (4 * k) -ℤ pos (4 * words)) place ∙ sym offset.2) in
           by_test (fits (field_of s.mnemonic) number)
-          (λ ok. absurd (outside (subst (IsIn (field_form (field_of s.mnemonic))) signed (fits_in (field_of s.mnemonic) number ok))))
-          (λ none. ap (λ b. cond b (Ok (record s.operands { number = number })) (Err (fault OutOfField t.start))) none)
+          (λ ok. absurd (outside (subst (IsIn (field_of s.mnemonic)) signed (fits_in (field_of s.mnemonic) number ok))))
+          (λ none. ap (λ b. cond b (Ok number) (Err (fault OutOfField t.start))) none)
 
   -- the label of a statement that says so
   record HasLabelToken (s : code.Statement) (field : Field) (label : List ℕ) : Type 0 where
     token : Token
     has : s.operands.label ≡ Some token
     text : text_of line token ≡ label
-    is_field : field_form (field_of s.mnemonic) ≡ field
+    is_field : field_of s.mnemonic ≡ field
 
-  label_token : (s : code.Statement) (field : Field) (with_offset : ℤ → Insn) (label : List ℕ) → HasLabelFor s.mnemonic (values_of line s.operands)
+  label_token : (s : code.Statement) (field : Field) (with_offset : ℤ → Insn) (label : List ℕ)
       → statement_says line s ≡ to_label field with_offset label → HasLabelToken s field label
-  label_token s field with_offset label for says = by s.operands.label refl
+  label_token s field with_offset label says = by s.operands.label refl says
     where
-      plain_by : s.operands.label ≡ None → ⊥
-      plain_by same =
-          let o = s.operands in
-          let plain_is = plain_says s.mnemonic line o.rd o.rs1 o.rs2 o.rs3 o.number in
-          let there : statement_says line s ≡ plain (insn_of s.mnemonic (record o { label = None })) =
-          ap (λ l. statement_says line (record s { operands = record o { label = l } })) same ∙ plain_is in
-          cc
-
-      by : (o : Option Token) → s.operands.label ≡ o → HasLabelToken s field label
-      by None same = absurd (plain_by same)
-      by (Some t) same =
-          let r = reaches_label program definitions known words line s t same for in
-          let both : to_label r.field r.with_offset (text_of line t) ≡ to_label field with_offset label = sym r.says ∙ says in
+      by : (o : Option Token) → s.operands.label ≡ o → said_with program definitions known words line s o ≡ to_label field with_offset label
+          → HasLabelToken s field label
+      by None same says = absurd (cc)
+      by (Some t) same says =
           let text : text_of line t ≡ label = cc in
-          let fields : r.field ≡ field = cc in
-          record { token = t; has = same; text = text; is_field = r.same ∙ fields }
+          let fields : field_of s.mnemonic ≡ field = cc in
+          record { token = t; has = same; text = text; is_field = fields }
 
   -- the column of the label
   same_column : (label : Option (List ℕ)) (s : code.Statement) (t : Token) (said : Statement) (front : List lex.Token) (column : ℕ)
@@ -282,13 +272,13 @@ module _ (program : List Line) (definitions : Definitions) (known : AreDefinitio
   statement_told n l s f read same once e =
       line_insn-read program definitions known words line n l read
       ∙ (ap (λ r. r >>= λ _. statement_insn definitions words line l.statement) once
-      ∙ (ap (statement_insn definitions words line) same ∙ ap (λ r. r >>= λ o. Ok (Some (insn_of s.mnemonic o))) e))
+      ∙ (ap (statement_insn definitions words line) same ∙ ap (λ r. r >>= λ n. Ok (Some (insn_of s.mnemonic s.operands.registers (signed_value n)))) e))
 
   reach_told : (n : ℕ) (l : code_lines.Line) (field : Field) (with_offset : ℤ → Insn) (label : List ℕ) (front : List lex.Token) (column kind : ℕ)
       → line_at words line ≡ Ok l → defined_once definitions n line l.label ≡ Ok tt
       → statement_read line l.statement ≡ Some (to_label field with_offset label) → IsStatement (front ++ name label ∷ []) (to_label field with_offset label)
       → StandsInLine line (label_text line l.label) front (reading.token (name label)) column
-      → ((s : code.Statement) (t : Token) → text_of line t ≡ label → field_form (field_of s.mnemonic) ≡ field → IsToldReach s t kind)
+      → ((s : code.Statement) (t : Token) → text_of line t ≡ label → field_of s.mnemonic ≡ field → IsToldReach s t kind)
       → IsToldBy (line_insn definitions n words line) kind column
   reach_told n l field with_offset label front column kind read once says is stands told = by l.statement refl says
     where
@@ -298,7 +288,7 @@ module _ (program : List Line) (definitions : Definitions) (known : AreDefinitio
       by (Some s) same says =
           let r = line_read line (eqb words 262144) l read in
           let said : statement_says line s ≡ to_label field with_offset label = cc in
-          let h = label_token s field with_offset label (subst (HasLabels line) same r.labels) said in
+          let h = label_token s field with_offset label said in
           let t = h.token in
           let reach = told s t h.text h.is_field in
           let resolves : resolved definitions words line s s.operands.label ≡ Err (fault reach.rule t.start) = ap (resolved definitions words line s) h.has
@@ -390,7 +380,7 @@ insns_bad program definitions known n words (line ∷ before) bytes after (l ∷
     let later = subst (λ d. AllResolved program d front) (ap (λ k. done ++ k ∷ []) (sym head)) (resolved_rest program done front x all) in
     let fault_there = subst (λ d. IsFaultOfLabel program d bytes here kind column)
     (ap (λ k. done ++ k ∷ front) (sym head) ∙ sym (append_assoc done (line_says line l ∷ []) front)) is in
-    let more = insns_bad program definitions known (n + 1) (words + option_words l.statement) before bytes after ls
+    let more = insns_bad program definitions known (n + 1) (words + option_length l.statement) before bytes after ls
     (done ++ line_says line l ∷ []) front here back kind column read.1
     (next_at program done line l (program_of (before ++ bytes ∷ after) ls) n words at) tail are.1 later fault_there in
     let rest : insns_of definitions (n + 1) (words + option_length f.0) (before ++ bytes ∷ after) ≡ Err

@@ -5,37 +5,34 @@ use Rattle.std.specs.Option.{option_to_list}
 use Rattle.std.proofs.lemmas.Bool.Decides.{nat_tests}
 use mathlib.Core.List.{append_assoc}
 use Rattle.ci_isa.specs.declared.instruction.Insn.{Insn}
-use Rattle.ci_isa.specs.declared.instruction.Insn.TheVariants as insn
 use Rattle.ci_asm.specs.declared.scanner.Token.{Token}
 use Rattle.ci_asm.specs.declared.numbers.Number.{Number}
-use Rattle.ci_asm.specs.declared.mnemonics.Mnemonic.{Mnemonic}
 use Rattle.ci_asm.specs.declared.faults.Rule.TheVariants.{OutOfField, Undefined, DefinedTwice}
 use Rattle.ci_asm.specs.declared.faults.Fault.{Fault}
 use Rattle.ci_asm.specs.declared.labels.Definition.{Definition}
-use Rattle.ci_asm.specs.declared.statements.Operands.{Operands}
 use Rattle.ci_asm.specs.declared.statements.Statement as code
 use Rattle.ci_asm.specs.declared.lines.Line as code_lines
 use Rattle.ci_asm.specs.private.Tokens.{text_of}
 use Rattle.ci_asm.specs.private.Shapes.{fits, field_of}
-use Rattle.ci_asm.specs.private.Statements.{◌>>=◌, fault, signed_value}
-use Rattle.ci_asm.specs.private.Programs.{Position, position, kind_of, on_line, line_at, option_words, words_behind, all_read, Definitions, once_at, defined_once}
+use Rattle.ci_asm.specs.private.Statements.{◌>>=◌, fault, signed_value, insn_of}
+use Rattle.ci_asm.specs.private.Programs.{Position, position, kind_of, on_line, line_at, words_behind, all_read, Definitions, once_at, defined_once}
 use Rattle.ci_asm.specs.private.Programs.{offset_between, reaching, resolved, statement_insn, line_insn, option_length, insns_of, assembled}
 use Rattle.ci_asm.specs.Lines.{lines_of}
 use Rattle.ci_asm.specs.Lexicon.{name}
-use Rattle.ci_asm.specs.Forms as forms
-use Rattle.ci_asm.specs.Forms.{Statement, to_label, IsIn, IsStatement}
+use Rattle.ci_asm.specs.Forms.{to_label, IsIn, IsStatement}
 use Rattle.ci_asm.specs.Assembly as asm
 use Rattle.ci_asm.specs.Assembly.{Line, AreLines, IsProgram, statements_of, Defines, IsOffset, IsNew, AreResolved}
 use Rattle.ci_asm.specs.Assembly.{IsFaultOfLine, IsFaultOfLabel, twice, undefined, too_far, HasFault, of_line, of_label}
 use Rattle.ci_asm.proofs.FilledSlots.{values_of, label_text}
-use Rattle.ci_asm.proofs.ReadStatements.{HasLabelFor, TakesLabel, jal, branches, takes_label}
-use Rattle.ci_asm.proofs.TestLaws.{by_test}
-use Rattle.ci_asm.proofs.ReadOperands.{field_form, in_fits}
-use Rattle.ci_asm.proofs.ReadLines.{statement_says, statement_read, line_says, HasLabels, IsReadLine, line_read, ReachesInLine}
+use Rattle.ci_asm.proofs.ReadStatements.{says}
+use Rattle.ci_asm.proofs.TestLaws.{by_test, err_same, bind_err, map_err}
+use Rattle.ci_asm.proofs.AssemblySteps.{on_line_ok, on_line_err}
+use Rattle.ci_asm.proofs.ReadOperands.{in_fits}
+use Rattle.ci_asm.proofs.ReadLines.{statement_says, statement_read, line_says, IsReadLine, line_read, ReachesInLine}
 use Rattle.ci_asm.proofs.ReadPrograms.{AreRead, program_of, statement_room, words_with, read_program, all_read-lines, IsDefinition, AreDefinitions}
 use Rattle.ci_asm.proofs.ReadPrograms.{text_definitions, definitions_known, split_less, offset_signed, label_at, once_yes, line_insn-read, line_yes}
-use Rattle.ci_asm.proofs.ReadPrograms.{option_size, resolved_from, resolved_cons, IsAt, next_at, start_at, nothing_left, AllResolved, on_line_ok}
-use Rattle.ci_asm.proofs.LineFaults.{line_fault, bind_err, err_same, ok_not_err}
+use Rattle.ci_asm.proofs.ReadPrograms.{option_size, resolved_from, resolved_cons, IsAt, next_at, start_at, nothing_left, AllResolved}
+use Rattle.ci_asm.proofs.LineFaults.{line_fault}
 
 -- ---- lines that can't be read
 
@@ -52,10 +49,6 @@ record HasBadLine (n words : ℕ) (lines : List (List ℕ)) (p : Position) : Typ
   few : words + asm.words_in program ≤ 262144
   is_fault : IsFaultOfLine (words + asm.words_in program) bytes kind column
   is_position : record { kind = kind; line = n + length before; column = column + 1 } ≡ p
-
-on_line_err : {A : Type 0} (n : ℕ) (r : Result A Fault) (p : Position) → on_line n r ≡ Err p → (f : Fault) × (r ≡ Err f) × (position n f ≡ p)
-on_line_err n (Ok x) p e = absurd (cc)
-on_line_err n (Err f) p e = (f, refl, cc)
 
 bad_here : (n words : ℕ) (line : List ℕ) (lines : List (List ℕ)) (p : Position) (f : Fault) → words ≤ 262144 → line_at words line ≡ Err f → position n f ≡ p
     → HasBadLine n words (line ∷ lines) p
@@ -77,11 +70,11 @@ bad_here n words line lines p f few e at =
     }
 
 bad_later : (n words : ℕ) (line : List ℕ) (lines : List (List ℕ)) (p : Position) (l : code_lines.Line) → words ≤ 262144 → line_at words line ≡ Ok l
-    → HasBadLine (n + 1) (words + option_words l.statement) lines p → HasBadLine n words (line ∷ lines) p
+    → HasBadLine (n + 1) (words + option_length l.statement) lines p → HasBadLine n words (line ∷ lines) p
 bad_later n words line lines p l few e bad =
     let is = line_read line (eqb words 262144) l e in
     let count = words_with line l.statement (statements_of bad.program) in
-    let same : words + asm.words_in (line_says line l ∷ bad.program) ≡ words + option_words l.statement + asm.words_in bad.program = omega arith in
+    let same : words + asm.words_in (line_says line l ∷ bad.program) ≡ words + option_length l.statement + asm.words_in bad.program = omega arith in
     let place : n + length (line ∷ bad.before) ≡ n + 1 + length bad.before = omega arith in
     let less = bad.few in
     record {
@@ -107,13 +100,13 @@ unread_line n words (line ∷ lines) p few e = by (line_at words line) refl (λ 
         → ((after : ℕ) → after ≤ 262144 → all_read (n + 1) after lines ≡ Err p → HasBadLine (n + 1) after lines p) → HasBadLine n words (line ∷ lines) p
     by (Err f) at rest =
         let known : (words_behind n words line >>= λ after. all_read (n + 1) after lines) ≡ Err (position n f) =
-        ap (λ r. (on_line n r >>= λ l. Ok (words + option_words l.statement)) >>= λ after. all_read (n + 1) after lines) at in
+        ap (λ r. (on_line n r >>= λ l. Ok (words + option_length l.statement)) >>= λ after. all_read (n + 1) after lines) at in
         bad_here n words line lines p f few at (err_same {A = Unit {0}} (position n f) p (sym known ∙ e))
     by (Ok l) at rest =
-        let known : (words_behind n words line >>= λ after. all_read (n + 1) after lines) ≡ all_read (n + 1) (words + option_words l.statement) lines =
-        ap (λ r. (on_line n r >>= λ l. Ok (words + option_words l.statement)) >>= λ after. all_read (n + 1) after lines) at in
+        let known : (words_behind n words line >>= λ after. all_read (n + 1) after lines) ≡ all_read (n + 1) (words + option_length l.statement) lines =
+        ap (λ r. (on_line n r >>= λ l. Ok (words + option_length l.statement)) >>= λ after. all_read (n + 1) after lines) at in
         let is = line_read line (eqb words 262144) l at in
-        bad_later n words line lines p l few at (rest (words + option_words l.statement) (statement_room words l.statement is.room few) (sym known ∙ e))
+        bad_later n words line lines p l few at (rest (words + option_length l.statement) (statement_room words l.statement is.room few) (sym known ∙ e))
 
 -- ---- labels
 
@@ -122,6 +115,11 @@ record IsTwice (before : List Line) (line : List ℕ) (label : Option Token) (f 
   is_label : label ≡ Some token
   is_fault : fault DefinedTwice token.start ≡ f
   defined : Defines before (text_of line token)
+
+-- a statement with a label reaches it
+pub said_so : (line : List ℕ) (s : code.Statement) (t : Token) → s.operands.label ≡ Some t
+    → statement_says line s ≡ to_label (field_of s.mnemonic) (insn_of s.mnemonic s.operands.registers) (text_of line t)
+said_so line s t some = ap (λ label. says s.mnemonic (values_of line (record s.operands { label = label }))) some
 
 module _ (program : List Line) (definitions : Definitions) (known : AreDefinitions program definitions) (words : ℕ) (line : List ℕ) where
   -- the label is defined on an earlier line
@@ -159,68 +157,44 @@ module _ (program : List Line) (definitions : Definitions) (known : AreDefinitio
   -- the fault of the label that a statement reaches
   data ReachFault (s : code.Statement) (t : Token) (f : Fault) : Type 0 where
     nowhere : fault Undefined t.start ≡ f → ¬ Defines program (text_of line t) → ReachFault s t f
-    far : (n : ℤ) → fault OutOfField t.start ≡ f → IsOffset program words (text_of line t) n → ¬ IsIn (field_form (field_of s.mnemonic)) n → ReachFault s t f
+    far : (n : ℤ) → fault OutOfField t.start ≡ f → IsOffset program words (text_of line t) n → ¬ IsIn (field_of s.mnemonic) n → ReachFault s t f
 
   reach_fault : (s : code.Statement) (t : Token) (d : Option Definition) (f : Fault) → IsDefinition program (text_of line t) 1 0 d
       → reaching words s t d ≡ Err f → ReachFault s t f
-  reach_fault s t None f none e = nowhere (err_same {A = Operands} _ f e) none
+  reach_fault s t None f none e = nowhere (err_same {A = Number} _ f e) none
   reach_fault s t (Some d) f found e = by_test (fits (field_of s.mnemonic) (offset_between words d.words)) in_field out_of_it
     where
       in_field : fits (field_of s.mnemonic) (offset_between words d.words) ≡ true → ReachFault s t f
-      in_field ok = let there : reaching words s t (Some d) ≡ Ok (record s.operands { number = offset_between words d.words }) =
-          ap (λ b. cond b (Ok (record s.operands { number = offset_between words d.words })) (Err (fault OutOfField t.start))) ok in absurd (cc)
+      in_field ok = let there : reaching words s t (Some d) ≡ Ok (offset_between words d.words) =
+          ap (λ b. cond b (Ok (offset_between words d.words)) (Err (fault OutOfField t.start))) ok in absurd (cc)
 
       out_of_it : fits (field_of s.mnemonic) (offset_between words d.words) ≡ false → ReachFault s t f
       out_of_it none =
           let there : reaching words s t (Some d) ≡ Err (fault OutOfField t.start) =
-          ap (λ b. cond b (Ok (record s.operands { number = offset_between words d.words })) (Err (fault OutOfField t.start))) none in
-          far (signed_value (offset_between words d.words)) (err_same {A = Operands} _ f (sym there ∙ e))
+          ap (λ b. cond b (Ok (offset_between words d.words)) (Err (fault OutOfField t.start))) none in
+          far (signed_value (offset_between words d.words)) (err_same {A = Number} _ f (sym there ∙ e))
           (d.words, label_at program (text_of line t) d found, offset_signed words d.words)
           (λ within. let ok = in_fits (field_of s.mnemonic) (offset_between words d.words) within in absurd (cc))
 
-  -- a statement with a label reaches it
-  pub record IsReach (s : code.Statement) (t : Token) : Type 0 where
-    pub field : forms.Field
-    pub with_offset : ℤ → Insn
-    pub says : statement_says line s ≡ to_label field with_offset (text_of line t)
-    pub same : field_form (field_of s.mnemonic) ≡ field
-
-  reaches : {m : Mnemonic} → TakesLabel m → (rd rs1 rs2 rs3 : ℕ) (number : Number) (t : Token)
-      → IsReach (record { mnemonic = m; operands = record { rd = rd; rs1 = rs1; rs2 = rs2; rs3 = rs3; number = number; label = Some t } }) t
-  reaches jal rd rs1 rs2 rs3 number t = record { field = forms.jump_offset; with_offset = insn.Jal rd; says = refl; same = refl }
-  reaches (branches {cond}) rd rs1 rs2 rs3 number t = record { field = forms.branch_offset; with_offset = insn.Branch cond rs1 rs2; says = refl; same = refl }
-
-  pub reaches_label : (s : code.Statement) (t : Token) → s.operands.label ≡ Some t → HasLabelFor s.mnemonic (values_of line s.operands) → IsReach s t
-  reaches_label s t e for = by s.operands.label e for
-    where
-      by : (label : Option Token) → label ≡ Some t → HasLabelFor s.mnemonic (values_of line (record s.operands { label = label }))
-          → IsReach (record s { operands = record s.operands { label = label } }) t
-      by None e for = absurd (cc)
-      by (Some u) e for =
-          let same : u ≡ t = cc in
-          subst (λ k. IsReach (record s { operands = record s.operands { label = Some u } }) k) same
-          (reaches (takes_label s.mnemonic (values_of line (record s.operands { label = Some u })) (text_of line u) for refl) s.operands.rd s.operands.rs1
-          s.operands.rs2 s.operands.rs3 s.operands.number u)
-
   statement_fault : (before : List Line) (here : Line) (s : code.Statement) (f : Fault) → words ≡ asm.words_in before → IsNew before here.label
-      → here.statement ≡ Some (statement_says line s) → HasLabelFor s.mnemonic (values_of line s.operands)
+      → here.statement ≡ Some (statement_says line s)
       → ((t : Token) → s.operands.label ≡ Some t → ReachesInLine line here.label t (statement_says line s))
       → resolved definitions words line s s.operands.label ≡ Err f → IsFaultOfLabel program before line here (kind_of f.rule) f.place
-  statement_fault before here s f count new at for target e = by s.operands.label refl e
+  statement_fault before here s f count new at target e = by s.operands.label refl e
     where
       by : (label : Option Token) → s.operands.label ≡ label → resolved definitions words line s label ≡ Err f
           → IsFaultOfLabel program before line here (kind_of f.rule) f.place
       by None same e = absurd (cc)
       by (Some t) same e =
-          let r = reaches_label s t same for in
-          let target_at = target t same in
-          let is = subst (IsStatement (target_at.front ++ name (text_of line t) ∷ [])) r.says target_at.is_statement in
-          elim (reach_fault s t (definitions (text_of line t)) f (known (text_of line t)) e) [
+          let text = text_of line t in
+          let reached = target t same in
+          let says : statement_says line s ≡ to_label (field_of s.mnemonic) (insn_of s.mnemonic s.operands.registers) text = said_so line s t same in
+          let is = subst (IsStatement (reached.front ++ name text ∷ [])) says reached.is_statement in
+          elim (reach_fault s t (definitions text) f (known text) e) [
             | nowhere told none ↦ subst (λ g. IsFaultOfLabel program before line here (kind_of g.rule) g.place) told
-                (undefined new (at ∙ ap Some r.says) is target_at.stands none)
+                (undefined new (at ∙ ap Some says) is reached.stands none)
             | far n told offset outside ↦ subst (λ g. IsFaultOfLabel program before line here (kind_of g.rule) g.place) told
-                (too_far new (at ∙ ap Some r.says) is target_at.stands (subst (λ k. IsOffset program k (text_of line t) n) count offset)
-                (λ within. outside (subst (λ field. IsIn field n) (sym r.same) within)))
+                (too_far new (at ∙ ap Some says) is reached.stands (subst (λ k. IsOffset program k text n) count offset) outside)
           ]
 
   -- the fault of a line by its labels
@@ -245,14 +219,8 @@ module _ (program : List Line) (definitions : Definitions) (known : AreDefinitio
           → statement_insn definitions words line s ≡ Err f → IsFaultOfLabel program before line (line_says line l) (kind_of f.rule) f.place
       told_by is new None same e = absurd (cc)
       told_by is new (Some s) same e =
-          let labels = subst (HasLabels line) same is.labels in
-          elim (bind_err (resolved definitions words line s s.operands.label) _ f e) [
-            | inl here ↦ statement_fault before (line_says line l) s f count new (ap (statement_read line) same) labels (λ t some. is.target s t same some) here
-            | inr there ↦ absurd (ok_not_err _ f there.2)
-          ]
-
-abbrev with_first : Option Insn → List Insn → Result (List Insn) Position
-with_first first others = Ok (option_to_list first ++ others)
+          statement_fault before (line_says line l) s f count new (ap (statement_read line) same) (λ t some. is.target s t same some)
+          (map_err {B = Option Insn} _ (λ n. Some (insn_of s.mnemonic s.operands.registers (signed_value n))) f e)
 
 -- the first line with a fault by a label
 record HasBadLabel (program done : List Line) (lines : List (List ℕ)) (rest : List Line) (n : ℕ) (p : Position) : Type 0 where
@@ -282,8 +250,9 @@ bad_label program definitions known n words (line ∷ lines) [] done p read at e
 bad_label program definitions known n words (line ∷ lines) (l ∷ ls) done p read at e =
     elim (bind_err (on_line n (line_insn definitions n words line)) _ p e) [
       | inl first ↦ here (on_line_err n (line_insn definitions n words line) p first)
-      | inr later ↦ behind later.0 (on_line_ok n (line_insn definitions n words line) later.0 later.1) later.2
-          (λ rest. bad_label program definitions known (n + 1) (words + option_words l.statement) lines ls (done ++ line_says line l ∷ []) p read.1
+      | inr later ↦ behind later.0 (on_line_ok n (line_insn definitions n words line) later.0 later.1)
+          (map_err {B = List Insn} _ (λ others. option_to_list later.0 ++ others) p later.2)
+          (λ rest. bad_label program definitions known (n + 1) (words + option_length l.statement) lines ls (done ++ line_says line l ∷ []) p read.1
           (next_at program done line l (program_of lines ls) n words at) rest)
     ]
   where
@@ -309,20 +278,15 @@ bad_label program definitions known n words (line ∷ lines) (l ∷ ls) done p r
           is_position = (λ i. record { kind = kind_of f.rule; line = place i; column = f.place + 1 }) ∙ told;
         }
 
-    rest_err : (first : Option Insn) → (insns_of definitions (n + 1) (words + option_length first) lines >>= with_first first) ≡ Err p
-        → insns_of definitions (n + 1) (words + option_length first) lines ≡ Err p
-    rest_err first e = elim (bind_err (insns_of definitions (n + 1) (words + option_length first) lines) _ p e)
-        [ inl here ↦ here | inr there ↦ absurd (ok_not_err _ p there.2) ]
-
     behind : (first : Option Insn) → line_insn definitions n words line ≡ Ok first
-        → (insns_of definitions (n + 1) (words + option_length first) lines >>= with_first first) ≡ Err p
-        → (insns_of definitions (n + 1) (words + option_words l.statement) lines ≡ Err p
+        → insns_of definitions (n + 1) (words + option_length first) lines ≡ Err p
+        → (insns_of definitions (n + 1) (words + option_length l.statement) lines ≡ Err p
         → HasBadLabel program (done ++ line_says line l ∷ []) lines (program_of lines ls) (n + 1) p)
         → HasBadLabel program done (line ∷ lines) (line_says line l ∷ program_of lines ls) n p
     behind first read_insn e rest =
         let one = line_yes program definitions known words line done (program_of lines ls) n l first at.split at.line_is read.0 read_insn in
         let size = option_size program words line l.statement first one.is_insn in
-        let more = rest (ap (λ k. insns_of definitions (n + 1) (words + k) lines) (sym size) ∙ rest_err first e) in
+        let more = rest (ap (λ k. insns_of definitions (n + 1) (words + k) lines) (sym size) ∙ e) in
         let is = line_read line (eqb words 262144) l read.0 in
         let place : n + length (line ∷ more.lines_before) ≡ n + 1 + length more.lines_before = omega arith in
         record {

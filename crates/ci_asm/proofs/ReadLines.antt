@@ -1,6 +1,7 @@
 -- The lines that the code reads are those of the definitions.
 use Rattle.std.proofs.Common.{◌≡◌, ◌≢◌, ℕ, Bool, true, false, cond, List, [], ◌∷◌, ◌++◌, refl, sym, ap, ◌∙◌, subst, arith, Option, Some, None, Result, Ok, Err}
 use Rattle.std.specs.Prelude.{find}
+use Rattle.std.specs.Option.{ok_or}
 use Rattle.std.proofs.lemmas.Bool.{eqb-true}
 use Rattle.std.proofs.lemmas.Slice.Eq.{bytes_eq-Decides}
 use Rattle.ci_reading.specs.Tokens as reading
@@ -8,30 +9,26 @@ use Rattle.ci_asm.specs.declared.scanner.Kind.{Kind}
 use Rattle.ci_asm.specs.declared.scanner.Kind.TheVariants.{Name, Numeral, Directive, Mark, End, Bad}
 use Rattle.ci_asm.specs.declared.scanner.Token.{Token}
 use Rattle.ci_asm.specs.declared.mnemonics.Mnemonic.{Mnemonic}
-use Rattle.ci_asm.specs.declared.mnemonics.Mnemonic.TheVariants.{RegisterRegister, RegisterImmediate, Lui, Auipc, Jal, Jalr, Branch, Load, Store, Fence, Ecall}
-use Rattle.ci_asm.specs.declared.mnemonics.Mnemonic.TheVariants.{Ebreak, Custom, Cput, Cread, Data}
+use Rattle.ci_asm.specs.declared.mnemonics.Mnemonic.TheVariants.{Data}
 use Rattle.ci_asm.specs.declared.faults.Rule.{Rule}
 use Rattle.ci_asm.specs.declared.faults.Rule.TheVariants.{NoToken, NoMnemonic, Surplus}
-use Rattle.ci_asm.specs.declared.faults.Fault.{Fault}
-use Rattle.ci_asm.specs.declared.statements.Operands.{Operands}
 use Rattle.ci_asm.specs.declared.statements.Statement as code
 use Rattle.ci_asm.specs.declared.lines.Line as code_lines
 use Rattle.ci_asm.specs.private.Tokens.{next_token, text_of}
 use Rattle.ci_asm.specs.private.Shapes.{name_of, mnemonics, mnemonic_of, is_named, is_statement, slots_of}
-use Rattle.ci_asm.specs.private.Statements.{◌>>=◌, found, fault, at_place, no_operands, read_slots, mnemonic_in, read_statement, is_label, with_statement, read_line}
+use Rattle.ci_asm.specs.private.Statements.{◌>>=◌, fault, at_place, no_operands, read_slots, mnemonic_in, read_statement, is_label, with_statement, read_line}
 use Rattle.ci_asm.specs.Lexicon as lex
 use Rattle.ci_reading.specs.Tokens.{text_end, stray_byte}
 use Rattle.ci_asm.specs.Lexicon.{name, word, comma, open_bracket, close_bracket, colon, spelling, IsToken, Stands}
 use Rattle.ci_asm.specs.Forms.{Statement, IsStatement}
 use Rattle.ci_asm.specs.Assembly.{Line, HasLabel, label_tokens, StandsInLine, HasStatement, IsLine}
-use Rattle.ci_asm.proofs.SoundStatements.{bind_ok, same_ok, at_place_ok, found_ok, unless_full, mnemonic_in-statement}
+use Rattle.ci_asm.proofs.SoundStatements.{mnemonic_in-statement}
 use Rattle.ci_asm.proofs.KnownMnemonics.{known_mnemonic}
 use Rattle.ci_asm.specs.private.Tokens.{kind_of}
-use Rattle.ci_asm.proofs.TestLaws.{true_is_not_false}
 use Rattle.ci_asm.proofs.SymbolsMet.{IsShown, Shows, Meets, next_symbol, same_symbol, line_meets, line_stands, kind_no_end}
-use Rattle.ci_asm.proofs.TestLaws.{by_test}
-use Rattle.ci_asm.proofs.FilledSlots.{values_of, label_text, read_fills, fills_read, target_read}
-use Rattle.ci_asm.proofs.ReadStatements.{says, mnemonic_token, fills_statement, statement_slots, HasLabelFor, label_for, offset_last}
+use Rattle.ci_asm.proofs.TestLaws.{by_test, true_is_not_false, bind_ok, same_ok, at_place_ok, unless_ok, found_ok}
+use Rattle.ci_asm.proofs.FilledSlots.{values_of, label_text, IsReading, slots_read, filled_meets, filled_fills, fills_read, target_read}
+use Rattle.ci_asm.proofs.ReadStatements.{says, mnemonic_token, fills_statement, statement_slots, offset_last}
 
 -- ---- mnemonics
 
@@ -52,46 +49,38 @@ name_token : (m : Mnemonic) → IsToken (name (name_of m)) → mnemonic_token m 
 name_token Data proper = let letter = proper.0 in absurd (grind arith)
 name_token other proper = refl
 
+-- what the code reads from a token as a mnemonic
 abbrev pub mnemonic_result : lex.Token → Result Mnemonic Rule
-mnemonic_result (name bytes) = found (mnemonic_of bytes) NoMnemonic
-mnemonic_result word = Ok Data
-mnemonic_result other = Err NoMnemonic
+mnemonic_result shown = mnemonic_in (spelling shown) (kind_of shown)
 
-mnemonic_kind : (line : List ℕ) (t : Token) (shown : lex.Token) → text_of line t ≡ spelling shown → mnemonic_in line t (kind_of shown) ≡ mnemonic_result shown
-mnemonic_kind line t (name bytes) text = ap (λ k. found (mnemonic_of k) NoMnemonic) text
-mnemonic_kind line t word text = ap (λ k. found (mnemonic_of k) NoMnemonic) text ∙ ap (λ o. found o NoMnemonic) (known_mnemonic Data refl).0
-mnemonic_kind line t other text = refl
+pub mnemonic_shown : (line : List ℕ) (t : Token) (shown : lex.Token) → IsShown line t shown → mnemonic_in (text_of line t) t.kind ≡ mnemonic_result shown
+mnemonic_shown line t shown is = λ i. mnemonic_in (is.text i) (is.kind i)
 
-pub mnemonic_shown : (line : List ℕ) (t : Token) (shown : lex.Token) → IsShown line t shown → mnemonic_in line t t.kind ≡ mnemonic_result shown
-mnemonic_shown line t shown is = ap (mnemonic_in line t) is.kind ∙ mnemonic_kind line t shown is.text
-
-pub mnemonic_yes : (shown : lex.Token) (m : Mnemonic) → IsToken shown → mnemonic_result shown ≡ Ok m → shown ≡ mnemonic_token m
+mnemonic_yes : (shown : lex.Token) (m : Mnemonic) → IsToken shown → mnemonic_result shown ≡ Ok m → shown ≡ mnemonic_token m
 mnemonic_yes (name bytes) m proper e =
     let same = named_so bytes m (found_ok (mnemonic_of bytes) NoMnemonic m e) in
     ap name same ∙ sym (name_token m (subst (λ k. IsToken (name k)) same proper))
-mnemonic_yes word m proper e = let same : Data ≡ m = cc in ap mnemonic_token same
+mnemonic_yes word m proper e =
+    let known : Some Data ≡ Some m = sym (known_mnemonic Data refl).0 ∙ found_ok (mnemonic_of (spelling word)) NoMnemonic m e in
+    let same : Data ≡ m = cc in
+    ap mnemonic_token same
 mnemonic_yes other m proper e = absurd (cc)
 
-found_again : (m : Mnemonic) → is_statement m ≡ true → mnemonic_result (name (name_of m)) ≡ Ok m
-found_again m named = ap (λ o. found o NoMnemonic) (known_mnemonic m named).0
-
 pub mnemonic_no : (m : Mnemonic) → is_statement m ≡ true → mnemonic_result (mnemonic_token m) ≡ Ok m
-mnemonic_no (RegisterRegister op) named = found_again (RegisterRegister op) named
-mnemonic_no (RegisterImmediate op) named = found_again (RegisterImmediate op) named
-mnemonic_no Lui named = found_again Lui named
-mnemonic_no Auipc named = found_again Auipc named
-mnemonic_no Jal named = found_again Jal named
-mnemonic_no Jalr named = found_again Jalr named
-mnemonic_no (Branch cond) named = found_again (Branch cond) named
-mnemonic_no (Load kind) named = found_again (Load kind) named
-mnemonic_no (Store width) named = found_again (Store width) named
-mnemonic_no Fence named = found_again Fence named
-mnemonic_no Ecall named = found_again Ecall named
-mnemonic_no Ebreak named = found_again Ebreak named
-mnemonic_no Custom named = found_again Custom named
-mnemonic_no Cput named = found_again Cput named
-mnemonic_no Cread named = found_again Cread named
-mnemonic_no Data named = refl
+mnemonic_no Data named = ap (λ o. ok_or o NoMnemonic) (known_mnemonic Data named).0
+mnemonic_no other named = ap (λ o. ok_or o NoMnemonic) (known_mnemonic other named).0
+
+-- what the code reads as a mnemonic is one
+pub mnemonic_read : (line : List ℕ) (t : Token) (m : Mnemonic) (symbol : lex.Symbol) → Shows line t symbol
+    → mnemonic_in (text_of line t) t.kind ≡ Ok m → IsShown line t (mnemonic_token m)
+mnemonic_read line t m (reading.token shown) shows e =
+    subst (IsShown line t) (mnemonic_yes shown m shows.proper (sym (mnemonic_shown line t shown shows) ∙ e)) shows
+mnemonic_read line t m text_end shows e =
+    let none : mnemonic_in (text_of line t) t.kind ≡ Err NoMnemonic = ap (mnemonic_in (text_of line t)) shows in
+    absurd (cc)
+mnemonic_read line t m stray_byte shows e =
+    let none : mnemonic_in (text_of line t) t.kind ≡ Err NoToken = ap (mnemonic_in (text_of line t)) shows in
+    absurd (cc)
 
 -- ---- statements
 
@@ -111,49 +100,40 @@ pub record ReachesLast (line : List ℕ) (first t : Token) (statement : Statemen
   pub meets : Meets line first front (reading.token (name (text_of line t))) t.start
   pub is_statement : IsStatement (front ++ name (text_of line t) ∷ []) statement
 
-pub read_is : (line : List ℕ) (from : ℕ) (full : Bool) (s : code.Statement) → read_statement line (next_token line from) full ≡ Ok s
-    → IsReadAs line (next_token line from) (statement_says line s) × (full ≡ false) × HasLabelFor s.mnemonic (values_of line s.operands)
-    × ((t : Token) → s.operands.label ≡ Some t → ReachesLast line (next_token line from) t (statement_says line s))
+-- what holds of a statement that was read from a token on
+pub record IsReadStatement (line : List ℕ) (t : Token) (full : Bool) (s : code.Statement) : Type 0 where
+  pub is_read : IsReadAs line t (statement_says line s)
+  pub room : full ≡ false
+  pub target : (u : Token) → s.operands.label ≡ Some u → ReachesLast line t u (statement_says line s)
+
+pub statement_is : (line : List ℕ) (from : ℕ) (full : Bool) (s : code.Statement) → read_statement line (next_token line from) full ≡ Ok s
+    → IsReadStatement line (next_token line from) full s
 unfolding read_statement
-read_is line from full s e =
+statement_is line from full s e =
     let t = next_token line from in
-    let b = bind_ok (at_place t.start (mnemonic_in line t t.kind)) _ s e in
+    let text = text_of line t in
+    let symbol = next_symbol line from in
+    let b = bind_ok (at_place t.start (mnemonic_in text t.kind)) _ s e in
     let m = b.0 in
-    let c = bind_ok (cond full (Err (fault Surplus t.start)) (read_slots line (slots_of m) t.end no_operands)) _ s b.2 in
-    let slots = unless_full full (fault Surplus t.start) (read_slots line (slots_of m) t.end no_operands) c.0 c.1 in
-    let has = read_fills line (slots_of m) t.end no_operands c.0 slots in
-    let mnemonic = at_place_ok t.start (mnemonic_in line t t.kind) m b.1 in
-    let shown = token_read line from m mnemonic in
-    let statement = fills_statement m (mnemonic_in-statement line t t.kind m mnemonic) has.fills in (
-      subst (λ s. IsReadAs line t (statement_says line s)) (same_ok _ s c.2)
-          (record { tokens = mnemonic_token m ∷ has.tokens; column = has.column; meets = (shown, has.meets); is_statement = statement }),
-      not_full full (fault Surplus t.start) (read_slots line (slots_of m) t.end no_operands) c.0 c.1,
-      subst (λ s. HasLabelFor s.mnemonic (values_of line s.operands)) (same_ok _ s c.2) (label_for m has.fills),
-      subst (λ s. (t : Token) → s.operands.label ≡ Some t → ReachesLast line (next_token line from) t (statement_says line s)) (same_ok _ s c.2)
-          (λ u some. reaches line from m c.0 shown (mnemonic_in-statement line t t.kind m mnemonic) slots u some),
-    )
-  where
-    reaches : (line : List ℕ) (from : ℕ) (m : Mnemonic) (o : Operands) → IsShown line (next_token line from) (mnemonic_token m) → is_statement m ≡ true
-        → read_slots line (slots_of m) (next_token line from).end no_operands ≡ Ok o
-        → (u : Token) → o.label ≡ Some u → ReachesLast line (next_token line from) u (says m (values_of line o))
-    reaches line from m o shown named slots u some =
-        let h = target_read line (slots_of m) (next_token line from).end no_operands o u (offset_last m) refl some slots in
-        record { front = mnemonic_token m ∷ h.front; meets = (shown, h.meets); is_statement = fills_statement m named h.fills }
-
-    not_full : (full : Bool) (f : Fault) (r : Result Operands Fault) (o : Operands) → cond full (Err f) r ≡ Ok o → full ≡ false
-    not_full true f r o e = absurd (cc)
-    not_full false f r o e = refl
-
-    token_by : (line : List ℕ) (t : Token) (m : Mnemonic) (symbol : lex.Symbol) → Shows line t symbol → mnemonic_in line t t.kind ≡ Ok m
-        → IsShown line t (mnemonic_token m)
-    token_by line t m (reading.token shown) shows e = subst (IsShown line t)
-        (mnemonic_yes shown m shows.proper (sym (mnemonic_shown line t shown shows) ∙ e)) shows
-    token_by line t m text_end shows e = let none : mnemonic_in line t t.kind ≡ Err NoMnemonic = ap (mnemonic_in line t) shows in absurd (cc)
-    token_by line t m stray_byte shows e = let none : mnemonic_in line t t.kind ≡ Err NoToken = ap (mnemonic_in line t) shows in absurd (cc)
-
-    token_read : (line : List ℕ) (from : ℕ) (m : Mnemonic) → mnemonic_in line (next_token line from) (next_token line from).kind ≡ Ok m
-        → IsShown line (next_token line from) (mnemonic_token m)
-    token_read line from m e = let s = next_symbol line from in token_by line (next_token line from) m s.0 s.1 e
+    let slots = read_slots line (slots_of m) t.end no_operands in
+    let c = bind_ok (cond full (Err (fault Surplus t.start)) slots) _ s b.2 in
+    let room = unless_ok full (fault Surplus t.start) slots c.0 c.1 in
+    let filled = subst (IsReading line (slots_of m) t.end no_operands) room.1 (slots_read line (slots_of m) t.end no_operands) in
+    let mnemonic = at_place_ok t.start (mnemonic_in text t.kind) m b.1 in
+    let shown = mnemonic_read line t m symbol.0 symbol.1 mnemonic in
+    let named = mnemonic_in-statement text t.kind m mnemonic in
+    subst (IsReadStatement line t full) (same_ok _ s c.2) (record {
+      is_read = record {
+        tokens = mnemonic_token m ∷ filled.0;
+        column = filled.1;
+        meets = (shown, filled_meets line filled.2);
+        is_statement = fills_statement m named (filled_fills line filled.2);
+      };
+      room = room.0;
+      target = λ u some.
+          let h = target_read line u filled.2 (offset_last m) refl some in
+          record { front = mnemonic_token m ∷ h.front; meets = (shown, h.meets); is_statement = fills_statement m named h.fills };
+    })
 
 -- a statement of the line is read
 pub record WillReadAs (line : List ℕ) (t : Token) (statement : Statement) : Type 0 where
@@ -161,25 +141,20 @@ pub record WillReadAs (line : List ℕ) (t : Token) (statement : Statement) : Ty
   pub reads : read_statement line t false ≡ Ok read
   pub meaning : statement_says line read ≡ statement
 
-read_statement-by : (line : List ℕ) (t : Token) (m : Mnemonic) (o : Operands) → mnemonic_in line t t.kind ≡ Ok m
-    → read_slots line (slots_of m) t.end no_operands ≡ Ok o → read_statement line t false ≡ Ok (record { mnemonic = m; operands = o })
-unfolding read_statement
-read_statement-by line t m o named read =
-    ap (λ r. at_place t.start r >>= λ m. (cond false (Err (fault Surplus t.start)) (read_slots line (slots_of m) t.end no_operands)) >>= λ o. Ok
-    (record { mnemonic = m; operands = o })) named
-    ∙ ap (λ r. r >>= λ o. Ok (record { mnemonic = m; operands = o })) read
-
 pub is_read : (line : List ℕ) (t : Token) (tokens : List lex.Token) (column : ℕ) (statement : Statement) → Meets line t tokens text_end column
     → IsStatement tokens statement → WillReadAs line t statement
+unfolding read_statement
 is_read line t tokens column statement meets is =
     let h = statement_slots is in
+    let m = h.mnemonic in
     let there = subst (λ ts. Meets line t ts text_end column) h.tokens meets in
-    let w = fills_read h.fills line t.end no_operands column refl there.1 in
-    let mnemonic = mnemonic_shown line t (mnemonic_token h.mnemonic) there.0 ∙ mnemonic_no h.mnemonic h.named in
+    let w = fills_read (slots_of m) h.others line t.end no_operands column h.values h.fills there.1 in
+    let mnemonic = mnemonic_shown line t (mnemonic_token m) there.0 ∙ mnemonic_no m h.named in
     record {
-      read = record { mnemonic = h.mnemonic; operands = w.more };
-      reads = read_statement-by line t h.mnemonic w.more mnemonic w.reads;
-      meaning = ap (says h.mnemonic) w.values ∙ h.meaning;
+      read = record { mnemonic = m; operands = w.more };
+      reads = ap (λ r. at_place t.start r >>= λ m. read_slots line (slots_of m) t.end no_operands >>= λ o. Ok (record { mnemonic = m; operands = o })) mnemonic
+          ∙ ap (λ r. r >>= λ o. Ok (record { mnemonic = m; operands = o })) w.reads;
+      meaning = ap (says m) w.values ∙ h.meaning;
     }
 
 -- ---- labels
@@ -313,11 +288,6 @@ abbrev pub HasRoom : Bool → Option code.Statement → Type 0
 HasRoom full None = Unit {0}
 HasRoom full (Some s) = full ≡ false
 
--- branches and JAL alone have a label
-abbrev pub HasLabels : List ℕ → Option code.Statement → Type 0
-HasLabels line None = Unit {0}
-HasLabels line (Some s) = HasLabelFor s.mnemonic (values_of line s.operands)
-
 -- the same behind the line's label
 pub record ReachesInLine (line : List ℕ) (label : Option (List ℕ)) (t : Token) (statement : Statement) : Type 0 where
   pub front : List lex.Token
@@ -328,7 +298,6 @@ pub record ReachesInLine (line : List ℕ) (label : Option (List ℕ)) (t : Toke
 pub record IsReadLine (line : List ℕ) (full : Bool) (l : code_lines.Line) : Type 0 where
   pub is_line : IsLine line (line_says line l)
   pub room : HasRoom full l.statement
-  pub labels : HasLabels line l.statement
   pub label_stands : (t : Token) → l.label ≡ Some t → Stands line [] (reading.token (name (text_of line t))) t.start
   pub target : (s : code.Statement) (t : Token) → l.statement ≡ Some s → s.operands.label ≡ Some t
       → ReachesInLine line (label_text line l.label) t (statement_says line s)
@@ -344,7 +313,6 @@ line_end_read line full b l end e = subst (IsReadLine line full) e (record {
     has_statement = refl;
   };
   room = tt;
-  labels = tt;
   label_stands = b.label_stands;
   target = λ s t none some. absurd (cc);
 })
@@ -353,28 +321,25 @@ statement_line_read : (line : List ℕ) (full : Bool) (b : HasBody line) (l : co
     → (read_statement line (next_token line b.from) full >>= λ s. Ok (record { label = b.label; statement = Some s })) ≡ Ok l → IsReadLine line full l
 statement_line_read line full b l e =
     let s = bind_ok (read_statement line (next_token line b.from) full) _ l e in
-    let r = read_is line b.from full s.0 s.1 in
+    let r = statement_is line b.from full s.0 s.1 in
     subst (IsReadLine line full) (same_ok _ l s.2) (record {
       is_line = record {
-        tokens = r.0.tokens;
-        end = r.0.column;
-        ends = record
-            { has_label = b.has_label; stands = b.leaves r.0.tokens text_end r.0.column r.0.meets };
-        has_statement = r.0.is_statement;
+        tokens = r.is_read.tokens;
+        end = r.is_read.column;
+        ends = record { has_label = b.has_label; stands = b.leaves r.is_read.tokens text_end r.is_read.column r.is_read.meets };
+        has_statement = r.is_read.is_statement;
       };
-      room = r.1;
-      labels = r.2;
+      room = r.room;
       label_stands = b.label_stands;
       target = λ u t same some.
           let is : s.0 ≡ u = cc in
-          let last = r.3 t (ap (λ k. k.operands.label) is ∙ some) in
+          let last = r.target t (ap (λ k. k.operands.label) is ∙ some) in
           subst (λ k. ReachesInLine line (label_text line b.label) t (statement_says line k)) is
           (record {
             front = last.front;
             stands =
                 record { has_label = b.has_label; stands = b.leaves last.front (reading.token (name (text_of line t))) t.start last.meets };
-            is_statement =
-                last.is_statement;
+            is_statement = last.is_statement;
           });
     })
 

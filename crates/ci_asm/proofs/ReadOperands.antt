@@ -1,7 +1,7 @@
 -- Registers and numbers, as tokens and as the code reads them.
 use Rattle.std.proofs.Common.{◌≡◌, ℕ, zero, suc, ◌+◌, ◌/◌, ◌%◌, ◌<◌, ◌≤◌, ◌⊎◌, inl, inr, Bool, true, false, cond, ◌&&◌, nat_le, nat_lt, eqb, List, [], ◌∷◌}
 use Rattle.std.proofs.Common.{◌++◌, length, refl, sym, ap, ◌∙◌, arith, Option, Some, None, ℤ, pos, neg_ℤ, ◌≤ℤ◌}
-use Rattle.std.specs.Prelude.{unsigned_abs}
+use Rattle.std.specs.Prelude.{unsigned_abs, not}
 use Rattle.std.specs.Str.Parse.{digits_value}
 use Rattle.std.proofs.lemmas.Fmt.{decimal_digit, decimal_step}
 use Rattle.std.proofs.lemmas.Int.{ints}
@@ -9,16 +9,14 @@ use Rattle.std.proofs.lemmas.Bool.{eqb-true}
 use Rattle.std.proofs.lemmas.Bool.Decides.{nat_tests}
 use Rattle.ci_asm.specs.declared.numbers.Number.{Number}
 use Rattle.ci_asm.specs.declared.slots.Field.{Field}
-use Rattle.ci_asm.specs.declared.slots.Field.TheVariants.{Immediate, Amount, Upper, BranchOffset, JumpOffset, FenceBits, UnitNumber, Whole}
 use Rattle.ci_asm.specs.private.Tokens.{byte_at, is_digit, is_between, number, number_of, two_digits, register_at, has_one_digit, has_two_digits, register_of}
-use Rattle.ci_asm.specs.private.Shapes.{lowest, highest, is_offset, fits, field_from}
+use Rattle.ci_asm.specs.private.Shapes.{fits, is_one}
 use Rattle.ci_asm.specs.private.Statements.{signed_value}
 use Rattle.ci_asm.specs.Shown.{register_name}
 use Rattle.ci_asm.specs.Lexicon as lex
 use Rattle.ci_asm.specs.Lexicon.{decimal_number, hex_number, spelling, IsToken}
-use Rattle.ci_asm.specs.Forms as forms
-use Rattle.ci_asm.specs.Forms.{IsBetween, IsEven, IsIn, IsNumber, Writes}
-use Rattle.ci_asm.proofs.TestLaws.{and_both, pick_false}
+use Rattle.ci_asm.specs.Forms.{lowest, highest, is_offset, IsIn, IsNumber, Writes}
+use Rattle.ci_asm.proofs.TestLaws.{by_test, and_both, pick_false}
 use Rattle.ci_asm.proofs.LongestTokens.{no_x_behind}
 
 -- ---- registers
@@ -145,22 +143,33 @@ writes_is_number (decimal_number negative digits) z w = tt
 writes_is_number (hex_number digits) z w = tt
 writes_is_number other z w = absurd w
 
+-- a token writes one number
+pub one_value : (t : lex.Token) (a b : ℤ) → Writes t a → Writes t b → a ≡ b
+one_value (decimal_number negative digits) a b first second = first.1 ∙ sym second.1
+one_value (hex_number digits) a b first second = first.1 ∙ sym second.1
+one_value other a b first second = absurd first
+
+-- ---- the number 1
+
+abbrev pub one_number : Number
+one_number = record { negative = false; magnitude = 1 }
+
+pub one_same : (n : Number) → is_one n ≡ true → n ≡ one_number
+one_same n e = by n.negative n.magnitude e
+  where
+    by : (negative : Bool) (m : ℕ) → (not negative && eqb m 1) ≡ true → ◌≡◌ {A = Number} (record { negative = negative; magnitude = m }) one_number
+    by true m e = absurd (cc)
+    by false m e = ap (λ k. record { negative = false; magnitude = k }) (eqb-true m 1 e)
+
+pub signed_one : (n : Number) → signed_value n ≡ pos 1 → is_one n ≡ true
+signed_one n e = by n.negative n.magnitude e
+  where
+    by : (negative : Bool) (m : ℕ) → cond negative (neg_ℤ (pos m)) (pos m) ≡ pos 1 → (not negative && eqb m 1) ≡ true
+    by true zero e = absurd (cc)
+    by true (suc m) e = absurd (cc)
+    by false m e = let same : m ≡ 1 = cc in ap (λ k. eqb k 1) same
+
 -- ---- fields
-
--- a field of the code, as the definitions have it
-abbrev pub field_form : Field → forms.Field
-field_form Immediate = forms.immediate
-field_form Amount = forms.shift_amount
-field_form Upper = forms.upper_bits
-field_form BranchOffset = forms.branch_offset
-field_form JumpOffset = forms.jump_offset
-field_form FenceBits = forms.fence_bits
-field_form UnitNumber = forms.unit_number
-field_form Whole = forms.whole_word
-
-pub field_again : (field : forms.Field) → field_form (field_from field) ≡ field
-field_again forms.immediate = refl
-field_again other = refl
 
 pub abs_signed : (n : Number) → unsigned_abs (signed_value n) ≡ n.magnitude
 abs_signed n = by n.negative n.magnitude
@@ -170,8 +179,13 @@ abs_signed n = by n.negative n.magnitude
     by true (suc m) = refl
     by false m = refl
 
+pub ruleset magnitudes = (abs_signed)
+
+abbrev IsBetween : ℕ → ℕ → ℤ → Type 0
+IsBetween low high n = (neg_ℤ (pos low) ≤ℤ n) × (n ≤ℤ pos high)
+
 -- how far from 0
-between_near : (low high : ℕ) (n : Number) → IsBetween (neg_ℤ (pos low)) (pos high) (signed_value n) → n.magnitude ≤ cond n.negative low high
+between_near : (low high : ℕ) (n : Number) → IsBetween low high (signed_value n) → n.magnitude ≤ cond n.negative low high
 between_near low high n h = by n.negative n.magnitude h.0 h.1
   where
     by : (negative : Bool) (m : ℕ) → neg_ℤ (pos low) ≤ℤ cond negative (neg_ℤ (pos m)) (pos m) → cond negative (neg_ℤ (pos m)) (pos m) ≤ℤ pos high
@@ -179,51 +193,27 @@ between_near low high n h = by n.negative n.magnitude h.0 h.1
     by true m a b = omega (arith, ints)
     by false m a b = omega (arith, ints)
 
-near_between : (low high : ℕ) (n : Number) → n.magnitude ≤ cond n.negative low high → IsBetween (neg_ℤ (pos low)) (pos high) (signed_value n)
+near_between : (low high : ℕ) (n : Number) → n.magnitude ≤ cond n.negative low high → IsBetween low high (signed_value n)
 near_between low high n h = by n.negative n.magnitude h
   where
-    by : (negative : Bool) (m : ℕ) → m ≤ cond negative low high → IsBetween (neg_ℤ (pos low)) (pos high) (cond negative (neg_ℤ (pos m)) (pos m))
+    by : (negative : Bool) (m : ℕ) → m ≤ cond negative low high → IsBetween low high (cond negative (neg_ℤ (pos m)) (pos m))
     by true m h = (omega (arith, ints), omega (arith, ints))
     by false m h = (omega (arith, ints), omega (arith, ints))
 
-pub fits_parts : (field : Field) (n : Number) → fits field n ≡ true → (n.magnitude ≤ cond n.negative (lowest field) (highest field)) ×
-    (cond (is_offset field) (eqb (n.magnitude % 2) 0) true ≡ true)
-fits_parts field n e =
-    let both = and_both (nat_le n.magnitude (cond n.negative (lowest field) (highest field))) (cond (is_offset field) (eqb (n.magnitude % 2) 0) true) e in
-    let near = both.0 in
-    (grind (arith, nat_tests), both.1)
-
-parts_fit : (field : Field) (n : Number) → n.magnitude ≤ cond n.negative (lowest field) (highest field)
-    → cond (is_offset field) (eqb (n.magnitude % 2) 0) true ≡ true → fits field n ≡ true
-parts_fit field n near even =
-    let test : nat_le n.magnitude (cond n.negative (lowest field) (highest field)) ≡ true = grind (arith, nat_tests) in
-    rw test even
-
-even_yes : (n : Number) → eqb (n.magnitude % 2) 0 ≡ true → IsEven (signed_value n)
-even_yes n e = ap (λ m. m % 2) (abs_signed n) ∙ eqb-true _ 0 e
-
-even_no : (n : Number) → IsEven (signed_value n) → eqb (n.magnitude % 2) 0 ≡ true
-even_no n e =
-    let even : n.magnitude % 2 ≡ 0 = sym (ap (λ m. m % 2) (abs_signed n)) ∙ e in
-    grind (arith, nat_tests)
-
 -- the code's test of a field is the definitions' range
-pub fits_in : (field : Field) (n : Number) → fits field n ≡ true → IsIn (field_form field) (signed_value n)
-fits_in Immediate n e = near_between 2048 2047 n (fits_parts Immediate n e).0
-fits_in Amount n e = near_between 0 31 n (fits_parts Amount n e).0
-fits_in Upper n e = near_between 0 0xfffff n (fits_parts Upper n e).0
-fits_in BranchOffset n e = let p = fits_parts BranchOffset n e in let b = near_between 4096 4094 n p.0 in (b, even_yes n p.1)
-fits_in JumpOffset n e = let p = fits_parts JumpOffset n e in let b = near_between 1048576 1048574 n p.0 in (b, even_yes n p.1)
-fits_in FenceBits n e = near_between 0 4095 n (fits_parts FenceBits n e).0
-fits_in UnitNumber n e = near_between 0 31 n (fits_parts UnitNumber n e).0
-fits_in Whole n e = near_between 0 0xffff_ffff n (fits_parts Whole n e).0
+pub fits_in : (field : Field) (n : Number) → fits field n ≡ true → IsIn field (signed_value n)
+fits_in field n e =
+    let even = λ (offset : Bool). cond offset (eqb (n.magnitude % 2) 0) true in
+    let both = and_both (nat_le n.magnitude (cond n.negative (lowest field) (highest field))) (even (is_offset field)) e in
+    let test = both.0 in
+    let range = near_between (lowest field) (highest field) n (grind (arith, nat_tests)) in
+    (range.0, range.1, λ offset. ap (λ m. m % 2) (abs_signed n) ∙ eqb-true _ 0 (sym (ap even offset) ∙ both.1))
 
-pub in_fits : (field : Field) (n : Number) → IsIn (field_form field) (signed_value n) → fits field n ≡ true
-in_fits Immediate n h = parts_fit Immediate n (between_near 2048 2047 n h) refl
-in_fits Amount n h = parts_fit Amount n (between_near 0 31 n h) refl
-in_fits Upper n h = parts_fit Upper n (between_near 0 0xfffff n h) refl
-in_fits BranchOffset n h = parts_fit BranchOffset n (between_near 4096 4094 n h.0) (even_no n h.1)
-in_fits JumpOffset n h = parts_fit JumpOffset n (between_near 1048576 1048574 n h.0) (even_no n h.1)
-in_fits FenceBits n h = parts_fit FenceBits n (between_near 0 4095 n h) refl
-in_fits UnitNumber n h = parts_fit UnitNumber n (between_near 0 31 n h) refl
-in_fits Whole n h = parts_fit Whole n (between_near 0 0xffff_ffff n h) refl
+pub in_fits : (field : Field) (n : Number) → IsIn field (signed_value n) → fits field n ≡ true
+in_fits field n h =
+    let even = λ (offset : Bool). cond offset (eqb (n.magnitude % 2) 0) true in
+    let near = between_near (lowest field) (highest field) n (h.0, h.1) in
+    let test : nat_le n.magnitude (cond n.negative (lowest field) (highest field)) ≡ true = grind (arith, nat_tests) in
+    rw test (by_test (is_offset field)
+    (λ offset. ap even offset ∙ (let half : n.magnitude % 2 ≡ 0 = sym (ap (λ m. m % 2) (abs_signed n)) ∙ h.2 offset in ap (λ k. eqb k 0) half))
+    (ap even))

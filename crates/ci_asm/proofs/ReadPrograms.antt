@@ -1,43 +1,37 @@
 -- The programs that the code reads are those of the definitions.
 use Rattle.std.proofs.Common.{◌≡◌, ℕ, ◌+◌, ◌-◌, ◌*◌, ◌<◌, ◌≤◌, inl, inr, Bool, true, false, cond, eqb, nat_lt, List, [], ◌∷◌, ◌++◌, length, refl, sym, ap}
 use Rattle.std.proofs.Common.{◌∙◌, subst, arith, lit≤, append-nil, length-append, Option, Some, None, Result, Ok, Err, ℤ, pos, neg_ℤ, ◌-ℤ◌}
-use Rattle.std.specs.Option.{option_to_list}
+use Rattle.std.specs.Option.{option_to_list, option_or}
 use Rattle.std.proofs.lemmas.Int.{ints}
 use Rattle.std.proofs.lemmas.Bool.{eqb-true}
 use Rattle.std.proofs.lemmas.Bool.Decides.{nat_tests}
 use Rattle.std.proofs.lemmas.Slice.Eq.{bytes_eq-Decides}
 use mathlib.Core.List.{append_assoc}
 use Rattle.ci_isa.specs.declared.instruction.Insn.{Insn}
-use Rattle.ci_isa.specs.declared.instruction.Insn.TheVariants as insn
 use Rattle.ci_asm.specs.declared.scanner.Token.{Token}
 use Rattle.ci_asm.specs.declared.numbers.Number.{Number}
 use Rattle.ci_asm.specs.declared.faults.Fault.{Fault}
 use Rattle.ci_asm.specs.declared.faults.Rule.TheVariants.{OutOfField, DefinedTwice}
 use Rattle.ci_asm.specs.declared.labels.Definition.{Definition}
-use Rattle.ci_asm.specs.declared.statements.Operands.{Operands}
 use Rattle.ci_asm.specs.declared.statements.Statement as code
 use Rattle.ci_asm.specs.declared.lines.Line as code_lines
 use Rattle.ci_asm.specs.private.Tokens.{text_of}
 use Rattle.ci_asm.specs.private.Shapes.{fits, field_of}
-use Rattle.ci_asm.specs.private.Statements.{◌>>=◌, insn_of, signed_value}
-use Rattle.ci_asm.specs.private.LabelMap.{earlier}
-use Rattle.ci_asm.specs.private.Programs.{Position, position, on_line, line_at, option_words, words_in, label_in, words_behind, all_read, is_labelled, definition_on}
+use Rattle.ci_asm.specs.private.Statements.{◌>>=◌, fault, insn_of, signed_value}
+use Rattle.ci_asm.specs.private.Programs.{Position, position, on_line, line_at, words_in, label_in, words_behind, all_read, is_labelled, definition_on}
 use Rattle.ci_asm.specs.private.Programs.{definition_of, Definitions, once_at, defined_once, offset_between, reaching, resolved, statement_insn, line_insn}
 use Rattle.ci_asm.specs.private.Programs.{option_length, insns_of, assembled, AreWordsOf, AreWordsIn}
 use Rattle.ci_asm.specs.Lines.{lines_of}
 use Rattle.ci_asm.specs.Forms.{Statement, IsIn}
 use Rattle.ci_asm.specs.Assembly as asm
-use Rattle.ci_asm.specs.Assembly.{Line, AreLines, with_statement_of, statements_of, Defines, IsLabelOf, IsOffset, IsInsnOf, AreWords, IsNew}
+use Rattle.ci_asm.specs.Assembly.{Line, AreLines, statements_of, Defines, IsLabelOf, IsOffset, IsInsnOf, AreWords, IsNew}
 use Rattle.ci_asm.specs.Assembly.{IsResolved, IsAssembly}
-use Rattle.ci_asm.proofs.SoundStatements.{bind_ok, same_ok, cond_ok}
-use Rattle.ci_asm.proofs.AssemblySteps.{all_read-nil, all_read-ok, definition_of-nil, definition_of-cons, insns_of-nil, insns_of-ok, assembled-read}
+use Rattle.ci_asm.proofs.AssemblySteps.{all_read-nil, all_read-ok, definition_of-nil, definition_of-cons, on_line_ok, insns_of-nil, insns_of-ok, assembled-read}
 use Rattle.ci_asm.proofs.FilledSlots.{values_of, label_text}
-use Rattle.ci_asm.proofs.ReadOperands.{field_form, fits_in, in_fits}
-use Rattle.ci_asm.proofs.ReadStatements.{HasLabelFor, plain_says, TakesLabel, jal, branches, takes_label}
-use Rattle.ci_asm.specs.declared.mnemonics.Mnemonic.{Mnemonic}
-use Rattle.ci_asm.specs.declared.mnemonics.Mnemonic.TheVariants.{Jal, Branch}
-use Rattle.ci_asm.proofs.TestLaws.{by_test}
-use Rattle.ci_asm.proofs.ReadLines.{statement_says, statement_read, line_says, HasRoom, HasLabels, line_read, IsRoomFor, line_is}
+use Rattle.ci_asm.proofs.ReadOperands.{fits_in, in_fits}
+use Rattle.ci_asm.proofs.ReadStatements.{says}
+use Rattle.ci_asm.proofs.TestLaws.{by_test, same_ok, bind_ok, cond_ok}
+use Rattle.ci_asm.proofs.ReadLines.{statement_says, statement_read, line_says, HasRoom, line_read, IsRoomFor, line_is}
 
 -- ---- lines that were read
 
@@ -46,7 +40,7 @@ abbrev pub AreRead : ℕ → List (List ℕ) → List code_lines.Line → Type 0
 AreRead words [] [] = Unit {0}
 AreRead words [] (l ∷ ls) = ⊥
 AreRead words (line ∷ lines) [] = ⊥
-AreRead words (line ∷ lines) (l ∷ ls) = (line_at words line ≡ Ok l) × AreRead (words + option_words l.statement) lines ls
+AreRead words (line ∷ lines) (l ∷ ls) = (line_at words line ≡ Ok l) × AreRead (words + option_length l.statement) lines ls
 
 -- what the lines say
 abbrev pub program_of : List (List ℕ) → List code_lines.Line → List Line
@@ -60,12 +54,12 @@ room_left words e fits = grind (arith, nat_tests)
 room_for : (words : ℕ) → words + 1 ≤ 262144 → eqb words 262144 ≡ false
 room_for words fits = grind (arith, nat_tests)
 
-pub statement_room : (words : ℕ) (s : Option code.Statement) → HasRoom (eqb words 262144) s → words ≤ 262144 → words + option_words s ≤ 262144
+pub statement_room : (words : ℕ) (s : Option code.Statement) → HasRoom (eqb words 262144) s → words ≤ 262144 → words + option_length s ≤ 262144
 statement_room words None room fits = omega arith
 statement_room words (Some s) room fits = room_left words room fits
 
 pub words_with : (line : List ℕ) (s : Option code.Statement) (others : List Statement)
-    → length (with_statement_of (statement_read line s) others) ≡ option_words s + length others
+    → length (option_to_list (statement_read line s) ++ others) ≡ option_length s + length others
 words_with line None others = omega arith
 words_with line (Some s) others = omega arith
 
@@ -80,7 +74,7 @@ read_program words [] (l ∷ ls) read fits = absurd read
 read_program words (line ∷ lines) [] read fits = absurd read
 read_program words (line ∷ lines) (l ∷ ls) read fits =
     let one = line_read line (eqb words 262144) l read.0 in
-    let more = read_program (words + option_words l.statement) lines ls read.1 (statement_room words l.statement one.room fits) in
+    let more = read_program (words + option_length l.statement) lines ls read.1 (statement_room words l.statement one.room fits) in
     let count = words_with line l.statement (statements_of (program_of lines ls)) in
     let bound = more.fits in
     record { are_lines = (one.is_line, more.are_lines); fits = omega arith }
@@ -94,16 +88,16 @@ all_read-lines n words (line ∷ lines) e =
     by (line_at words line) refl b.0 b.1 (all_read-lines (n + 1) b.0 lines b.2)
   where
     by : (r : Result code_lines.Line Fault) → line_at words line ≡ r → (after : ℕ)
-        → (on_line n (line_at words line) >>= λ l. Ok (words + option_words l.statement)) ≡ Ok after
+        → (on_line n (line_at words line) >>= λ l. Ok (words + option_length l.statement)) ≡ Ok after
         → (ls : List code_lines.Line) × AreRead after lines ls → (ls : List code_lines.Line) × AreRead words (line ∷ lines) ls
     by (Ok l) at after e more =
-        let known : (on_line n (line_at words line) >>= λ l. Ok (words + option_words l.statement)) ≡ Ok (words + option_words l.statement) =
-        ap (λ r. on_line n r >>= λ l. Ok (words + option_words l.statement)) at in
-        let same : after ≡ words + option_words l.statement = same_ok {E = Position} after (words + option_words l.statement) (sym e ∙ known) in
+        let known : (on_line n (line_at words line) >>= λ l. Ok (words + option_length l.statement)) ≡ Ok (words + option_length l.statement) =
+        ap (λ r. on_line n r >>= λ l. Ok (words + option_length l.statement)) at in
+        let same : after ≡ words + option_length l.statement = same_ok {E = Position} after (words + option_length l.statement) (sym e ∙ known) in
         (l ∷ more.0, (at, subst (λ k. AreRead k lines more.0) same more.1))
     by (Err f) at after e more =
-        let known : (on_line n (line_at words line) >>= λ l. Ok (words + option_words l.statement)) ≡ Err (position n f) =
-        ap (λ r. on_line n r >>= λ l. Ok (words + option_words l.statement)) at in
+        let known : (on_line n (line_at words line) >>= λ l. Ok (words + option_length l.statement)) ≡ Err (position n f) =
+        ap (λ r. on_line n r >>= λ l. Ok (words + option_length l.statement)) at in
         absurd (cc)
 
 pub read-all_read : (n words : ℕ) (lines : List (List ℕ)) (ls : List code_lines.Line) → AreRead words lines ls → all_read n words lines ≡ Ok tt
@@ -111,8 +105,8 @@ read-all_read n words [] [] read = all_read-nil n words
 read-all_read n words [] (l ∷ ls) read = absurd read
 read-all_read n words (line ∷ lines) [] read = absurd read
 read-all_read n words (line ∷ lines) (l ∷ ls) read =
-    all_read-ok n words (words + option_words l.statement) line lines (ap (λ r. on_line n r >>= λ l. Ok (words + option_words l.statement)) read.0)
-    ∙ read-all_read (n + 1) (words + option_words l.statement) lines ls read.1
+    all_read-ok n words (words + option_length l.statement) line lines (ap (λ r. on_line n r >>= λ l. Ok (words + option_length l.statement)) read.0)
+    ∙ read-all_read (n + 1) (words + option_length l.statement) lines ls read.1
 
 -- lines of the language are read
 pub record WillReadLines (words : ℕ) (lines : List (List ℕ)) (program : List Line) : Type 0 where
@@ -120,16 +114,16 @@ pub record WillReadLines (words : ℕ) (lines : List (List ℕ)) (program : List
   pub are_read : AreRead words lines ls
   pub says : program_of lines ls ≡ program
 
-room_of : (words : ℕ) (s : Option Statement) (others : List Statement) → words + length (with_statement_of s others) ≤ 262144 → IsRoomFor (eqb words 262144) s
+room_of : (words : ℕ) (s : Option Statement) (others : List Statement) → words + length (option_to_list s ++ others) ≤ 262144 → IsRoomFor (eqb words 262144) s
 room_of words None others fits = tt
 room_of words (Some s) others fits = room_for words (omega arith)
 
 with_same : (words : ℕ) (line : List ℕ) (s : Option code.Statement) (is : Option Statement) (others : List Statement) → statement_read line s ≡ is
-    → words + length (with_statement_of is others) ≤ 262144 → words + option_words s + length others ≤ 262144
+    → words + length (option_to_list is ++ others) ≤ 262144 → words + option_length s + length others ≤ 262144
 with_same words line s is others same fits =
     let count = words_with line s others in
-    let there : words + length (with_statement_of (statement_read line s) others) ≤ 262144 =
-    subst (λ k. words + length (with_statement_of k others) ≤ 262144) (sym same) fits in
+    let there : words + length (option_to_list (statement_read line s) ++ others) ≤ 262144 =
+    subst (λ k. words + length (option_to_list k ++ others) ≤ 262144) (sym same) fits in
     omega arith
 
 pub program_read : (words : ℕ) (lines : List (List ℕ)) (program : List Line) → AreLines lines program → words + asm.words_in program ≤ 262144
@@ -140,7 +134,7 @@ program_read words (line ∷ lines) [] are fits = absurd are
 program_read words (line ∷ lines) (is ∷ program) are fits =
     let r = line_is line (eqb words 262144) is are.0 (room_of words is.statement (statements_of program) fits) in
     let same : statement_read line r.read.statement ≡ is.statement = ap (λ l. l.statement) r.says in
-    let more = program_read (words + option_words r.read.statement) lines program are.1
+    let more = program_read (words + option_length r.read.statement) lines program are.1
     (with_same words line r.read.statement is.statement (statements_of program) same fits) in
     record { ls = r.read ∷ more.ls; are_read = (r.reads, more.are_read); says = λ i. r.says i ∷ more.says i }
 
@@ -169,21 +163,21 @@ labelled_no : (name line : List ℕ) (label : Option Token) → label_text line 
 labelled_no name line None e = absurd (cc)
 labelled_no name line (Some t) e = let same : text_of line t ≡ name = cc in (bytes_eq-Decides (text_of line t) name).1 same
 
-count_cons : (line : Line) (lines : List Line) (words : ℕ) → words + asm.words_in (line ∷ lines) ≡ words + length (with_statement_of line.statement [])
+count_cons : (line : Line) (lines : List Line) (words : ℕ) → words + asm.words_in (line ∷ lines) ≡ words + length (option_to_list line.statement ++ [])
     + asm.words_in lines
 count_cons line lines words = by line.statement
   where
-    by : (s : Option Statement) → words + length (with_statement_of s (statements_of lines)) ≡ words + length (with_statement_of s []) + length
+    by : (s : Option Statement) → words + length (option_to_list s ++ (statements_of lines)) ≡ words + length (option_to_list s ++ []) + length
         (statements_of lines)
     by None = omega arith
     by (Some s) = omega arith
 
-words_here : (line : List ℕ) (s : Option code.Statement) → length (with_statement_of (statement_read line s) []) ≡ option_words s
+words_here : (line : List ℕ) (s : Option code.Statement) → length (option_to_list (statement_read line s) ++ []) ≡ option_length s
 words_here line None = refl
 words_here line (Some s) = refl
 
 further : (label : List ℕ) (n words more : ℕ) (line : Line) (program : List Line) (o : Option Definition) → ¬ (line.label ≡ Some label)
-    → more ≡ words + length (with_statement_of line.statement []) → IsDefinition program label (n + 1) more o → IsDefinition (line ∷ program) label n words o
+    → more ≡ words + length (option_to_list line.statement ++ []) → IsDefinition program label (n + 1) more o → IsDefinition (line ∷ program) label n words o
 further label n words more line program None other count none = λ defines. elim defines [ inl here ↦ other here | inr there ↦ none there ]
 further label n words more line program (Some d) other count f =
     let line_is = f.line_is in
@@ -207,21 +201,21 @@ definition_is label n words [] [] read = subst (IsDefinition [] label n words) (
 definition_is label n words [] (l ∷ ls) read = absurd read
 definition_is label n words (line ∷ lines) [] read = absurd read
 definition_is label n words (line ∷ lines) (l ∷ ls) read =
-    let more = definition_is label (n + 1) (words + option_words l.statement) lines ls read.1 in
+    let more = definition_is label (n + 1) (words + option_length l.statement) lines ls read.1 in
     let first : definition_on label n words line ≡ cond (is_labelled label line l.label) (Some (record { line = n; words = words })) None =
     ap (λ r. cond (is_labelled label line (label_in r)) (Some (record { line = n; words = words })) None) read.0 in
-    let count : words + words_in (line_at words line) ≡ words + option_words l.statement = ap (λ r. words + words_in r) read.0 in
+    let count : words + words_in (line_at words line) ≡ words + option_length l.statement = ap (λ r. words + words_in r) read.0 in
     let rest : definition_of label (n + 1) (words + words_in (line_at words line)) lines ≡ definition_of label (n + 1)
-    (words + option_words l.statement) lines = ap (λ k. definition_of label (n + 1) k lines) count in
-    let all : definition_of label n words (line ∷ lines) ≡ earlier (cond (is_labelled label line l.label) (Some (record { line = n; words = words })) None)
-    (definition_of label (n + 1) (words + option_words l.statement) lines) =
-    definition_of-cons label n words line lines ∙ (λ i. earlier (first i) (rest i)) in
+    (words + option_length l.statement) lines = ap (λ k. definition_of label (n + 1) k lines) count in
+    let all : definition_of label n words (line ∷ lines) ≡ option_or (cond (is_labelled label line l.label) (Some (record { line = n; words = words })) None)
+    (definition_of label (n + 1) (words + option_length l.statement) lines) =
+    definition_of-cons label n words line lines ∙ (λ i. option_or (first i) (rest i)) in
     subst (IsDefinition (program_of (line ∷ lines) (l ∷ ls)) label n words) (sym all) (by (is_labelled label line l.label) refl more)
   where
-    by : (b : Bool) → is_labelled label line l.label ≡ b → IsDefinition (program_of lines ls) label (n + 1) (words + option_words l.statement)
-        (definition_of label (n + 1) (words + option_words l.statement) lines)
+    by : (b : Bool) → is_labelled label line l.label ≡ b → IsDefinition (program_of lines ls) label (n + 1) (words + option_length l.statement)
+        (definition_of label (n + 1) (words + option_length l.statement) lines)
         → IsDefinition (program_of (line ∷ lines) (l ∷ ls)) label n words
-        (earlier (cond b (Some (record { line = n; words = words })) None) (definition_of label (n + 1) (words + option_words l.statement) lines))
+        (option_or (cond b (Some (record { line = n; words = words })) None) (definition_of label (n + 1) (words + option_length l.statement) lines))
     by true at more = record {
       before = [];
       line = line_says line l;
@@ -232,7 +226,7 @@ definition_is label n words (line ∷ lines) (l ∷ ls) read =
       line_is = omega arith;
       words_is = omega arith;
     }
-    by false at more = further label n words (words + option_words l.statement) (line_says line l) (program_of lines ls) _
+    by false at more = further label n words (words + option_length l.statement) (line_says line l) (program_of lines ls) _
         (λ e. let no = labelled_no label line l.label e in absurd (cc)) (ap (λ k. words + k) (sym (words_here line l.statement))) more
 
 -- ---- splits of a program
@@ -301,30 +295,20 @@ pub label_at : (program : List Line) (label : List ℕ) (d : Definition) → IsF
 label_at program label d f = let words_is = f.words_is in let count : d.words ≡ asm.words_in f.before = omega arith in
     (f.before, f.line, f.after, f.split, f.labelled, f.is_new, count)
 
--- the offset to a label that is in its field
-record HasOffset (program : List Line) (words : ℕ) (s : code.Statement) (label : List ℕ) (o : Operands) : Type 0 where
-  number : Number
-  same : record s.operands { number = number } ≡ o
-  is_offset : IsOffset program words label (signed_value number)
-  is_in : IsIn (field_form (field_of s.mnemonic)) (signed_value number)
-
-reaching_yes : (program : List Line) (words : ℕ) (s : code.Statement) (t : Token) (label : List ℕ) (d : Option Definition) (o : Operands)
-    → IsDefinition program label 1 0 d → reaching words s t d ≡ Ok o → HasOffset program words s label o
-reaching_yes program words s t label None o is e = absurd (cc)
-reaching_yes program words s t label (Some d) o is e =
-    let n = offset_between words d.words in
-    let c = cond_ok (fits (field_of s.mnemonic) n) (record s.operands { number = n }) o _ e in
-    record {
-      number = n;
-      same = c.1;
-      is_offset = (d.words, label_at program label d is, offset_signed words d.words);
-      is_in =
-          fits_in (field_of s.mnemonic) n c.0;
-    }
+-- the offset to a label is in its field
+reaching_yes : (program : List Line) (words : ℕ) (s : code.Statement) (t : Token) (label : List ℕ) (d : Option Definition) (n : Number)
+    → IsDefinition program label 1 0 d → reaching words s t d ≡ Ok n
+    → IsOffset program words label (signed_value n) × IsIn (field_of s.mnemonic) (signed_value n)
+reaching_yes program words s t label None n is e = absurd (cc)
+reaching_yes program words s t label (Some d) n is e =
+    let found = offset_between words d.words in
+    let c = cond_ok (fits (field_of s.mnemonic) found) found n _ e in
+    subst (λ k. IsOffset program words label (signed_value k) × IsIn (field_of s.mnemonic) (signed_value k)) c.1
+    ((d.words, label_at program label d is, offset_signed words d.words), fits_in (field_of s.mnemonic) found c.0)
 
 record WillReach (words : ℕ) (s : code.Statement) (t : Token) (d : Option Definition) (z : ℤ) : Type 0 where
   number : Number
-  reaches : reaching words s t d ≡ Ok (record s.operands { number = number })
+  reaches : reaching words s t d ≡ Ok number
   signed : signed_value number ≡ z
 
 -- a label has one place
@@ -337,7 +321,7 @@ same_label_place program label d to f at =
     count ∙ (ap asm.words_in same ∙ sym at.6)
 
 reaching_no : (program : List Line) (words : ℕ) (s : code.Statement) (t : Token) (label : List ℕ) (d : Option Definition) (z : ℤ)
-    → IsDefinition program label 1 0 d → IsOffset program words label z → IsIn (field_form (field_of s.mnemonic)) z → WillReach words s t d z
+    → IsDefinition program label 1 0 d → IsOffset program words label z → IsIn (field_of s.mnemonic) z → WillReach words s t d z
 reaching_no program words s t label None z is offset within =
     let at = offset.1 in
     absurd (is (defined_in program at.0 at.1 at.2 label at.3 at.4))
@@ -345,18 +329,12 @@ reaching_no program words s t label (Some d) z is offset within =
     let n = offset_between words d.words in
     let place = same_label_place program label d offset.0 is offset.1 in
     let signed : signed_value n ≡ z = offset_signed words d.words ∙ (ap (λ k. pos (4 * k) -ℤ pos (4 * words)) place ∙ sym offset.2) in
-    let ok = in_fits (field_of s.mnemonic) n (subst (IsIn (field_form (field_of s.mnemonic))) (sym signed) within) in
+    let ok = in_fits (field_of s.mnemonic) n (subst (IsIn (field_of s.mnemonic)) (sym signed) within) in
     record {
       number = n;
-      reaches = ap (λ b. cond b (Ok (record s.operands { number = n })) (Err (record { rule = OutOfField; place = t.start }))) ok;
-      signed =
-          signed;
+      reaches = ap (λ b. cond b (Ok n) (Err (fault OutOfField t.start))) ok;
+      signed = signed;
     }
-
--- the statement with these parts
-abbrev statement_with : Mnemonic → ℕ → ℕ → ℕ → ℕ → Number → Option Token → code.Statement
-statement_with m rd rs1 rs2 rs3 number label =
-    record { mnemonic = m; operands = record { rd = rd; rs1 = rs1; rs2 = rs2; rs3 = rs3; number = number; label = label } }
 
 -- a line's instruction, if it has one
 abbrev pub IsInsnOfLine : List Line → ℕ → Option Statement → Option Insn → Type 0
@@ -371,81 +349,45 @@ pub record IsResolvedAs (program : List Line) (words : ℕ) (before : List Line)
   pub is_insn : IsInsnOfLine program words here.statement first
 
 module _ (program : List Line) (definitions : Definitions) (known : AreDefinitions program definitions) (words : ℕ) (line : List ℕ) where
-  insn_label : {m : Mnemonic} → TakesLabel m → (rd rs1 rs2 rs3 : ℕ) (number : Number) (t : Token) (o : Operands)
-      → resolved definitions words line (statement_with m rd rs1 rs2 rs3 number (Some t)) (Some t) ≡ Ok o
-      → IsInsnOf program words (statement_says line (statement_with m rd rs1 rs2 rs3 number (Some t))) (insn_of m o)
-  insn_label jal rd rs1 rs2 rs3 number t o e =
-      let s = statement_with Jal rd rs1 rs2 rs3 number (Some t) in
-      let h = reaching_yes program words s t (text_of line t) (definitions (text_of line t)) o (known (text_of line t)) e in
-      (signed_value h.number, h.is_offset, h.is_in, ap (insn_of Jal) (sym h.same))
-  insn_label (branches {cond}) rd rs1 rs2 rs3 number t o e =
-      let s = statement_with (Branch cond) rd rs1 rs2 rs3 number (Some t) in
-      let h = reaching_yes program words s t (text_of line t) (definitions (text_of line t)) o (known (text_of line t)) e in
-      (signed_value h.number, h.is_offset, h.is_in, ap (insn_of (Branch cond)) (sym h.same))
+  -- the statement with this label, or with none
+  abbrev pub said_with : code.Statement → Option Token → Statement
+  said_with s label = says s.mnemonic (values_of line (record s.operands { label = label }))
 
   -- the instruction of a statement is that of the definitions
-  insn_parts : (m : Mnemonic) (rd rs1 rs2 rs3 : ℕ) (number : Number) (label : Option Token) (o : Operands)
-      → HasLabelFor m (values_of line (statement_with m rd rs1 rs2 rs3 number label).operands)
-      → resolved definitions words line (statement_with m rd rs1 rs2 rs3 number label) label ≡ Ok o
-      → IsInsnOf program words (statement_says line (statement_with m rd rs1 rs2 rs3 number label)) (insn_of m o)
-  insn_parts m rd rs1 rs2 rs3 number None o for e =
-      subst (λ s. IsInsnOf program words s (insn_of m o)) (sym (plain_says m line rd rs1 rs2 rs3 number)) (ap (insn_of m) (sym (same_ok {E = Fault} _ o e)))
-  insn_parts m rd rs1 rs2 rs3 number (Some t) o for e =
-      insn_label (takes_label m (values_of line (statement_with m rd rs1 rs2 rs3 number (Some t)).operands) (text_of line t) for refl) rd rs1 rs2 rs3 number t o
-      e
-
-  pub insn_yes : (s : code.Statement) (o : Operands) → HasLabelFor s.mnemonic (values_of line s.operands)
-      → resolved definitions words line s s.operands.label ≡ Ok o → IsInsnOf program words (statement_says line s) (insn_of s.mnemonic o)
-  insn_yes s o for e = insn_parts s.mnemonic s.operands.rd s.operands.rs1 s.operands.rs2 s.operands.rs3 s.operands.number s.operands.label o for e
+  insn_yes : (s : code.Statement) (label : Option Token) (n : Number) → resolved definitions words line s label ≡ Ok n
+      → IsInsnOf program words (said_with s label) (insn_of s.mnemonic s.operands.registers (signed_value n))
+  insn_yes s None n e = ap (λ k. insn_of s.mnemonic s.operands.registers (signed_value k)) (sym (same_ok {E = Fault} s.operands.number n e))
+  insn_yes s (Some t) n e =
+      let h = reaching_yes program words s t (text_of line t) (definitions (text_of line t)) n (known (text_of line t)) e in
+      (signed_value n, h.0, h.1, refl)
 
   -- and back
-  pub record WillResolve (s : code.Statement) (i : Insn) : Type 0 where
-    pub operands : Operands
-    pub resolves : resolved definitions words line s s.operands.label ≡ Ok operands
-    pub gives : insn_of s.mnemonic operands ≡ i
+  record WillResolve (s : code.Statement) (label : Option Token) (i : Insn) : Type 0 where
+    number : Number
+    resolves : resolved definitions words line s label ≡ Ok number
+    gives : insn_of s.mnemonic s.operands.registers (signed_value number) ≡ i
 
-  resolve_label : {m : Mnemonic} → TakesLabel m → (rd rs1 rs2 rs3 : ℕ) (number : Number) (t : Token) (i : Insn)
-      → IsInsnOf program words (statement_says line (statement_with m rd rs1 rs2 rs3 number (Some t))) i
-      → WillResolve (statement_with m rd rs1 rs2 rs3 number (Some t)) i
-  resolve_label jal rd rs1 rs2 rs3 number t i is =
-      let s = statement_with Jal rd rs1 rs2 rs3 number (Some t) in
+  insn_no : (s : code.Statement) (label : Option Token) (i : Insn) → IsInsnOf program words (said_with s label) i → WillResolve s label i
+  insn_no s None i is = record { number = s.operands.number; resolves = refl; gives = sym is }
+  insn_no s (Some t) i is =
       let h = reaching_no program words s t (text_of line t) (definitions (text_of line t)) is.0 (known (text_of line t)) is.1 is.2 in
-      record { operands = record s.operands { number = h.number }; resolves = h.reaches; gives = ap (insn.Jal rd) h.signed ∙ sym is.3 }
-  resolve_label (branches {cond}) rd rs1 rs2 rs3 number t i is =
-      let s = statement_with (Branch cond) rd rs1 rs2 rs3 number (Some t) in
-      let h = reaching_no program words s t (text_of line t) (definitions (text_of line t)) is.0 (known (text_of line t)) is.1 is.2 in
-      record { operands = record s.operands { number = h.number }; resolves = h.reaches; gives = ap (insn.Branch cond rs1 rs2) h.signed ∙ sym is.3 }
+      record { number = h.number; resolves = h.reaches; gives = ap (insn_of s.mnemonic s.operands.registers) h.signed ∙ sym is.3 }
 
-  resolve_parts : (m : Mnemonic) (rd rs1 rs2 rs3 : ℕ) (number : Number) (label : Option Token) (i : Insn)
-      → HasLabelFor m (values_of line (statement_with m rd rs1 rs2 rs3 number label).operands)
-      → IsInsnOf program words (statement_says line (statement_with m rd rs1 rs2 rs3 number label)) i
-      → WillResolve (statement_with m rd rs1 rs2 rs3 number label) i
-  resolve_parts m rd rs1 rs2 rs3 number None i for is =
-      let o = (statement_with m rd rs1 rs2 rs3 number None).operands in
-      record { operands = o; resolves = refl; gives = sym (subst (λ s. IsInsnOf program words s i) (plain_says m line rd rs1 rs2 rs3 number) is) }
-  resolve_parts m rd rs1 rs2 rs3 number (Some t) i for is =
-      resolve_label (takes_label m (values_of line (statement_with m rd rs1 rs2 rs3 number (Some t)).operands) (text_of line t) for refl) rd rs1 rs2 rs3 number
-      t i is
-
-  pub insn_no : (s : code.Statement) (i : Insn) → HasLabelFor s.mnemonic (values_of line s.operands) → IsInsnOf program words (statement_says line s) i
-      → WillResolve s i
-  insn_no s i for is = resolve_parts s.mnemonic s.operands.rd s.operands.rs1 s.operands.rs2 s.operands.rs3 s.operands.number s.operands.label i for is
-
-  statement_yes : (s : Option code.Statement) (first : Option Insn) → HasLabels line s → statement_insn definitions words line s ≡ Ok first
+  statement_yes : (s : Option code.Statement) (first : Option Insn) → statement_insn definitions words line s ≡ Ok first
       → IsInsnOfLine program words (statement_read line s) first
-  statement_yes None first for e = subst (IsInsnOfLine program words None) (same_ok {E = Fault} _ first e) tt
-  statement_yes (Some s) first for e =
+  statement_yes None first e = subst (IsInsnOfLine program words None) (same_ok {E = Fault} _ first e) tt
+  statement_yes (Some s) first e =
       let b = bind_ok (resolved definitions words line s s.operands.label) _ first e in
-      subst (IsInsnOfLine program words (Some (statement_says line s))) (same_ok {E = Fault} _ first b.2) (insn_yes s b.0 for b.1)
+      subst (IsInsnOfLine program words (Some (statement_says line s))) (same_ok {E = Fault} _ first b.2) (insn_yes s s.operands.label b.0 b.1)
 
-  statement_no : (s : Option code.Statement) (first : Option Insn) → HasLabels line s → IsInsnOfLine program words (statement_read line s) first
+  statement_no : (s : Option code.Statement) (first : Option Insn) → IsInsnOfLine program words (statement_read line s) first
       → statement_insn definitions words line s ≡ Ok first
-  statement_no None None for is = refl
-  statement_no None (Some i) for is = absurd is
-  statement_no (Some s) None for is = absurd is
-  statement_no (Some s) (Some i) for is =
-      let w = insn_no s i for is in
-      ap (λ r. r >>= λ o. Ok (Some (insn_of s.mnemonic o))) w.resolves ∙ ap (λ i. Ok (Some i)) w.gives
+  statement_no None None is = refl
+  statement_no None (Some i) is = absurd is
+  statement_no (Some s) None is = absurd is
+  statement_no (Some s) (Some i) is =
+      let w = insn_no s s.operands.label i is in
+      ap (λ r. r >>= λ n. Ok (Some (insn_of s.mnemonic s.operands.registers (signed_value n)))) w.resolves ∙ ap (λ i. Ok (Some i)) w.gives
 
   -- a label that is defined on this line
   pub once_yes : (before after : List Line) (here : Line) (n : ℕ) (label : Option Token) → program ≡ before ++ here ∷ after → here.label ≡ label_text line label
@@ -474,7 +416,7 @@ module _ (program : List Line) (definitions : Definitions) (known : AreDefinitio
           let size : length f.before ≡ length before = ap length lines in
           let line_is = f.line_is in
           let same : eqb d.line n ≡ true = grind (arith, nat_tests) in
-          ap (λ b. cond b (Ok tt) (Err (record { rule = DefinedTwice; place = t.start }))) same
+          ap (λ b. cond b (Ok tt) (Err (fault DefinedTwice t.start))) same
 
   pub line_insn-read : (n : ℕ) (l : code_lines.Line) → line_at words line ≡ Ok l
       → line_insn definitions n words line ≡ (defined_once definitions n line l.label >>= λ _. statement_insn definitions words line l.statement)
@@ -486,15 +428,14 @@ module _ (program : List Line) (definitions : Definitions) (known : AreDefinitio
       → IsResolvedAs program words before (line_says line l) first
   line_yes before after n l first split place read e =
       let b = bind_ok (defined_once definitions n line l.label) _ first (sym (line_insn-read n l read) ∙ e) in
-      let is = line_read line (eqb words 262144) l read in
-      record { is_new = once_yes before after (line_says line l) n l.label split refl place b.1; is_insn = statement_yes l.statement first is.labels b.2 }
+      record { is_new = once_yes before after (line_says line l) n l.label split refl place b.1; is_insn = statement_yes l.statement first b.2 }
 
   pub line_no : (before after : List Line) (n : ℕ) (l : code_lines.Line) (first : Option Insn) → program ≡ before ++ line_says line l ∷ after
       → n ≡ 1 + length before → line_at words line ≡ Ok l → IsResolvedAs program words before (line_says line l) first
       → line_insn definitions n words line ≡ Ok first
   line_no before after n l first split place read is =
       let one = once_no before after (line_says line l) n l.label split refl place is.is_new in
-      let two = statement_no l.statement first (line_read line (eqb words 262144) l read).labels is.is_insn in
+      let two = statement_no l.statement first is.is_insn in
       line_insn-read n l read ∙ (ap (λ r. r >>= λ _. statement_insn definitions words line l.statement) one ∙ two)
 
 -- ---- all lines
@@ -512,7 +453,7 @@ AllResolved program done lines = (before : List Line) (line : Line) (after : Lis
     → IsResolved program (done ++ before) line
 
 pub option_size : (program : List Line) (words : ℕ) (line : List ℕ) (s : Option code.Statement) (first : Option Insn)
-    → IsInsnOfLine program words (statement_read line s) first → option_length first ≡ option_words s
+    → IsInsnOfLine program words (statement_read line s) first → option_length first ≡ option_length s
 option_size program words line None None is = refl
 option_size program words line None (Some i) is = absurd is
 option_size program words line (Some s) None is = absurd is
@@ -535,7 +476,7 @@ statements-append [] b = omega arith
 statements-append (l ∷ a) b = by l.statement (statements-append a b)
   where
     by : (s : Option Statement) → asm.words_in (a ++ b) ≡ asm.words_in a + asm.words_in b
-        → length (with_statement_of s (statements_of (a ++ b))) ≡ length (with_statement_of s (statements_of a)) + length (statements_of b)
+        → length (option_to_list s ++ (statements_of (a ++ b))) ≡ length (option_to_list s ++ (statements_of a)) + length (statements_of b)
     by None e = e
     by (Some s) e = omega arith
 
@@ -554,16 +495,12 @@ resolved_cons program done lines here first others (x ∷ before) line after e =
 
 insns_cons : (program : List Line) (words : ℕ) (s : Option Statement) (first : Option Insn) (statements : List Statement) (others : List Insn)
     → IsInsnOfLine program words s first → AreInsns program (words + option_length first) statements others
-    → AreInsns program words (with_statement_of s statements) (option_to_list first ++ others)
+    → AreInsns program words (option_to_list s ++ statements) (option_to_list first ++ others)
 insns_cons program words None None statements others is more = let same : words + 0 ≡ words = omega arith in
     subst (λ k. AreInsns program k statements others) same more
 insns_cons program words None (Some i) statements others is more = absurd is
 insns_cons program words (Some s) None statements others is more = absurd is
 insns_cons program words (Some s) (Some i) statements others is more = (is, more)
-
-pub on_line_ok : {A : Type 0} (n : ℕ) (r : Result A Fault) (x : A) → on_line n r ≡ Ok x → r ≡ Ok x
-on_line_ok n (Ok y) x e = cc
-on_line_ok n (Err f) x e = absurd (cc)
 
 -- the lines that are left, with what stands before them
 pub record IsAt (program done rest : List Line) (n words : ℕ) : Type 0 where
@@ -572,7 +509,7 @@ pub record IsAt (program done rest : List Line) (n words : ℕ) : Type 0 where
   pub words_is : words ≡ asm.words_in done
 
 pub next_at : (program done : List Line) (line : List ℕ) (l : code_lines.Line) (rest : List Line) (n words : ℕ)
-    → IsAt program done (line_says line l ∷ rest) n words → IsAt program (done ++ line_says line l ∷ []) rest (n + 1) (words + option_words l.statement)
+    → IsAt program done (line_says line l ∷ rest) n words → IsAt program (done ++ line_says line l ∷ []) rest (n + 1) (words + option_length l.statement)
 next_at program done line l rest n words at =
     let size = length-append done (line_says line l ∷ []) in
     let line_is = at.line_is in
@@ -606,9 +543,9 @@ insns_yes program definitions known n words (line ∷ lines) (l ∷ ls) done ins
     let one = line_yes program definitions known words line done (program_of lines ls) n l first at.split at.line_is read.0
     (on_line_ok n (line_insn definitions n words line) first b.1) in
     let size = option_size program words line l.statement first one.is_insn in
-    let rest : insns_of definitions (n + 1) (words + option_words l.statement) lines ≡ Ok c.0 =
+    let rest : insns_of definitions (n + 1) (words + option_length l.statement) lines ≡ Ok c.0 =
     ap (λ k. insns_of definitions (n + 1) (words + k) lines) (sym size) ∙ c.1 in
-    let more = insns_yes program definitions known (n + 1) (words + option_words l.statement) lines ls (done ++ line_says line l ∷ []) c.0 read.1
+    let more = insns_yes program definitions known (n + 1) (words + option_length l.statement) lines ls (done ++ line_says line l ∷ []) c.0 read.1
     (next_at program done line l (program_of lines ls) n words at) rest in
     record {
       resolved = resolved_cons program done (program_of lines ls) (line_says line l)
@@ -628,7 +565,7 @@ record HasFirst (program : List Line) (words : ℕ) (s : Option Statement) (stat
   are_insns : AreInsns program (words + option_length first) statements others
 
 first_insn : (program : List Line) (words : ℕ) (s : Option Statement) (statements : List Statement) (insns : List Insn)
-    → AreInsns program words (with_statement_of s statements) insns → HasFirst program words s statements insns
+    → AreInsns program words (option_to_list s ++ statements) insns → HasFirst program words s statements insns
 first_insn program words None statements insns are =
     let same : words ≡ words + 0 = omega arith in
     record { first = None; others = insns; split = refl; is_insn = tt; are_insns = subst (λ k. AreInsns program k statements insns) same are }
@@ -657,7 +594,7 @@ insns_no program definitions known n words (line ∷ lines) (l ∷ ls) done insn
     let one = line_no program definitions known words line done (program_of lines ls) n l f.first at.split at.line_is read.0
     (record { is_new = new; is_insn = f.is_insn }) in
     let size = option_size program words line l.statement f.first f.is_insn in
-    let more = insns_no program definitions known (n + 1) (words + option_words l.statement) lines ls (done ++ here ∷ []) f.others read.1
+    let more = insns_no program definitions known (n + 1) (words + option_length l.statement) lines ls (done ++ here ∷ []) f.others read.1
     (next_at program done line l (program_of lines ls) n words at) (resolved_rest program done (program_of lines ls) here all)
     (subst (λ k. AreInsns program (words + k) (statements_of (program_of lines ls)) f.others) size f.are_insns) in
     let rest : insns_of definitions (n + 1) (words + option_length f.first) lines ≡ Ok f.others = ap (λ k. insns_of definitions (n + 1) (words + k) lines) size

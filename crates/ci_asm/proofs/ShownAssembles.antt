@@ -60,7 +60,8 @@ no_label [] first others end label column s none = λ u. absurd s
 no_label (p ∷ []) first [] end label column s none = λ u. absurd u.1
 no_label (p ∷ []) first (t ∷ others) end label column s none = λ u. absurd u.1
 no_label (p ∷ q ∷ symbols) first [] end label column s none = λ u. let one = s.1.0 in let two = u.1.0 in absurd (cc)
-no_label (p ∷ q ∷ symbols) first (t ∷ others) end label column s none = λ u. let one = s.1.0 in let two = u.1.0 in none (cc)
+no_label (p ∷ q ∷ symbols) first (t ∷ others) end label column s none = λ u. let one = s.1.0 in let two = u.1.0 in let same : t ≡ colon = cc in
+    subst (λ k. IsNoColon (k ∷ others)) same none
 
 abbrev line_of : Insn → Line
 line_of i = record { label = None; statement = Some (plain i) }

@@ -9,20 +9,22 @@ use Rattle.ci_asm.specs.declared.scanner.Token.{Token}
 use Rattle.ci_asm.specs.declared.faults.Fault.{Fault}
 use Rattle.ci_asm.specs.declared.faults.Rule.TheVariants.{OutOfField}
 use Rattle.ci_asm.specs.declared.labels.Definition.{Definition}
-use Rattle.ci_asm.specs.declared.statements.Operands.{Operands}
+use Rattle.ci_asm.specs.declared.numbers.Number.{Number}
 use Rattle.ci_asm.specs.declared.statements.Statement as code
 use Rattle.ci_asm.specs.declared.lines.Line as code_lines
 use Rattle.ci_asm.specs.private.Tokens.{next_token}
 use Rattle.ci_asm.specs.private.Shapes.{fits, field_of}
-use Rattle.ci_asm.specs.private.Statements.{is_label, with_statement, read_line, IsRead, IsLineOf}
+use Rattle.ci_asm.specs.private.Statements.{fault, signed_value, is_label, with_statement, read_line, IsRead, IsLineOf}
 use Rattle.ci_asm.specs.private.Programs.{Position, on_line, line_at, Definitions, defined_once, offset_between, reaching, resolved, statement_insn, line_insn}
 use Rattle.ci_asm.specs.private.Programs.{option_length, insns_of, all_read, assembled, AreWordsOf}
 use Rattle.ci_asm.specs.Lines.{lines_of}
 use Rattle.ci_asm.specs.Assembly.{IsAssembly, HasFault}
-use Rattle.ci_asm.proofs.SoundStatements.{bind_ok, same_ok, cond_ok, next_token-start, line_by_statement}
-use Rattle.ci_asm.proofs.AssemblySteps.{resolved-registers}
+use Rattle.ci_asm.proofs.TestLaws.{same_ok, bind_ok, cond_ok}
+use Rattle.ci_asm.proofs.ReadOperands.{fits_in}
+use Rattle.ci_asm.proofs.SoundStatements.{next_token-start, line_by_statement}
+use Rattle.ci_asm.proofs.AssemblySteps.{on_line_ok}
 use Rattle.ci_asm.proofs.StatementsHaveWords.{well_formed}
-use Rattle.ci_asm.proofs.ReadPrograms.{assembled_is, on_line_ok}
+use Rattle.ci_asm.proofs.ReadPrograms.{assembled_is}
 use Rattle.ci_asm.proofs.ProgramFaults.{fault_is}
 
 module _ (line : List ℕ) (full : Bool) where
@@ -47,27 +49,27 @@ module _ (line : List ℕ) (full : Bool) where
   unfolding read_line
   read_line-line l e = subst (λ r. IfOk r (IsLineOf (length line))) e (by_label (is_label first.kind second.kind))
 
-reaching-fits : (words : ℕ) (s : code.Statement) (t : Token) (d : Option Definition) (o : Operands) → reaching words s t d ≡ Ok o
-    → fits (field_of s.mnemonic) o.number ≡ true
-reaching-fits words s t None o e = absurd (cc)
-reaching-fits words s t (Some d) o e =
-    let c = cond_ok (fits (field_of s.mnemonic) (offset_between words d.words)) (record s.operands { number = offset_between words d.words }) o
-    (record { rule = OutOfField; place = t.start }) e in
-    ap (λ p. fits (field_of s.mnemonic) p.number) (sym c.1) ∙ c.0
+reaching-fits : (words : ℕ) (s : code.Statement) (t : Token) (d : Option Definition) (n : Number) → reaching words s t d ≡ Ok n
+    → fits (field_of s.mnemonic) n ≡ true
+reaching-fits words s t None n e = absurd (cc)
+reaching-fits words s t (Some d) n e =
+    let offset = offset_between words d.words in
+    let c = cond_ok (fits (field_of s.mnemonic) offset) offset n (fault OutOfField t.start) e in
+    ap (fits (field_of s.mnemonic)) (sym c.1) ∙ c.0
 
-resolved-fits : (definitions : Definitions) (words : ℕ) (line : List ℕ) (s : code.Statement) (label : Option Token) (o : Operands)
-    → fits (field_of s.mnemonic) s.operands.number ≡ true → resolved definitions words line s label ≡ Ok o → fits (field_of s.mnemonic) o.number ≡ true
-resolved-fits definitions words line s None o ok e = ap (λ p. fits (field_of s.mnemonic) p.number) (sym (same_ok {E = Fault} _ o e)) ∙ ok
-resolved-fits definitions words line s (Some t) o ok e = reaching-fits words s t _ o e
+resolved-fits : (definitions : Definitions) (words : ℕ) (line : List ℕ) (s : code.Statement) (label : Option Token) (n : Number)
+    → fits (field_of s.mnemonic) s.operands.number ≡ true → resolved definitions words line s label ≡ Ok n → fits (field_of s.mnemonic) n ≡ true
+resolved-fits definitions words line s None n ok e = ap (fits (field_of s.mnemonic)) (sym (same_ok {E = Fault} _ n e)) ∙ ok
+resolved-fits definitions words line s (Some t) n ok e = reaching-fits words s t _ n e
 
 statement_formed : (definitions : Definitions) (words : ℕ) (line : List ℕ) (s : Option code.Statement) (first : Option Insn) → IfSome s (IsRead (length line))
     → statement_insn definitions words line s ≡ Ok first → IfSome first IsWellFormed
 statement_formed definitions words line None first read e = subst (λ f. IfSome f IsWellFormed) (same_ok {E = Fault} None first e) tt
 statement_formed definitions words line (Some s) first read e =
     let b = bind_ok (resolved definitions words line s s.operands.label) _ first e in
-    let registers = resolved-registers definitions words line s s.operands.label b.0 read.registers b.1 in
-    let in_field = resolved-fits definitions words line s s.operands.label b.0 read.in_field b.1 in
-    subst (λ f. IfSome f IsWellFormed) (same_ok {E = Fault} _ first b.2) (well_formed s.mnemonic b.0 read.named registers in_field)
+    let in_field = fits_in (field_of s.mnemonic) b.0 (resolved-fits definitions words line s s.operands.label b.0 read.in_field b.1) in
+    subst (λ f. IfSome f IsWellFormed) (same_ok {E = Fault} _ first b.2)
+    (well_formed s.mnemonic s.operands.registers (signed_value b.0) read.named read.registers in_field)
 
 line_formed : (definitions : Definitions) (n words : ℕ) (line : List ℕ) (first : Option Insn) → line_insn definitions n words line ≡ Ok first
     → IfSome first IsWellFormed

@@ -1,5 +1,5 @@
 -- The line that shows an instruction is written token by token, and its tokens are a statement that says the instruction.
-use Rattle.std.proofs.Common.{◌≡◌, ◌≢◌, ℕ, zero, suc, ◌*◌, ◌/◌, ◌%◌, ◌^◌, ◌<◌, ◌≤◌, inl, inr, Bool, true, false, List, [], ◌∷◌, ◌++◌, refl, sym, ap, subst, arith}
+use Rattle.std.proofs.Common.{◌≡◌, ℕ, zero, suc, ◌+◌, ◌*◌, ◌/◌, ◌%◌, ◌^◌, ◌<◌, ◌≤◌, inl, inr, true, false, List, [], ◌∷◌, ◌++◌, refl, sym, ap, subst, arith}
 use Rattle.std.proofs.Common.{lit≤, lit<, append-nil, Some, ℤ, pos, negsuc, neg_ℤ, ◌≤ℤ◌, ◌<ℤ◌}
 use Rattle.std.specs.Prelude.{codes, unsigned_abs}
 use Rattle.std.specs.List.{AllByRecursion, list_all}
@@ -19,11 +19,13 @@ use Rattle.ci_asm.specs.declared.mnemonics.Mnemonic.TheVariants.{RegisterRegiste
 use Rattle.ci_asm.specs.private.Tokens.{belongs, is_letter, scan}
 use Rattle.ci_asm.specs.Lexicon.{IsDigit, IsHexDigit, Token, name, decimal_number, hex_number, word, comma, open_bracket, close_bracket, colon, spelling}
 use Rattle.ci_asm.specs.Lexicon.{StartsWith, IsToken, Spells, line_format}
-use Rattle.ci_asm.specs.Forms.{Field, immediate, shift_amount, upper_bits, branch_offset, jump_offset, IsIn, operation_name, register_immediate, branch_name}
+use Rattle.ci_asm.specs.declared.slots.Field.{Field}
+use Rattle.ci_asm.specs.declared.slots.Field.TheVariants.{Immediate, Amount, Upper, BranchOffset, JumpOffset, FenceBits, UnitNumber, Whole}
+use Rattle.ci_asm.specs.Forms.{highest, is_offset, IsIn, operation_name, register_immediate, branch_name}
 use Rattle.ci_asm.specs.Forms.{load_name, store_name, Writes, HasNumber, plain, IsStatement, on_registers, on_immediate, lui, auipc, jump, jump_register}
 use Rattle.ci_asm.specs.Forms.{branch, load, store, fence, ecall, ebreak, custom, cput, cread, cread_second, data_word}
 use Rattle.ci_asm.specs.Shown.{register_name, upper_text, immediate_line, shown}
-use Rattle.ci_asm.proofs.TestLaws.{and_both}
+use Rattle.ci_asm.proofs.TestLaws.{true_is_not_false, and_both}
 use Rattle.ci_asm.proofs.LongestTokens.{IsNameByte, letter_yes, name_yes, begun, format_clear}
 use Rattle.ci_asm.proofs.WrittenDigits.{AreDigitsOf, decimal_digits, hex_digits, eight_digits}
 use Rattle.ci_asm.proofs.KnownMnemonics.{is_word, known_mnemonic}
@@ -159,30 +161,26 @@ number_for field half z few low high within =
     let small = near half z few low high in
     record { spelt = number_spelt z small; has = (number_writes z small, within) }
 
-twelve : (z : ℤ) → IsOfWidth 12 z → IsNumberFor immediate z
-twelve z h = number_for immediate 2048 z (lit≤ tt) h.0 h.1 (h.0, by z h.1)
-  where
-    by : (z : ℤ) → z <ℤ pos 2048 → z ≤ℤ pos 2047
-    by (pos n) h = omega (arith, ints)
-    by (negsuc n) h = omega (arith, ints)
+below_up_to : (most : ℕ) (z : ℤ) → z <ℤ pos (most + 1) → z ≤ℤ pos most
+below_up_to most (pos n) h = omega (arith, ints)
+below_up_to most (negsuc n) h = omega (arith, ints)
 
-amount : (z : ℤ) → pos 0 ≤ℤ z → z <ℤ pos 32 → IsNumberFor shift_amount z
-amount (pos n) low high = number_for shift_amount 32 (pos n) (lit≤ tt) (omega (arith, ints)) high (low, omega (arith, ints))
+even_up_to : (k : ℕ) (z : ℤ) → z <ℤ pos (2 * k + 2) → IsEven z → z ≤ℤ pos (2 * k)
+even_up_to k (pos n) h even = omega (arith, ints)
+even_up_to k (negsuc n) h even = omega (arith, ints)
+
+twelve : (z : ℤ) → IsOfWidth 12 z → IsNumberFor Immediate z
+twelve z h = number_for Immediate 2048 z (lit≤ tt) h.0 h.1 (h.0, below_up_to 2047 z h.1, λ none. absurd (cc))
+
+amount : (z : ℤ) → pos 0 ≤ℤ z → z <ℤ pos 32 → IsNumberFor Amount z
+amount (pos n) low high = number_for Amount 32 (pos n) (lit≤ tt) (omega (arith, ints)) high (low, omega (arith, ints), λ none. absurd (cc))
 amount (negsuc n) low high = absurd (omega (arith, ints, low))
 
-thirteen : (z : ℤ) → IsOfWidth 13 z → IsEven z → IsNumberFor branch_offset z
-thirteen z h even = number_for branch_offset 4096 z (lit≤ tt) h.0 h.1 ((h.0, by z h.1 even), even)
-  where
-    by : (z : ℤ) → z <ℤ pos 4096 → IsEven z → z ≤ℤ pos 4094
-    by (pos n) h even = omega (arith, ints)
-    by (negsuc n) h even = omega (arith, ints)
+thirteen : (z : ℤ) → IsOfWidth 13 z → IsEven z → IsNumberFor BranchOffset z
+thirteen z h even = number_for BranchOffset 4096 z (lit≤ tt) h.0 h.1 (h.0, even_up_to 2047 z h.1 even, λ offset. even)
 
-twenty_one : (z : ℤ) → IsOfWidth 21 z → IsEven z → IsNumberFor jump_offset z
-twenty_one z h even = number_for jump_offset 1048576 z (lit≤ tt) h.0 h.1 ((h.0, by z h.1 even), even)
-  where
-    by : (z : ℤ) → z <ℤ pos 1048576 → IsEven z → z ≤ℤ pos 1048574
-    by (pos n) h even = omega (arith, ints)
-    by (negsuc n) h even = omega (arith, ints)
+twenty_one : (z : ℤ) → IsOfWidth 21 z → IsEven z → IsNumberFor JumpOffset z
+twenty_one z h even = number_for JumpOffset 1048576 z (lit≤ tt) h.0 h.1 (h.0, even_up_to 524287 z h.1 even, λ offset. even)
 
 -- a number that isn't below 0, in decimal and in hex digits
 plain_spelt : (n : ℕ) → n < 2 ^ 32 → Spells (decimal n) (decimal_number false (decimal n))
@@ -200,8 +198,9 @@ upper_near upper h = omega arith
 upper_again : (upper : ℕ) → upper % 2 ^ 12 ≡ 0 → 4096 * (upper / 4096) ≡ upper
 upper_again upper e = omega arith
 
-unsigned_within : (n most : ℕ) → n ≤ most → (pos 0 ≤ℤ pos n) × (pos n ≤ℤ pos most)
-unsigned_within n most h = (omega (arith, ints), omega (arith, ints))
+unsigned_in : (field : Field) (n most : ℕ) → n ≤ most → highest field ≡ most → is_offset field ≡ false → IsIn field (pos n)
+unsigned_in field n most h limit no_offset =
+    (omega (arith, ints), subst (λ k. pos n ≤ℤ pos k) (sym limit) (omega (arith, ints)), λ offset. absurd (true_is_not_false offset no_offset))
 
 -- ---- register-immediate forms
 
@@ -213,14 +212,14 @@ pub record HasForm (op : Op) (imm : ℤ) : Type 0 where
   spelt : Spells mnemonic (name mnemonic)
   fits : IsNumberFor field imm
 
-signed_form : (op : Op) (mnemonic : List ℕ) (imm : ℤ) → register_immediate op ≡ Some (mnemonic, immediate) → is_word mnemonic ≡ true → IsOfWidth 12 imm
+signed_form : (op : Op) (mnemonic : List ℕ) (imm : ℤ) → register_immediate op ≡ Some (mnemonic, Immediate) → is_word mnemonic ≡ true → IsOfWidth 12 imm
     → HasForm op imm
-signed_form op mnemonic imm e is fits = record { mnemonic = mnemonic; field = immediate; form = e; spelt = word_spelt mnemonic is; fits = twelve imm fits }
+signed_form op mnemonic imm e is fits = record { mnemonic = mnemonic; field = Immediate; form = e; spelt = word_spelt mnemonic is; fits = twelve imm fits }
 
-shift_form : (op : Op) (mnemonic : List ℕ) (imm : ℤ) → register_immediate op ≡ Some (mnemonic, shift_amount) → is_word mnemonic ≡ true
+shift_form : (op : Op) (mnemonic : List ℕ) (imm : ℤ) → register_immediate op ≡ Some (mnemonic, Amount) → is_word mnemonic ≡ true
     → (pos 0 ≤ℤ imm) × (imm <ℤ pos 32) → HasForm op imm
 shift_form op mnemonic imm e is fits =
-    record { mnemonic = mnemonic; field = shift_amount; form = e; spelt = word_spelt mnemonic is; fits = amount imm fits.0 fits.1 }
+    record { mnemonic = mnemonic; field = Amount; form = e; spelt = word_spelt mnemonic is; fits = amount imm fits.0 fits.1 }
 
 pub form_of : (op : Op) (imm : ℤ) → ConstantFits (constant_form op) imm → HasForm op imm
 form_of ops.Add imm fits = signed_form ops.Add _ imm refl refl fits
@@ -238,8 +237,8 @@ form_of other imm fits = absurd fits
 
 -- no colon comes first
 abbrev pub IsNoColon : List Token → Type 0
-IsNoColon [] = Unit {0}
-IsNoColon (t ∷ tokens) = t ≢ colon
+IsNoColon (colon ∷ tokens) = ⊥
+IsNoColon tokens = Unit {0}
 
 -- the instruction's line is written so
 pub record IsWrittenAs (i : Insn) : Type 0 where
@@ -249,26 +248,18 @@ pub record IsWrittenAs (i : Insn) : Type 0 where
   pub states : IsStatement (first ∷ others) (plain i)
   pub no_colon : IsNoColon others
 
-name_no_colon : (bytes : List ℕ) → name bytes ≢ colon
-name_no_colon bytes = λ e. absurd (cc)
-
-decimal_no_colon : (negative : Bool) (written : List ℕ) → decimal_number negative written ≢ colon
-decimal_no_colon negative written = λ e. absurd (cc)
-
-hex_no_colon : (written : List ℕ) → hex_number written ≢ colon
-hex_no_colon written = λ e. absurd (cc)
+is_written : {i : Insn} {first : Token} {others : List Token} → Line (shown i) (first ∷ others) → IsStatement (first ∷ others) (plain i) → IsNoColon others
+    → IsWrittenAs i
+is_written {first} {others} written states no_colon =
+    record { first = first; others = others; written = written; states = states; no_colon = no_colon }
 
 constant_written : (op : Op) (rd rs1 : ℕ) (imm : ℤ) → rd < 32 → rs1 < 32 → HasForm op imm → IsWrittenAs (insn.AluImm op rd rs1 imm)
-constant_written op rd rs1 imm a b f = record {
-  first = name f.mnemonic;
-  others = register rd ∷ comma ∷ register rs1 ∷ comma ∷ number imm ∷ [];
-  written = subst (λ o. Line (immediate_line o (register_name rd ∷ register_name rs1 ∷ signed_decimal imm ∷ []))
-      (name f.mnemonic ∷ register rd ∷ comma ∷ register rs1 ∷ comma ∷ number imm ∷ [])) (sym f.form)
-      (spaced f.mnemonic _ (name f.mnemonic) _ f.spelt (listed _ _ _ _ (register_spelt rd a)
-      (listed _ _ _ _ (register_spelt rs1 b) (last _ _ f.fits.spelt))));
-  states = on_immediate f.form (refl, a) (refl, b) f.fits.has;
-  no_colon = name_no_colon _;
-}
+constant_written op rd rs1 imm a b f =
+    is_written (subst (λ o. Line (immediate_line o (register_name rd ∷ register_name rs1 ∷ signed_decimal imm ∷ []))
+    (name f.mnemonic ∷ register rd ∷ comma ∷ register rs1 ∷ comma ∷ number imm ∷ [])) (sym f.form)
+    (spaced f.mnemonic _ (name f.mnemonic) _ f.spelt (listed _ _ _ _ (register_spelt rd a)
+    (listed _ _ _ _ (register_spelt rs1 b) (last _ _ f.fits.spelt)))))
+    (on_immediate f.form (refl, a) (refl, b) f.fits.has) tt
 
 upper_written : (mnemonic : List ℕ) (rd upper : ℕ) → is_word mnemonic ≡ true → rd < 32 → upper < 2 ^ 32
     → Line (mnemonic ++ 32 ∷ (register_name rd ++ 44 ∷ 32 ∷ upper_text upper))
@@ -277,8 +268,11 @@ upper_written mnemonic rd upper is a h =
     spaced mnemonic _ (name mnemonic) _ (word_spelt mnemonic is) (listed _ _ _ _ (register_spelt rd a)
     (last _ _ (hex_spelt (upper / 4096) _ (hex_digits (upper / 4096) (upper_near upper h)))))
 
-upper_has : (upper : ℕ) → upper < 2 ^ 32 → HasNumber upper_bits (hex_number (digits 16 false (upper / 4096))) (pos (upper / 4096))
-upper_has upper h = (hex_writes (upper / 4096) _ (hex_digits (upper / 4096) (upper_near upper h)), unsigned_within (upper / 4096) 0xfffff (omega arith))
+upper_has : (upper : ℕ) → upper < 2 ^ 32 → HasNumber Upper (hex_number (digits 16 false (upper / 4096))) (pos (upper / 4096))
+upper_has upper h = (
+  hex_writes (upper / 4096) _ (hex_digits (upper / 4096) (upper_near upper h)),
+  unsigned_in Upper (upper / 4096) 0xfffff (omega arith) refl refl,
+)
 
 access_written : (mnemonic : List ℕ) (first base : ℕ) (offset : ℤ) → is_word mnemonic ≡ true → first < 32 → base < 32
     → Spells (signed_decimal offset) (number offset)
@@ -289,124 +283,59 @@ access_written mnemonic first base offset is a b n =
     (listed _ _ _ _ (register_spelt first a) (in_brackets _ _ _ _ n (register_spelt base b)))
 
 pub written_as : (i : Insn) → FieldsFit i → IsWrittenAs i
-written_as (insn.Alu op rd rs1 rs2) f = record {
-  first = name (operation_name op);
-  others = register rd ∷ comma ∷ register rs1 ∷ comma ∷ register rs2 ∷ [];
-  written = spaced (operation_name op) _ _ _ (word_spelt _ (known_mnemonic (RegisterRegister op) refl).1)
-      (listed _ _ _ _ (register_spelt rd f.0) (listed _ _ _ _ (register_spelt rs1 f.1) (last _ _ (register_spelt rs2 f.2))));
-  states = on_registers (refl, f.0) (refl, f.1) (refl, f.2);
-  no_colon = name_no_colon _;
-}
+written_as (insn.Alu op rd rs1 rs2) f =
+    is_written (spaced (operation_name op) _ _ _ (word_spelt _ (known_mnemonic (RegisterRegister op) refl).1)
+    (listed _ _ _ _ (register_spelt rd f.0) (listed _ _ _ _ (register_spelt rs1 f.1) (last _ _ (register_spelt rs2 f.2)))))
+    (on_registers (refl, f.0) (refl, f.1) (refl, f.2)) tt
 written_as (insn.AluImm op rd rs1 imm) f = constant_written op rd rs1 imm f.0 f.1 (form_of op imm f.2)
-written_as (insn.Lui rd upper) f = record {
-  first = name (codes "lui");
-  others = register rd ∷ comma ∷ hex_number (digits 16 false (upper / 4096)) ∷ [];
-  written = upper_written (codes "lui") rd upper refl f.0 f.1;
-  states = subst (λ k. IsStatement (name (codes "lui") ∷ register rd ∷ comma ∷ hex_number (digits 16 false (upper / 4096)) ∷ []) (plain (insn.Lui rd k)))
-      (upper_again upper f.2) (lui (refl, f.0) (upper_has upper f.1));
-  no_colon = name_no_colon _;
-}
-written_as (insn.Auipc rd upper) f = record {
-  first = name (codes "auipc");
-  others = register rd ∷ comma ∷ hex_number (digits 16 false (upper / 4096)) ∷ [];
-  written = upper_written (codes "auipc") rd upper refl f.0 f.1;
-  states = subst (λ k. IsStatement (name (codes "auipc") ∷ register rd ∷ comma ∷ hex_number (digits 16 false (upper / 4096)) ∷ []) (plain (insn.Auipc rd k)))
-      (upper_again upper f.2) (auipc (refl, f.0) (upper_has upper f.1));
-  no_colon = name_no_colon _;
-}
+written_as (insn.Lui rd upper) f =
+    is_written (upper_written (codes "lui") rd upper refl f.0 f.1)
+    (subst (λ k. IsStatement (name (codes "lui") ∷ register rd ∷ comma ∷ hex_number (digits 16 false (upper / 4096)) ∷ []) (plain (insn.Lui rd k)))
+    (upper_again upper f.2) (lui (refl, f.0) (upper_has upper f.1))) tt
+written_as (insn.Auipc rd upper) f =
+    is_written (upper_written (codes "auipc") rd upper refl f.0 f.1)
+    (subst (λ k. IsStatement (name (codes "auipc") ∷ register rd ∷ comma ∷ hex_number (digits 16 false (upper / 4096)) ∷ []) (plain (insn.Auipc rd k)))
+    (upper_again upper f.2) (auipc (refl, f.0) (upper_has upper f.1))) tt
 written_as (insn.Jal rd offset) f =
     let n = twenty_one offset f.1 f.2 in
-    record {
-      first = name (codes "jal");
-      others = register rd ∷ comma ∷ number offset ∷ [];
-      written = spaced (codes "jal") _ _ _ (word_spelt _ refl) (listed _ _ _ _ (register_spelt rd f.0) (last _ _ n.spelt));
-      states = jump (refl, f.0) n.has;
-      no_colon = name_no_colon _;
-    }
+    is_written (spaced (codes "jal") _ _ _ (word_spelt _ refl) (listed _ _ _ _ (register_spelt rd f.0) (last _ _ n.spelt))) (jump (refl, f.0) n.has) tt
 written_as (insn.Jalr rd rs1 offset) f =
     let n = twelve offset f.2 in
-    record {
-      first = name (codes "jalr");
-      others = register rd ∷ comma ∷ number offset ∷ open_bracket ∷ register rs1 ∷ close_bracket ∷ [];
-      written = access_written (codes "jalr") rd rs1 offset refl f.0 f.1 n.spelt;
-      states = jump_register (refl, f.0) n.has (refl, f.1);
-      no_colon = name_no_colon _;
-    }
+    is_written (access_written (codes "jalr") rd rs1 offset refl f.0 f.1 n.spelt) (jump_register (refl, f.0) n.has (refl, f.1)) tt
 written_as (insn.Branch cond rs1 rs2 offset) f =
     let n = thirteen offset f.2 f.3 in
-    record {
-      first = name (branch_name cond);
-      others = register rs1 ∷ comma ∷ register rs2 ∷ comma ∷ number offset ∷ [];
-      written = spaced (branch_name cond) _ _ _ (word_spelt _ (known_mnemonic (Branch cond) refl).1)
-          (listed _ _ _ _ (register_spelt rs1 f.0) (listed _ _ _ _ (register_spelt rs2 f.1) (last _ _ n.spelt)));
-      states = branch (refl, f.0) (refl, f.1) n.has;
-      no_colon = name_no_colon _;
-    }
+    is_written (spaced (branch_name cond) _ _ _ (word_spelt _ (known_mnemonic (Branch cond) refl).1)
+    (listed _ _ _ _ (register_spelt rs1 f.0) (listed _ _ _ _ (register_spelt rs2 f.1) (last _ _ n.spelt))))
+    (branch (refl, f.0) (refl, f.1) n.has) tt
 written_as (insn.Load kind rd rs1 offset) f =
     let n = twelve offset f.2 in
-    record {
-      first = name (load_name kind);
-      others = register rd ∷ comma ∷ number offset ∷ open_bracket ∷ register rs1 ∷ close_bracket ∷ [];
-      written = access_written (load_name kind) rd rs1 offset (known_mnemonic (Load kind) refl).1 f.0 f.1 n.spelt;
-      states = load (refl, f.0) n.has (refl, f.1);
-      no_colon = name_no_colon _;
-    }
+    is_written (access_written (load_name kind) rd rs1 offset (known_mnemonic (Load kind) refl).1 f.0 f.1 n.spelt) (load (refl, f.0) n.has (refl, f.1)) tt
 written_as (insn.Store width rs1 rs2 offset) f =
     let n = twelve offset f.2 in
-    record {
-      first = name (store_name width);
-      others = register rs2 ∷ comma ∷ number offset ∷ open_bracket ∷ register rs1 ∷ close_bracket ∷ [];
-      written = access_written (store_name width) rs2 rs1 offset (known_mnemonic (Store width) refl).1 f.1 f.0 n.spelt;
-      states = store (refl, f.1) n.has (refl, f.0);
-      no_colon = name_no_colon _;
-    }
-written_as (insn.Fence bits rs1 rd) f = record {
-  first = name (codes "fence");
-  others = decimal_number false (decimal bits) ∷ comma ∷ register rs1 ∷ comma ∷ register rd ∷ [];
-  written = spaced (codes "fence") _ _ _ (word_spelt _ refl) (listed _ _ _ _ (plain_spelt bits (omega (arith, f.0)))
-      (listed _ _ _ _ (register_spelt rs1 f.1) (last _ _ (register_spelt rd f.2))));
-  states = fence (number_writes (pos bits) (omega (arith, f.0)), unsigned_within bits 4095 (omega (arith, f.0))) (refl, f.1) (refl, f.2);
-  no_colon = decimal_no_colon false _;
-}
-written_as insn.Ecall f = record { first = name (codes "ecall"); others = []; written = last _ _ (word_spelt _ refl); states = ecall; no_colon = tt }
-written_as insn.Ebreak f = record { first = name (codes "ebreak"); others = []; written = last _ _ (word_spelt _ refl); states = ebreak; no_colon = tt }
-written_as (insn.Unit n rd rs1 rs2 rs3) f = record {
-  first = name (codes "ci");
-  others = decimal_number false (decimal n) ∷ comma ∷ register rd ∷ comma ∷ register rs1 ∷ comma ∷ register rs2 ∷ comma ∷ register rs3 ∷ [];
-  written = spaced (codes "ci") _ _ _ (word_spelt _ refl) (listed _ _ _ _ (plain_spelt n (omega (arith, f.0)))
-      (listed _ _ _ _ (register_spelt rd f.1) (listed _ _ _ _ (register_spelt rs1 f.2)
-      (listed _ _ _ _ (register_spelt rs2 f.3) (last _ _ (register_spelt rs3 f.4))))));
-  states = custom (number_writes (pos n) (omega (arith, f.0)), unsigned_within n 31 (omega (arith, f.0))) (refl, f.1) (refl, f.2) (refl, f.3) (refl, f.4);
-  no_colon = decimal_no_colon false _;
-}
-written_as (insn.Cput rs1 rs2) f = record {
-  first = name (codes "cput");
-  others = register rs1 ∷ comma ∷ register rs2 ∷ [];
-  written = spaced (codes "cput") _ _ _ (word_spelt _ refl) (listed _ _ _ _ (register_spelt rs1 f.0) (last _ _ (register_spelt rs2 f.1)));
-  states = cput (refl, f.0) (refl, f.1);
-  no_colon = name_no_colon _;
-}
-written_as (insn.Cread rd zero) f = record {
-  first = name (codes "cread");
-  others = register rd ∷ [];
-  written = spaced (codes "cread") _ _ _ (word_spelt _ refl) (last _ _ (register_spelt rd f.0));
-  states = cread (refl, f.0);
-  no_colon = name_no_colon _;
-}
-written_as (insn.Cread rd (suc zero)) f = record {
-  first = name (codes "cread");
-  others = register rd ∷ comma ∷ decimal_number false (decimal 1) ∷ [];
-  written = spaced (codes "cread") _ _ _ (word_spelt _ refl) (listed _ _ _ _ (register_spelt rd f.0) (last _ _ (plain_spelt 1 (lit< tt))));
-  states = cread_second (refl, f.0) (number_writes (pos 1) (lit< tt));
-  no_colon = name_no_colon _;
-}
+    is_written (access_written (store_name width) rs2 rs1 offset (known_mnemonic (Store width) refl).1 f.1 f.0 n.spelt)
+    (store (refl, f.1) n.has (refl, f.0)) tt
+written_as (insn.Fence bits rs1 rd) f =
+    is_written (spaced (codes "fence") _ _ _ (word_spelt _ refl) (listed _ _ _ _ (plain_spelt bits (omega (arith, f.0)))
+    (listed _ _ _ _ (register_spelt rs1 f.1) (last _ _ (register_spelt rd f.2)))))
+    (fence (number_writes (pos bits) (omega (arith, f.0)), unsigned_in FenceBits bits 4095 (omega (arith, f.0)) refl refl) (refl, f.1) (refl, f.2)) tt
+written_as insn.Ecall f = is_written (last _ _ (word_spelt _ refl)) ecall tt
+written_as insn.Ebreak f = is_written (last _ _ (word_spelt _ refl)) ebreak tt
+written_as (insn.Unit n rd rs1 rs2 rs3) f =
+    is_written (spaced (codes "ci") _ _ _ (word_spelt _ refl) (listed _ _ _ _ (plain_spelt n (omega (arith, f.0)))
+    (listed _ _ _ _ (register_spelt rd f.1) (listed _ _ _ _ (register_spelt rs1 f.2)
+    (listed _ _ _ _ (register_spelt rs2 f.3) (last _ _ (register_spelt rs3 f.4)))))))
+    (custom (number_writes (pos n) (omega (arith, f.0)), unsigned_in UnitNumber n 31 (omega (arith, f.0)) refl refl)
+    (refl, f.1) (refl, f.2) (refl, f.3) (refl, f.4)) tt
+written_as (insn.Cput rs1 rs2) f =
+    is_written (spaced (codes "cput") _ _ _ (word_spelt _ refl) (listed _ _ _ _ (register_spelt rs1 f.0) (last _ _ (register_spelt rs2 f.1))))
+    (cput (refl, f.0) (refl, f.1)) tt
+written_as (insn.Cread rd zero) f =
+    is_written (spaced (codes "cread") _ _ _ (word_spelt _ refl) (last _ _ (register_spelt rd f.0))) (cread (refl, f.0)) tt
+written_as (insn.Cread rd (suc zero)) f =
+    is_written (spaced (codes "cread") _ _ _ (word_spelt _ refl) (listed _ _ _ _ (register_spelt rd f.0) (last _ _ (plain_spelt 1 (lit< tt)))))
+    (cread_second (refl, f.0) (number_writes (pos 1) (lit< tt))) tt
 written_as (insn.Cread rd (suc (suc n))) f = absurd (omega (arith, f.1))
 written_as (insn.Illegal w) f =
     let d = eight_digits w f in
-    record {
-      first = word;
-      others = hex_number (eight_hex_digits w) ∷ [];
-      written = spaced (codes ".word") _ word _ (record { is_token = tt; is_spelling = refl }) (last _ _ (hex_spelt w (eight_hex_digits w) d));
-      states = data_word (hex_writes w (eight_hex_digits w) d, unsigned_within w 0xffff_ffff (omega (arith, f)));
-      no_colon = hex_no_colon _;
-    }
+    is_written (spaced (codes ".word") _ word _ (record { is_token = tt; is_spelling = refl }) (last _ _ (hex_spelt w (eight_hex_digits w) d)))
+    (data_word (hex_writes w (eight_hex_digits w) d, unsigned_in Whole w 0xffff_ffff (omega (arith, f)) refl refl)) tt

@@ -1,11 +1,13 @@
 -- The words of a text, and its first fault.
 use Rattle.std.specs.Prelude.{◌≡◌, ◌≢◌, ℕ, ◌+◌, ◌*◌, ◌≤◌, ◌<◌, ◌⊎◌, List, [], ◌∷◌, ◌++◌, length, Option, Some}
 use Rattle.std.specs.Prelude.{None, ℤ, pos, ◌-ℤ◌}
+use Rattle.std.specs.Option.{option_to_list}
 use Rattle.ci_isa.specs.declared.instruction.Insn.{Insn}
 use Rattle.ci_isa.specs.Table.{IsWordOf}
 use Rattle.ci_reading.specs.Tokens.{token, stray_byte, text_end}
 use Rattle.ci_asm.specs.Lexicon.{Token, name, colon, Symbol, Stands}
-use Rattle.ci_asm.specs.Forms.{Field, IsIn, IsNumber, Statement, plain, to_label, IsStatement, IsMnemonic}
+use Rattle.ci_asm.specs.declared.slots.Field.{Field}
+use Rattle.ci_asm.specs.Forms.{IsIn, IsNumber, Statement, plain, to_label, IsStatement, IsMnemonic}
 use Rattle.ci_asm.specs.Lines.{lines_of}
 
 -- a program has no more statements than this, each of which is a word
@@ -54,13 +56,9 @@ AreLines (bytes ∷ lines) (line ∷ program) = IsLine bytes line × AreLines li
 
 -- ---- programs
 
-abbrev pub with_statement_of : Option Statement → List Statement → List Statement
-with_statement_of (Some statement) others = statement ∷ others
-with_statement_of None others = others
-
 abbrev pub statements_of : List Line → List Statement
 statements_of [] = []
-statements_of (line ∷ lines) = with_statement_of line.statement (statements_of lines)
+statements_of (line ∷ lines) = option_to_list line.statement ++ statements_of lines
 
 -- how many words the lines have: one for each statement
 abbrev pub words_in : List Line → ℕ

@@ -1,6 +1,6 @@
 -- The statements: the forms that their tokens have, and what each says.
-use Rattle.std.specs.Prelude.{◌≡◌, ℕ, ◌*◌, ◌%◌, ◌<◌, ◌≤◌, if◌then◌else◌, List, [], ◌∷◌, ◌++◌, length, codes, Option}
-use Rattle.std.specs.Prelude.{Some, None, ℤ, pos, neg_ℤ, ◌≤ℤ◌, unsigned_abs}
+use Rattle.std.specs.Prelude.{◌≡◌, ℕ, ◌*◌, ◌<◌, ◌≤◌, if◌then◌else◌, Bool, true, false, List, [], ◌∷◌, ◌++◌, length}
+use Rattle.std.specs.Prelude.{codes, Option, Some, None, ℤ, pos, neg_ℤ, ◌≤ℤ◌}
 use Rattle.std.specs.Fmt.{decimal}
 use Rattle.std.specs.Str.Parse.{digits_value}
 use Rattle.ci_word.specs.declared.arithmetic.Op.{Op}
@@ -14,37 +14,41 @@ use Rattle.ci_isa.specs.declared.instruction.Width.{Width}
 use Rattle.ci_isa.specs.declared.instruction.Width.TheVariants.{Byte, Half, Word}
 use Rattle.ci_isa.specs.declared.instruction.Insn.{Insn}
 use Rattle.ci_isa.specs.declared.instruction.Insn.TheVariants as insn
+use Rattle.ci_isa.specs.FieldBounds.{IsEven}
+use Rattle.ci_asm.specs.declared.slots.Field.{Field}
+use Rattle.ci_asm.specs.declared.slots.Field.TheVariants.{Immediate, Amount, Upper, BranchOffset, JumpOffset, FenceBits}
+use Rattle.ci_asm.specs.declared.slots.Field.TheVariants.{UnitNumber, Whole}
 use Rattle.ci_asm.specs.Lexicon.{Token, name, decimal_number, hex_number, word, comma, open_bracket, close_bracket}
 
 -- ---- fields
 
--- the fields of words that hold numbers
-pub data Field : Type 0 where
-  immediate : Field
-  shift_amount : Field
-  upper_bits : Field
-  branch_offset : Field
-  jump_offset : Field
-  fence_bits : Field
-  unit_number : Field
-  whole_word : Field
+-- how far below 0 and how far above it the numbers of a field go
+abbrev pub lowest : Field → ℕ
+lowest Immediate = 2048
+lowest BranchOffset = 4096
+lowest JumpOffset = 1048576
+lowest field = 0
 
-abbrev pub IsBetween : ℤ → ℤ → ℤ → Type 0
-IsBetween low high n = (low ≤ℤ n) × (n ≤ℤ high)
+abbrev pub highest : Field → ℕ
+highest Immediate = 2047
+highest Amount = 31
+highest Upper = 0xfffff
+highest BranchOffset = 4094
+highest JumpOffset = 1048574
+highest FenceBits = 4095
+highest UnitNumber = 31
+highest Whole = 0xffff_ffff
 
-abbrev pub IsEven : ℤ → Type 0
-IsEven n = unsigned_abs n % 2 ≡ 0
+-- an offset: it is even, and a label may stand for it
+abbrev pub is_offset : Field → Bool
+is_offset BranchOffset = true
+is_offset JumpOffset = true
+is_offset field = false
 
 -- the numbers that fit a field
 abbrev pub IsIn : Field → ℤ → Type 0
-IsIn immediate n = IsBetween (neg_ℤ (pos 2048)) (pos 2047) n
-IsIn shift_amount n = IsBetween (pos 0) (pos 31) n
-IsIn upper_bits n = IsBetween (pos 0) (pos 0xfffff) n
-IsIn branch_offset n = IsBetween (neg_ℤ (pos 4096)) (pos 4094) n × IsEven n
-IsIn jump_offset n = IsBetween (neg_ℤ (pos 1048576)) (pos 1048574) n × IsEven n
-IsIn fence_bits n = IsBetween (pos 0) (pos 4095) n
-IsIn unit_number n = IsBetween (pos 0) (pos 31) n
-IsIn whole_word n = IsBetween (pos 0) (pos 0xffff_ffff) n
+IsIn field n =
+    (neg_ℤ (pos (lowest field)) ≤ℤ n) × (n ≤ℤ pos (highest field)) × (is_offset field ≡ true → IsEven n)
 
 -- ---- mnemonics
 
@@ -70,15 +74,15 @@ operation_name Remu = codes "remu"
 
 -- the register-immediate form of an operation, if it has one: its name, and the field of its immediate
 abbrev pub register_immediate : Op → Option (List ℕ × Field)
-register_immediate Add = Some (codes "addi", immediate)
-register_immediate Slt = Some (codes "slti", immediate)
-register_immediate Sltu = Some (codes "sltiu", immediate)
-register_immediate Xor = Some (codes "xori", immediate)
-register_immediate Or = Some (codes "ori", immediate)
-register_immediate And = Some (codes "andi", immediate)
-register_immediate Sll = Some (codes "slli", shift_amount)
-register_immediate Srl = Some (codes "srli", shift_amount)
-register_immediate Sra = Some (codes "srai", shift_amount)
+register_immediate Add = Some (codes "addi", Immediate)
+register_immediate Slt = Some (codes "slti", Immediate)
+register_immediate Sltu = Some (codes "sltiu", Immediate)
+register_immediate Xor = Some (codes "xori", Immediate)
+register_immediate Or = Some (codes "ori", Immediate)
+register_immediate And = Some (codes "andi", Immediate)
+register_immediate Sll = Some (codes "slli", Amount)
+register_immediate Srl = Some (codes "srli", Amount)
+register_immediate Sra = Some (codes "srai", Amount)
 register_immediate op = None
 
 abbrev pub branch_name : Cond → List ℕ
@@ -140,35 +144,35 @@ pub data IsStatement : List Token → Statement → Type 0 where
   on_immediate : {op : Op} {x y z : Token} {d a : ℕ} {n : ℤ} {mnemonic : List ℕ} {field : Field}
       → register_immediate op ≡ Some (mnemonic, field) → IsRegister x d → IsRegister y a → HasNumber field z n
       → IsStatement (name mnemonic ∷ x ∷ comma ∷ y ∷ comma ∷ z ∷ []) (plain (insn.AluImm op d a n))
-  lui : {x y : Token} {d n : ℕ} → IsRegister x d → HasNumber upper_bits y (pos n)
+  lui : {x y : Token} {d n : ℕ} → IsRegister x d → HasNumber Upper y (pos n)
       → IsStatement (name (codes "lui") ∷ x ∷ comma ∷ y ∷ []) (plain (insn.Lui d (4096 * n)))
-  auipc : {x y : Token} {d n : ℕ} → IsRegister x d → HasNumber upper_bits y (pos n)
+  auipc : {x y : Token} {d n : ℕ} → IsRegister x d → HasNumber Upper y (pos n)
       → IsStatement (name (codes "auipc") ∷ x ∷ comma ∷ y ∷ []) (plain (insn.Auipc d (4096 * n)))
-  jump : {x y : Token} {d : ℕ} {n : ℤ} → IsRegister x d → HasNumber jump_offset y n
+  jump : {x y : Token} {d : ℕ} {n : ℤ} → IsRegister x d → HasNumber JumpOffset y n
       → IsStatement (name (codes "jal") ∷ x ∷ comma ∷ y ∷ []) (plain (insn.Jal d n))
   jump_label : {x : Token} {d : ℕ} {label : List ℕ} → IsRegister x d
-      → IsStatement (name (codes "jal") ∷ x ∷ comma ∷ name label ∷ []) (to_label jump_offset (insn.Jal d) label)
-  jump_register : {x y z : Token} {d a : ℕ} {n : ℤ} → IsRegister x d → HasNumber immediate y n → IsRegister z a
+      → IsStatement (name (codes "jal") ∷ x ∷ comma ∷ name label ∷ []) (to_label JumpOffset (insn.Jal d) label)
+  jump_register : {x y z : Token} {d a : ℕ} {n : ℤ} → IsRegister x d → HasNumber Immediate y n → IsRegister z a
       → IsStatement (name (codes "jalr") ∷ x ∷ comma ∷ y ∷ open_bracket ∷ z ∷ close_bracket ∷ [])
       (plain (insn.Jalr d a n))
   branch : {cond : Cond} {x y z : Token} {a b : ℕ} {n : ℤ}
-      → IsRegister x a → IsRegister y b → HasNumber branch_offset z n
+      → IsRegister x a → IsRegister y b → HasNumber BranchOffset z n
       → IsStatement (name (branch_name cond) ∷ x ∷ comma ∷ y ∷ comma ∷ z ∷ []) (plain (insn.Branch cond a b n))
   branch_label : {cond : Cond} {x y : Token} {a b : ℕ} {label : List ℕ} → IsRegister x a → IsRegister y b
       → IsStatement (name (branch_name cond) ∷ x ∷ comma ∷ y ∷ comma ∷ name label ∷ [])
-      (to_label branch_offset (insn.Branch cond a b) label)
-  load : {kind : LoadKind} {x y z : Token} {d a : ℕ} {n : ℤ} → IsRegister x d → HasNumber immediate y n → IsRegister z a
+      (to_label BranchOffset (insn.Branch cond a b) label)
+  load : {kind : LoadKind} {x y z : Token} {d a : ℕ} {n : ℤ} → IsRegister x d → HasNumber Immediate y n → IsRegister z a
       → IsStatement (name (load_name kind) ∷ x ∷ comma ∷ y ∷ open_bracket ∷ z ∷ close_bracket ∷ [])
       (plain (insn.Load kind d a n))
-  store : {width : Width} {x y z : Token} {a b : ℕ} {n : ℤ} → IsRegister x b → HasNumber immediate y n → IsRegister z a
+  store : {width : Width} {x y z : Token} {a b : ℕ} {n : ℤ} → IsRegister x b → HasNumber Immediate y n → IsRegister z a
       → IsStatement (name (store_name width) ∷ x ∷ comma ∷ y ∷ open_bracket ∷ z ∷ close_bracket ∷ [])
       (plain (insn.Store width a b n))
-  fence : {x y z : Token} {n a d : ℕ} → HasNumber fence_bits x (pos n) → IsRegister y a → IsRegister z d
+  fence : {x y z : Token} {n a d : ℕ} → HasNumber FenceBits x (pos n) → IsRegister y a → IsRegister z d
       → IsStatement (name (codes "fence") ∷ x ∷ comma ∷ y ∷ comma ∷ z ∷ []) (plain (insn.Fence n a d))
   ecall : IsStatement (name (codes "ecall") ∷ []) (plain insn.Ecall)
   ebreak : IsStatement (name (codes "ebreak") ∷ []) (plain insn.Ebreak)
   custom : {v w x y z : Token} {n d a b c : ℕ}
-      → HasNumber unit_number v (pos n) → IsRegister w d → IsRegister x a → IsRegister y b → IsRegister z c
+      → HasNumber UnitNumber v (pos n) → IsRegister w d → IsRegister x a → IsRegister y b → IsRegister z c
       → IsStatement (name (codes "ci") ∷ v ∷ comma ∷ w ∷ comma ∷ x ∷ comma ∷ y ∷ comma ∷ z ∷ [])
       (plain (insn.Unit n d a b c))
   cput : {x y : Token} {a b : ℕ} → IsRegister x a → IsRegister y b
@@ -177,7 +181,7 @@ pub data IsStatement : List Token → Statement → Type 0 where
   cread_second : {x y : Token} {d : ℕ} → IsRegister x d → Writes y (pos 1)
       → IsStatement (name (codes "cread") ∷ x ∷ comma ∷ y ∷ []) (plain (insn.Cread d 1))
   data_word : {x : Token} {n : ℕ}
-      → HasNumber whole_word x (pos n) → IsStatement (word ∷ x ∷ []) (plain (insn.Illegal n))
+      → HasNumber Whole x (pos n) → IsStatement (word ∷ x ∷ []) (plain (insn.Illegal n))
 
 -- the token begins a statement
 abbrev pub IsMnemonic : Token → Type 0

@@ -5,7 +5,8 @@ use Rattle.ci_reading.specs.Hex.{eight_hex_digits}
 use Rattle.ci_isa.specs.declared.instruction.Insn.{Insn}
 use Rattle.ci_isa.specs.declared.instruction.Insn.TheVariants.{Alu, AluImm, Lui, Auipc, Jal, Jalr, Branch, Load, Store}
 use Rattle.ci_isa.specs.declared.instruction.Insn.TheVariants.{Fence, Ecall, Ebreak, Unit, Cread, Cput, Illegal}
-use Rattle.ci_asm.specs.Forms.{Field, operation_name, register_immediate, branch_name, load_name, store_name}
+use Rattle.ci_asm.specs.declared.slots.Field.{Field}
+use Rattle.ci_asm.specs.Forms.{operation_name, register_immediate, branch_name, load_name, store_name}
 
 abbrev pub register_name : ℕ → List ℕ
 register_name r = codes "x" ++ decimal r

@@ -1,10 +1,10 @@
 //! From a text to its words.
 ghost use Rattle.std.specs.Prelude.{◌≡◌, ℕ, ◌+◌, ◌++◌, ◌≤◌, ◌<◌, List, drop, length, IfOk, IfSome, IfErr, OnOk, Ok};
 ghost use Rattle.std.specs.Prelude.{true, vec_len};
-ghost use Rattle.std.specs.Option.{ForSome, option_to_list};
+ghost use Rattle.std.specs.Option.{ForSome, option_to_list, option_or};
 ghost use Rattle.ci_isa.specs.Table.{IsWellFormed};
 ghost use Rattle.ci_asm.specs.private.Shapes.{fits, field_of};
-ghost use Rattle.ci_asm.specs.private.LabelMap.{found_in, earlier};
+ghost use Rattle.ci_asm.specs.private.LabelMap.{found_in};
 ghost use Rattle.ci_asm.specs.Assembly.{IsAssembly};
 ghost use Rattle.ci_asm.specs.Promised.{IsOnlyAssembly, IsFaultOf};
 ghost use Rattle.ci_asm.specs.private.Programs.{kind_of, defined_once, offset_between, resolved, line_insn, insns_of};
@@ -19,7 +19,7 @@ use crate::labels::{Definition, Definitions, define, definition_in};
 use crate::lines::{Line, read_line};
 use crate::numbers::Number;
 use crate::scanner::{ByteClass, Token, run_end, text_of};
-use crate::statements::{Operands, Statement};
+use crate::statements::Statement;
 use ci_isa::{Insn, encode};
 use std::alloc::{AllocError, Global};
 use std::collections::BTreeMap;
@@ -98,7 +98,7 @@ fn words_through<'a>(
     ensures words { IfOk result (λ after. words_behind number words line.now ≡ Ok after) }
     ensures definitions { OnOk result ((name : List ℕ) →
         found_in definitions.new name
-        ≡ earlier (found_in definitions.old name) (definition_on name number words line.now)) }
+        ≡ option_or (found_in definitions.old name) (definition_on name number words line.now)) }
     ensures fault { IfErr result (IsFaultIn (words_behind number words line.now)) }
 {
     let Line { label, statement } = match read_line(line, words == MOST_WORDS) {
@@ -172,8 +172,8 @@ fn line_insn<'a>(
     match statement {
         None => Ok(None),
         Some(statement) => {
-            let operands = resolved(definitions, words, line, &statement)?;
-            Ok(Some(insn_of(statement.mnemonic, operands)))
+            let number = resolved(definitions, words, line, &statement)?;
+            Ok(Some(insn_of(statement.mnemonic, statement.operands.registers, number)))
         }
     }
 }
@@ -211,22 +211,21 @@ fn offset_between(from: u32, to: u32) -> Number
     }
 }
 
-/// The statement's operands with the label's offset as the number, where the statement stands
-/// behind `words` words.
+/// The number of a statement that stands behind `words` words: the offset of its label, if it has
+/// one.
 fn resolved<'a>(
     definitions: &Definitions<'a>,
     words: u32,
     line: &'a [u8],
     statement: &Statement,
-) -> Result<Operands, Fault>
+) -> Result<Number, Fault>
     requires { fits (field_of statement.now.mnemonic) statement.now.operands.number ≡ true }
     ensures value { result
         ≡ resolved (found_in definitions.now) words line.now statement.now statement.now.operands.label }
-    ensures in_field { IfOk result (λ operands.
-        fits (field_of statement.now.mnemonic) operands.number ≡ true) }
+    ensures in_field { IfOk result (λ number. fits (field_of statement.now.mnemonic) number ≡ true) }
 {
     let Some(label) = statement.operands.label else {
-        return Ok(statement.operands);
+        return Ok(statement.operands.number);
     };
     let Some(target) = definition_in(definitions, text_of(line, label)) else {
         return Err(Fault {
@@ -236,10 +235,7 @@ fn resolved<'a>(
     };
     let number = offset_between(words, target.words);
     if statement.mnemonic.field().fits(number) {
-        Ok(Operands {
-            number,
-            ..statement.operands
-        })
+        Ok(number)
     } else {
         Err(Fault {
             rule: Rule::OutOfField,

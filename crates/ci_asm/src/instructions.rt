@@ -1,26 +1,20 @@
 //! From a statement to its instruction.
 ghost use Rattle.std.specs.Prelude.{◌≡◌, ◌*◌, ◌^◌, ◌<◌, true};
 ghost use Rattle.ci_asm.specs.private.Shapes.{fits, field_of};
-ghost use Rattle.ci_asm.specs.private.Statements.{insn_of};
+ghost use Rattle.ci_asm.specs.private.Statements.{signed_value, insn_of};
 
 use crate::mnemonics::Mnemonic;
 use crate::numbers::{Number, signed_value};
-use crate::statements::Operands;
+use crate::statements::Registers;
 use ci_isa::Insn;
 
-/// The instruction of a statement whose operands are all numbers.
-pub(crate) fn insn_of(mnemonic: Mnemonic, operands: Operands) -> Insn
-    requires { fits (field_of mnemonic) operands.number ≡ true }
-    ensures { result ≡ insn_of mnemonic operands }
+/// The instruction of a statement with these registers and this number.
+#[tactic(auto, using(crate::proofs::ReadOperands::magnitudes))]
+pub(crate) fn insn_of(mnemonic: Mnemonic, registers: Registers, number: Number) -> Insn
+    requires { fits (field_of mnemonic) number ≡ true }
+    ensures { result ≡ insn_of mnemonic registers (signed_value number) }
 {
-    let Operands {
-        rd,
-        rs1,
-        rs2,
-        rs3,
-        number,
-        label: _,
-    } = operands;
+    let Registers { rd, rs1, rs2, rs3 } = registers;
     match mnemonic {
         Mnemonic::RegisterRegister(op) => Insn::Alu { op, rd, rs1, rs2 },
         Mnemonic::RegisterImmediate(op) => Insn::AluImm {

@@ -1,7 +1,8 @@
 //! The labels of a text.
 ghost use Rattle.std.specs.Prelude.{◌≡◌, ℕ, List, OnOk, if◌then◌else◌, Some, None};
+ghost use Rattle.std.specs.Option.{option_or};
 ghost use Rattle.std.specs.Str.{bytes_eq};
-ghost use Rattle.ci_asm.specs.private.LabelMap.{found_in, earlier};
+ghost use Rattle.ci_asm.specs.private.LabelMap.{found_in};
 
 use std::alloc::AllocError;
 use std::collections::BTreeMap;
@@ -30,7 +31,7 @@ pub(crate) fn define<'a>(
     definition: Definition,
 ) -> Result<(), AllocError>
     ensures { OnOk result ((q : List ℕ) → found_in definitions.new q
-        ≡ earlier (found_in definitions.old q) (if bytes_eq name.now q then Some definition else None)) }
+        ≡ option_or (found_in definitions.old q) (if bytes_eq name.now q then Some definition else None)) }
 {
     if definitions.get(&name).is_none() {
         definitions.insert(name, definition)?;

@@ -1,6 +1,7 @@
 //! The shapes of statements.
 ghost use Rattle.std.specs.Prelude.{◌≡◌};
-ghost use Rattle.ci_asm.specs.private.Shapes.{lowest, highest, is_offset, fits, immediate_field, slots_of, field_of};
+ghost use Rattle.ci_asm.specs.Forms.{lowest, highest, is_offset};
+ghost use Rattle.ci_asm.specs.private.Shapes.{fits, immediate_field, slots_of, field_of};
 ghost use Rattle.ci_asm.specs.private.Statements.{ends_before};
 
 use crate::mnemonics::Mnemonic;
@@ -29,13 +30,19 @@ pub(crate) enum Field {
     Whole,
 }
 
-/// What is due at a place of a statement.
+/// The place of a register in an instruction.
 #[derive(Clone, Copy)]
-pub(crate) enum Slot {
+pub(crate) enum Place {
     Rd,
     Rs1,
     Rs2,
     Rs3,
+}
+
+/// What is due at a place of a statement.
+#[derive(Clone, Copy)]
+pub(crate) enum Slot {
+    Register(Place),
     /// A number of this field.
     Value(Field),
     Comma,
@@ -48,6 +55,21 @@ pub(crate) enum Slot {
     /// The number 1, of the second hidden result.
     Second,
 }
+
+// The slots that most rows of the table of statements have.
+const RD: Slot = Slot::Register(Place::Rd);
+
+const RS1: Slot = Slot::Register(Place::Rs1);
+
+const RS2: Slot = Slot::Register(Place::Rs2);
+
+const RS3: Slot = Slot::Register(Place::Rs3);
+
+const COMMA: Slot = Slot::Comma;
+
+const OPEN: Slot = Slot::Open;
+
+const CLOSE: Slot = Slot::Close;
 
 impl Slot {
     /// Whether the statement may end before the slot, and a token of this kind ends the line there.
@@ -144,83 +166,33 @@ impl Mnemonic {
         ensures { result.now ≡ slots_of self }
     {
         match self {
-            Mnemonic::RegisterRegister(_) => &[
-                Slot::Rd,
-                Slot::Comma,
-                Slot::Rs1,
-                Slot::Comma,
-                Slot::Rs2,
-            ],
+            Mnemonic::RegisterRegister(_) => &[RD, COMMA, RS1, COMMA, RS2],
             Mnemonic::RegisterImmediate(op) => match immediate_field(op) {
-                Field::Amount => &[
-                    Slot::Rd,
-                    Slot::Comma,
-                    Slot::Rs1,
-                    Slot::Comma,
-                    Slot::Value(Field::Amount),
-                ],
-                _ => &[
-                    Slot::Rd,
-                    Slot::Comma,
-                    Slot::Rs1,
-                    Slot::Comma,
-                    Slot::Value(Field::Immediate),
-                ],
+                Field::Amount => &[RD, COMMA, RS1, COMMA, Slot::Value(Field::Amount)],
+                _ => &[RD, COMMA, RS1, COMMA, Slot::Value(Field::Immediate)],
             },
-            Mnemonic::Lui | Mnemonic::Auipc => &[Slot::Rd, Slot::Comma, Slot::Value(Field::Upper)],
-            Mnemonic::Jal => &[Slot::Rd, Slot::Comma, Slot::Value(Field::JumpOffset)],
+            Mnemonic::Lui | Mnemonic::Auipc => &[RD, COMMA, Slot::Value(Field::Upper)],
+            Mnemonic::Jal => &[RD, COMMA, Slot::Value(Field::JumpOffset)],
             Mnemonic::Jalr | Mnemonic::Load(_) => {
-                &[
-                    Slot::Rd,
-                    Slot::Comma,
-                    Slot::Value(Field::Immediate),
-                    Slot::Open,
-                    Slot::Rs1,
-                    Slot::Close,
-                ]
+                &[RD, COMMA, Slot::Value(Field::Immediate), OPEN, RS1, CLOSE]
             }
-            Mnemonic::Store(_) => {
-                &[
-                    Slot::Rs2,
-                    Slot::Comma,
-                    Slot::Value(Field::Immediate),
-                    Slot::Open,
-                    Slot::Rs1,
-                    Slot::Close,
-                ]
-            }
-            Mnemonic::Branch(_) => {
-                &[
-                    Slot::Rs1,
-                    Slot::Comma,
-                    Slot::Rs2,
-                    Slot::Comma,
-                    Slot::Value(Field::BranchOffset),
-                ]
-            }
-            Mnemonic::Fence => {
-                &[
-                    Slot::Value(Field::FenceBits),
-                    Slot::Comma,
-                    Slot::Rs1,
-                    Slot::Comma,
-                    Slot::Rd,
-                ]
-            }
+            Mnemonic::Store(_) => &[RS2, COMMA, Slot::Value(Field::Immediate), OPEN, RS1, CLOSE],
+            Mnemonic::Branch(_) => &[RS1, COMMA, RS2, COMMA, Slot::Value(Field::BranchOffset)],
+            Mnemonic::Fence => &[Slot::Value(Field::FenceBits), COMMA, RS1, COMMA, RD],
             Mnemonic::Ecall | Mnemonic::Ebreak => &[],
             Mnemonic::Custom => &[
                 Slot::Value(Field::UnitNumber),
-                Slot::Comma,
-                Slot::Rd,
-                Slot::Comma,
-                Slot::Rs1,
-                Slot::Comma,
-                Slot::Rs2,
-                Slot::Comma,
-                Slot::Rs3,
+                COMMA,
+                RD,
+                COMMA,
+                RS1,
+                COMMA,
+                RS2,
+                COMMA,
+                RS3,
             ],
-            Mnemonic::Cput => &[Slot::Rs1, Slot::Comma, Slot::Rs2],
-            Mnemonic::Cread => &[Slot::Rd, Slot::Further, Slot::Second],
+            Mnemonic::Cput => &[RS1, COMMA, RS2],
+            Mnemonic::Cread => &[RD, Slot::Further, Slot::Second],
             Mnemonic::Data => &[Slot::Value(Field::Whole)],
         }
     }

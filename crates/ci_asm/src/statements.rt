@@ -1,23 +1,32 @@
 //! The statement of a line.
 ghost use Rattle.std.specs.Prelude.{◌≡◌, ◌≤◌, length, IfErr};
-ghost use Rattle.ci_asm.specs.private.Statements.{no_operands, not_due, register_in, mark_in, number_in, value_in, filled};
-ghost use Rattle.ci_asm.specs.private.Statements.{further_in, one_in, second_in, ended, read_slots, mnemonic_in, read_statement};
+ghost use Rattle.ci_asm.specs.private.Shapes.{fits, is_one};
+ghost use Rattle.ci_asm.specs.private.Tokens.{text_of};
+ghost use Rattle.ci_asm.specs.private.Statements.{no_operands, with_register, not_due, register_in, mark_in};
+ghost use Rattle.ci_asm.specs.private.Statements.{number_in, value_in, second_in, filled_in, ended, read_slots};
+ghost use Rattle.ci_asm.specs.private.Statements.{mnemonic_in, read_statement};
 
 use crate::faults::{Fault, Rule};
 use crate::mnemonics::{Mnemonic, mnemonic_of};
 use crate::numbers::{Number, number_of};
 use crate::registers::{register_of, zero};
 use crate::scanner::{Kind, Token, next_token, text_of};
-use crate::slots::{Field, Slot};
+use crate::slots::{Field, Place, Slot};
 use ci_isa::Reg;
 
-/// The operands of a statement. What the statement doesn't have is 0.
+/// The registers of a statement. What the statement doesn't have is x0.
 #[derive(Clone, Copy)]
-pub(crate) struct Operands {
+pub(crate) struct Registers {
     pub rd: Reg,
     pub rs1: Reg,
     pub rs2: Reg,
     pub rs3: Reg,
+}
+
+/// The operands of a statement. What the statement doesn't have is 0.
+#[derive(Clone, Copy)]
+pub(crate) struct Operands {
+    pub registers: Registers,
     pub number: Number,
     /// The label that stands for the number.
     pub label: Option<Token>,
@@ -30,16 +39,33 @@ pub(crate) struct Statement {
     pub operands: Operands,
 }
 
+impl Registers {
+    /// The registers with this one in the place.
+    fn with(mut self, place: Place, register: Reg) -> Registers
+        ensures { result ≡ with_register place register self }
+    {
+        match place {
+            Place::Rd => self.rd = register,
+            Place::Rs1 => self.rs1 = register,
+            Place::Rs2 => self.rs2 = register,
+            Place::Rs3 => self.rs3 = register,
+        }
+        self
+    }
+}
+
 impl Operands {
     /// No operands.
-    pub(crate) fn none() -> Operands
+    fn none() -> Operands
         ensures { result ≡ no_operands }
     {
         Operands {
-            rd: zero(),
-            rs1: zero(),
-            rs2: zero(),
-            rs3: zero(),
+            registers: Registers {
+                rd: zero(),
+                rs1: zero(),
+                rs2: zero(),
+                rs3: zero(),
+            },
             number: Number {
                 negative: false,
                 magnitude: 0,
@@ -49,39 +75,39 @@ impl Operands {
     }
 }
 
-/// The rule that a token breaks where another is due.
-fn not_due(kind: Kind) -> Rule
-    ensures { result ≡ not_due kind }
+/// The rule that a token of the kind breaks where another is due.
+fn not_due(rule: Rule, kind: Kind) -> Rule
+    ensures { result ≡ not_due rule kind }
 {
     match kind {
         Kind::Bad => Rule::NoToken,
-        _ => Rule::NoOperand,
+        _ => rule,
     }
 }
 
 /// The register that the token names.
-fn register_in(line: &[u8], token: Token) -> Result<Reg, Rule>
-    ensures { result ≡ register_in line.now token token.kind }
+fn register_in(text: &[u8], kind: Kind) -> Result<Reg, Rule>
+    ensures { result ≡ register_in text.now kind }
 {
-    match token.kind {
-        Kind::Name => register_of(text_of(line, token)).ok_or(Rule::NoOperand),
-        kind => Err(not_due(kind)),
+    match kind {
+        Kind::Name => register_of(text).ok_or(Rule::NoOperand),
+        kind => Err(not_due(Rule::NoOperand, kind)),
     }
 }
 
-/// The operands, if the token is the mark that is due.
-fn mark_in(due: u8, operands: Operands, token: Token) -> Result<Operands, Rule>
-    ensures { result ≡ mark_in due operands token.kind }
+/// The operands, if the token is the mark that is due. The rule is broken by another token.
+fn mark_in(due: u8, rule: Rule, operands: Operands, kind: Kind) -> Result<Operands, Rule>
+    ensures { result ≡ mark_in due rule operands kind }
 {
-    match token.kind {
+    match kind {
         Kind::Mark(mark) if mark == due => Ok(operands),
-        kind => Err(not_due(kind)),
+        kind => Err(not_due(rule, kind)),
     }
 }
 
 /// The operands with the number, if there is one and it lies in the field.
 fn number_in(field: Field, number: Option<Number>, operands: Operands) -> Result<Operands, Rule>
-    ensures { result ≡ number_in field number operands }
+    ensures { result ≡ number_in (fits field) number operands }
 {
     match number {
         Some(number) if field.fits(number) => Ok(Operands { number, ..operands }),
@@ -91,7 +117,7 @@ fn number_in(field: Field, number: Option<Number>, operands: Operands) -> Result
 
 /// The operands with the token as the field's number.
 fn value_in(line: &[u8], token: Token, field: Field, operands: Operands) -> Result<Operands, Rule>
-    ensures { result ≡ value_in line.now token field operands token.kind }
+    ensures { result ≡ value_in (text_of line.now token) token field operands token.kind }
 {
     match token.kind {
         Kind::Numeral => number_in(field, number_of(text_of(line, token)), operands),
@@ -99,24 +125,13 @@ fn value_in(line: &[u8], token: Token, field: Field, operands: Operands) -> Resu
             label: Some(token),
             ..operands
         }),
-        kind => Err(not_due(kind)),
-    }
-}
-
-/// The operands, if the token is the comma behind which the statement goes on.
-fn further_in(operands: Operands, token: Token) -> Result<Operands, Rule>
-    ensures { result ≡ further_in operands token.kind }
-{
-    match token.kind {
-        Kind::Mark(b',') => Ok(operands),
-        Kind::Bad => Err(Rule::NoToken),
-        _ => Err(Rule::Surplus),
+        kind => Err(not_due(Rule::NoOperand, kind)),
     }
 }
 
 /// The operands with the number, if there is one and it is 1.
 fn one_in(number: Option<Number>, operands: Operands) -> Result<Operands, Rule>
-    ensures { result ≡ one_in number operands }
+    ensures { result ≡ number_in is_one number operands }
 {
     match number {
         Some(number) if number.is_one() => Ok(Operands { number, ..operands }),
@@ -125,43 +140,34 @@ fn one_in(number: Option<Number>, operands: Operands) -> Result<Operands, Rule>
 }
 
 /// The operands with the token as the number 1, of the second hidden result.
-fn second_in(line: &[u8], token: Token, operands: Operands) -> Result<Operands, Rule>
-    ensures { result ≡ second_in line.now token operands token.kind }
+fn second_in(text: &[u8], operands: Operands, kind: Kind) -> Result<Operands, Rule>
+    ensures { result ≡ second_in text.now operands kind }
 {
-    match token.kind {
-        Kind::Numeral => one_in(number_of(text_of(line, token)), operands),
-        kind => Err(not_due(kind)),
+    match kind {
+        Kind::Numeral => one_in(number_of(text), operands),
+        kind => Err(not_due(Rule::NoOperand, kind)),
     }
 }
 
 /// The operands with the token in the slot's place.
 #[tactic(auto, unfolding(crate::specs::private::Statements::filled))]
-fn filled(line: &[u8], slot: Slot, token: Token, operands: Operands) -> Result<Operands, Rule>
-    ensures { result ≡ filled line.now slot token operands }
+fn filled_in(line: &[u8], slot: Slot, token: Token, operands: Operands) -> Result<Operands, Rule>
+    ensures { result ≡ filled_in line.now slot token operands }
 {
     match slot {
-        Slot::Rd => {
-            let rd = register_in(line, token)?;
-            Ok(Operands { rd, ..operands })
-        }
-        Slot::Rs1 => {
-            let rs1 = register_in(line, token)?;
-            Ok(Operands { rs1, ..operands })
-        }
-        Slot::Rs2 => {
-            let rs2 = register_in(line, token)?;
-            Ok(Operands { rs2, ..operands })
-        }
-        Slot::Rs3 => {
-            let rs3 = register_in(line, token)?;
-            Ok(Operands { rs3, ..operands })
+        Slot::Register(place) => {
+            let register = register_in(text_of(line, token), token.kind)?;
+            Ok(Operands {
+                registers: operands.registers.with(place, register),
+                ..operands
+            })
         }
         Slot::Value(field) => value_in(line, token, field, operands),
-        Slot::Comma => mark_in(b',', operands, token),
-        Slot::Open => mark_in(b'(', operands, token),
-        Slot::Close => mark_in(b')', operands, token),
-        Slot::Further => further_in(operands, token),
-        Slot::Second => second_in(line, token, operands),
+        Slot::Comma => mark_in(b',', Rule::NoOperand, operands, token.kind),
+        Slot::Open => mark_in(b'(', Rule::NoOperand, operands, token.kind),
+        Slot::Close => mark_in(b')', Rule::NoOperand, operands, token.kind),
+        Slot::Further => mark_in(b',', Rule::Surplus, operands, token.kind),
+        Slot::Second => second_in(text_of(line, token), operands, token.kind),
     }
 }
 
@@ -172,8 +178,7 @@ fn ended(operands: Operands, token: Token) -> Result<Operands, Fault>
 {
     let rule = match token.kind {
         Kind::End => return Ok(operands),
-        Kind::Bad => Rule::NoToken,
-        _ => Rule::Surplus,
+        kind => not_due(Rule::Surplus, kind),
     };
     Err(Fault {
         rule,
@@ -199,7 +204,7 @@ fn read_slots(
         if slot.ends_before(token.kind) {
             return Ok(read);
         }
-        match filled(line, *slot, token, read) {
+        match filled_in(line, *slot, token, read) {
             Ok(more) => read = more,
             Err(rule) => {
                 return Err(Fault {
@@ -214,13 +219,12 @@ fn read_slots(
 }
 
 /// The mnemonic that the token is.
-fn mnemonic_in(line: &[u8], token: Token) -> Result<Mnemonic, Rule>
-    ensures { result ≡ mnemonic_in line.now token token.kind }
+fn mnemonic_in(text: &[u8], kind: Kind) -> Result<Mnemonic, Rule>
+    ensures { result ≡ mnemonic_in text.now kind }
 {
-    match token.kind {
-        Kind::Name | Kind::Directive => mnemonic_of(text_of(line, token)).ok_or(Rule::NoMnemonic),
-        Kind::Bad => Err(Rule::NoToken),
-        _ => Err(Rule::NoMnemonic),
+    match kind {
+        Kind::Name | Kind::Directive => mnemonic_of(text).ok_or(Rule::NoMnemonic),
+        kind => Err(not_due(Rule::NoMnemonic, kind)),
     }
 }
 
@@ -233,7 +237,7 @@ pub(crate) fn read_statement(line: &[u8], token: Token, full: bool) -> Result<St
     ensures bound { IfErr result (λ fault. fault.place ≤ length line.now) }
 {
     let place = token.start;
-    let mnemonic = match mnemonic_in(line, token) {
+    let mnemonic = match mnemonic_in(text_of(line, token), token.kind) {
         Ok(mnemonic) => mnemonic,
         Err(rule) => return Err(Fault { rule, place }),
     };

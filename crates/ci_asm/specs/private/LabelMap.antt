@@ -1,6 +1,6 @@
 -- For private contracts: what a map of labels answers. The public definition of labels is in Assembly. What a map of
 -- labels says of each label.
-use Rattle.std.specs.Prelude.{ℕ, List, Option, Some, None}
+use Rattle.std.specs.Prelude.{ℕ, List, Option}
 use Rattle.std.specs.BTreeMap.{BTreeMap, get_by}
 use Rattle.std.specs.Ordering.{nat_cmp}
 use Rattle.std.specs.Cmp.Lexicographic.{slice_cmp}
@@ -9,8 +9,3 @@ use Rattle.ci_asm.specs.declared.labels.Definition.{Definition}
 
 abbrev pub found_in : BTreeMap (Bor (List ℕ)) Definition → List ℕ → Option Definition
 found_in m name = get_by (λ k. slice_cmp nat_cmp name k.now) m
-
--- the first of two, if there is one
-abbrev pub earlier : Option Definition → Option Definition → Option Definition
-earlier (Some d) other = Some d
-earlier None other = other

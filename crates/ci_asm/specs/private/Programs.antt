@@ -2,7 +2,7 @@
 -- Assembly. The words of a text, or its first fault.
 use Rattle.std.specs.Prelude.{◌≡◌, ℕ, ◌+◌, ◌-◌, ◌*◌, ◌==◌, Bool, true, false, take_while, if◌then◌else◌, List, [], ◌∷◌}
 use Rattle.std.specs.Prelude.{◌++◌, Option, Some, None, Result, Ok, Err, nat_lt, ⊤}
-use Rattle.std.specs.Option.{option_to_list}
+use Rattle.std.specs.Option.{option_to_list, option_or}
 use Rattle.std.specs.Str.{bytes_eq}
 use Rattle.ci_asm.specs.declared.faults.AsmFault.{AsmFault}
 use Rattle.ci_asm.specs.declared.faults.AsmFault.TheVariants.{Bad, NoMemory}
@@ -15,16 +15,14 @@ use Rattle.ci_asm.specs.declared.faults.Rule.TheVariants.{NoToken, NoMnemonic, N
 use Rattle.ci_asm.specs.declared.faults.Rule.TheVariants.{DefinedTwice, Surplus}
 use Rattle.ci_asm.specs.declared.faults.Fault.{Fault}
 use Rattle.ci_asm.specs.declared.labels.Definition.{Definition}
-use Rattle.ci_asm.specs.declared.statements.Operands.{Operands}
 use Rattle.ci_asm.specs.declared.statements.Statement.{Statement}
 use Rattle.ci_asm.specs.declared.lines.Line.{Line}
 use Rattle.ci_asm.specs.declared.scanner.ByteClass.TheVariants.{InLine}
 use Rattle.ci_asm.specs.Assembly.{most_words}
-use Rattle.ci_asm.specs.private.LabelMap.{earlier}
 use Rattle.ci_asm.specs.Lines.{lines_of}
 use Rattle.ci_asm.specs.private.Tokens.{belongs, text_of}
 use Rattle.ci_asm.specs.private.Shapes.{fits, field_of}
-use Rattle.ci_asm.specs.private.Statements.{◌>>=◌, read_line, insn_of}
+use Rattle.ci_asm.specs.private.Statements.{◌>>=◌, fault, read_line, signed_value, insn_of}
 
 -- ---- lines
 
@@ -38,13 +36,13 @@ first_line text = take_while (belongs InLine) text
 abbrev pub line_at : ℕ → List ℕ → Result Line Fault
 line_at words line = read_line line (words == most_words)
 
-abbrev pub option_words : Option Statement → ℕ
-option_words None = 0
-option_words (Some s) = 1
+abbrev pub option_length : {A : Type 0} → Option A → ℕ
+option_length None = 0
+option_length (Some x) = 1
 
 -- how many words the line gives
 abbrev pub words_in : Result Line Fault → ℕ
-words_in (Ok l) = option_words l.statement
+words_in (Ok l) = option_length l.statement
 words_in (Err f) = 0
 
 abbrev pub label_in : Result Line Fault → Option Token
@@ -79,7 +77,7 @@ on_line n (Err f) = Err (position n f)
 
 -- how many words stand behind line n, if it can be read and `words` words stand before it
 abbrev pub words_behind : ℕ → ℕ → List ℕ → Result ℕ Position
-words_behind n words line = on_line n (line_at words line) >>= λ l. Ok (words + option_words l.statement)
+words_behind n words line = on_line n (line_at words line) >>= λ l. Ok (words + option_length l.statement)
 
 -- the lines from line n on, which has `words` words before it, can all be read
 unfoldable pub all_read : ℕ → ℕ → List (List ℕ) → Result (Unit {0}) Position
@@ -101,7 +99,8 @@ definition_on name n words line =
 unfoldable pub definition_of : List ℕ → ℕ → ℕ → List (List ℕ) → Option Definition
 definition_of name n words [] = None
 definition_of name n words (line ∷ lines) =
-    earlier (definition_on name n words line) (definition_of name (n + 1) (words + words_in (line_at words line)) lines)
+    option_or (definition_on name n words line)
+    (definition_of name (n + 1) (words + words_in (line_at words line)) lines)
 
 -- what is known of each label
 abbrev pub Definitions : Type 0
@@ -109,7 +108,7 @@ Definitions = List ℕ → Option Definition
 
 abbrev pub once_at : ℕ → Token → Option Definition → Result (Unit {0}) Fault
 once_at n t None = Ok tt
-once_at n t (Some d) = if d.line == n then Ok tt else Err (record { rule = DefinedTwice; place = t.start })
+once_at n t (Some d) = if d.line == n then Ok tt else Err (fault DefinedTwice t.start)
 
 -- the label on line n is defined on no earlier line
 abbrev pub defined_once : Definitions → ℕ → List ℕ → Option Token → Result (Unit {0}) Fault
@@ -124,22 +123,22 @@ offset_between from to =
     if nat_lt to from then record { negative = true; magnitude = 4 * (from - to) } else record
     { negative = false; magnitude = 4 * (to - from) }
 
-abbrev pub reaching : ℕ → Statement → Token → Option Definition → Result Operands Fault
-reaching words s t None = Err (record { rule = Undefined; place = t.start })
+abbrev pub reaching : ℕ → Statement → Token → Option Definition → Result Number Fault
+reaching words s t None = Err (fault Undefined t.start)
 reaching words s t (Some d) =
-    if fits (field_of s.mnemonic) (offset_between words d.words) then Ok
-    (record s.operands { number = offset_between words d.words })
-    else Err (record { rule = OutOfField; place = t.start })
+    if fits (field_of s.mnemonic) (offset_between words d.words) then Ok (offset_between words d.words)
+    else Err (fault OutOfField t.start)
 
--- the statement's operands with the label's offset as the number
-abbrev pub resolved : Definitions → ℕ → List ℕ → Statement → Option Token → Result Operands Fault
-resolved definitions words line s None = Ok s.operands
+-- the statement's number: the offset of its label, if it has one
+abbrev pub resolved : Definitions → ℕ → List ℕ → Statement → Option Token → Result Number Fault
+resolved definitions words line s None = Ok s.operands.number
 resolved definitions words line s (Some t) = reaching words s t (definitions (text_of line t))
 
 abbrev pub statement_insn : Definitions → ℕ → List ℕ → Option Statement → Result (Option Insn) Fault
 statement_insn definitions words line None = Ok None
 statement_insn definitions words line (Some s) =
-    resolved definitions words line s s.operands.label >>= λ o. Ok (Some (insn_of s.mnemonic o))
+    resolved definitions words line s s.operands.label >>= λ n.
+    Ok (Some (insn_of s.mnemonic s.operands.registers (signed_value n)))
 
 -- the instruction of line n, if it has one
 unfoldable pub line_insn : Definitions → ℕ → ℕ → List ℕ → Result (Option Insn) Fault
@@ -147,10 +146,6 @@ line_insn definitions n words line =
     line_at words line >>= λ l.
     defined_once definitions n line l.label >>= λ _.
     statement_insn definitions words line l.statement
-
-abbrev pub option_length : Option Insn → ℕ
-option_length None = 0
-option_length (Some i) = 1
 
 -- the instructions of the lines from line n on
 unfoldable pub insns_of : Definitions → ℕ → ℕ → List (List ℕ) → Result (List Insn) Position

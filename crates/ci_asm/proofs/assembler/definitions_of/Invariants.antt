@@ -1,5 +1,6 @@
 use Rattle.std.proofs.Common.{◌≡◌, ℕ, ◌+◌, ◌-◌, ◌≤◌, List, drop, length}
-use Rattle.ci_asm.specs.private.LabelMap.{found_in, earlier}
+use Rattle.std.specs.Option.{option_or}
+use Rattle.ci_asm.specs.private.LabelMap.{found_in}
 use Rattle.ci_asm.specs.private.Programs.{all_read, definition_of}
 use Rattle.ci_asm.specs.Lines.{lines_of}
 use Rattle.ci_asm.proofs.assembler.definitions_of.Given as goal
@@ -8,7 +9,7 @@ use Rattle.ci_asm.proofs.assembler.definitions_of.Given as goal
 abbrev pub invariant-loop-start : goal.invariant-loop-start
 invariant-loop-start l = record {
   read : all_read (l.number + 1) l.words (lines_of (drop l.start l.text)) ≡ all_read 1 0 (lines_of l.text);
-  definitions : (name : List ℕ) → earlier (found_in l.definitions name) (definition_of name (l.number + 1) l.words (lines_of (drop l.start l.text)))
+  definitions : (name : List ℕ) → option_or (found_in l.definitions name) (definition_of name (l.number + 1) l.words (lines_of (drop l.start l.text)))
       ≡ definition_of name 1 0 (lines_of l.text);
   number : l.number ≤ l.start;
   words : l.words ≤ l.number;
