@@ -1,26 +1,23 @@
 -- What is due at last: a rule that is broken at the last token, a token that doesn't fit, the end.
-use Rattle.std.proofs.Common.{◌≡◌, ℕ, ◌+◌, ◌<◌, ◌≤◌, inl, List, [], ◌∷◌, ◌++◌, append_assoc, Some, None, refl, sym, arith}
+use Rattle.std.proofs.Common.{◌≡◌, ℕ, ◌+◌, ◌<◌, ◌≤◌, inl, List, [], ◌∷◌, ◌++◌, append_assoc, Option, Some, None, sym, ◌∙◌, arith}
 use Rattle.std.proofs.Common.{subst}
 use Rattle.std.specs.List.{AllByRecursion, Contains}
 use Rattle.std.proofs.lemmas.List.Elements.{All-from_recursion, All-contains}
-use Rattle.ci_reading.specs.Tokens.{token, stray_byte, text_end, at}
+use Rattle.ci_reading.specs.Tokens.{text_end, at}
 use Rattle.ci_vread.specs.Lexicon.{Token, name, number, constant}
 use Rattle.ci_vread.specs.Grammar.{Placed, Role, its_module, its_high, its_name, its_target, its_use, its_index, its_low, its_count, its_constant, End}
-use Rattle.ci_vread.specs.Grammar.{of_simple, of_side, of_condition, of_branch, of_operand, Part, reads, made, Phrase, NeedsNext, Fits}
+use Rattle.ci_vread.specs.Grammar.{of_simple, of_side, of_condition, of_branch, of_operand, Part, reads, made, Phrase, NeedsNext}
 use Rattle.ci_vread.specs.Grammar.{Event, read, ended, Finish, whole, stops, Goes, all_read, by_parts, by_end, by_token, bad_token, bad_byte, no_token, no_next}
 use Rattle.ci_vread.specs.Rules.{Rule, Seen, behind, rules_of, rules_from, rules_at, IsFirst}
 use Rattle.ci_vread.specs.private.Led.{Leads, AscendFrom}
 use Rattle.ci_reading.proofs.BrokenLaws.{kept_append}
+use Rattle.ci_vread.proofs.Annotations.{goes_once}
 use Rattle.ci_vread.proofs.ReadSteps.{IsKept, AreKept}
 use Rattle.ci_vread.proofs.LeastRules.{first_stays, only_last}
 
 -- rules whose places are all at this one or behind it
 abbrev pub AllFrom : ℕ → List Rule → Type 0
 AllFrom n rules = AllByRecursion (λ r. n ≤ r.place) rules
-
-all_from_append : (n : ℕ) (xs ys : List Rule) → AllFrom n xs → AllFrom n ys → AllFrom n (xs ++ ys)
-all_from_append n [] ys one two = two
-all_from_append n (x ∷ xs) ys one two = (one.0, all_from_append n xs ys one.1 two)
 
 all_from_less : (m n : ℕ) (rules : List Rule) → m ≤ n → AllFrom n rules → AllFrom m rules
 all_from_less m n [] le all = tt
@@ -47,6 +44,14 @@ end_place s of_operand place = (omega arith, tt)
 end_place s of_branch place = (omega arith, tt)
 end_place s what place = tt
 
+-- one event more
+all_from_more : (n : ℕ) (s : Seen) (e : Event) (events : List Event) (finish : Finish) → AllFrom n (rules_of s e)
+    → AllFrom n (rules_from (behind s e) events ++ rules_at finish) → AllFrom n (rules_from s (e ∷ events) ++ rules_at finish)
+all_from_more n s e events finish one others =
+    let later = rules_from (behind s e) events in
+    subst (AllFrom n) (sym (append_assoc (rules_of s e) later (rules_at finish)))
+    (kept_append (λ r. n ≤ r.place) (rules_of s e) (later ++ rules_at finish) one others)
+
 pub ascend_less : (m n : ℕ) (symbols : List Placed) → m ≤ n → AscendFrom n symbols → AscendFrom m symbols
 ascend_less m n [] le up = tt
 ascend_less m n (x ∷ symbols) le up = (omega (arith, le, up.0), up.1)
@@ -57,53 +62,27 @@ pub rules_ascend : {last : ℕ} {due : List Part} {symbols : List Placed} {event
 rules_ascend n s all_read le up = tt
 rules_ascend n s (by_parts h goes) le up = rules_ascend n s goes le up
 rules_ascend {last} {events = e ∷ events} {finish} n s (by_end {what = w} goes) le up =
-    subst (AllFrom n) (sym (append_assoc (rules_of s (ended w last)) (rules_from (behind s (ended w last)) events) (rules_at finish)))
-    (all_from_append n (rules_of s (ended w last)) (rules_from (behind s (ended w last)) events ++ rules_at finish)
-    (all_from_less n last (rules_of s (ended w last)) le (end_place s w last)) (rules_ascend n (behind s (ended w last)) goes le up))
+    all_from_more n s (ended w last) events finish (all_from_less n last (rules_of s (ended w last)) le (end_place s w last))
+    (rules_ascend n (behind s (ended w last)) goes le up)
 rules_ascend {last} {finish = finish} n s (by_token {place = p} {role = role} {t = t} {events = events} fit goes) le up =
-    subst (AllFrom n) (sym (append_assoc (rules_of s (read role t p)) (rules_from (behind s (read role t p)) events) (rules_at finish)))
-    (all_from_append n (rules_of s (read role t p)) (rules_from (behind s (read role t p)) events ++ rules_at finish)
-    (all_from_less n p (rules_of s (read role t p)) (omega (arith, le, up.0)) (read_place s role t p))
-    (rules_ascend n (behind s (read role t p)) goes (omega (arith, le, up.0)) (ascend_less p (p + 1) _ (omega arith) up.1)))
+    all_from_more n s (read role t p) events finish (all_from_less n p (rules_of s (read role t p)) (omega (arith, le, up.0)) (read_place s role t p))
+    (rules_ascend n (behind s (read role t p)) goes (omega (arith, le, up.0)) (ascend_less p (p + 1) _ (omega arith) up.1))
 rules_ascend n s (bad_token misfit) le up = (omega (arith, le, up.0), tt)
 rules_ascend n s bad_byte le up = (omega (arith, le, up.0), tt)
 rules_ascend n s no_token le up = (omega (arith, le, up.0), tt)
 rules_ascend n s (no_next need) le up = (omega (arith, le, up.0), tt)
 
-module _ {rules : List Rule} {last : ℕ} {due : List Part} {seen : Seen} where
-  pub misfit : {role : Role} {t : Token} {place : ℕ} {symbols : List Placed} → ¬ Fits role t
-      → Leads rules (at place (token t) ∷ symbols) last (reads role ∷ due) None seen → IsFirst rules 2 place
-  misfit {role} {t} {place} {symbols} unfit l = by l.events l.finish l.goes l.rules_are
-    where
-      by : (events : List Event) (finish : Finish) → Goes last (reads role ∷ due) (at place (token t) ∷ symbols) events finish
-          → rules ≡ l.before ++ (rules_from seen events ++ rules_at finish) → IsFirst rules 2 place
-      by _ _ (by_token fit goes) are = absurd (unfit fit)
-      by _ _ (bad_token h) are = only_last 2 place l.before l.least are
+-- The rest goes on in one way.
+as_it_goes : {rules : List Rule} {symbols : List Placed} {last : ℕ} {due : List Part} {broken : Option ℕ} {seen : Seen} {events : List Event}
+    {finish : Finish} (l : Leads rules symbols last due broken seen) → Goes last due symbols events finish
+    → rules ≡ l.before ++ (rules_from seen events ++ rules_at finish)
+as_it_goes {seen = seen} l goes =
+    let o = goes_once l.goes goes in l.rules_are ∙ (λ i. l.before ++ (rules_from seen (o.events_are i) ++ rules_at (o.finish_is i)))
 
-  pub stray : {role : Role} {place : ℕ} {symbols : List Placed}
-      → Leads rules (at place stray_byte ∷ symbols) last (reads role ∷ due) None seen → IsFirst rules 1 place
-  stray {role} {place} {symbols} l = by l.events l.finish l.goes l.rules_are
-    where
-      by : (events : List Event) (finish : Finish) → Goes last (reads role ∷ due) (at place stray_byte ∷ symbols) events finish
-          → rules ≡ l.before ++ (rules_from seen events ++ rules_at finish) → IsFirst rules 1 place
-      by _ _ bad_byte are = only_last 1 place l.before l.least are
-
-  pub ended_early : {role : Role} {place : ℕ} {symbols : List Placed}
-      → Leads rules (at place text_end ∷ symbols) last (reads role ∷ due) None seen → IsFirst rules 2 place
-  ended_early {role} {place} {symbols} l = by l.events l.finish l.goes l.rules_are
-    where
-      by : (events : List Event) (finish : Finish) → Goes last (reads role ∷ due) (at place text_end ∷ symbols) events finish
-          → rules ≡ l.before ++ (rules_from seen events ++ rules_at finish) → IsFirst rules 2 place
-      by _ _ no_token are = only_last 2 place l.before l.least are
-
-  pub missing : {p : Phrase} {place : ℕ} {symbols : List Placed} → NeedsNext p
-      → Leads rules (at place text_end ∷ symbols) last (made p ∷ due) None seen → IsFirst rules 2 place
-  missing {p} {place} {symbols} need l = by l.events l.finish l.goes l.rules_are
-    where
-      by : (events : List Event) (finish : Finish) → Goes last (made p ∷ due) (at place text_end ∷ symbols) events finish
-          → rules ≡ l.before ++ (rules_from seen events ++ rules_at finish) → IsFirst rules 2 place
-      by _ _ (by_parts h goes) are = absurd (h refl need)
-      by _ _ (no_next h) are = only_last 2 place l.before l.least are
+-- where it stops at once, the fault is there
+pub stopped : {rules : List Rule} {symbols : List Placed} {last : ℕ} {due : List Part} {seen : Seen} {kind place : ℕ}
+    → Goes last due symbols [] (stops kind place) → Leads rules symbols last due None seen → IsFirst rules kind place
+stopped {kind = kind} {place = place} goes l = only_last kind place l.before l.least (as_it_goes l goes)
 
 -- all rules are kept where nothing is due at the end
 pub all_kept : {rules : List Rule} {last : ℕ} {symbols : List Placed} {seen : Seen} → Leads rules symbols last [] None seen → AreKept rules
@@ -121,10 +100,8 @@ none_left (by_end goes) = none_left goes
 behind_role : {last : ℕ} {role : Role} {due : List Part} {symbols : List Placed} {events : List Event} {finish : Finish} (n : ℕ) (s : Seen)
     → Goes last (reads role ∷ due) symbols events finish → AscendFrom n symbols → AllFrom n (rules_from s events ++ rules_at finish)
 behind_role {finish = finish} n s (by_token {place = p} {role = role} {t = t} {events = events} fit goes) up =
-    subst (AllFrom n) (sym (append_assoc (rules_of s (read role t p)) (rules_from (behind s (read role t p)) events) (rules_at finish)))
-    (all_from_append n (rules_of s (read role t p)) (rules_from (behind s (read role t p)) events ++ rules_at finish)
-    (all_from_less n p (rules_of s (read role t p)) up.0 (read_place s role t p))
-    (rules_ascend n (behind s (read role t p)) goes up.0 (ascend_less p (p + 1) _ (omega arith) up.1)))
+    all_from_more n s (read role t p) events finish (all_from_less n p (rules_of s (read role t p)) up.0 (read_place s role t p))
+    (rules_ascend n (behind s (read role t p)) goes up.0 (ascend_less p (p + 1) _ (omega arith) up.1))
 behind_role n s (bad_token unfit) up = (up.0, tt)
 behind_role n s bad_byte up = (up.0, tt)
 behind_role n s no_token up = (up.0, tt)
@@ -156,9 +133,5 @@ module _ {rules : List Rule} {last k : ℕ} {seen : Seen} where
 
   pub pending_missing : {p : Phrase} {due : List Part} (place : ℕ) (symbols : List Placed) → NeedsNext p → AscendFrom (last + 1) (at place text_end ∷ symbols)
       → Leads rules (at place text_end ∷ symbols) last (made p ∷ due) (Some k) seen → IsFirst rules k last
-  pending_missing {p} {due} place symbols need up l = by l.events l.finish l.goes l.rules_are
-    where
-      by : (events : List Event) (finish : Finish) → Goes last (made p ∷ due) (at place text_end ∷ symbols) events finish
-          → rules ≡ l.before ++ (rules_from seen events ++ rules_at finish) → IsFirst rules k last
-      by _ _ (by_parts h goes) are = absurd (h refl need)
-      by _ _ (no_next h) are = pending {n = last + 1} seen (omega arith) [] (stops 2 place) l.before l.least (up.0, tt) are
+  pending_missing place symbols need up l =
+      pending {n = last + 1} seen (omega arith) [] (stops 2 place) l.before l.least (up.0, tt) (as_it_goes l (no_next need))

@@ -1,24 +1,21 @@
 -- The steps of the checker, by what its state stands for.
 use Rattle.std.proofs.Common.{◌≡◌, ℕ, ◌+◌, ◌⊎◌, inl, inr, List, [], ◌∷◌, ◌++◌, length, map, Option, Some, None, true, false, refl, ap, sym, ◌∙◌, subst, arith}
 use Rattle.std.proofs.lemmas.List.{reverse-append}
-use Rattle.ci_reading.specs.Tokens.{token, text_end, at}
+use Rattle.ci_reading.specs.Tokens.{token, stray_byte, text_end, at}
 use Rattle.ci_vread.specs.declared.grammar.Part.{Part as PartValue}
 use Rattle.ci_vread.specs.declared.grammar.Phrase.{Phrase as PhraseValue}
 use Rattle.ci_vread.specs.declared.grammar.Phrase.TheVariants as phrase
-use Rattle.ci_vread.specs.declared.tokens.Kind.{Kind}
-use Rattle.ci_vread.specs.declared.tokens.Kind.TheVariants as kind
 use Rattle.ci_vread.specs.declared.seen.Seen.{Seen as SeenValue}
 use Rattle.ci_vread.specs.declared.checking.Checker.{Checker}
-use Rattle.ci_vread.specs.Grammar.{Placed, Part, Role, End, NeedsNext, of_bits, of_others, Symbol, Fits, reads, made, read, ended}
-use Rattle.ci_vread.specs.Lexicon.{Token, sign, operator, name, number, constant, cycles, never}
+use Rattle.ci_vread.specs.Grammar.{Placed, Part, Role, Event, NeedsNext, of_bits, of_others, Symbol, Fits, reads, made, bad_token, no_token, no_next}
+use Rattle.ci_vread.specs.Lexicon.{Token}
 use Rattle.ci_vread.specs.Rules.{Rule, Seen, behind, rules_of, IsFirst}
-use Rattle.ci_vread.specs.private.Scanned.{symbol_by, width_in, value_in, word_in, cycles_in}
 use Rattle.ci_vread.specs.private.Tables.{part_of, phrase_of, due_of, needs_next}
-use Rattle.ci_vread.specs.private.Checked.{Shows, IsLeast, EndsOn, ReadsOn}
+use Rattle.ci_vread.specs.private.Checked.{Shows, IsLeast, StepsOn}
 use Rattle.ci_vread.specs.private.Led.{Leads, LeadsWith, IsAt, IsDue, IsFresh, IsBehind, AscendFrom}
 use Rattle.ci_vread.specs.declared.checking.Due.{Due}
 use Rattle.ci_vread.specs.declared.checking.Due.TheVariants as due
-use Rattle.ci_vread.proofs.CheckerAnswers.{misfit, ended_early, pending_role, pending_end, pending_missing, missing}
+use Rattle.ci_vread.proofs.CheckerAnswers.{stopped, pending_role, pending_end, pending_missing}
 
 pub needs : (p : PhraseValue) → needs_next p ≡ true → NeedsNext (phrase_of p)
 needs phrase.Bits e = of_bits
@@ -29,10 +26,6 @@ pub needs_not : (p : PhraseValue) → needs_next p ≡ false → ¬ NeedsNext (p
 needs_not phrase.Bits e = absurd (cc)
 needs_not phrase.Others e = absurd (cc)
 needs_not p e = λ n. elim n [ ]
-
-pub is_end : (k : Kind) (bytes : List ℕ) → symbol_by k bytes ≡ text_end → k ≡ kind.End
-is_end kind.End bytes e = refl
-is_end k bytes e = absurd (cc)
 
 pub due_popped : (xs ys : List PartValue) (p : PartValue) → xs ≡ ys ++ p ∷ [] → due_of xs ≡ part_of p ∷ due_of ys
 due_popped xs ys p e = ap (λ (l : List PartValue). due_of l) e ∙ ap (λ (l : List PartValue). map part_of l) (reverse-append ys (p ∷ []))
@@ -52,31 +45,18 @@ popped rules symbols c ys p q e is there = (
       (due_popped c.due.items ys p e ∙ ap (λ (r : PartValue). part_of r ∷ due_of ys) is) there.2,
 )
 
-pub ends_on : (old new : SeenValue) (broken : Option ℕ) (what : End) → EndsOn old new broken what → (s : Seen) (place : ℕ) → Shows old s
-    → Shows new (behind s (ended what place)) × IsLeast broken place (rules_of s (ended what place))
-ends_on old new broken what on s place shows =
-    subst (λ (v : Seen). Shows new (behind v (ended what place)) × IsLeast broken place (rules_of v (ended what place)))
-    shows.1 (on s.known place shows.0)
-
-pub reads_on : (old new : SeenValue) (broken : Option ℕ) (role : Role) (t : Token) → ReadsOn old new broken role t → (s : Seen) (place : ℕ)
-    → Shows old s → Shows new (behind s (read role t place)) × IsLeast broken place (rules_of s (read role t place))
-reads_on old new broken role t on s place shows =
-    subst (λ (v : Seen). Shows new (behind v (read role t place)) × IsLeast broken place (rules_of v (read role t place)))
-    shows.1 (on s.known place shows.0)
+pub steps_on : (old new : SeenValue) (broken : Option ℕ) (event : ℕ → Event) → StepsOn old new broken event → (s : Seen) (place : ℕ) → Shows old s
+    → Shows new (behind s (event place)) × IsLeast broken place (rules_of s (event place))
+steps_on old new broken event on s place shows =
+    subst (λ (v : Seen). Shows new (behind v (event place)) × IsLeast broken place (rules_of v (event place))) shows.1 (on s.known place shows.0)
 
 -- a token in a role that it can't have, or the text's end
-pub refused : {rules : List Rule} {last : ℕ} {due : List Part} {seen : Seen} {symbols : List Placed} {r : Role} {place : ℕ} (k : Kind) (bytes : List ℕ)
-    → ¬ (k ≡ kind.Stray) → ((t : Token) → symbol_by k bytes ≡ token t → ¬ Fits r t)
-    → Leads rules (at place (symbol_by k bytes) ∷ symbols) last (reads r ∷ due) None seen → IsFirst rules 2 place
-refused kind.Stray bytes other unfit l = absurd (other refl)
-refused kind.End bytes other unfit l = ended_early l
-refused (kind.Sign s) bytes other unfit l = misfit (unfit (sign s) refl) l
-refused (kind.Operator o) bytes other unfit l = misfit (unfit (operator o) refl) l
-refused kind.Name bytes other unfit l = misfit (unfit (name bytes) refl) l
-refused kind.Number bytes other unfit l = misfit (unfit (number (word_in bytes)) refl) l
-refused kind.Constant bytes other unfit l = misfit (unfit (constant (width_in bytes) (value_in bytes)) refl) l
-refused kind.Cycles bytes other unfit l = misfit (unfit (cycles (cycles_in bytes)) refl) l
-refused kind.Never bytes other unfit l = misfit (unfit never refl) l
+pub refused : {rules : List Rule} {last : ℕ} {due : List Part} {seen : Seen} {symbols : List Placed} {r : Role} {place : ℕ} (x : Symbol)
+    → ¬ (x ≡ stray_byte) → ((t : Token) → x ≡ token t → ¬ Fits r t)
+    → Leads rules (at place x ∷ symbols) last (reads r ∷ due) None seen → IsFirst rules 2 place
+refused stray_byte other unfit l = absurd (other refl)
+refused text_end other unfit l = stopped no_token l
+refused (token t) other unfit l = stopped (bad_token (unfit t refl)) l
 
 pub with_kept : (rules : List Rule) (symbols : List Placed) (parts : List Part) (c : Checker) → c.broken ≡ None → LeadsWith rules symbols parts c
     → (seen : Seen) × Shows c.seen seen × Leads rules symbols c.last (parts ++ due_of c.due.items) None seen
@@ -108,5 +88,5 @@ pended rules symbols x place k old new d broken same fresh back is_due = by d (u
 pub missed : (rules : List Rule) (symbols : List Placed) (x : Symbol) (place : ℕ) (c : Checker) → c.broken ≡ None
     → IsDue rules (at place x ∷ symbols) x due.Missing c → IsFirst rules 2 place
 missed rules symbols x place c kept l =
-    missing l.3 (subst (λ (y : Symbol). Leads rules (at place y ∷ symbols) c.last (made l.2 ∷ l.1) None l.0) l.4
+    stopped (no_next l.3) (subst (λ (y : Symbol). Leads rules (at place y ∷ symbols) c.last (made l.2 ∷ l.1) None l.0) l.4
     (subst (λ (b : Option ℕ). Leads rules (at place x ∷ symbols) c.last (made l.2 ∷ l.1) b l.0) kept l.5))

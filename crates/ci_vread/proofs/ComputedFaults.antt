@@ -1,7 +1,8 @@
 -- The first fault of a text, computed, for rows.
-use Rattle.std.proofs.Common.{◌≡◌, subst, refl, ℕ, zero, suc, inl, inr, List, [], ◌∷◌, ◌++◌, Option, Some, None}
+use Rattle.std.proofs.Common.{◌≡◌, subst, refl, ℕ, zero, suc, inl, inr, List, [], ◌∷◌, ◌++◌, map, Option, Some, None}
 use Rattle.std.specs.Prelude.{option_map}
 use Rattle.std.specs.Fmt.{digits}
+use Rattle.std.specs.List.{AllByRecursion}
 use Rattle.ci_reading.specs.Tokens.{token, stray_byte, text_end, at}
 use Rattle.ci_reading.specs.Lexers.{symbols_of, symbols_behind}
 use Rattle.ci_vread.specs.Lexicon.{Token}
@@ -11,7 +12,7 @@ use Rattle.ci_vread.proofs.FirstFaults.{first, IsFound, first_is}
 use Rattle.ci_vread.proofs.LongestTokens.{are_symbols}
 use Rattle.ci_vread.specs.Rules.{HasFault, KeepsRules, AreRules, Rule, nothing, rules_from, rules_at}
 use Rattle.ci_vread.specs.private.Scanning.{unit_lexer, scan, number_at, cycles_at, mark_at}
-use Rattle.ci_vread.proofs.TokenDecisions.{Decided, fits_or_not, token_decided, sign_decided, operator_decided, number_decided, name_decided, carried}
+use Rattle.ci_vread.proofs.TokenDecisions.{Decided, fits_or_not, token_decided, enum_decided, number_decided, name_decided, carried}
 use Rattle.ci_vread.proofs.Annotations.{HasRun, needs_or_not}
 
 -- ---- one step of the annotation, before the rest of it
@@ -31,7 +32,7 @@ fit_here last place role due t rest (inr misfit) again = Some (record { events =
 unfoldable token_here :
     (last place : ℕ) (role : Role) (due : List Part) (x : Symbol) (rest : List Placed) → Option (HasRun place due rest)
     → Option (HasRun last (reads role ∷ due) (at place x ∷ rest))
-unfolding fits_or_not token_decided sign_decided operator_decided number_decided name_decided carried
+unfolding fits_or_not token_decided enum_decided number_decided name_decided carried
 token_here last place role due (token t) rest again = fit_here last place role due t rest (fits_or_not role t) again
 token_here last place role due stray_byte rest again = Some (record { events = []; finish = stops 1 place; goes = bad_byte })
 token_here last place role due text_end rest again = Some (record { events = []; finish = stops 2 place; goes = no_token })
@@ -109,8 +110,26 @@ says text found e = by (run 1000 0 (made units ∷ []) (symbols_of unit_lexer te
         let same : first rules ≡ found = cc in
         subst (Says text) same (told rules (rules_of_text o) (first rules) (first_is rules))
 
-pub has_fault : {text : List ℕ} {kind place : ℕ} → fault_in text ≡ Some (Some (kind, place)) → HasFault text kind place
-has_fault {text} {kind} {place} e = says text (Some (kind, place)) e
+-- ---- rows
 
-pub keeps_rules : {text : List ℕ} → fault_in text ≡ Some None → KeepsRules text
-keeps_rules {text} e = says text None e
+-- a text that keeps all rules, and one whose first fault is of this kind at this place
+abbrev pub good : List ℕ → List ℕ × Option (ℕ × ℕ)
+good text = (text, None)
+
+abbrev pub bad : List ℕ → ℕ → ℕ → List ℕ × Option (ℕ × ℕ)
+bad text kind place = (text, Some (kind, place))
+
+-- the definitions say so of each text
+pub record AllSay (rows : List (List ℕ × Option (ℕ × ℕ))) : Type 0 where
+  pub each : AllByRecursion (λ row. Says row.0 row.1) rows
+
+pub all_say : {rows : List (List ℕ × Option (ℕ × ℕ))} → map (λ row. fault_in row.0) rows ≡ map (λ row. Some row.1) rows → AllSay rows
+all_say {rows} computed = record { each = by rows computed }
+  where
+    by : (rows : List (List ℕ × Option (ℕ × ℕ))) → map (λ row. fault_in row.0) rows ≡ map (λ row. Some row.1) rows
+        → AllByRecursion (λ row. Says row.0 row.1) rows
+    by [] e = tt
+    by ((text, found) ∷ rows) e =
+        let first : fault_in text ≡ Some found = cc in
+        let others : map (λ row. fault_in row.0) rows ≡ map (λ row. Some row.1) rows = cc in
+        (says text found first, by rows others)

@@ -2,6 +2,7 @@
 use Rattle.std.proofs.Common.{◌≡◌, ℕ, zero, suc, ◌+◌, ◌<◌, ◌≤◌, ◌%◌, true, false, List, [], ◌∷◌, ◌++◌, drop, length, refl, sym, ap, ◌∙◌, append_assoc, add-one}
 use Rattle.std.proofs.Common.{arith, Bool}
 use Rattle.std.specs.List.{AllByRecursion}
+use Rattle.std.proofs.lemmas.Bool.{cond-false}
 use Rattle.ci_verilog.specs.declared.expressions.Simple.{Simple}
 use Rattle.ci_verilog.specs.declared.expressions.Simple.TheVariants.{Bits, Number}
 use Rattle.ci_verilog.specs.declared.expressions.Item.{Item}
@@ -22,8 +23,8 @@ use Rattle.ci_vread.specs.Spelling.{SpellsSimple, whole_name, one_bit, some_bits
 use Rattle.ci_vread.specs.Spelling.{SpellsExpr, SpellsWire, some_wire, SpellsWires, no_wires, more_wires, SpellsModule, some_module, SpellsModules, no_modules}
 use Rattle.ci_vread.specs.Spelling.{more_modules, result, SpellsThird, no_third, some_third}
 use Rattle.ci_vread.specs.private.Building.{front, is_sign, is_number, is_cycles, number_in, cycles_in, operator_in, constant_in, name_in, begins_item, begins_wire}
-use Rattle.ci_vread.specs.private.Building.{begins_module, low_of, bits_of, named_by, simple_of, repeated_of, item_by, item_of, many, items_of, inside_by, inside_of}
-use Rattle.ci_vread.specs.private.Building.{term_by, term_of, others_of, expr_of, wire_of, wires_of, result_of, third_of, is_wide}
+use Rattle.ci_vread.specs.private.Building.{begins_module, low_of, bits_of, named_by, simple_of, repeated_of, item_of, many, items_of, inside_of}
+use Rattle.ci_vread.specs.private.Building.{term_of, others_of, expr_of, wire_of, wires_of, result_of, third_of, is_wide}
 use Rattle.ci_vread.specs.private.Building.{ports_behind, module_by, module_of, modules_of}
 use Rattle.ci_vread.proofs.ManyTokens.{one_more, no_more}
 use Rattle.ci_vread.proofs.SmallNumbers.{SmallSimple, SmallItem, SmallTerm, SmallExpr, SmallWire, SmallModule, small_module}
@@ -84,7 +85,7 @@ pub item_exact : {tokens : List Token} {x : Item} (rest : List Token) → Spells
     → is_sign LeftBracket (front rest) ≡ false → item_of (tokens ++ rest) ≡ (x, rest)
 unfolding item_of is_sign number_in
 item_exact rest (spelling.SpellsItem.plain {tokens} {simple} spells) small free =
-    ap (λ b. item_by b (tokens ++ rest)) (simple_begins rest spells).0
+    cond-false (is_sign LeftBrace (front (tokens ++ rest))) _ _ (simple_begins rest spells).0
     ∙ (let e = simple_exact rest spells small free in λ i. (of_item.Plain (e i).0, (e i).1))
 item_exact rest (spelling.SpellsItem.repeat {tokens} {count} {simple} spells) small free =
     let e = repeated_exact count rest spells small.1 in
@@ -145,7 +146,7 @@ term_exact : {tokens : List Token} {t : Term} (rest : List Token) → SpellsTerm
     → is_sign LeftBracket (front rest) ≡ false → term_of (tokens ++ rest) ≡ (t, rest)
 unfolding term_of inside_of items_of is_sign is_number number_in
 term_exact rest (spelling.SpellsTerm.plain {tokens} {simple} spells) small free =
-    ap (λ b. term_by b (tokens ++ rest)) (simple_begins rest spells).0
+    cond-false (is_sign LeftBrace (front (tokens ++ rest))) _ _ (simple_begins rest spells).0
     ∙ (let e = simple_exact rest spells small free in λ i. (of_term.Plain (e i).0, (e i).1))
 term_exact rest (spelling.SpellsTerm.repeat {tokens} {count} {simple} spells) small free =
     let e = repeated_exact count rest spells small.1 in
@@ -155,7 +156,7 @@ term_exact rest (spelling.SpellsTerm.join {tokens} {items} spells) small free =
     let e : items_from 63 1 inside ≡ (items, sign RightBrace ∷ rest) =
     ap (items_from 63 1) (append_assoc tokens (sign RightBrace ∷ []) rest)
     ∙ items_exact 63 1 (sign RightBrace ∷ rest) spells small.0 (omega (arith, small.1)) refl refl in
-    ap (λ b. inside_by b inside)
+    cond-false (is_number (front inside)) _ _
     (ap (λ ts. is_number (front ts)) (append_assoc tokens (sign RightBrace ∷ []) rest) ∙ items_begin (sign RightBrace ∷ rest) spells)
     ∙ (λ i. (of_term.Join (e i).0, drop 1 (e i).1))
 

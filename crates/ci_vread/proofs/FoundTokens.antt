@@ -14,7 +14,7 @@ use Rattle.ci_vread.specs.declared.tokens.Sign.TheVariants.{ModuleWord, InputWor
 use Rattle.ci_vread.specs.declared.tokens.Sign.TheVariants.{NameZ}
 use Rattle.ci_vread.specs.Lexicon.{Token, sign, spelling, operator_spelling, AreLetters, constant_spelling, Spells, of_sign, of_operator, of_name, of_number}
 use Rattle.ci_vread.specs.Lexicon.{IsNumber, of_constant, of_cycles, long_name, bad_number, bad_constant}
-use Rattle.ci_vread.specs.private.Scanning.{run, front, byte_at, words, marks, singles, shifts, sign_among, operator_among, word_by, word_token, is_good, number_token}
+use Rattle.ci_vread.specs.private.Scanning.{run, front, byte_at, words, marks, singles, shifts, among, word_by, word_token, is_good, number_token}
 use Rattle.ci_vread.specs.private.Scanning.{constant_token, is_value, number_behind, number_at, cycles_behind, cycles_at, word_at, single_by, single, mark_by, mark_at}
 use Rattle.ci_vread.specs.private.Scanning.{scan}
 use Rattle.ci_vread.proofs.Runs.{true_is_not_false, letter_in_name, run_all, front_more, run_length, run_splits, all_digits, all_hex}
@@ -22,23 +22,16 @@ use Rattle.ci_vread.proofs.Numbers.{good_number, bad_digits}
 
 -- ---- words and marks
 
--- a sign that is found is written so
-pub sign_among_is : (signs : List Sign) (bytes : List ℕ) (s : Sign) → sign_among signs bytes ≡ Some s → bytes ≡ spelling s
-sign_among_is [] bytes s e = absurd (cc)
-sign_among_is (first ∷ signs) bytes s e =
-    cond_both (bytes_eq bytes (spelling first)) (Some first) (sign_among signs bytes) (λ o. o ≡ Some s → bytes ≡ spelling s)
-    (λ same is. let head : first ≡ s = cc in (bytes_eq-Decides bytes (spelling first)).0 same ∙ ap spelling head)
-    (λ other is. sign_among_is signs bytes s is) e
-
-pub operator_among_is : (operators : List Operator) (bytes : List ℕ) (o : Operator) → operator_among operators bytes ≡ Some o → bytes ≡ operator_spelling o
-operator_among_is [] bytes o e = absurd (cc)
-operator_among_is (first ∷ operators) bytes o e =
-    cond_both (bytes_eq bytes (operator_spelling first)) (Some first) (operator_among operators bytes) (λ k. k ≡ Some o → bytes ≡ operator_spelling o)
-    (λ same is. let head : first ≡ o = cc in (bytes_eq-Decides bytes (operator_spelling first)).0 same ∙ ap operator_spelling head)
-    (λ other is. operator_among_is operators bytes o is) e
+-- what is found among others is written so
+pub among_is : {A : Type 0} (written : A → List ℕ) (xs : List A) (bytes : List ℕ) (x : A) → among written xs bytes ≡ Some x → bytes ≡ written x
+among_is written [] bytes x e = absurd (cc)
+among_is written (first ∷ xs) bytes x e =
+    cond_both (bytes_eq bytes (written first)) (Some first) (among written xs bytes) (λ o. o ≡ Some x → bytes ≡ written x)
+    (λ same is. let head : first ≡ x = cc in (bytes_eq-Decides bytes (written first)).0 same ∙ ap written head)
+    (λ other is. among_is written xs bytes x is) e
 
 -- a sign of letters is a word
-pub word_found : (s : Sign) → AreLetters (spelling s) → sign_among words (spelling s) ≡ Some s
+pub word_found : (s : Sign) → AreLetters (spelling s) → among spelling words (spelling s) ≡ Some s
 word_found ModuleWord letters = refl
 word_found InputWord letters = refl
 word_found OutputWord letters = refl
@@ -70,14 +63,14 @@ IsFoundBy text (Some (t, size)) = IsFound text t size
 letters_found : (bytes : List ℕ) → AreLetters bytes → Spells bytes (word_token bytes)
 letters_found bytes letters =
     cond_both (ltb 32 (length bytes)) _ _ (Spells bytes) (λ e. long_name letters (ltb-true 32 (length bytes) e))
-    (λ e. by (ltb-false 32 (length bytes) e) (sign_among words bytes) refl)
+    (λ e. by (ltb-false 32 (length bytes) e) (among spelling words bytes) refl)
   where
-    by : length bytes ≤ 32 → (o : Option Sign) → sign_among words bytes ≡ o → Spells bytes (word_by bytes o)
+    by : length bytes ≤ 32 → (o : Option Sign) → among spelling words bytes ≡ o → Spells bytes (word_by bytes o)
     by short None e = of_name letters
         (λ s same.
-        let none = sym (word_found s (subst AreLetters same letters)) ∙ (ap (sign_among words) (sym same) ∙ e) in
+        let none = sym (word_found s (subst AreLetters same letters)) ∙ (ap (among spelling words) (sym same) ∙ e) in
         absurd (cc)) short
-    by short (Some s) e = subst (λ b. Spells b (sign s)) (sym (sign_among_is words bytes s e)) (of_sign s)
+    by short (Some s) e = subst (λ b. Spells b (sign s)) (sym (among_is spelling words bytes s e)) (of_sign s)
 
 are_letters : (c : ℕ) (text : List ℕ) → is_ascii_alphabetic c ≡ true → AreLetters (front InName (c ∷ text))
 are_letters c text e = subst AreLetters (sym (front_more InName c text (letter_in_name c e))) (e, run_all InName text)
@@ -199,15 +192,15 @@ cycles_found text =
 -- ---- marks
 
 single_found : (c : ℕ) (more : List ℕ) → IsFoundBy (c ∷ more) (single c)
-single_found c more = by (operator_among singles (c ∷ [])) refl (sign_among marks (c ∷ [])) refl
+single_found c more = by (among operator_spelling singles (c ∷ [])) refl (among spelling marks (c ∷ [])) refl
   where
-    by : (o : Option Operator) → operator_among singles (c ∷ []) ≡ o → (s : Option Sign) → sign_among marks (c ∷ []) ≡ s
+    by : (o : Option Operator) → among operator_spelling singles (c ∷ []) ≡ o → (s : Option Sign) → among spelling marks (c ∷ []) ≡ s
         → IsFoundBy (c ∷ more) (single_by o s)
     by (Some o) is s other =
-        let same = operator_among_is singles (c ∷ []) o is in
+        let same = among_is operator_spelling singles (c ∷ []) o is in
         record { bytes = operator_spelling o; rest = more; is_text = ap (λ b. b ++ more) same; spells = of_operator o; is_size = ap length same }
     by None is (Some s) other =
-        let same = sign_among_is marks (c ∷ []) s other in
+        let same = among_is spelling marks (c ∷ []) s other in
         record { bytes = spelling s; rest = more; is_text = ap (λ b. b ++ more) same; spells = of_sign s; is_size = ap length same }
     by None is None other = tt
 
@@ -219,11 +212,11 @@ mark_found : (text : List ℕ) → IsFoundBy text (mark_at (byte_at text 0) (byt
 unfolding mark_at
 mark_found [] = tt
 mark_found (c ∷ []) = rw (and_false (eqb c 60), and_false (eqb c 62)) (single_found c [])
-mark_found (c ∷ d ∷ more) = by (operator_among shifts (c ∷ d ∷ [])) refl
+mark_found (c ∷ d ∷ more) = by (among operator_spelling shifts (c ∷ d ∷ [])) refl
   where
-    by : (o : Option Operator) → operator_among shifts (c ∷ d ∷ []) ≡ o → IsFoundBy (c ∷ d ∷ more) (mark_by o c)
+    by : (o : Option Operator) → among operator_spelling shifts (c ∷ d ∷ []) ≡ o → IsFoundBy (c ∷ d ∷ more) (mark_by o c)
     by (Some o) is =
-        let same = operator_among_is shifts (c ∷ d ∷ []) o is in
+        let same = among_is operator_spelling shifts (c ∷ d ∷ []) o is in
         record { bytes = operator_spelling o; rest = more; is_text = ap (λ b. b ++ more) same; spells = of_operator o; is_size = ap length same }
     by None is = single_found c (d ∷ more)
 

@@ -18,12 +18,12 @@ use Rattle.ci_vread.specs.declared.tokens.Sign.TheVariants.{NameZ}
 use Rattle.ci_vread.specs.Lexicon.{Token, sign, operator, name, number, constant, cycles, spelling, operator_spelling, AreLetters, IsNumber, constant_spelling}
 use Rattle.ci_vread.specs.Lexicon.{Spells, of_sign, of_operator, of_name, of_number, of_constant, of_cycles, long_name, bad_number, bad_constant, IsBlank}
 use Rattle.ci_vread.specs.Lexicon.{unit_format}
-use Rattle.ci_vread.specs.private.Scanning.{run, front, byte_at, words, shifts, sign_among, operator_among, word_by, word_token, is_good, constant_token}
+use Rattle.ci_vread.specs.private.Scanning.{run, front, byte_at, words, shifts, among, word_by, word_token, is_good, constant_token}
 use Rattle.ci_vread.specs.private.Scanning.{is_value, number_behind, number_at, cycles_at, word_at, mark_by, mark_at, scan, behind_first, unit_lexer}
 use Rattle.ci_vread.proofs.Runs.{letter_in_name, digit_no_letter, below_digit, below_hex, blank_yes, blank_no, AllOf, all_by_test, run_most, Stops}
 use Rattle.ci_vread.proofs.Runs.{run_exact, front_exact, rest_exact, digits_all, hex_all}
 use Rattle.ci_vread.proofs.Numbers.{number_good, not_good}
-use Rattle.ci_vread.proofs.FoundTokens.{sign_among_is, IsFound, IsFoundBy, constant_text, cycles_spelling, cycles_text, scan_found}
+use Rattle.ci_vread.proofs.FoundTokens.{among_is, IsFound, IsFoundBy, constant_text, cycles_spelling, cycles_text, scan_found}
 
 -- so many bytes or more are found
 abbrev pub IsAtLeast : ℕ → Option (Token × ℕ) → Type 0
@@ -58,11 +58,11 @@ letters_exact bytes letters =
 
 name_token : (bytes : List ℕ) → ((s : Sign) → ¬ (bytes ≡ spelling s)) → length bytes ≤ 32 → word_token bytes ≡ name bytes
 name_token bytes none short =
-    cond-false (ltb 32 (length bytes)) _ _ (le-ltb 32 (length bytes) short) ∙ by (sign_among words bytes) refl
+    cond-false (ltb 32 (length bytes)) _ _ (le-ltb 32 (length bytes) short) ∙ by (among spelling words bytes) refl
   where
-    by : (o : Option Sign) → sign_among words bytes ≡ o → word_by bytes o ≡ name bytes
+    by : (o : Option Sign) → among spelling words bytes ≡ o → word_by bytes o ≡ name bytes
     by None e = refl
-    by (Some s) e = absurd (none s (sign_among_is words bytes s e))
+    by (Some s) e = absurd (none s (among_is spelling words bytes s e))
 
 -- ---- digits
 
@@ -180,7 +180,7 @@ less_most (Some o) = lit≤ tt
 
 operator_most : (o : Operator) (rest : List ℕ) → IsAtLeast (length (operator_spelling o)) (scan (operator_spelling o ++ rest))
 unfolding scan mark_at
-operator_most Less rest = less_most (operator_among shifts (60 ∷ byte_at rest 0 ∷ []))
+operator_most Less rest = less_most (among operator_spelling shifts (60 ∷ byte_at rest 0 ∷ []))
 operator_most other rest = lit≤ tt
 
 operator_exact : (o : Operator) → scan (operator_spelling o ++ []) ≡ Some (operator o, length (operator_spelling o))

@@ -1,11 +1,10 @@
 -- Names, and the widths that they have.
 use Rattle.std.proofs.Common.{◌≡◌, ℕ, suc, zero, List, [], ◌∷◌, ◌++◌, refl, ap, arith, subst, Bool, true, false, not, cond, ◌||◌}
 use Rattle.std.proofs.Common.{◌≤◌, ◌++◌, map, append-nil, append_assoc, sym, inl, inr, subst, ap, ◌∙◌, refl}
-use Rattle.std.specs.Prelude.{codes}
-use Rattle.std.proofs.lemmas.List.Elements.{Contains-push_cases}
+use Rattle.std.proofs.lemmas.List.Elements.{Contains-push_cases, All-contains, All-from_recursion}
 use Rattle.ci_verilog.specs.declared.expressions.Wire.{Wire}
 use Rattle.ci_verilog.specs.Modules.{inputs, declared_by, IsWire, AreWires}
-use Rattle.std.specs.List.{Contains}
+use Rattle.std.specs.List.{AllByRecursion, Contains}
 use Rattle.std.proofs.lemmas.Bool.{and_parts, eqb-true, eq-eqb}
 use Rattle.ci_verilog.specs.Modules.{Known, vector, IsNew}
 use Rattle.ci_vread.specs.Rules.{same, is_known, width_of}
@@ -85,28 +84,19 @@ pub record IsWidth (known : List Known) (bytes : List ℕ) (width : ℕ) : Type 
 abbrev pub IsTable : List Known → Type 0
 IsTable known = (bytes : List ℕ) (width : ℕ) → Contains known (vector bytes width) → IsWidth known bytes width
 
-input_is : (inputs : List Known) (name bytes : List ℕ) (width : ℕ) → width_of inputs name ≡ 32 → vector name 32 ≡ vector bytes width
-    → IsWidth inputs bytes width
-input_is inputs name bytes width known e =
-    let named : name ≡ bytes = ap (λ v. v.name) e in
-    let wide : 32 ≡ width = ap (λ v. v.width) e in
-    record {
-      once = subst (λ b. width_of inputs b ≡ width) named (known ∙ wide);
-      least = omega (arith, wide);
-      most = omega (arith, wide);
-    }
+-- an input's name is one input's alone, which is 32 wide
+abbrev IsOneInput : Bool → Known → Type 0
+IsOneInput wide v = (width_of (inputs wide) v.name ≡ 32) × (v.width ≡ 32)
+
+inputs_differ : (wide : Bool) → AllByRecursion (IsOneInput wide) (inputs wide)
+inputs_differ false = ((refl, refl), ((refl, refl), ((refl, refl), tt)))
+inputs_differ true = ((refl, refl), ((refl, refl), ((refl, refl), ((refl, refl), ((refl, refl), tt)))))
 
 pub inputs_are : (wide : Bool) → IsTable (inputs wide)
-inputs_are false bytes w (zero, h, e) = input_is (inputs false) (codes "a") bytes w refl e
-inputs_are false bytes w (suc zero, h, e) = input_is (inputs false) (codes "b") bytes w refl e
-inputs_are false bytes w (suc (suc zero), h, e) = input_is (inputs false) (codes "c") bytes w refl e
-inputs_are false bytes w (suc (suc (suc k)), h, e) = absurd (omega (arith, h))
-inputs_are true bytes w (zero, h, e) = input_is (inputs true) (codes "a") bytes w refl e
-inputs_are true bytes w (suc zero, h, e) = input_is (inputs true) (codes "b") bytes w refl e
-inputs_are true bytes w (suc (suc zero), h, e) = input_is (inputs true) (codes "c") bytes w refl e
-inputs_are true bytes w (suc (suc (suc zero)), h, e) = input_is (inputs true) (codes "d") bytes w refl e
-inputs_are true bytes w (suc (suc (suc (suc zero))), h, e) = input_is (inputs true) (codes "e") bytes w refl e
-inputs_are true bytes w (suc (suc (suc (suc (suc k)))), h, e) = absurd (omega (arith, h))
+inputs_are wide bytes width c =
+    let all = All-from_recursion (IsOneInput wide) (inputs wide) (inputs_differ wide) in
+    let o = All-contains (IsOneInput wide) (inputs wide) (vector bytes width) all c in
+    record { once = o.0 ∙ sym o.1; least = omega (arith, o.1); most = omega (arith, o.1) }
 
 pub one_more_name : (known : List Known) (w : Wire) → IsTable known → IsWire known w → IsTable (known ++ declared_by w ∷ [])
 one_more_name known w table is bytes v c = elim (Contains-push_cases known (declared_by w) (vector bytes v) c) [

@@ -1,7 +1,6 @@
 -- A text that keeps its rules spells modules.
 use Rattle.std.proofs.Common.{◌≡◌, ◌≤◌, Bool, ℕ, zero, suc, ◌+◌, ◌<◌, List, [], ◌∷◌, ◌++◌, length, length-append, map, add-one, refl, ap, sym, ◌∙◌, arith, subst, true}
 use Rattle.std.proofs.Common.{false, nat_lt, true≢false}
-use Rattle.std.specs.Prelude.{codes}
 use Rattle.std.proofs.lemmas.Bool.{and_parts, ltb-true}
 use Rattle.std.proofs.lemmas.List.{length-map}
 use Rattle.ci_verilog.specs.declared.expressions.Expr.{Expr}

@@ -1,8 +1,7 @@
 -- The numbers of a module are small enough to be read: widths, indexes and counts are at most 64.
-use Rattle.std.proofs.Common.{ℕ, true, false, Bool, zero, suc, ◌*◌, ◌<◌, ◌≤◌, List, [], ◌∷◌, ◌++◌, length, map, sym, subst, append_assoc, append-nil, inl, inr, arith}
+use Rattle.std.proofs.Common.{ℕ, ◌*◌, ◌<◌, ◌≤◌, List, [], ◌∷◌, ◌++◌, length, arith}
 use Rattle.std.proofs.Math.Nat.{le-mul_of_pos_right}
-use Rattle.std.specs.List.{AllByRecursion, Contains}
-use Rattle.std.proofs.lemmas.List.Elements.{Contains-push_cases}
+use Rattle.std.specs.List.{AllByRecursion}
 use Rattle.ci_verilog.specs.declared.expressions.Simple.{Simple}
 use Rattle.ci_verilog.specs.declared.expressions.Simple.TheVariants.{Whole, Bits, Number}
 use Rattle.ci_verilog.specs.declared.expressions.Item.{Item}
@@ -12,8 +11,9 @@ use Rattle.ci_verilog.specs.declared.expressions.Term.TheVariants as of_term
 use Rattle.ci_verilog.specs.declared.expressions.Expr.{Expr}
 use Rattle.ci_verilog.specs.declared.expressions.Expr.TheVariants.{One, Two, Choose}
 use Rattle.ci_verilog.specs.declared.expressions.Wire.{Wire}
-use Rattle.ci_verilog.specs.Modules.{Module, Known, inputs, declared_by, known_by, vector, IsSimple, IsItem, AreItems, IsTerm, IsExpr, IsWire, AreWires}
-use Rattle.ci_verilog.specs.Modules.{IsModule}
+use Rattle.ci_verilog.specs.Modules.{Module, Known, inputs, declared_by, known_by, IsSimple, IsItem, AreItems, IsTerm, IsExpr, AreWires, IsModule}
+use Rattle.ci_vread.proofs.NameLaws.{IsTable, inputs_are, one_more_name, all_names}
+use Rattle.ci_vread.proofs.SpeltTerms.{least_width, most_count}
 
 abbrev pub SmallSimple : Simple → Type 0
 SmallSimple (Whole name) = Unit {0}
@@ -44,32 +44,22 @@ pub record SmallModule (m : Module) : Type 0 where
   pub z : SmallExpr m.z
   pub x : SmallExpr m.x
 
--- each width is from 1 to 64
-abbrev pub AllWithin : List Known → Type 0
-AllWithin known = (v : Known) → Contains known v → (1 ≤ v.width) × (v.width ≤ 64)
-
-module _ (known : List Known) (within : AllWithin known) where
-  within_simple : (s : Simple) (w : ℕ) → IsSimple known s w → (1 ≤ w) × (w ≤ 64)
-  within_simple _ _ (IsSimple.whole {name = n} {width = w} is) = within (vector n w) is
-  within_simple _ _ (IsSimple.bits {name = n} {high = h} {low = l} {width = w} is below order) =
-      let e : w ≤ 64 = (within (vector n w) is).1 in (omega arith, omega (arith, e))
-  within_simple _ _ (IsSimple.number least most below) = (least, most)
-
+module _ (known : List Known) (table : IsTable known) where
   small_simple : (s : Simple) (w : ℕ) → IsSimple known s w → SmallSimple s
   small_simple _ _ (IsSimple.whole is) = tt
   small_simple _ _ (IsSimple.bits {name = n} {high = h} {low = l} {width = w} is below order) =
-      let e : w ≤ 64 = (within (vector n w) is).1 in (omega (arith, e), omega (arith, e))
+      let e = (table n w is).most in (omega (arith, e), omega (arith, e))
   small_simple _ _ (IsSimple.number least most below) = omega arith
 
   repeated_within : (count w : ℕ) (s : Simple) → 1 ≤ count → count * w ≤ 64 → IsSimple known s w
       → (1 ≤ count * w) × (count < 128)
   repeated_within count w s some most is =
-      let least : 1 ≤ w = (within_simple s w is).0 in
-      let e : count ≤ count * w = le-mul_of_pos_right count (omega arith) in
-      (omega (arith, e), omega (arith, e))
+      let e = most_count count w (least_width table is) most in
+      let f = le-mul_of_pos_right count (least_width table is) in
+      (omega (arith, f), omega (arith, e))
 
   within_item : (i : Item) (w : ℕ) → IsItem known i w → (1 ≤ w) × SmallItem i
-  within_item _ _ (IsItem.plain {simple = s} {width = w} is) = ((within_simple s w is).0, small_simple s w is)
+  within_item _ _ (IsItem.plain {simple = s} {width = w} is) = (least_width table is, small_simple s w is)
   within_item _ _ (IsItem.repeat {count = count} {width = w} {simple = s} some most is) =
       let r = repeated_within count w s some most is in (r.0, (r.1, small_simple s w is))
 
@@ -94,42 +84,21 @@ module _ (known : List Known) (within : AllWithin known) where
   small_expr _ _ (IsExpr.choose {test = t} {first = f} {second = s} {width = w} is_t is_f is_s) =
       (small_term t 1 is_t, small_term f w is_f, small_term s w is_s)
 
--- one wire more
-within_more : (known : List Known) (wire : Wire) → AllWithin known → IsWire known wire → AllWithin (known ++ declared_by wire ∷ [])
-within_more known wire within is v has =
-    elim (Contains-push_cases known (declared_by wire) v has) [
-      | inl old ↦ within v old
-      | inr new ↦ subst (λ k. (1 ≤ k.width) × (k.width ≤ 64)) new (is.least, is.most)
-    ]
-
-small_wires : (known : List Known) (wires : List Wire) → AreWires known wires → AllWithin known
-    → AllByRecursion SmallWire wires × AllWithin (known ++ map declared_by wires)
-small_wires known [] are within = (tt, subst (λ k. AllWithin k) (sym (append-nil known)) within)
-small_wires known (wire ∷ wires) are within =
-    let rest = small_wires (known ++ declared_by wire ∷ []) wires are.1 (within_more known wire within are.0) in (
-      ((are.0.most, small_expr known within wire.value wire.width are.0.value), rest.0),
-      subst (λ k. AllWithin k) (append_assoc known (declared_by wire ∷ []) (map declared_by wires)) rest.1,
-    )
-
-within_inputs : (wide : Bool) → AllWithin (inputs wide)
-within_inputs false v (zero, below, is) = subst (λ k. (1 ≤ k.width) × (k.width ≤ 64)) is (omega arith, omega arith)
-within_inputs false v (suc zero, below, is) = subst (λ k. (1 ≤ k.width) × (k.width ≤ 64)) is (omega arith, omega arith)
-within_inputs false v (suc (suc zero), below, is) = subst (λ k. (1 ≤ k.width) × (k.width ≤ 64)) is (omega arith, omega arith)
-within_inputs false v (suc (suc (suc k)), below, is) = absurd (omega arith)
-within_inputs true v (zero, below, is) = subst (λ k. (1 ≤ k.width) × (k.width ≤ 64)) is (omega arith, omega arith)
-within_inputs true v (suc zero, below, is) = subst (λ k. (1 ≤ k.width) × (k.width ≤ 64)) is (omega arith, omega arith)
-within_inputs true v (suc (suc zero), below, is) = subst (λ k. (1 ≤ k.width) × (k.width ≤ 64)) is (omega arith, omega arith)
-within_inputs true v (suc (suc (suc zero)), below, is) = subst (λ k. (1 ≤ k.width) × (k.width ≤ 64)) is (omega arith, omega arith)
-within_inputs true v (suc (suc (suc (suc zero))), below, is) = subst (λ k. (1 ≤ k.width) × (k.width ≤ 64)) is (omega arith, omega arith)
-within_inputs true v (suc (suc (suc (suc (suc k)))), below, is) = absurd (omega arith)
+small_wires : (known : List Known) (wires : List Wire) → AreWires known wires → IsTable known → AllByRecursion SmallWire wires
+small_wires known [] are table = tt
+small_wires known (wire ∷ wires) are table = (
+  (are.0.most, small_expr known table wire.value wire.width are.0.value),
+  small_wires (known ++ declared_by wire ∷ []) wires are.1 (one_more_name known wire table are.0),
+)
 
 pub small_module : (m : Module) → IsModule m → SmallModule m
 small_module m is =
-    let r = small_wires (inputs m.wires.wide) m.wires.list is.are_wires (within_inputs m.wires.wide) in
+    let names = inputs_are m.wires.wide in
+    let table = all_names (inputs m.wires.wide) m.wires.list names is.are_wires in
     record {
-      wires = r.0;
+      wires = small_wires (inputs m.wires.wide) m.wires.list is.are_wires names;
       few = is.few;
-      y = small_expr (known_by m.wires) r.1 m.y 32 is.y;
-      z = small_expr (known_by m.wires) r.1 m.z 32 is.z;
-      x = small_expr (known_by m.wires) r.1 m.x 32 is.x;
+      y = small_expr (known_by m.wires) table m.y 32 is.y;
+      z = small_expr (known_by m.wires) table m.z 32 is.z;
+      x = small_expr (known_by m.wires) table m.x 32 is.x;
     }

@@ -76,7 +76,7 @@ cut (t ∷ left) (more a) = let o = cut left a in record { middle = o.middle; fi
 
 -- ---- widths
 
-least_width : {known : List Known} {value : Simple} {width : ℕ} → IsTable known → IsSimple known value width → 1 ≤ width
+pub least_width : {known : List Known} {value : Simple} {width : ℕ} → IsTable known → IsSimple known value width → 1 ≤ width
 least_width table (IsSimple.whole c) = (table _ _ c).least
 least_width table (IsSimple.bits c h l) = omega (arith, l)
 least_width table (IsSimple.number l m v) = l
@@ -86,7 +86,7 @@ most_width table (IsSimple.whole c) = (table _ _ c).most
 most_width table (IsSimple.bits c h l) = let n = (table _ _ c).most in omega (arith, h, n)
 most_width table (IsSimple.number l m v) = m
 
-most_count : (n w : ℕ) → 1 ≤ w → n * w ≤ 64 → n ≤ 64
+pub most_count : (n w : ℕ) → 1 ≤ w → n * w ≤ 64 → n ≤ 64
 most_count n w least most = let e : n ≤ n * w = le-mul_of_pos_right n least in omega (arith, e, most)
 
 -- ---- items

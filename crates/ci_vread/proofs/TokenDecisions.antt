@@ -1,13 +1,11 @@
 -- Whether two tokens are the same, and whether a token fits a role.
 use Rattle.std.proofs.Common.{◌≡◌, ℕ, ◌⊎◌, inl, inr, List, refl, ap, subst, Bool, true, false, eqb}
 use Rattle.std.proofs.lemmas.Bool.{eqb-true, eq-eqb}
-use Rattle.ci_verilog.specs.declared.expressions.Operator.{Operator}
-use Rattle.ci_verilog.specs.declared.expressions.Operator.TheVariants.{Plus, Minus, Times, And, Or, Xor, Left, Right, Less}
-use Rattle.ci_vread.specs.declared.tokens.Sign.{Sign}
-use Rattle.ci_vread.specs.declared.tokens.Sign.TheVariants.{ModuleWord, InputWord, OutputWord, WireWord, AssignWord, EndModuleWord, NameA, NameB, NameC, NameY}
-use Rattle.ci_vread.specs.declared.tokens.Sign.TheVariants.{NameZ}
-use Rattle.ci_vread.specs.declared.tokens.Sign.TheVariants.{Opening, Closing, LeftBracket, RightBracket, LeftBrace, RightBrace, Comma, Semicolon, Colon, Equals}
-use Rattle.ci_vread.specs.declared.tokens.Sign.TheVariants.{Question}
+use denote.Enum.Declared.{Declared}
+use denote.Enum.Bare.{Bare, sameb, same_true, same_false}
+use Rattle.ci_verilog.specs.contracts.expressions.Operator.{the_type as operator_type}
+use Rattle.ci_vread.specs.contracts.tokens.Sign.{the_type as sign_type}
+use Rattle.ci_vread.specs.declared.tokens.Sign.TheVariants.{NameA, NameB, NameC}
 use Rattle.ci_vread.specs.Lexicon.{Token, sign, operator, name, number, constant, cycles, never}
 use Rattle.ci_vread.specs.Grammar.{Role, is, its_cycles, its_module, its_high, its_name, its_target, its_use, its_index, its_low, its_count, its_constant}
 use Rattle.ci_vread.specs.Grammar.{its_operator}
@@ -19,42 +17,13 @@ use Rattle.ci_vread.proofs.NameLaws.{same_is, same_itself}
 abbrev pub Decided : Type 0 → Type 0
 Decided A = A ⊎ (¬ A)
 
-unfoldable pub sign_decided : (s t : Sign) → Decided (s ≡ t)
-sign_decided ModuleWord ModuleWord = inl refl
-sign_decided InputWord InputWord = inl refl
-sign_decided OutputWord OutputWord = inl refl
-sign_decided WireWord WireWord = inl refl
-sign_decided AssignWord AssignWord = inl refl
-sign_decided EndModuleWord EndModuleWord = inl refl
-sign_decided NameA NameA = inl refl
-sign_decided NameB NameB = inl refl
-sign_decided NameC NameC = inl refl
-sign_decided NameY NameY = inl refl
-sign_decided NameZ NameZ = inl refl
-sign_decided Opening Opening = inl refl
-sign_decided Closing Closing = inl refl
-sign_decided LeftBracket LeftBracket = inl refl
-sign_decided RightBracket RightBracket = inl refl
-sign_decided LeftBrace LeftBrace = inl refl
-sign_decided RightBrace RightBrace = inl refl
-sign_decided Comma Comma = inl refl
-sign_decided Semicolon Semicolon = inl refl
-sign_decided Colon Colon = inl refl
-sign_decided Equals Equals = inl refl
-sign_decided Question Question = inl refl
-sign_decided s t = inr (λ e. absurd (cc))
-
-unfoldable pub operator_decided : (s t : Operator) → Decided (s ≡ t)
-operator_decided Plus Plus = inl refl
-operator_decided Minus Minus = inl refl
-operator_decided Times Times = inl refl
-operator_decided And And = inl refl
-operator_decided Or Or = inl refl
-operator_decided Xor Xor = inl refl
-operator_decided Left Left = inl refl
-operator_decided Right Right = inl refl
-operator_decided Less Less = inl refl
-operator_decided s t = inr (λ e. absurd (cc))
+-- values of an enum without fields
+unfoldable pub enum_decided : (D : Declared) → Bare D.parts → (a b : D.D) → Decided (a ≡ b)
+enum_decided D bare a b = by (sameb D a b) refl
+  where
+    by : (t : Bool) → sameb D a b ≡ t → Decided (a ≡ b)
+    by true e = inl (same_true D bare a b e)
+    by false e = inr (same_false D a b e)
 
 unfoldable pub number_decided : (m n : ℕ) → Decided (m ≡ n)
 number_decided m n = by (eqb m n) refl
@@ -76,8 +45,8 @@ carried make back (inl e) = inl (ap make e)
 carried make back (inr n) = inr (λ e. n (back e))
 
 unfoldable pub token_decided : (s t : Token) → Decided (s ≡ t)
-token_decided (sign s) (sign t) = carried (λ x. sign x) (λ e. cc) (sign_decided s t)
-token_decided (operator s) (operator t) = carried (λ x. operator x) (λ e. cc) (operator_decided s t)
+token_decided (sign s) (sign t) = carried (λ x. sign x) (λ e. cc) (enum_decided sign_type tt s t)
+token_decided (operator s) (operator t) = carried (λ x. operator x) (λ e. cc) (enum_decided operator_type tt s t)
 token_decided (name s) (name t) = carried (λ x. name x) (λ e. cc) (name_decided s t)
 token_decided (number s) (number t) = carried (λ x. number x) (λ e. cc) (number_decided s t)
 token_decided (cycles s) (cycles t) = carried (λ x. cycles x) (λ e. cc) (number_decided s t)

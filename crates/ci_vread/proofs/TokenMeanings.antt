@@ -17,8 +17,8 @@ use Rattle.ci_vread.specs.declared.tokens.Sign.TheVariants.{Opening}
 use Rattle.ci_vread.specs.Lexicon.{Token, number, constant, cycles, never, spelling, operator_spelling, IsNumber, constant_spelling, Spells, of_sign}
 use Rattle.ci_vread.specs.Lexicon.{of_operator, of_name, of_number, of_constant, of_cycles}
 use Rattle.ci_vread.specs.Lexicon.{long_name, bad_number, bad_constant}
-use Rattle.ci_vread.specs.private.Scanned.{word_in, before_quote, width_in, value_in, symbol_by}
-use Rattle.ci_vread.specs.private.Scanning.{belongs, kind_of, ends}
+use Rattle.ci_vread.specs.private.Scanned.{word_in, width_in, value_in, symbol_by}
+use Rattle.ci_vread.specs.private.Scanning.{belongs, run, kind_of, ends}
 use Rattle.ci_vread.proofs.Runs.{AllOf, run_exact, front_exact}
 use Rattle.ci_vread.proofs.Numbers.{number_good}
 use Rattle.ci_vread.proofs.FoundTokens.{cycles_spelling}
@@ -49,9 +49,9 @@ constant_means : (width digits : List ℕ) (w : ℕ) → IsNumber width w → Is
 constant_means width digits w is hex few =
     let bytes = width ++ 39 ∷ 104 ∷ digits in
     let all = before_quote_all width (number_good width w is).numeral.1 in
-    let front : take (before_quote bytes) bytes ≡ width = front_exact BeforeQuote width (39 ∷ 104 ∷ digits) all refl in
-    let size : before_quote bytes ≡ length width = run_exact BeforeQuote width (39 ∷ 104 ∷ digits) all refl in
-    let behind : drop (before_quote bytes + 2) bytes ≡ digits = ap (λ n. drop (n + 2) bytes) size ∙ behind_quote width digits in
+    let front : take (run BeforeQuote bytes) bytes ≡ width = front_exact BeforeQuote width (39 ∷ 104 ∷ digits) all refl in
+    let size : run BeforeQuote bytes ≡ length width = run_exact BeforeQuote width (39 ∷ 104 ∷ digits) all refl in
+    let behind : drop (run BeforeQuote bytes + 2) bytes ≡ digits = ap (λ n. drop (n + 2) bytes) size ∙ behind_quote width digits in
     let small : digits_value 16 digits < 2 ^ 64 = digits_below 16 16 digits (lit< tt) few hex.1 in
     let width_is : width_in bytes ≡ w = ap word_in front ∙ word_is width w is in
     let value_is : value_in bytes ≡ digits_value 16 digits = ap (λ ds. digits_value 16 ds % 2 ^ 64) behind ∙ mod-eq_of_lt small in

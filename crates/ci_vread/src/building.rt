@@ -1,5 +1,5 @@
 //! The modules of a text that has no fault.
-ghost use Rattle.std.specs.Prelude.{◌≡◌, ◌<◌, ℕ, List, drop, length, IfOk, OnOk};
+ghost use Rattle.std.specs.Prelude.{◌≡◌, ◌<◌, List, drop, IfOk, OnOk};
 ghost use Rattle.std.specs.List.{AllByRecursion};
 ghost use Rattle.ci_verilog.specs.Modules.{Module, IsModule};
 ghost use Rattle.ci_vread.specs.private.Building.{token_of, left, front, is_sign, is_number, is_cycles, number_in, cycles_in};

@@ -1,5 +1,5 @@
 //! From a text to its modules.
-ghost use Rattle.std.specs.Prelude.{◌≡◌, ◌≤◌, length, IfOk, IfErr};
+ghost use Rattle.std.specs.Prelude.{◌≤◌, length, IfOk, IfErr};
 ghost use Rattle.ci_vread.specs.Spelling.{Spell};
 ghost use Rattle.ci_vread.specs.Promised.{IsFaultOf};
 

@@ -2,11 +2,11 @@
 ghost use Rattle.std.specs.Prelude.{◌≡◌, ◌↔◌, ◌≤◌, [], ◌∷◌, IsTrue, IfOk, None};
 ghost use Rattle.ci_reading.specs.Tokens as reading;
 ghost use Rattle.ci_vread.specs.Lexicon as lexicon;
-ghost use Rattle.ci_vread.specs.Grammar.{Fits, its_use};
+ghost use Rattle.ci_vread.specs.Grammar.{Fits, its_use, read};
 ghost use Rattle.ci_vread.specs.Rules.{bytes_of};
 ghost use Rattle.ci_vread.specs.private.Scanned.{text_of, symbol_of};
 ghost use Rattle.ci_vread.specs.private.Tables.{IsUse, role_of};
-ghost use Rattle.ci_vread.specs.private.Checked.{ReadsOn, Suits};
+ghost use Rattle.ci_vread.specs.private.Checked.{StepsOn, Suits};
 
 use crate::grammar::{Role, is_operator, is_sign};
 use crate::seen::Seen;
@@ -102,7 +102,7 @@ impl<'a> Seen<'a> {
     ) -> Result<Option<u8>, AllocError>
         requires { self.old.modules ≤ 32 }
         ensures on { IfOk result (λ broken. (t : lexicon.Token) → symbol_of text.now token ≡ reading.token t
-            → Fits (role_of role) t → ReadsOn self.old self.new broken (role_of role) t) }
+            → Fits (role_of role) t → StepsOn self.old self.new broken (read (role_of role) t)) }
         ensures tame { IfOk result (λ broken. (self.new.sum ≡ self.old.sum)
             × (broken ≡ None → self.new.modules ≤ 32)) }
     {

@@ -2,8 +2,9 @@
 ghost use Rattle.std.specs.Prelude.{◌≡◌, ◌<◌, ◌≤◌, ◌∷◌, false, if◌then◌else◌, [], min, length, map, option_map};
 ghost use Rattle.std.specs.Prelude.{IfOk};
 ghost use Rattle.ci_reading.specs.Lexers.{symbols_of};
+ghost use Rattle.ci_vread.specs.Lexicon.{spelling};
 ghost use Rattle.ci_vread.specs.private.Scanned.{placed_of};
-ghost use Rattle.ci_vread.specs.private.Scanning.{sign_among, words, word_token, is_good, is_value, number_at, cycles_at};
+ghost use Rattle.ci_vread.specs.private.Scanning.{among, words, word_token, is_good, is_value, number_at, cycles_at};
 ghost use Rattle.ci_vread.specs.private.Scanning.{word_at, single, mark_at, scan, unit_lexer, symbols_from, IsSolid, kind_of};
 ghost use Rattle.ci_vread.specs.private.Scanning.{kind_and_size, ends};
 
@@ -14,7 +15,7 @@ use std::alloc::{AllocError, Global};
 
 /// The word of the grammar that these bytes are.
 fn word_of(bytes: &[u8]) -> Option<Sign>
-    ensures { result ≡ sign_among words bytes.now }
+    ensures { result ≡ among spelling words bytes.now }
 {
     match bytes {
         b"module" => Some(Sign::ModuleWord),

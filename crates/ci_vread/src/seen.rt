@@ -5,10 +5,10 @@ ghost use Rattle.std.specs.Fmt.{decimal};
 ghost use Rattle.ci_vread.specs.Lexicon as lexicon;
 ghost use Rattle.ci_vread.specs.Grammar.{its_module, its_high, its_name, its_target, its_use, its_index, its_low};
 ghost use Rattle.ci_vread.specs.Grammar.{its_count, its_constant, its_operator, of_simple, of_term, of_side};
-ghost use Rattle.ci_vread.specs.Grammar.{of_condition, of_branch, of_operand, of_wire, of_wires, of_three};
+ghost use Rattle.ci_vread.specs.Grammar.{of_condition, of_branch, of_operand, of_wire, of_wires, of_three, read, ended};
 ghost use Rattle.ci_vread.specs.Rules.{same, makes, nothing, bytes_of, is_word};
 ghost use Rattle.ci_vread.specs.private.Tables.{end_of};
-ghost use Rattle.ci_vread.specs.private.Checked.{least, Shows, ReadsOn, EndsOn, IsCalm, IsStill, IsBounded};
+ghost use Rattle.ci_vread.specs.private.Checked.{least, Shows, StepsOn, IsCalm, IsStill, IsBounded};
 
 use crate::grammar::End;
 use crate::names::Names;
@@ -164,7 +164,7 @@ impl<'a> Seen<'a> {
         name: &'a [u8],
     ) -> Result<Option<u8>, AllocError>
         requires { self.old.modules ≤ 32 }
-        ensures on { IfOk result (λ broken. ReadsOn self.old self.new broken its_module (lexicon.name name.now)) }
+        ensures on { IfOk result (λ broken. StepsOn self.old self.new broken (read its_module (lexicon.name name.now))) }
         ensures tame { IfOk result (λ broken. (self.new.sum ≡ self.old.sum)
             × (broken ≡ None → self.new.modules ≤ 32)) }
     {
@@ -178,7 +178,7 @@ impl<'a> Seen<'a> {
 
     /// The highest index of a wire.
     pub(crate) fn read_high(&mut self, number: u32) -> Option<u8>
-        ensures on { ReadsOn self.old self.new result its_high (lexicon.number number) }
+        ensures on { StepsOn self.old self.new result (read its_high (lexicon.number number)) }
         ensures calm { IsCalm self.old self.new }
     {
         self.due = u64::from(number) + 1;
@@ -187,7 +187,7 @@ impl<'a> Seen<'a> {
 
     /// The name of a wire that is declared.
     pub(crate) fn read_name(&mut self, name: &'a [u8]) -> Option<u8>
-        ensures on { ReadsOn self.old self.new result its_name (lexicon.name name.now) }
+        ensures on { StepsOn self.old self.new result (read its_name (lexicon.name name.now)) }
         ensures calm { IsCalm self.old self.new }
     {
         let is_new = !self.names.contains(name);
@@ -202,7 +202,7 @@ impl<'a> Seen<'a> {
 
     /// The name of a wire that is assigned.
     pub(crate) fn read_target(&mut self, name: &'a [u8]) -> Option<u8>
-        ensures on { ReadsOn self.old self.new result its_target (lexicon.name name.now) }
+        ensures on { StepsOn self.old self.new result (read its_target (lexicon.name name.now)) }
         ensures calm { IsCalm self.old self.new }
     {
         let kind = if is_word(self.wide, name) { 2 } else { 7 };
@@ -211,7 +211,7 @@ impl<'a> Seen<'a> {
 
     /// A name in a term.
     pub(crate) fn read_use(&mut self, name: &'a [u8]) -> Option<u8>
-        ensures on { (t : lexicon.Token) → bytes_of t ≡ name.now → ReadsOn self.old self.new result its_use t }
+        ensures on { (t : lexicon.Token) → bytes_of t ≡ name.now → StepsOn self.old self.new result (read its_use t) }
         ensures calm { IsCalm self.old self.new }
     {
         self.width = self.names.width(name);
@@ -221,7 +221,7 @@ impl<'a> Seen<'a> {
 
     /// An index of a name.
     pub(crate) fn read_index(&mut self, number: u32) -> Option<u8>
-        ensures on { ReadsOn self.old self.new result its_index (lexicon.number number) }
+        ensures on { StepsOn self.old self.new result (read its_index (lexicon.number number)) }
         ensures calm { IsCalm self.old self.new }
     {
         let is_within = u64::from(number) < self.width;
@@ -232,7 +232,7 @@ impl<'a> Seen<'a> {
 
     /// The low index of a range.
     pub(crate) fn read_low(&mut self, number: u32) -> Option<u8>
-        ensures on { ReadsOn self.old self.new result its_low (lexicon.number number) }
+        ensures on { StepsOn self.old self.new result (read its_low (lexicon.number number)) }
         ensures calm { IsCalm self.old self.new }
     {
         self.width = (u64::from(self.index) + 1).saturating_sub(u64::from(number));
@@ -241,7 +241,7 @@ impl<'a> Seen<'a> {
 
     /// The count of a repetition.
     pub(crate) fn read_count(&mut self, number: u32) -> Option<u8>
-        ensures on { ReadsOn self.old self.new result its_count (lexicon.number number) }
+        ensures on { StepsOn self.old self.new result (read its_count (lexicon.number number)) }
         ensures calm { IsCalm self.old self.new }
     {
         self.times = number;
@@ -250,7 +250,7 @@ impl<'a> Seen<'a> {
 
     /// A constant.
     pub(crate) fn read_constant(&mut self, width: u32, value: u64) -> Option<u8>
-        ensures on { ReadsOn self.old self.new result its_constant (lexicon.constant width value) }
+        ensures on { StepsOn self.old self.new result (read its_constant (lexicon.constant width value)) }
         ensures calm { IsCalm self.old self.new }
     {
         self.width = u64::from(width);
@@ -262,7 +262,7 @@ impl<'a> Seen<'a> {
 
     /// An operator.
     pub(crate) fn read_operator(&mut self, operator: Operator) -> Option<u8>
-        ensures on { ReadsOn self.old self.new result its_operator (lexicon.operator operator) }
+        ensures on { StepsOn self.old self.new result (read its_operator (lexicon.operator operator)) }
         ensures calm { IsCalm self.old self.new }
     {
         self.operator = operator;
@@ -272,7 +272,7 @@ impl<'a> Seen<'a> {
     /// The end of what names one thing in a term.
     fn end_simple(&mut self) -> Option<u8>
         requires { self.old.sum + self.old.times * self.old.width < 2 ^ 128 }
-        ensures on { EndsOn self.old self.new result of_simple }
+        ensures on { StepsOn self.old self.new result (ended of_simple) }
         ensures bounded { (broken : Option ℕ) → IsBounded self.old broken
             → IsBounded self.new (least broken result) }
     {
@@ -285,7 +285,7 @@ impl<'a> Seen<'a> {
 
     /// The end of a term.
     fn end_term(&mut self) -> Result<(), AllocError>
-        ensures on { OnOk result (EndsOn self.old self.new None of_term) }
+        ensures on { OnOk result (StepsOn self.old self.new None (ended of_term)) }
         ensures bounded { OnOk result ((broken : Option ℕ) → IsBounded self.old broken
             → IsBounded self.new (least broken None)) }
     {
@@ -296,7 +296,7 @@ impl<'a> Seen<'a> {
 
     /// The end of a right side that is one term.
     fn end_side(&mut self) -> Option<u8>
-        ensures on { EndsOn self.old self.new result of_side }
+        ensures on { StepsOn self.old self.new result (ended of_side) }
         ensures calm { IsStill self.old self.new }
     {
         let is_due = has_width(&self.widths, u128::from(self.due));
@@ -306,7 +306,7 @@ impl<'a> Seen<'a> {
 
     /// The end of the condition of a choice.
     fn end_condition(&mut self) -> Option<u8>
-        ensures on { EndsOn self.old self.new result of_condition }
+        ensures on { StepsOn self.old self.new result (ended of_condition) }
         ensures calm { IsStill self.old self.new }
     {
         unless(has_width(&self.widths, 1), 5)
@@ -314,7 +314,7 @@ impl<'a> Seen<'a> {
 
     /// The end of an operator's second operand.
     fn end_operand(&mut self) -> Option<u8>
-        ensures on { EndsOn self.old self.new result of_operand }
+        ensures on { StepsOn self.old self.new result (ended of_operand) }
         ensures calm { IsStill self.old self.new }
     {
         let is_due = make(self.operator, &self.widths, self.due);
@@ -325,7 +325,7 @@ impl<'a> Seen<'a> {
 
     /// The end of the second branch of a choice.
     fn end_branch(&mut self) -> Option<u8>
-        ensures on { EndsOn self.old self.new result of_branch }
+        ensures on { StepsOn self.old self.new result (ended of_branch) }
         ensures calm { IsStill self.old self.new }
     {
         let is_due = are_of_choice(&self.widths, u128::from(self.due));
@@ -335,7 +335,7 @@ impl<'a> Seen<'a> {
 
     /// The end of a wire with its assign.
     fn end_wire(&mut self) -> Result<(), AllocError>
-        ensures on { OnOk result (EndsOn self.old self.new None of_wire) }
+        ensures on { OnOk result (StepsOn self.old self.new None (ended of_wire)) }
         ensures calm { OnOk result (IsStill self.old self.new) }
     {
         self.names.define(self.declared, self.due)
@@ -343,7 +343,7 @@ impl<'a> Seen<'a> {
 
     /// The end of a module's wires.
     fn end_wires(&mut self)
-        ensures on { EndsOn self.old self.new None of_wires }
+        ensures on { StepsOn self.old self.new None (ended of_wires) }
         ensures calm { IsStill self.old self.new }
     {
         self.due = 32;
@@ -351,7 +351,7 @@ impl<'a> Seen<'a> {
 
     /// The end of the first three inputs of a wide module.
     fn end_three(&mut self) -> Result<(), AllocError>
-        ensures on { OnOk result (EndsOn self.old self.new None of_three) }
+        ensures on { OnOk result (StepsOn self.old self.new None (ended of_three)) }
         ensures calm { OnOk result (IsStill self.old self.new) }
     {
         self.wide = true;
@@ -363,7 +363,7 @@ impl<'a> Seen<'a> {
     #[tactic(auto, using(crate::proofs::SeenLaws::still))]
     pub(crate) fn end(&mut self, what: End) -> Result<Option<u8>, AllocError>
         requires { self.old.sum + self.old.times * self.old.width < 2 ^ 128 }
-        ensures on { IfOk result (λ broken. EndsOn self.old self.new broken (end_of what)) }
+        ensures on { IfOk result (λ broken. StepsOn self.old self.new broken (ended (end_of what))) }
         ensures bounded { IfOk result (λ broken. (before : Option ℕ) → IsBounded self.old before
             → IsBounded self.new (least before broken)) }
     {

@@ -1,5 +1,4 @@
 //! The tokens of a text of modules, as the code has them.
-ghost use Rattle.std.specs.Prelude.{◌≡◌};
 
 use ci_verilog::Operator;
 use std::mem::size_of;

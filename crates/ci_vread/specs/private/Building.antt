@@ -112,12 +112,9 @@ module _ {A : Type 0} (begins : List Token → Bool) (read : ℕ → List Token 
 -- ---- terms
 
 -- behind the high end of a range
-abbrev pub low_by : Bool → ℕ → List Token → ℕ × List Token
-low_by true high tokens = (number_in (front (drop 1 tokens)), drop 1 (drop 1 tokens))
-low_by false high tokens = (high, tokens)
-
 unfoldable pub low_of : ℕ → List Token → ℕ × List Token
-low_of high tokens = low_by (is_sign Colon (front tokens)) high tokens
+low_of high tokens =
+    if is_sign Colon (front tokens) then (number_in (front (drop 1 tokens)), drop 1 (drop 1 tokens)) else (high, tokens)
 
 -- behind `[`
 unfoldable pub bits_of : List ℕ → List Token → Simple × List Token
@@ -141,13 +138,15 @@ simple_of tokens = simple_by (constant_in (front tokens)) tokens
 unfoldable pub repeated_of : List Token → Simple × List Token
 repeated_of tokens = let simple = simple_of (drop 2 tokens) in (simple.0, drop 2 simple.1)
 
-abbrev pub item_by : Bool → List Token → Item × List Token
-item_by true tokens =
-    let simple = repeated_of (drop 1 tokens) in (as_item.Repeat (number_in (front (drop 1 tokens))) simple.0, simple.1)
-item_by false tokens = let simple = simple_of tokens in (as_item.Plain simple.0, simple.1)
+-- what was read, as a part of something
+abbrev pub read_as : {A B : Type 0} → (A → B) → A × List Token → B × List Token
+read_as make read = (make read.0, read.1)
 
 unfoldable pub item_of : List Token → Item × List Token
-item_of tokens = item_by (is_sign LeftBrace (front tokens)) tokens
+item_of tokens =
+    if is_sign LeftBrace (front tokens)
+    then read_as (λ s. as_item.Repeat (number_in (front (drop 1 tokens))) s) (repeated_of (drop 1 tokens))
+    else read_as (λ s. as_item.Plain s) (simple_of tokens)
 
 -- no concatenation has more than 64 items, since each has a bit
 unfoldable pub items_of : List Token → List Item × List Token
@@ -157,34 +156,28 @@ items_of tokens =
     (i.0 ∷ others.0, others.1)
 
 -- behind `{`
-abbrev pub inside_by : Bool → List Token → Term × List Token
-inside_by true tokens =
-    let simple = repeated_of tokens in (as_term.Repeat (number_in (front tokens)) simple.0, simple.1)
-inside_by false tokens = let items = items_of tokens in (as_term.Join items.0, drop 1 items.1)
-
 unfoldable pub inside_of : List Token → Term × List Token
-inside_of tokens = inside_by (is_number (front tokens)) tokens
-
-abbrev pub term_by : Bool → List Token → Term × List Token
-term_by true tokens = inside_of (drop 1 tokens)
-term_by false tokens = let simple = simple_of tokens in (as_term.Plain simple.0, simple.1)
+inside_of tokens =
+    if is_number (front tokens) then read_as (λ s. as_term.Repeat (number_in (front tokens)) s) (repeated_of tokens)
+    else (let items = items_of tokens in (as_term.Join items.0, drop 1 items.1))
 
 unfoldable pub term_of : List Token → Term × List Token
-term_of tokens = term_by (is_sign LeftBrace (front tokens)) tokens
+term_of tokens =
+    if is_sign LeftBrace (front tokens) then inside_of (drop 1 tokens)
+    else read_as (λ s. as_term.Plain s) (simple_of tokens)
 
 -- ---- modules
 
 -- behind the first term
-abbrev pub choice_by : Bool → Term → List Token → Expr × List Token
-choice_by true test tokens =
+abbrev pub choice_of : Term → List Token → Expr × List Token
+choice_of t tokens =
     let first = term_of (drop 1 tokens) in
     let second = term_of (drop 1 first.1) in
-    (Choose test first.0 second.0, second.1)
-choice_by false t tokens = (One t, tokens)
+    if is_sign Question (front tokens) then (Choose t first.0 second.0, second.1) else (One t, tokens)
 
 abbrev pub others_by : Option Operator → Term → List Token → Expr × List Token
 others_by (Some o) l tokens = let r = term_of (drop 1 tokens) in (Two o l r.0, r.1)
-others_by None t tokens = choice_by (is_sign Question (front tokens)) t tokens
+others_by None t tokens = choice_of t tokens
 
 unfoldable pub others_of : Term → List Token → Expr × List Token
 others_of t tokens = others_by (operator_in (front tokens)) t tokens
@@ -207,12 +200,8 @@ unfoldable pub result_of : List Token → Expr × List Token
 result_of tokens = let value = expr_of (drop 3 tokens) in (value.0, drop 1 value.1)
 
 -- the result x, where a module has it
-abbrev pub third_by : Bool → List Token → Expr × List Token
-third_by true tokens = result_of tokens
-third_by false tokens = (nothing, tokens)
-
 unfoldable pub third_of : Bool → List Token → Expr × List Token
-third_of wide tokens = third_by wide tokens
+third_of wide tokens = if wide then result_of tokens else (nothing, tokens)
 
 -- Behind its first three inputs, a fourth or the results follow.
 unfoldable pub is_wide : List Token → Bool

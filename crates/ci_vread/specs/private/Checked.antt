@@ -3,16 +3,15 @@ use Rattle.std.specs.Prelude.{◌≡◌, ℕ, ◌+◌, ◌*◌, ◌^◌, ◌<◌
 use Rattle.std.specs.List.{AllByRecursion}
 use Rattle.ci_verilog.specs.Modules.{Known}
 use Rattle.ci_vread.specs.declared.seen.Seen.{Seen as SeenValue}
-use Rattle.ci_vread.specs.declared.tokens.Token.{Token as TokenValue}
 use Rattle.ci_reading.specs.Tokens.{token}
 use Rattle.ci_vread.specs.declared.grammar.Role.{Role as RoleValue}
 use Rattle.ci_vread.specs.declared.grammar.Role.TheVariants as role
 use Rattle.ci_vread.specs.declared.tokens.Kind.{Kind}
 use Rattle.ci_vread.specs.declared.tokens.Kind.TheVariants as kind
 use Rattle.ci_vread.specs.private.Tables.{IsOperator, IsUse}
-use Rattle.ci_vread.specs.private.Scanned.{symbol_by, symbol_of}
-use Rattle.ci_vread.specs.Lexicon.{Token, number, name}
-use Rattle.ci_vread.specs.Grammar.{Role, End, Fits, read, ended}
+use Rattle.ci_vread.specs.private.Scanned.{symbol_by}
+use Rattle.ci_vread.specs.Lexicon.{number, name}
+use Rattle.ci_vread.specs.Grammar.{Event}
 use Rattle.ci_vread.specs.Rules.{Seen, Rule, behind, rules_of, IsFirst}
 use Rattle.ci_vread.specs.private.Names.{Knows}
 
@@ -47,11 +46,11 @@ abbrev pub IsLeast : Option ℕ → ℕ → List Rule → Type 0
 IsLeast None place rules = AllByRecursion (λ r. r.is_kept ≡ true) rules
 IsLeast (Some kind) place rules = IsFirst rules kind place
 
--- A token in its role leads from one value to the other, and this kind of rule is broken there.
-abbrev pub ReadsOn : SeenValue → SeenValue → Option ℕ → Role → Token → Type 0
-ReadsOn old new broken role t = (known : List Known) (place : ℕ) → Knows old.names known
-    → Shows new (behind (seen_of old known) (read role t place))
-    × IsLeast broken place (rules_of (seen_of old known) (read role t place))
+-- An event leads from one value to the other, and this kind of rule is broken there.
+abbrev pub StepsOn : SeenValue → SeenValue → Option ℕ → (ℕ → Event) → Type 0
+StepsOn old new broken event = (known : List Known) (place : ℕ) → Knows old.names known
+    → Shows new (behind (seen_of old known) (event place))
+    × IsLeast broken place (rules_of (seen_of old known) (event place))
 
 -- tokens of this kind can have the role
 abbrev pub Suits : RoleValue → Kind → List ℕ → Type 0
@@ -69,19 +68,6 @@ Suits role.Low k bytes = k ≡ kind.Number
 Suits role.Count k bytes = k ≡ kind.Number
 Suits role.Constant k bytes = k ≡ kind.Constant
 Suits role.Operator k bytes = IsOperator k
-
--- the token can have the role, and cannot have it
-abbrev pub CanHave : List ℕ → TokenValue → Role → Type 0
-CanHave text value role = (t : Token) × (symbol_of text value ≡ token t) × Fits role t
-
-abbrev pub CanNotHave : List ℕ → TokenValue → Role → Type 0
-CanNotHave text value role = (t : Token) → symbol_of text value ≡ token t → ¬ Fits role t
-
--- the same of what ended
-abbrev pub EndsOn : SeenValue → SeenValue → Option ℕ → End → Type 0
-EndsOn old new broken what = (known : List Known) (place : ℕ) → Knows old.names known
-    → Shows new (behind (seen_of old known) (ended what place))
-    × IsLeast broken place (rules_of (seen_of old known) (ended what place))
 
 -- what is bounded as long as no rule is broken is the same
 abbrev pub IsCalm : SeenValue → SeenValue → Type 0

@@ -18,15 +18,12 @@ text_of text t = slice_range text t.start (t.start + t.size)
 abbrev pub word_in : List ℕ → ℕ
 word_in digits = digits_value 10 digits % 2 ^ 32
 
--- how many bytes stand before the quote of a constant
-abbrev pub before_quote : List ℕ → ℕ
-before_quote bytes = run BeforeQuote bytes
-
+-- of a constant, before its quote and behind it
 abbrev pub width_in : List ℕ → ℕ
-width_in bytes = word_in (take (before_quote bytes) bytes)
+width_in bytes = word_in (take (run BeforeQuote bytes) bytes)
 
 abbrev pub value_in : List ℕ → ℕ
-value_in bytes = digits_value 16 (drop (before_quote bytes + 2) bytes) % 2 ^ 64
+value_in bytes = digits_value 16 (drop (run BeforeQuote bytes + 2) bytes) % 2 ^ 64
 
 -- behind `// cycles `; the newline isn't among the token's bytes that count
 abbrev pub cycles_in : List ℕ → ℕ

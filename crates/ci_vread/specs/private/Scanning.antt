@@ -56,10 +56,10 @@ marks =
     Opening ∷ Closing ∷ LeftBracket ∷ RightBracket ∷ LeftBrace ∷ RightBrace ∷ Comma ∷ Semicolon ∷ Colon ∷ Equals
     ∷ Question ∷ []
 
--- the one of these signs that is written so
-abbrev pub sign_among : List Sign → List ℕ → Option Sign
-sign_among [] bytes = None
-sign_among (s ∷ signs) bytes = if bytes_eq bytes (spelling s) then Some s else sign_among signs bytes
+-- the one of these that is written so
+abbrev pub among : {A : Type 0} → (A → List ℕ) → List A → List ℕ → Option A
+among written [] bytes = None
+among written (x ∷ xs) bytes = if bytes_eq bytes (written x) then Some x else among written xs bytes
 
 abbrev pub shifts : List Operator
 shifts = Left ∷ Right ∷ []
@@ -67,11 +67,6 @@ shifts = Left ∷ Right ∷ []
 -- operators of one byte
 abbrev pub singles : List Operator
 singles = Plus ∷ Minus ∷ Times ∷ And ∷ Or ∷ Xor ∷ Less ∷ []
-
-abbrev pub operator_among : List Operator → List ℕ → Option Operator
-operator_among [] bytes = None
-operator_among (o ∷ operators) bytes =
-    if bytes_eq bytes (operator_spelling o) then Some o else operator_among operators bytes
 
 -- ---- tokens by their bytes
 
@@ -81,7 +76,7 @@ word_by bytes (Some s) = sign s
 
 -- a word, a name, or letters that are too many for a name
 abbrev pub word_token : List ℕ → Token
-word_token bytes = if nat_lt 32 (length bytes) then never else word_by bytes (sign_among words bytes)
+word_token bytes = if nat_lt 32 (length bytes) then never else word_by bytes (among spelling words bytes)
 
 -- the digits write a number: they are one to seven, without zeros before it
 abbrev pub is_good : List ℕ → Bool
@@ -132,7 +127,7 @@ single_by None None = None
 
 -- an operator or mark of one byte
 abbrev pub single : ℕ → Option (Token × ℕ)
-single c = single_by (operator_among singles (c ∷ [])) (sign_among marks (c ∷ []))
+single c = single_by (among operator_spelling singles (c ∷ [])) (among spelling marks (c ∷ []))
 
 abbrev pub mark_by : Option Operator → ℕ → Option (Token × ℕ)
 mark_by (Some o) c = Some (operator o, 2)
@@ -140,7 +135,7 @@ mark_by None c = single c
 
 -- an operator or mark, by its first byte and the next
 unfoldable pub mark_at : ℕ → ℕ → Option (Token × ℕ)
-mark_at c next = mark_by (operator_among shifts (c ∷ next ∷ [])) c
+mark_at c next = mark_by (among operator_spelling shifts (c ∷ next ∷ [])) c
 
 unfoldable pub scan : List ℕ → Option (Token × ℕ)
 scan text =

@@ -1,5 +1,5 @@
 use Rattle.std.proofs.Common.{◌≡◌, [], ◌∷◌, ◌++◌, ◌<◌, List, ℕ, Option, refl, ap, sym, ◌∙◌, subst, arith}
-use Rattle.ci_reading.specs.Tokens.{at}
+use Rattle.ci_reading.specs.Tokens.{text_end, at}
 use Rattle.ci_vread.specs.declared.grammar.Part.{Part as PartValue}
 use Rattle.ci_vread.specs.declared.grammar.Part.TheVariants as part
 use Rattle.ci_vread.specs.declared.tokens.Kind.{Kind}
@@ -10,7 +10,8 @@ use Rattle.ci_vread.specs.private.Tables.{due_of, phrase_of, end_of, part_of}
 use Rattle.ci_vread.specs.private.Checked.{IsBounded}
 use Rattle.ci_vread.specs.private.Led.{Leads}
 use Rattle.ci_vread.proofs.CheckerSteps.{opened, closed}
-use Rattle.ci_vread.proofs.CheckerLaws.{needs, needs_not, is_end, popped, due_popped, no_parts, ends_on}
+use Rattle.ci_vread.proofs.RoleLaws.{of_symbol}
+use Rattle.ci_vread.proofs.CheckerLaws.{needs, needs_not, popped, due_popped, no_parts, steps_on}
 use Rattle.ci_vread.proofs.Work.{work, falls, IsQuiet, stays_quiet}
 use Rattle.ci_vread.proofs.checking.Checker.next_due.Goals as goal
 
@@ -24,7 +25,7 @@ loop-part-preserved-in-Ends c = record {
   led = λ rules symbols place bytes there.
       let o = popped rules (at place (symbol_by c.args.next bytes) ∷ symbols) c.loop-part.self c.pop.new.self.items c.in-Some.part
       (part.Ends c.in-Ends.what) c.in-Some.ensures.items c.in-Ends.is (c.loop-part.invariant.led rules symbols place bytes there) in
-      let n = ends_on c.loop-part.self.seen c.end.new.self c.in_ok-broken-in-Ends.broken (end_of c.in-Ends.what)
+      let n = steps_on c.loop-part.self.seen c.end.new.self c.in_ok-broken-in-Ends.broken (ended (end_of c.in-Ends.what))
       c.in_ok-broken-in-Ends.ensures.on o.0 c.loop-part.self.last o.1 in (
         behind o.0 (ended (end_of c.in-Ends.what) c.loop-part.self.last),
         n.0,
@@ -77,7 +78,7 @@ loop-part-preserved c = record {
         o.0,
         o.1,
         subst (λ (l : List Part). Leads rules (at place next ∷ symbols) c.loop-part.self.last l c.loop-part.self.broken o.0) (sym now)
-            (opened (λ e. needs_not c.in-Made.phrase (c.if-is_cut_off.ensures.whole refl (is_end c.args.next bytes e))) o.2),
+            (opened (λ e. needs_not c.in-Made.phrase (c.if-is_cut_off.ensures.whole refl (of_symbol c.args.next bytes text_end e))) o.2),
       );
   last = c.loop-part.invariant.last;
   bounded = c.loop-part.invariant.bounded;
