@@ -25,11 +25,38 @@ def layers(below):
     return found, [name for name in below if name not in done]
 
 
+def modules(crate, whole=False):
+    """The modules of a crate; all of them, or those that stand in no other."""
+    top = os.path.join(TOP, "crates", crate, "src")
+    files = sorted(os.path.relpath(os.path.join(folder, name), top) for folder, _, names in os.walk(top)
+                   for name in names if whole or folder == top)
+    return [name.removesuffix(".rt") for name in files if name.endswith(".rt") and name != "lib.rt"]
+
+
 def row(layer, crate):
     """A crate with its layer and its modules."""
-    files = sorted(os.listdir(os.path.join(TOP, "crates", crate, "src")))
-    modules = " ".join(name.removesuffix(".rt") for name in files if name.endswith(".rt") and name != "lib.rt")
-    return textwrap.fill(modules, 100, initial_indent=f"{layer}  {crate:13}  ", subsequent_indent=" " * 18) + "\n"
+    return textwrap.fill(" ".join(modules(crate)), 100, initial_indent=f"{layer}  {crate:13}  ",
+                         subsequent_indent=" " * 18) + "\n"
+
+
+def sentence(crate, module):
+    """The first sentence that a module says of itself."""
+    said = re.match(r"(?://!.*\n)*", text_of(f"crates/{crate}/src/{module}.rt"))[0].replace("//!", " ")
+    return re.split(r"(?<=[.]) |(?<=[.])$", " ".join(said.split()))[0]
+
+
+def figures(found):
+    """The figures by name, and the modules that say nothing of themselves."""
+    said = {f"{crate}/{module}": sentence(crate, module)
+            for crate in crates() if crate not in TESTS for module in modules(crate, whole=True)}
+    made = {
+        "layers": "".join(row(number, crate) for number, layer in reversed(list(enumerate(found, 1)))
+                          for crate in layer),
+        "modules": "".join(textwrap.fill(text, 110, initial_indent=f"{name:26}  ", subsequent_indent=" " * 28) + "\n"
+                           for name, text in said.items()),
+    }
+    return made, [f"crates/{name.replace('/', '/src/', 1)}.rt says nothing of itself" for name, text in said.items()
+                  if not text]
 
 
 def main():

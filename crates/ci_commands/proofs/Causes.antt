@@ -23,6 +23,10 @@ IsCause-weaker P Q follows (Unsupported position word) is = follows position wor
 IsCause-weaker P Q follows NoMemory is = tt
 IsCause-weaker P Q follows refusal is = absurd is
 
+pub unsupported_cause : (P : ℕ → ℕ → Type 0) (refusal : Refusal) → IsUnsupported P refusal → IsCause P refusal
+unsupported_cause P (Unsupported position word) is = is
+unsupported_cause P refusal is = absurd is
+
 -- of files that are all read a command refuses what has such a cause
 module _
     (read_may_fail write_may_fail : List ℕ → Bool) (before after : ShelfState) (inputs : List Input)

@@ -2,6 +2,7 @@
 ghost use Rattle.std.specs.Prelude.{[], IfOk, IfErr};
 ghost use Rattle.ci_block.specs.CustomWords.{HasNoCustomWord, IsFirstCustomWord};
 ghost use Rattle.ci_live.specs.Analyses.{IsAnalysis};
+ghost use Rattle.ci_calls.specs.Evaluations.{IsUnsupported};
 ghost use Rattle.ci_commands.specs.private.Causes.{IsCause};
 
 use ci_block::{CustomWord, first_custom_word};
@@ -17,7 +18,7 @@ use std::alloc::Global;
 /// `Unsupported` where it has one: the first, at its address.
 pub fn refuse_custom_words<'a>(image: &Image) -> Result<(), Refusal<'a>>
     ensures none { IfOk result (λ _. HasNoCustomWord image.now) }
-    ensures cause { IfErr result (IsCause (IsFirstCustomWord image.now)) }
+    ensures cause { IfErr result (IsUnsupported (IsFirstCustomWord image.now)) }
 {
     match first_custom_word(image) {
         Some(CustomWord { address, word }) => Err(Refusal::Unsupported {

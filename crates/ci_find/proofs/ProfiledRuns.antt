@@ -14,13 +14,13 @@ use Rattle.ci_emu.specs.declared.profile.Profile.{Profile}
 use Rattle.ci_emu.specs.Profiles.{IsProfileOf, IsTouch}
 use Rattle.ci_select.specs.Instances.{instance_of}
 use Rattle.ci_calls.specs.declared.refusals.Refusal.{Refusal}
-use Rattle.ci_calls.specs.declared.refusals.Refusal.TheVariants.{Unsupported, NoMemory}
+use Rattle.ci_calls.specs.declared.refusals.Refusal.TheVariants.{Unsupported}
 use Rattle.ci_calls.specs.declared.success.Success.{Success}
 use Rattle.ci_calls.specs.Files.{optional_bytes, AreGiven, AreLatencies, input_bytes}
+use Rattle.ci_calls.specs.Evaluations.{IsUnsupported}
 use Rattle.ci_calls.specs.Inputs.{Input}
 use Rattle.ci_calls.specs.Reads.{HaveRead, IsSuccessOf, IsRefusalOf}
 use Rattle.ci_calls.proofs.InputLaws.{read_without_memory}
-use Rattle.ci_commands.specs.private.Causes.{IsCause}
 use Rattle.ci_find.specs.Profiled.{Settings, RunFiles, IsProfiled, IsUnprofiled, custom}
 use Rattle.ci_find.specs.FindCommand.{FindNames, IsChoice, IsFindMade, IsFindRefused}
 use Rattle.ci_find.specs.private.Unprofiled.{IsUnprofiledCause}
@@ -29,10 +29,9 @@ use Rattle.ci_find.specs.private.Unprofiled.{IsUnprofiledCause}
 
 -- the first word of a custom opcode is why the executable can't be chosen from
 pub custom_refused :
-    (file : Executable) (input : List ℕ) (steps : ℕ) (refusal : Refusal) → IsCause (IsFirstCustomWord file) refusal
-    → IsUnprofiledCause file input steps refusal
+    (file : Executable) (input : List ℕ) (steps : ℕ) (refusal : Refusal)
+    → IsUnsupported (IsFirstCustomWord file) refusal → IsUnprofiledCause file input steps refusal
 custom_refused file input steps (Unsupported position word) first = inl (custom first)
-custom_refused file input steps NoMemory there = inr refl
 custom_refused file input steps refusal cause = absurd cause
 
 module _ (meaning : Meaning) (file : Executable) (input : List ℕ) (steps : ℕ) where

@@ -1,5 +1,5 @@
 //! Files, their leaders and their blocks.
-ghost use Rattle.std.specs.Prelude.{◌≡◌, ◌+◌, ◌<◌, ◌≤◌, length, vec_len};
+ghost use Rattle.std.specs.Prelude.{◌+◌, ◌<◌, length};
 
 use crate::common::{calls, changed, image_of, table};
 use ci_block::{Blocks, CustomWord, Next, first_custom_word, leaders, split};

@@ -1,5 +1,5 @@
 //! What several modules of tests share: the smallest files with some text, a program, and sets of registers.
-ghost use Rattle.std.specs.Prelude.{◌≡◌, ◌+◌, ◌<◌, ◌≤◌, length, vec_len, IfOk};
+ghost use Rattle.std.specs.Prelude.{◌+◌, ◌<◌, IfOk};
 ghost use Rattle.ci_rewrite.specs.Blocks.{AllFieldsFit};
 
 use byteorder::{ByteOrder, LittleEndian};

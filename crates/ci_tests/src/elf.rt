@@ -1,5 +1,5 @@
 //! Files, and what they read as.
-ghost use Rattle.std.specs.Prelude.{◌≡◌, ◌+◌, ◌<◌, ◌≤◌, length, vec_len};
+ghost use Rattle.std.specs.Prelude.{◌+◌, ◌<◌};
 
 use crate::common::change;
 use ci_elf::{ElfFault, Image, Places, Range, Segment, frame, range_with, read};

@@ -38,6 +38,8 @@ mod log;
 #[cfg(test)]
 mod machine;
 #[cfg(test)]
+mod plan;
+#[cfg(test)]
 mod reading;
 #[cfg(test)]
 mod region;

@@ -241,7 +241,7 @@ fn inputs(rt: &impl AllocGlobal, number: u8) -> Result<String, AllocError> {
 }
 
 /// The first two lines of a module.
-fn head(rt: &impl AllocGlobal, number: u8, wide: bool) -> Result<String, AllocError> {
+pub(crate) fn head(rt: &impl AllocGlobal, number: u8, wide: bool) -> Result<String, AllocError> {
     let mut text = inputs(rt, number)?;
     text.push_str(if wide { WIDE } else { NARROW })?;
     Ok(text)

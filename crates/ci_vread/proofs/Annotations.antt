@@ -1,12 +1,13 @@
 -- Each list of symbols of a text goes on with the grammar in just one way.
-use Rattle.std.proofs.Common.{◌≡◌, ℕ, zero, suc, ◌≤◌, inl, inr, List, [], ◌∷◌, ◌++◌, length, map, refl, ap, arith, true, false}
+use Rattle.std.proofs.Common.{◌≡◌, ℕ, zero, suc, ◌<◌, ◌≤◌, inl, inr, List, [], ◌∷◌, ◌++◌, length, map, refl, ap, sym, subst, append_assoc, arith}
 use Rattle.ci_reading.specs.Tokens.{token, stray_byte, text_end, at}
-use Rattle.ci_vread.specs.declared.tokens.Sign.TheVariants.{ModuleWord, InputWord, WireWord, LeftBracket, LeftBrace, Comma, Colon, Question}
-use Rattle.ci_vread.specs.Lexicon.{Token, sign, operator, number, constant}
-use Rattle.ci_vread.specs.Grammar.{Symbol, Placed, Role, is, its_cycles, its_module, Part, reads, ends, made, End, Phrase, parts_of, first_ports, other_ports, repetition}
-use Rattle.ci_vread.specs.Grammar.{units, body, wires, side, others, term, inside, item, items, simple, bits, range, NeedsNext, of_bits, of_others}
+use Rattle.ci_vread.specs.declared.tokens.Sign.TheVariants.{ModuleWord}
+use Rattle.ci_vread.specs.Lexicon.{Token, sign}
+use Rattle.ci_vread.specs.Grammar.{Symbol, Placed, Role, is, its_cycles, its_module, Part, reads, ends, made, End, Phrase, parts_of, first_ports}
+use Rattle.ci_vread.specs.Grammar.{units, body, others, bits, NeedsNext, of_bits, of_others}
 use Rattle.ci_vread.specs.Grammar.{Event, read, ended, Finish, Goes, all_read, by_parts, by_end, by_token, bad_token, bad_byte, no_token, no_next}
 use Rattle.ci_vread.proofs.TokenDecisions.{Decided, fits_or_not}
+use Rattle.ci_vread.proofs.Work.{work, falls}
 
 -- ---- one way
 
@@ -46,6 +47,10 @@ pub record HasRun (last : ℕ) (due : List Part) (symbols : List Placed) : Type 
   pub finish : Finish
   pub goes : Goes last due symbols events finish
 
+-- a module behind its cycles
+abbrev behind_cycles : List Part
+behind_cycles = reads (is (sign ModuleWord)) ∷ reads its_module ∷ map (λ t. reads (is t)) first_ports ++ made body ∷ []
+
 -- with these parts due, each list of at most so many symbols goes on in some way
 abbrev pub Runs : ℕ → List Part → Type 0
 Runs n due = (last : ℕ) (symbols : List Placed) → AreEnded symbols → length symbols ≤ n → HasRun last due symbols
@@ -84,119 +89,42 @@ module _ {n : ℕ} {due : List Part} where
       ]
       by _ (behind {place = q} {t = t} {symbols = symbols} e) short = opened q (token t) symbols (λ f. absurd (cc)) (behind e) short
 
-fewer : {m n : ℕ} {due : List Part} → m ≤ n → Runs n due → Runs m due
-fewer h g last symbols e short = g last symbols e (omega (arith, h, short))
-
 none_short : {due : List Part} → Runs 0 due
 none_short last _ by_stray short = absurd (omega (arith, short))
 none_short last _ by_text_end short = absurd (omega (arith, short))
 none_short last _ (behind e) short = absurd (omega (arith, short))
 
--- one token more
-step : {n : ℕ} {due : List Part} {role : Role} → Runs n due → Runs n (reads role ∷ due)
-step {n} g = fewer (omega arith) (reads_run {n = n} g)
+-- these parts, and modules behind them
+abbrev before_units : List Part → List Part
+before_units due = due ++ made units ∷ []
 
-range_run : {n : ℕ} {due : List Part} → Runs n due → Runs n (made range ∷ due)
-range_run {n} {due} g = phrase_run opens
-  where
-    opens : (x : Symbol) → Runs n (parts_of range x ++ due)
-    opens (token (sign Colon)) = step (step g)
-    opens x = g
+opened_before : {n w : ℕ} (parts due : List Part) → work (parts ++ before_units due) < w
+    → (work (before_units (parts ++ due)) < w → Runs n (before_units (parts ++ due))) → Runs n (parts ++ before_units due)
+opened_before {n} {w} parts due less g =
+    let same = append_assoc parts due (made units ∷ []) in subst (Runs n) same (g (subst (λ ps. work ps < w) (sym same) less))
 
-bits_run : {n : ℕ} {due : List Part} → Runs n due → Runs n (made bits ∷ due)
-bits_run {n} {due} g = phrase_run opens
-  where
-    opens : (x : Symbol) → Runs n (parts_of bits x ++ due)
-    opens (token (sign LeftBracket)) = step (step (range_run (step g)))
-    opens x = g
+-- where only modules are due, the text ends or another one begins
+units_run : (n : ℕ) → ((due : List Part) → Runs n (before_units due)) → Runs (suc n) (made units ∷ [])
+units_run n again last _ by_text_end short = record { events = []; finish = _; goes = by_parts (λ e m. elim m [ ]) all_read }
+units_run n again last _ by_stray short = record { events = []; finish = _; goes = by_parts (λ e m. elim m [ ]) bad_byte }
+units_run n again last _ (behind {place = p} {t = t} e) short =
+    let o = reads_run {role = its_cycles} (again behind_cycles) last _ (behind {place = p} {t = t} e) short in
+    record { events = o.events; finish = o.finish; goes = by_parts (λ e m. elim m [ ]) o.goes }
 
-simple_run : {n : ℕ} {due : List Part} → Runs n due → Runs n (made simple ∷ due)
-simple_run {n} {due} g = phrase_run opens
-  where
-    opens : (x : Symbol) → Runs n (parts_of simple x ++ due)
-    opens (token (constant w v)) = step (ends_run g)
-    opens x = step (bits_run (ends_run g))
-
-repetition_run : {n : ℕ} {due : List Part} → Runs n due → Runs n (repetition ++ due)
-repetition_run g = step (step (simple_run (step (step g))))
-
-item_run : {n : ℕ} {due : List Part} → Runs n due → Runs n (made item ∷ due)
-item_run {n} {due} g = phrase_run opens
-  where
-    opens : (x : Symbol) → Runs n (parts_of item x ++ due)
-    opens (token (sign LeftBrace)) = step (repetition_run g)
-    opens x = simple_run g
-
-items_run : (n : ℕ) {due : List Part} → Runs n due → Runs n (made items ∷ due)
-items_run zero g = none_short
-items_run (suc n) {due} g = phrase_run (opens (items_run n (fewer (omega arith) g)))
-  where
-    opens : Runs n (made items ∷ due) → (x : Symbol) → Runs (suc n) (parts_of items x ++ due)
-    opens again (token (sign Comma)) = reads_run (item_run again)
-    opens again x = step g
-
-inside_run : {n : ℕ} {due : List Part} → Runs n due → Runs n (made inside ∷ due)
-inside_run {n} {due} g = phrase_run opens
-  where
-    opens : (x : Symbol) → Runs n (parts_of inside x ++ due)
-    opens (token (number m)) = repetition_run g
-    opens x = item_run (items_run n g)
-
-term_run : {n : ℕ} {due : List Part} → Runs n due → Runs n (made term ∷ due)
-term_run {n} {due} g = phrase_run opens
-  where
-    opens : (x : Symbol) → Runs n (parts_of term x ++ due)
-    opens (token (sign LeftBrace)) = step (inside_run (ends_run g))
-    opens x = simple_run (ends_run g)
-
-others_run : {n : ℕ} {due : List Part} → Runs n due → Runs n (made others ∷ due)
-others_run {n} {due} g = phrase_run opens
-  where
-    opens : (x : Symbol) → Runs n (parts_of others x ++ due)
-    opens (token (operator o)) = step (term_run (ends_run g))
-    opens (token (sign Question)) = ends_run (step (term_run (step (term_run (ends_run g)))))
-    opens x = ends_run g
-
-side_run : {n : ℕ} {due : List Part} → Runs n due → Runs n (made side ∷ due)
-side_run g = phrase_run (λ x. term_run (others_run g))
-
-wires_run : (n : ℕ) {due : List Part} → Runs n due → Runs n (made wires ∷ due)
-wires_run zero g = none_short
-wires_run (suc n) {due} g = phrase_run (opens (wires_run n (fewer (omega arith) g)))
-  where
-    opens : Runs n (made wires ∷ due) → (x : Symbol) → Runs (suc n) (parts_of wires x ++ due)
-    opens again (token (sign WireWord)) = reads_run (step (step (step (step (step (step (step (step (step (step (side_run (step (ends_run again)))))))))))))
-    opens again x = g
-
-tokens_run : {n : ℕ} {due : List Part} (tokens : List Token) → Runs n due → Runs n (map (λ t. reads (is t)) tokens ++ due)
-tokens_run [] g = g
-tokens_run (t ∷ tokens) g = step (tokens_run tokens g)
-
--- `assign`, a result, `=`, its side and `;`
-result_run : {n : ℕ} {due : List Part} {one two three four : Role} → Runs n due → Runs n (reads one ∷ reads two ∷ reads three ∷ made side ∷ reads four ∷ due)
-result_run g = step (step (step (side_run (step g))))
-
-body_run : (n : ℕ) {due : List Part} → Runs n due → Runs n (made body ∷ due)
-body_run n {due} g = phrase_run opens
-  where
-    opens : (x : Symbol) → Runs n (parts_of body x ++ due)
-    opens (token (sign InputWord)) =
-        ends_run (tokens_run (other_ports true) (wires_run n (ends_run (result_run (result_run (result_run (step g)))))))
-    opens x = tokens_run (other_ports false) (wires_run n (ends_run (result_run (result_run (step g)))))
+-- with less work than w in front of the next token, where it goes on behind that one
+within : (n : ℕ) → ((due : List Part) → Runs n (before_units due)) → (w : ℕ) (due : List Part) → work (before_units due) < w
+    → Runs (suc n) (before_units due)
+within n again zero due less = absurd (omega (arith, less))
+within n again (suc w) [] less = units_run n again
+within n again (suc w) (reads role ∷ due) less = reads_run (again due)
+within n again (suc w) (ends what ∷ due) less = ends_run (within n again w due (omega (arith, less)))
+within n again (suc w) (made p ∷ due) less =
+    phrase_run (λ x. opened_before (parts_of p x) due (omega (arith, falls p x (before_units due), less)) (within n again w (parts_of p x ++ due)))
 
 -- symbols of a text go on with the grammar in some way
-pub goes_somehow : (n : ℕ) → Runs n (made units ∷ [])
-goes_somehow zero = none_short
-goes_somehow (suc n) = by (goes_somehow n)
-  where
-    no_need : {A : Type 0} → A → ¬ NeedsNext units
-    no_need a m = elim m [ ]
+runs : (n : ℕ) (due : List Part) → Runs n (before_units due)
+runs zero due = none_short
+runs (suc n) due = within n (runs n) (suc (work (before_units due))) due (omega arith)
 
-    by : Runs n (made units ∷ []) → Runs (suc n) (made units ∷ [])
-    by again last _ by_text_end short = record { events = []; finish = _; goes = by_parts no_need all_read }
-    by again last _ by_stray short = record { events = []; finish = _; goes = by_parts no_need bad_byte }
-    by again last _ (behind {place = p} {t = t} e) short =
-        let inside = tokens_run first_ports (body_run n again) in
-        let header = reads_run {role = its_cycles} (step {role = is (sign ModuleWord)} (step {role = its_module} inside)) in
-        let o = header last _ (behind {place = p} {t = t} e) short in
-        record { events = o.events; finish = o.finish; goes = by_parts no_need o.goes }
+pub goes_somehow : (n : ℕ) → Runs n (made units ∷ [])
+goes_somehow n = runs n []

@@ -6,4 +6,5 @@ pub use ci_emu::{End, Outcome, Profile};
 pub use running::{run_x, step_x};
 
 mod machine;
+mod prepared;
 mod running;

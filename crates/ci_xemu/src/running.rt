@@ -9,9 +9,11 @@ ghost use Rattle.ci_emu.specs.Steps.{IsReached, IsStep};
 ghost use Rattle.ci_emu.specs.TableLatencies.{latencies_of};
 
 use crate::machine::ExtendedMachine;
+use crate::prepared::PreparedMachine;
 use ci_emu::{Outcome, Profile, run_on, step_on};
 use ci_lat::Table;
 use ci_machine::State;
+use ci_plan::prepare;
 use ci_verilog::Module;
 use std::alloc::{AllocError, Global};
 
@@ -49,5 +51,6 @@ pub fn run_x(
         (IsReached (IsExtended modules.now) (program_of state.old) (state_of state.old) n (state_of state.new)) }
     ensures program { program_of state.new ≡ program_of state.old }
 {
-    run_on(alloc, &ExtendedMachine { modules }, state, table, n)
+    let units = prepare(alloc, modules)?;
+    run_on(alloc, &PreparedMachine { units: &units }, state, table, n)
 }

@@ -1,0 +1,6 @@
+pub mod Steps
+pub mod Drafts
+pub mod Factors
+pub mod Names
+pub mod Operators
+pub mod Plans
