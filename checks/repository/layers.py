@@ -1,9 +1,10 @@
-"""Compares the figure of the layers in docs/ARCHITECTURE.md with crates.txt and the modules of crates: a row for each
-crate, those of the highest layer first, with its layer and the modules of its src/.
+"""Compares two figures in docs/ARCHITECTURE.md with crates.txt and the modules of crates. That of the layers has a row
+for each crate, those of the highest layer first, with its layer and the modules of its src/. That of the modules has a
+row for each module of a crate with code, in the order of crates.txt, with the first sentence that it says of itself.
 
 A crate that stands on no other is in layer 1, and each other one in the layer above the highest that it stands on.
-With `--write` the figure is made anew. It ends with status 1 where the figure is another one, and where crates.txt
-names a crate in a circle.
+With `--write` the figures are made anew. It ends with status 1 where a figure is another one, where a module says
+nothing of itself, and where crates.txt names a crate in a circle.
 """
 import os
 import re
@@ -12,7 +13,8 @@ import textwrap
 from checks.common import TOP, crates, end, text_of, words
 
 DOCUMENT = "docs/ARCHITECTURE.md"
-FIGURE = re.compile(r"(?<=<!-- layers -->\n```text\n).*?(?=```\n<!-- /layers -->\n)", re.S)
+# Crates that have no code but tests.
+TESTS = "ci_tests", "ci_call_tests"
 
 
 def layers(below):
@@ -61,17 +63,20 @@ def figures(found):
 
 def main():
     parser = words(__doc__)
-    parser.add_argument("--write", action="store_true", help="makes the figure anew")
+    parser.add_argument("--write", action="store_true", help="makes the figures anew")
     write = parser.parse_args().write
     found, circle = layers(crates())
-    faults = [f"crates.txt: {name} stands in a circle" for name in circle]
-    made = "".join(row(number, crate) for number, layer in reversed(list(enumerate(found, 1))) for crate in layer)
+    made, faults = figures(found)
+    faults += [f"crates.txt: {name} stands in a circle" for name in circle]
     text = text_of(DOCUMENT)
+    for name, figure in made.items():
+        place = re.compile(rf"(?<=<!-- {name} -->\n```text\n).*?(?=```\n<!-- /{name} -->\n)", re.S)
+        if not write and place.findall(text) != [figure]:
+            faults.append(f"{DOCUMENT} has another figure of the {name}: call {parser.prog} --write")
+        text = place.sub(lambda _, figure=figure: figure, text)
     if write:
         with open(os.path.join(TOP, DOCUMENT), "w", encoding="utf-8") as file:
-            file.write(FIGURE.sub(lambda _: made, text))
-    elif FIGURE.findall(text) != [made]:
-        faults.append(f"{DOCUMENT} has another figure of the layers: call {parser.prog} --write")
+            file.write(text)
     end(faults, f"{len(found)} layers")
 
 
