@@ -8,7 +8,6 @@ use Rattle.clap.specs.Kinds.{Kinds}
 use Rattle.clap.specs.Walk.{Held, Row, Text, Waiting, Walk, reacted, settled, walked}
 use Rattle.clap.specs.Walk as w
 use Rattle.clap.specs.Faults.{react_fault, settle_fault, walk_fault}
-use Rattle.ci_arguments.specs.Words.{AreMixed}
 use Rattle.ci_arguments.specs.Words as mixed
 use Rattle.ci_arguments.specs.private.Parses.{Known}
 use Rattle.ci_arguments.proofs.Complete.{AreRead}

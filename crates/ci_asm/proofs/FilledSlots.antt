@@ -10,7 +10,7 @@ use Rattle.ci_asm.specs.declared.scanner.Kind.TheVariants.{End, Bad}
 use Rattle.ci_asm.specs.declared.scanner.Token.{Token}
 use Rattle.ci_asm.specs.declared.numbers.Number.{Number}
 use Rattle.ci_asm.specs.declared.slots.Field.{Field}
-use Rattle.ci_asm.specs.declared.slots.Place.{Place}
+use Rattle.ci_asm.specs.declared.slots.RegisterPlace.{RegisterPlace}
 use Rattle.ci_asm.specs.declared.slots.Slot.{Slot}
 use Rattle.ci_asm.specs.declared.slots.Slot.TheVariants.{Register, Value, Comma, Open, Close, Further, Second}
 use Rattle.ci_asm.specs.declared.faults.Rule.{Rule}
@@ -53,7 +53,7 @@ no_values = record { registers = no_registers; number = pos 0; label = None }
 -- the tokens fill the slots
 pub data Fills : List Slot → List lex.Token → Values → Values → Type 0 where
   done : {v : Values} → Fills [] [] v v
-  fill_register : {place : Place} {slots : List Slot} {t : lex.Token} {ts : List lex.Token} {v w : Values} {r : ℕ} → IsRegister t r
+  fill_register : {place : RegisterPlace} {slots : List Slot} {t : lex.Token} {ts : List lex.Token} {v w : Values} {r : ℕ} → IsRegister t r
       → Fills slots ts (record v { registers = with_register place r v.registers }) w → Fills (Register place ∷ slots) (t ∷ ts) v w
   fill_number : {field : Field} {slots : List Slot} {t : lex.Token} {ts : List lex.Token} {v w : Values} {n : ℤ}
       → HasNumber field t n → Fills slots ts (record v { number = n }) w → Fills (Value field ∷ slots) (t ∷ ts) v w
@@ -130,7 +130,7 @@ pub data Stops : List Slot → lex.Symbol → Rule → Type 0 where
 
 -- what the token of the scanner makes of the operands in the slot's place
 pub data Filled (t : Token) (o : Operands) : Slot → lex.Token → Operands → Type 0 where
-  a_register : {place : Place} {shown : lex.Token} {r : ℕ} → IsRegister shown r
+  a_register : {place : RegisterPlace} {shown : lex.Token} {r : ℕ} → IsRegister shown r
       → Filled t o (Register place) shown (record o { registers = with_register place r o.registers })
   a_number : {field : Field} {shown : lex.Token} {n : Number} → HasNumber field shown (signed_value n)
       → Filled t o (Value field) shown (record o { number = n })
@@ -182,7 +182,7 @@ module _ (t : Token) (o : Operands) (slots : List Slot) where
     number_answer is proper =
         subst (λ r. Answers slot shown (number_in test r o)) (sym (number_of-token shown is proper)) (number_by is (number_result shown) refl)
 
-  register_answer : (place : Place) (shown : lex.Token) → Answers (Register place) shown (filled (spelling shown) (Register place) t o (kind_of shown))
+  register_answer : (place : RegisterPlace) (shown : lex.Token) → Answers (Register place) shown (filled (spelling shown) (Register place) t o (kind_of shown))
   unfolding filled
   register_answer place (name bytes) = by (register_of bytes) refl
     where

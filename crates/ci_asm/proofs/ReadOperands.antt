@@ -15,7 +15,7 @@ use Rattle.ci_asm.specs.private.Statements.{signed_value}
 use Rattle.ci_asm.specs.Shown.{register_name}
 use Rattle.ci_asm.specs.Lexicon as lex
 use Rattle.ci_asm.specs.Lexicon.{decimal_number, hex_number, spelling, IsToken}
-use Rattle.ci_asm.specs.Forms.{lowest, highest, is_offset, IsIn, IsNumber, Writes}
+use Rattle.ci_asm.specs.Forms.{most_below, most_above, is_offset, IsIn, IsNumber, Writes}
 use Rattle.ci_asm.proofs.TestLaws.{by_test, and_both, pick_false}
 use Rattle.ci_asm.proofs.LongestTokens.{no_x_behind}
 
@@ -204,16 +204,16 @@ near_between low high n h = by n.negative n.magnitude h
 pub fits_in : (field : Field) (n : Number) → fits field n ≡ true → IsIn field (signed_value n)
 fits_in field n e =
     let even = λ (offset : Bool). cond offset (eqb (n.magnitude % 2) 0) true in
-    let both = and_both (nat_le n.magnitude (cond n.negative (lowest field) (highest field))) (even (is_offset field)) e in
+    let both = and_both (nat_le n.magnitude (cond n.negative (most_below field) (most_above field))) (even (is_offset field)) e in
     let test = both.0 in
-    let range = near_between (lowest field) (highest field) n (grind (arith, nat_tests)) in
+    let range = near_between (most_below field) (most_above field) n (grind (arith, nat_tests)) in
     (range.0, range.1, λ offset. ap (λ m. m % 2) (abs_signed n) ∙ eqb-true _ 0 (sym (ap even offset) ∙ both.1))
 
 pub in_fits : (field : Field) (n : Number) → IsIn field (signed_value n) → fits field n ≡ true
 in_fits field n h =
     let even = λ (offset : Bool). cond offset (eqb (n.magnitude % 2) 0) true in
-    let near = between_near (lowest field) (highest field) n (h.0, h.1) in
-    let test : nat_le n.magnitude (cond n.negative (lowest field) (highest field)) ≡ true = grind (arith, nat_tests) in
+    let near = between_near (most_below field) (most_above field) n (h.0, h.1) in
+    let test : nat_le n.magnitude (cond n.negative (most_below field) (most_above field)) ≡ true = grind (arith, nat_tests) in
     rw test (by_test (is_offset field)
     (λ offset. ap even offset ∙ (let half : n.magnitude % 2 ≡ 0 = sym (ap (λ m. m % 2) (abs_signed n)) ∙ h.2 offset in ap (λ k. eqb k 0) half))
     (ap even))

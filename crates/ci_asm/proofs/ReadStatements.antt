@@ -9,13 +9,13 @@ use Rattle.ci_asm.specs.declared.mnemonics.Mnemonic.{Mnemonic}
 use Rattle.ci_asm.specs.declared.mnemonics.Mnemonic.TheVariants.{RegisterRegister, RegisterImmediate, Lui, Auipc, Jal, Jalr, Branch, Load, Store, Fence, Ecall}
 use Rattle.ci_asm.specs.declared.mnemonics.Mnemonic.TheVariants.{Ebreak, Custom, Cput, Cread, Data}
 use Rattle.ci_asm.specs.declared.slots.Field.{Field}
-use Rattle.ci_asm.specs.declared.slots.Field.TheVariants.{Upper, FenceBits, UnitNumber, Whole}
+use Rattle.ci_asm.specs.declared.slots.Field.TheVariants.{UpperBits, FenceBits, UnitNumber, WholeWord}
 use Rattle.ci_asm.specs.declared.statements.Registers.{Registers}
 use Rattle.ci_asm.specs.private.Shapes.{name_of, is_statement, form_name, form_field, immediate_name, immediate_field, field_of, slots_of}
 use Rattle.ci_asm.specs.private.Statements.{insn_of}
 use Rattle.ci_asm.specs.Lexicon as lex
 use Rattle.ci_asm.specs.Lexicon.{name, word, comma}
-use Rattle.ci_asm.specs.Forms.{lowest, is_offset, register_immediate, IsRegister, HasNumber, Statement, plain, to_label, IsStatement}
+use Rattle.ci_asm.specs.Forms.{most_below, is_offset, register_immediate, IsRegister, HasNumber, Statement, plain, to_label, IsStatement}
 use Rattle.ci_asm.specs.Forms.{on_registers, on_immediate, lui, auipc, jump, jump_label, jump_register, branch, branch_label, load, store, fence, ecall, ebreak, custom, cput, cread}
 use Rattle.ci_asm.specs.Forms.{cread_second, data_word}
 use Rattle.ci_asm.proofs.FilledSlots.{Values, no_values, OffsetLast, Fills, done, fill_register, fill_number, fill_label, fill_comma, fill_open, fill_close}
@@ -41,7 +41,7 @@ natural_number (pos n) h = refl
 natural_number (negsuc n) h = absurd (omega (arith, ints, h))
 
 -- a field of numbers that are not below 0
-natural : (field : Field) (t : lex.Token) (n : ℤ) → lowest field ≡ 0 → HasNumber field t n → HasNumber field t (pos (unsigned_abs n))
+natural : (field : Field) (t : lex.Token) (n : ℤ) → most_below field ≡ 0 → HasNumber field t n → HasNumber field t (pos (unsigned_abs n))
 natural field t n none has = subst (HasNumber field t) (natural_number n (subst (λ k. neg_ℤ (pos k) ≤ℤ n) none has.1.0)) has
 
 -- the register-immediate form of an operation that has one
@@ -60,9 +60,9 @@ fills_statement (RegisterRegister op) st (fill_register a (fill_comma (fill_regi
 fills_statement (RegisterImmediate op) st (fill_register a (fill_comma (fill_register b (fill_comma (fill_number n done))))) =
     on_immediate (form_of (register_immediate op) st) a b n
 fills_statement (RegisterImmediate op) st (fill_register a (fill_comma (fill_register b (fill_comma (fill_label offset done))))) = absurd (no_label op offset)
-fills_statement Lui st (fill_register a (fill_comma (fill_number {n} h done))) = lui a (natural Upper _ n refl h)
+fills_statement Lui st (fill_register a (fill_comma (fill_number {n} h done))) = lui a (natural UpperBits _ n refl h)
 fills_statement Lui st (fill_register a (fill_comma (fill_label offset done))) = absurd (cc)
-fills_statement Auipc st (fill_register a (fill_comma (fill_number {n} h done))) = auipc a (natural Upper _ n refl h)
+fills_statement Auipc st (fill_register a (fill_comma (fill_number {n} h done))) = auipc a (natural UpperBits _ n refl h)
 fills_statement Auipc st (fill_register a (fill_comma (fill_label offset done))) = absurd (cc)
 fills_statement Jal st (fill_register a (fill_comma (fill_number h done))) = jump a h
 fills_statement Jal st (fill_register a (fill_comma (fill_label offset done))) = jump_label a
@@ -88,7 +88,7 @@ fills_statement Custom st
 fills_statement Cput st (fill_register a (fill_comma (fill_register b done))) = cput a b
 fills_statement Cread st (fill_register a no_further) = cread a
 fills_statement Cread st (fill_register a (fill_further (fill_second h done))) = cread_second a h
-fills_statement Data st (fill_number {n} h done) = data_word (natural Whole _ n refl h)
+fills_statement Data st (fill_number {n} h done) = data_word (natural WholeWord _ n refl h)
 fills_statement Data st (fill_label offset done) = absurd (cc)
 
 -- and back

@@ -11,8 +11,8 @@ use Rattle.ci_asm.specs.declared.mnemonics.Mnemonic.{Mnemonic}
 use Rattle.ci_asm.specs.declared.mnemonics.Mnemonic.TheVariants.{RegisterRegister, Ecall, Ebreak, Cput}
 use Rattle.ci_asm.specs.declared.slots.Field.{Field}
 use Rattle.ci_asm.specs.declared.slots.Field.TheVariants.{Immediate}
-use Rattle.ci_asm.specs.declared.slots.Place.{Place}
-use Rattle.ci_asm.specs.declared.slots.Place.TheVariants.{Rd, Rs1, Rs2, Rs3}
+use Rattle.ci_asm.specs.declared.slots.RegisterPlace.{RegisterPlace}
+use Rattle.ci_asm.specs.declared.slots.RegisterPlace.TheVariants.{Rd, Rs1, Rs2, Rs3}
 use Rattle.ci_asm.specs.declared.slots.Slot.{Slot}
 use Rattle.ci_asm.specs.declared.slots.Slot.TheVariants.{Value, Second}
 use Rattle.ci_asm.specs.declared.faults.Rule.TheVariants.{NoMnemonic, Surplus}
@@ -69,7 +69,7 @@ slots_of-for other = (refl, tt)
 abbrev AreSound : Field → ℕ → Operands → Type 0
 AreSound field n o = (fits field o.number ≡ true) × IfSome o.label (λ t. t.start ≤ n) × HasRegisters o.registers
 
-with_register-below : (place : Place) (r : ℕ) (registers : Registers) → r < 32 → HasRegisters registers → HasRegisters (with_register place r registers)
+with_register-below : (place : RegisterPlace) (r : ℕ) (registers : Registers) → r < 32 → HasRegisters registers → HasRegisters (with_register place r registers)
 with_register-below Rd r registers below h = record { rd = below; rs1 = h.rs1; rs2 = h.rs2; rs3 = h.rs3 }
 with_register-below Rs1 r registers below h = record { rd = h.rd; rs1 = below; rs2 = h.rs2; rs3 = h.rs3 }
 with_register-below Rs2 r registers below h = record { rd = h.rd; rs1 = h.rs1; rs2 = below; rs3 = h.rs3 }

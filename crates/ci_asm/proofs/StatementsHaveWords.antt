@@ -10,7 +10,7 @@ use Rattle.ci_isa.specs.FieldBounds.{IsOfWidth, ConstantFits, FieldsFit}
 use Rattle.ci_asm.specs.declared.mnemonics.Mnemonic.{Mnemonic}
 use Rattle.ci_asm.specs.declared.mnemonics.Mnemonic.TheVariants.{RegisterRegister, RegisterImmediate, Lui, Auipc, Jal, Jalr, Branch, Load, Store, Fence, Ecall}
 use Rattle.ci_asm.specs.declared.mnemonics.Mnemonic.TheVariants.{Ebreak, Custom, Cput, Cread, Data}
-use Rattle.ci_asm.specs.declared.slots.Field.TheVariants.{Immediate, Upper}
+use Rattle.ci_asm.specs.declared.slots.Field.TheVariants.{Immediate, UpperBits}
 use Rattle.ci_asm.specs.declared.statements.Registers.{Registers}
 use Rattle.ci_asm.specs.private.Shapes.{is_statement, field_of}
 use Rattle.ci_asm.specs.private.Statements.{HasRegisters, result_index, insn_of}
@@ -51,7 +51,7 @@ constant_fits Sra n named h = amount_between n h.0 h.1
 constant_fits other n named h = absurd (cc)
 
 -- the upper bits of a word
-upper_whole : (n : ℤ) → IsIn Upper n → (4096 * unsigned_abs n < 2 ^ 32) × (4096 * unsigned_abs n % 2 ^ 12 ≡ 0)
+upper_whole : (n : ℤ) → IsIn UpperBits n → (4096 * unsigned_abs n < 2 ^ 32) × (4096 * unsigned_abs n % 2 ^ 12 ≡ 0)
 upper_whole n h = let below = abs_below n 0xfffff (2 ^ 20) (lit< tt) h.0 h.1 in (omega arith, omega arith)
 
 -- there are two hidden results

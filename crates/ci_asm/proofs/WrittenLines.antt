@@ -20,8 +20,8 @@ use Rattle.ci_asm.specs.private.Tokens.{belongs, is_letter, scan}
 use Rattle.ci_asm.specs.Lexicon.{IsDigit, IsHexDigit, Token, name, decimal_number, hex_number, word, comma, open_bracket, close_bracket, colon, spelling}
 use Rattle.ci_asm.specs.Lexicon.{StartsWith, IsToken, Spells, line_format}
 use Rattle.ci_asm.specs.declared.slots.Field.{Field}
-use Rattle.ci_asm.specs.declared.slots.Field.TheVariants.{Immediate, Amount, Upper, BranchOffset, JumpOffset, FenceBits, UnitNumber, Whole}
-use Rattle.ci_asm.specs.Forms.{highest, is_offset, IsIn, operation_name, register_immediate, branch_name}
+use Rattle.ci_asm.specs.declared.slots.Field.TheVariants.{Immediate, ShiftAmount, UpperBits, BranchOffset, JumpOffset, FenceBits, UnitNumber, WholeWord}
+use Rattle.ci_asm.specs.Forms.{most_above, is_offset, IsIn, operation_name, register_immediate, branch_name}
 use Rattle.ci_asm.specs.Forms.{load_name, store_name, Writes, HasNumber, plain, IsStatement, on_registers, on_immediate, lui, auipc, jump, jump_register}
 use Rattle.ci_asm.specs.Forms.{branch, load, store, fence, ecall, ebreak, custom, cput, cread, cread_second, data_word}
 use Rattle.ci_asm.specs.Shown.{register_name, upper_text, immediate_line, shown}
@@ -172,8 +172,8 @@ even_up_to k (negsuc n) h even = omega (arith, ints)
 twelve : (z : ℤ) → IsOfWidth 12 z → IsNumberFor Immediate z
 twelve z h = number_for Immediate 2048 z (lit≤ tt) h.0 h.1 (h.0, below_up_to 2047 z h.1, λ none. absurd (cc))
 
-amount : (z : ℤ) → pos 0 ≤ℤ z → z <ℤ pos 32 → IsNumberFor Amount z
-amount (pos n) low high = number_for Amount 32 (pos n) (lit≤ tt) (omega (arith, ints)) high (low, omega (arith, ints), λ none. absurd (cc))
+amount : (z : ℤ) → pos 0 ≤ℤ z → z <ℤ pos 32 → IsNumberFor ShiftAmount z
+amount (pos n) low high = number_for ShiftAmount 32 (pos n) (lit≤ tt) (omega (arith, ints)) high (low, omega (arith, ints), λ none. absurd (cc))
 amount (negsuc n) low high = absurd (omega (arith, ints, low))
 
 thirteen : (z : ℤ) → IsOfWidth 13 z → IsEven z → IsNumberFor BranchOffset z
@@ -198,7 +198,7 @@ upper_near upper h = omega arith
 upper_again : (upper : ℕ) → upper % 2 ^ 12 ≡ 0 → 4096 * (upper / 4096) ≡ upper
 upper_again upper e = omega arith
 
-unsigned_in : (field : Field) (n most : ℕ) → n ≤ most → highest field ≡ most → is_offset field ≡ false → IsIn field (pos n)
+unsigned_in : (field : Field) (n most : ℕ) → n ≤ most → most_above field ≡ most → is_offset field ≡ false → IsIn field (pos n)
 unsigned_in field n most h limit no_offset =
     (omega (arith, ints), subst (λ k. pos n ≤ℤ pos k) (sym limit) (omega (arith, ints)), λ offset. absurd (true_is_not_false offset no_offset))
 
@@ -216,10 +216,10 @@ signed_form : (op : Op) (mnemonic : List ℕ) (imm : ℤ) → register_immediate
     → HasForm op imm
 signed_form op mnemonic imm e is fits = record { mnemonic = mnemonic; field = Immediate; form = e; spelt = word_spelt mnemonic is; fits = twelve imm fits }
 
-shift_form : (op : Op) (mnemonic : List ℕ) (imm : ℤ) → register_immediate op ≡ Some (mnemonic, Amount) → is_word mnemonic ≡ true
+shift_form : (op : Op) (mnemonic : List ℕ) (imm : ℤ) → register_immediate op ≡ Some (mnemonic, ShiftAmount) → is_word mnemonic ≡ true
     → (pos 0 ≤ℤ imm) × (imm <ℤ pos 32) → HasForm op imm
 shift_form op mnemonic imm e is fits =
-    record { mnemonic = mnemonic; field = Amount; form = e; spelt = word_spelt mnemonic is; fits = amount imm fits.0 fits.1 }
+    record { mnemonic = mnemonic; field = ShiftAmount; form = e; spelt = word_spelt mnemonic is; fits = amount imm fits.0 fits.1 }
 
 pub form_of : (op : Op) (imm : ℤ) → ConstantFits (constant_form op) imm → HasForm op imm
 form_of ops.Add imm fits = signed_form ops.Add _ imm refl refl fits
@@ -268,10 +268,10 @@ upper_written mnemonic rd upper is a h =
     spaced mnemonic _ (name mnemonic) _ (word_spelt mnemonic is) (listed _ _ _ _ (register_spelt rd a)
     (last _ _ (hex_spelt (upper / 4096) _ (hex_digits (upper / 4096) (upper_near upper h)))))
 
-upper_has : (upper : ℕ) → upper < 2 ^ 32 → HasNumber Upper (hex_number (digits 16 false (upper / 4096))) (pos (upper / 4096))
+upper_has : (upper : ℕ) → upper < 2 ^ 32 → HasNumber UpperBits (hex_number (digits 16 false (upper / 4096))) (pos (upper / 4096))
 upper_has upper h = (
   hex_writes (upper / 4096) _ (hex_digits (upper / 4096) (upper_near upper h)),
-  unsigned_in Upper (upper / 4096) 0xfffff (omega arith) refl refl,
+  unsigned_in UpperBits (upper / 4096) 0xfffff (omega arith) refl refl,
 )
 
 access_written : (mnemonic : List ℕ) (first base : ℕ) (offset : ℤ) → is_word mnemonic ≡ true → first < 32 → base < 32
@@ -338,4 +338,4 @@ written_as (insn.Cread rd (suc (suc n))) f = absurd (omega (arith, f.1))
 written_as (insn.Illegal w) f =
     let d = eight_digits w f in
     is_written (spaced (codes ".word") _ word _ (record { is_token = tt; is_spelling = refl }) (last _ _ (hex_spelt w (eight_hex_digits w) d)))
-    (data_word (hex_writes w (eight_hex_digits w) d, unsigned_in Whole w 0xffff_ffff (omega (arith, f)) refl refl)) tt
+    (data_word (hex_writes w (eight_hex_digits w) d, unsigned_in WholeWord w 0xffff_ffff (omega (arith, f)) refl refl)) tt

@@ -16,39 +16,48 @@ use Rattle.ci_isa.specs.declared.instruction.Insn.{Insn}
 use Rattle.ci_isa.specs.declared.instruction.Insn.TheVariants as insn
 use Rattle.ci_isa.specs.FieldBounds.{IsEven}
 use Rattle.ci_asm.specs.declared.slots.Field.{Field}
-use Rattle.ci_asm.specs.declared.slots.Field.TheVariants.{Immediate, Amount, Upper, BranchOffset, JumpOffset, FenceBits}
-use Rattle.ci_asm.specs.declared.slots.Field.TheVariants.{UnitNumber, Whole}
+use Rattle.ci_asm.specs.declared.slots.Field.TheVariants.{Immediate, ShiftAmount, UpperBits, BranchOffset, JumpOffset, FenceBits}
+use Rattle.ci_asm.specs.declared.slots.Field.TheVariants.{UnitNumber, WholeWord}
 use Rattle.ci_asm.specs.Lexicon.{Token, name, decimal_number, hex_number, word, comma, open_bracket, close_bracket}
 
--- ---- fields
+-- ---- fields of words that hold numbers, of which `Field` of src/slots.rt has the names
 
 -- how far below 0 and how far above it the numbers of a field go
-abbrev pub lowest : Field → ℕ
-lowest Immediate = 2048
-lowest BranchOffset = 4096
-lowest JumpOffset = 1048576
-lowest field = 0
+abbrev pub most_below : Field → ℕ
+most_below Immediate = 2048
+most_below BranchOffset = 4096
+most_below JumpOffset = 1048576
+most_below ShiftAmount = 0
+most_below UpperBits = 0
+most_below FenceBits = 0
+most_below UnitNumber = 0
+most_below WholeWord = 0
 
-abbrev pub highest : Field → ℕ
-highest Immediate = 2047
-highest Amount = 31
-highest Upper = 0xfffff
-highest BranchOffset = 4094
-highest JumpOffset = 1048574
-highest FenceBits = 4095
-highest UnitNumber = 31
-highest Whole = 0xffff_ffff
+abbrev pub most_above : Field → ℕ
+most_above Immediate = 2047
+most_above ShiftAmount = 31
+most_above UpperBits = 0xfffff
+most_above BranchOffset = 4094
+most_above JumpOffset = 1048574
+most_above FenceBits = 4095
+most_above UnitNumber = 31
+most_above WholeWord = 0xffff_ffff
 
 -- an offset: it is even, and a label may stand for it
 abbrev pub is_offset : Field → Bool
 is_offset BranchOffset = true
 is_offset JumpOffset = true
-is_offset field = false
+is_offset Immediate = false
+is_offset ShiftAmount = false
+is_offset UpperBits = false
+is_offset FenceBits = false
+is_offset UnitNumber = false
+is_offset WholeWord = false
 
 -- the numbers that fit a field
 abbrev pub IsIn : Field → ℤ → Type 0
 IsIn field n =
-    (neg_ℤ (pos (lowest field)) ≤ℤ n) × (n ≤ℤ pos (highest field)) × (is_offset field ≡ true → IsEven n)
+    (neg_ℤ (pos (most_below field)) ≤ℤ n) × (n ≤ℤ pos (most_above field)) × (is_offset field ≡ true → IsEven n)
 
 -- ---- mnemonics
 
@@ -80,9 +89,9 @@ register_immediate Sltu = Some (codes "sltiu", Immediate)
 register_immediate Xor = Some (codes "xori", Immediate)
 register_immediate Or = Some (codes "ori", Immediate)
 register_immediate And = Some (codes "andi", Immediate)
-register_immediate Sll = Some (codes "slli", Amount)
-register_immediate Srl = Some (codes "srli", Amount)
-register_immediate Sra = Some (codes "srai", Amount)
+register_immediate Sll = Some (codes "slli", ShiftAmount)
+register_immediate Srl = Some (codes "srli", ShiftAmount)
+register_immediate Sra = Some (codes "srai", ShiftAmount)
 register_immediate op = None
 
 abbrev pub branch_name : Cond → List ℕ
@@ -144,9 +153,9 @@ pub data IsStatement : List Token → Statement → Type 0 where
   on_immediate : {op : Op} {x y z : Token} {d a : ℕ} {n : ℤ} {mnemonic : List ℕ} {field : Field}
       → register_immediate op ≡ Some (mnemonic, field) → IsRegister x d → IsRegister y a → HasNumber field z n
       → IsStatement (name mnemonic ∷ x ∷ comma ∷ y ∷ comma ∷ z ∷ []) (plain (insn.AluImm op d a n))
-  lui : {x y : Token} {d n : ℕ} → IsRegister x d → HasNumber Upper y (pos n)
+  lui : {x y : Token} {d n : ℕ} → IsRegister x d → HasNumber UpperBits y (pos n)
       → IsStatement (name (codes "lui") ∷ x ∷ comma ∷ y ∷ []) (plain (insn.Lui d (4096 * n)))
-  auipc : {x y : Token} {d n : ℕ} → IsRegister x d → HasNumber Upper y (pos n)
+  auipc : {x y : Token} {d n : ℕ} → IsRegister x d → HasNumber UpperBits y (pos n)
       → IsStatement (name (codes "auipc") ∷ x ∷ comma ∷ y ∷ []) (plain (insn.Auipc d (4096 * n)))
   jump : {x y : Token} {d : ℕ} {n : ℤ} → IsRegister x d → HasNumber JumpOffset y n
       → IsStatement (name (codes "jal") ∷ x ∷ comma ∷ y ∷ []) (plain (insn.Jal d n))
@@ -181,7 +190,7 @@ pub data IsStatement : List Token → Statement → Type 0 where
   cread_second : {x y : Token} {d : ℕ} → IsRegister x d → Writes y (pos 1)
       → IsStatement (name (codes "cread") ∷ x ∷ comma ∷ y ∷ []) (plain (insn.Cread d 1))
   data_word : {x : Token} {n : ℕ}
-      → HasNumber Whole x (pos n) → IsStatement (word ∷ x ∷ []) (plain (insn.Illegal n))
+      → HasNumber WholeWord x (pos n) → IsStatement (word ∷ x ∷ []) (plain (insn.Illegal n))
 
 -- the token begins a statement
 abbrev pub IsMnemonic : Token → Type 0

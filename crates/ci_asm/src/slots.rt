@@ -1,6 +1,6 @@
 //! The shapes of statements.
 ghost use Rattle.std.specs.Prelude.{◌≡◌};
-ghost use Rattle.ci_asm.specs.Forms.{lowest, highest, is_offset};
+ghost use Rattle.ci_asm.specs.Forms.{most_below, most_above, is_offset};
 ghost use Rattle.ci_asm.specs.private.Shapes.{fits, immediate_field, slots_of, field_of};
 ghost use Rattle.ci_asm.specs.private.Statements.{ends_before};
 
@@ -15,9 +15,9 @@ pub(crate) enum Field {
     /// Twelve bits with a sign.
     Immediate,
     /// The amount of a shift.
-    Amount,
+    ShiftAmount,
     /// The upper twenty bits of a word.
-    Upper,
+    UpperBits,
     /// The offset of a branch, in bytes.
     BranchOffset,
     /// The offset of a jump, in bytes.
@@ -27,12 +27,12 @@ pub(crate) enum Field {
     /// The number of a unit.
     UnitNumber,
     /// A whole word.
-    Whole,
+    WholeWord,
 }
 
 /// The place of a register in an instruction.
 #[derive(Clone, Copy)]
-pub(crate) enum Place {
+pub(crate) enum RegisterPlace {
     Rd,
     Rs1,
     Rs2,
@@ -42,7 +42,7 @@ pub(crate) enum Place {
 /// What is due at a place of a statement.
 #[derive(Clone, Copy)]
 pub(crate) enum Slot {
-    Register(Place),
+    Register(RegisterPlace),
     /// A number of this field.
     Value(Field),
     Comma,
@@ -56,14 +56,14 @@ pub(crate) enum Slot {
     Second,
 }
 
-// The slots that most rows of the table of statements have.
-const RD: Slot = Slot::Register(Place::Rd);
+// Short names for the table below.
+const RD: Slot = Slot::Register(RegisterPlace::Rd);
 
-const RS1: Slot = Slot::Register(Place::Rs1);
+const RS1: Slot = Slot::Register(RegisterPlace::Rs1);
 
-const RS2: Slot = Slot::Register(Place::Rs2);
+const RS2: Slot = Slot::Register(RegisterPlace::Rs2);
 
-const RS3: Slot = Slot::Register(Place::Rs3);
+const RS3: Slot = Slot::Register(RegisterPlace::Rs3);
 
 const COMMA: Slot = Slot::Comma;
 
@@ -82,8 +82,8 @@ impl Slot {
 
 impl Field {
     /// How far below 0 the field's numbers go.
-    fn lowest(self) -> u64
-        ensures { result ≡ lowest self }
+    fn most_below(self) -> u64
+        ensures { result ≡ most_below self }
     {
         match self {
             Field::Immediate => 2048,
@@ -94,17 +94,17 @@ impl Field {
     }
 
     /// How far above 0 the field's numbers go.
-    fn highest(self) -> u64
-        ensures { result ≡ highest self }
+    fn most_above(self) -> u64
+        ensures { result ≡ most_above self }
     {
         match self {
             Field::Immediate => 2047,
-            Field::Amount | Field::UnitNumber => 31,
-            Field::Upper => 0xfffff,
+            Field::ShiftAmount | Field::UnitNumber => 31,
+            Field::UpperBits => 0xfffff,
             Field::BranchOffset => 4094,
             Field::JumpOffset => 1_048_574,
             Field::FenceBits => 4095,
-            Field::Whole => 0xffff_ffff,
+            Field::WholeWord => 0xffff_ffff,
         }
     }
 
@@ -120,9 +120,9 @@ impl Field {
         ensures { result ≡ fits self number }
     {
         let most = if number.negative {
-            self.lowest()
+            self.most_below()
         } else {
-            self.highest()
+            self.most_above()
         };
         number.magnitude <= most && (!self.is_offset() || number.magnitude % 2 == 0)
     }
@@ -133,7 +133,7 @@ fn immediate_field(op: Op) -> Field
     ensures { result ≡ immediate_field op }
 {
     match op {
-        Op::Sll | Op::Srl | Op::Sra => Field::Amount,
+        Op::Sll | Op::Srl | Op::Sra => Field::ShiftAmount,
         _ => Field::Immediate,
     }
 }
@@ -149,15 +149,15 @@ impl Mnemonic {
             | Mnemonic::Ecall
             | Mnemonic::Ebreak
             | Mnemonic::Cput
-            | Mnemonic::Cread => Field::Amount,
+            | Mnemonic::Cread => Field::ShiftAmount,
             Mnemonic::RegisterImmediate(op) => immediate_field(op),
-            Mnemonic::Lui | Mnemonic::Auipc => Field::Upper,
+            Mnemonic::Lui | Mnemonic::Auipc => Field::UpperBits,
             Mnemonic::Jal => Field::JumpOffset,
             Mnemonic::Jalr | Mnemonic::Load(_) | Mnemonic::Store(_) => Field::Immediate,
             Mnemonic::Branch(_) => Field::BranchOffset,
             Mnemonic::Fence => Field::FenceBits,
             Mnemonic::Custom => Field::UnitNumber,
-            Mnemonic::Data => Field::Whole,
+            Mnemonic::Data => Field::WholeWord,
         }
     }
 
@@ -168,10 +168,10 @@ impl Mnemonic {
         match self {
             Mnemonic::RegisterRegister(_) => &[RD, COMMA, RS1, COMMA, RS2],
             Mnemonic::RegisterImmediate(op) => match immediate_field(op) {
-                Field::Amount => &[RD, COMMA, RS1, COMMA, Slot::Value(Field::Amount)],
+                Field::ShiftAmount => &[RD, COMMA, RS1, COMMA, Slot::Value(Field::ShiftAmount)],
                 _ => &[RD, COMMA, RS1, COMMA, Slot::Value(Field::Immediate)],
             },
-            Mnemonic::Lui | Mnemonic::Auipc => &[RD, COMMA, Slot::Value(Field::Upper)],
+            Mnemonic::Lui | Mnemonic::Auipc => &[RD, COMMA, Slot::Value(Field::UpperBits)],
             Mnemonic::Jal => &[RD, COMMA, Slot::Value(Field::JumpOffset)],
             Mnemonic::Jalr | Mnemonic::Load(_) => {
                 &[RD, COMMA, Slot::Value(Field::Immediate), OPEN, RS1, CLOSE]
@@ -193,7 +193,7 @@ impl Mnemonic {
             ],
             Mnemonic::Cput => &[RS1, COMMA, RS2],
             Mnemonic::Cread => &[RD, Slot::Further, Slot::Second],
-            Mnemonic::Data => &[Slot::Value(Field::Whole)],
+            Mnemonic::Data => &[Slot::Value(Field::WholeWord)],
         }
     }
 }

@@ -11,7 +11,7 @@ use crate::mnemonics::{Mnemonic, mnemonic_of};
 use crate::numbers::{Number, number_of};
 use crate::registers::{register_of, zero};
 use crate::scanner::{Kind, Token, next_token, text_of};
-use crate::slots::{Field, Place, Slot};
+use crate::slots::{Field, RegisterPlace, Slot};
 use ci_isa::Reg;
 
 /// The registers of a statement. What the statement doesn't have is x0.
@@ -41,14 +41,14 @@ pub(crate) struct Statement {
 
 impl Registers {
     /// The registers with this one in the place.
-    fn with(mut self, place: Place, register: Reg) -> Registers
+    fn with(mut self, place: RegisterPlace, register: Reg) -> Registers
         ensures { result ≡ with_register place register self }
     {
         match place {
-            Place::Rd => self.rd = register,
-            Place::Rs1 => self.rs1 = register,
-            Place::Rs2 => self.rs2 = register,
-            Place::Rs3 => self.rs3 = register,
+            RegisterPlace::Rd => self.rd = register,
+            RegisterPlace::Rs1 => self.rs1 = register,
+            RegisterPlace::Rs2 => self.rs2 = register,
+            RegisterPlace::Rs3 => self.rs3 = register,
         }
         self
     }

@@ -159,7 +159,7 @@ abbrev pub ShareNoMemory : Segment → Segment → Type 0
 ShareNoMemory s t = (s.address + s.memory_size ≤ t.address) ⊎ (t.address + t.memory_size ≤ s.address)
 
 -- What holds of every image: its text is whole words in file parts of its segments, by address. Its segments have their
--- bytes in the file and their memory below the top, apart from the stack and from each other, and small enough.
+-- bytes in the file and their part of memory below its top, apart from the stack and from each other, and small enough.
 pub record IsWellFormed (image : Executable) : Type 0 where
   pub ascending : IsAscending image.ranges
   pub aligned : (range : Range) → Contains image.ranges range → range.start % 4 ≡ 0

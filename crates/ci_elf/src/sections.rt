@@ -231,7 +231,7 @@ fn is_loaded(segments: &[Segment], text: Section) -> bool
     }
 }
 
-/// That section `n`, where it is text, is loaded by one of the segments, in the order of their addresses.
+/// That section `n`, where it is text, is loaded by one of these segments, which are in the order of their addresses.
 fn check_loaded(bytes: &[u8], n: u32, segments: &[Segment]) -> Result<(), ElfFault>
     requires tables { HasTables bytes.now }
     requires exists { n < e_shnum bytes.now }

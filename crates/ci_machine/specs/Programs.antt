@@ -70,7 +70,7 @@ pub record State : Type 0 where
 abbrev pub at_pc : ℕ → Core → State
 at_pc pc core = record { pc = pc; core = core }
 
--- the state in which a run of the file on this input opens
+-- the state in which a run of the file on this input opens, with the last multiple of 16 in the stack in x2
 abbrev pub opening : Executable → List ℕ → State
 opening file input = record {
   pc = file.entry;

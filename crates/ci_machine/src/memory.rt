@@ -21,7 +21,6 @@ use crate::spans::{Span, Spans};
 use crate::windows::{WINDOWS, Window};
 use ci_elf::{MEMORY_TOP, MOST_MEMORY, STACK_END, STACK_START, Segment};
 use ci_isa::Width;
-use std::alloc::{AllocError, Global};
 
 /// The memory of a machine.
 #[derive(Drop)]

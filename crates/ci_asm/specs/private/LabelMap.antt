@@ -1,5 +1,4 @@
--- For private contracts: what a map of labels answers. The public definition of labels is in Assembly. What a map of
--- labels says of each label.
+-- For private contracts: what a map of labels says of each label. The public definition of labels is in Assembly.
 use Rattle.std.specs.Prelude.{ℕ, List, Option}
 use Rattle.std.specs.BTreeMap.{BTreeMap, get_by}
 use Rattle.std.specs.Ordering.{nat_cmp}

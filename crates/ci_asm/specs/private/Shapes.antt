@@ -9,7 +9,7 @@ use Rattle.ci_word.specs.declared.arithmetic.Op.TheVariants.{Mulh, Mulhsu, Mulhu
 use Rattle.ci_isa.specs.declared.instruction.Cond.TheVariants.{Eq, Ne, Lt, Ge, Ltu, Geu}
 use Rattle.ci_isa.specs.declared.instruction.LoadKind.TheVariants.{B, H, W, Bu, Hu}
 use Rattle.ci_isa.specs.declared.instruction.Width.TheVariants.{Byte, Half, Word}
-use Rattle.ci_asm.specs.Forms.{lowest, highest, is_offset, operation_name, register_immediate, branch_name, load_name}
+use Rattle.ci_asm.specs.Forms.{most_below, most_above, is_offset, operation_name, register_immediate, branch_name, load_name}
 use Rattle.ci_asm.specs.Forms.{store_name}
 use Rattle.ci_asm.specs.declared.numbers.Number.{Number}
 use Rattle.ci_asm.specs.declared.mnemonics.Mnemonic.{Mnemonic}
@@ -17,10 +17,10 @@ use Rattle.ci_asm.specs.declared.mnemonics.Mnemonic.TheVariants.{RegisterRegiste
 use Rattle.ci_asm.specs.declared.mnemonics.Mnemonic.TheVariants.{Jalr, Branch, Load, Store, Fence, Ecall, Ebreak}
 use Rattle.ci_asm.specs.declared.mnemonics.Mnemonic.TheVariants.{Custom, Cput, Cread, Data}
 use Rattle.ci_asm.specs.declared.slots.Field.{Field}
-use Rattle.ci_asm.specs.declared.slots.Field.TheVariants.{Immediate, Amount, Upper, BranchOffset, JumpOffset, FenceBits}
-use Rattle.ci_asm.specs.declared.slots.Field.TheVariants.{UnitNumber, Whole}
+use Rattle.ci_asm.specs.declared.slots.Field.TheVariants.{Immediate, ShiftAmount, UpperBits, BranchOffset, JumpOffset, FenceBits}
+use Rattle.ci_asm.specs.declared.slots.Field.TheVariants.{UnitNumber, WholeWord}
 use Rattle.ci_asm.specs.declared.slots.Slot.{Slot}
-use Rattle.ci_asm.specs.declared.slots.Place.TheVariants.{Rd, Rs1, Rs2, Rs3}
+use Rattle.ci_asm.specs.declared.slots.RegisterPlace.TheVariants.{Rd, Rs1, Rs2, Rs3}
 use Rattle.ci_asm.specs.declared.slots.Slot.TheVariants.{Register, Value, Comma, Open, Close, Further, Second}
 
 -- ---- the mnemonics
@@ -83,7 +83,7 @@ is_statement m = true
 -- the number lies in the field
 abbrev pub fits : Field → Number → Bool
 fits field n =
-    nat_le n.magnitude (if n.negative then lowest field else highest field) &&
+    nat_le n.magnitude (if n.negative then most_below field else most_above field) &&
     (if is_offset field then n.magnitude % 2 == 0 else true)
 
 -- the number 1
@@ -99,8 +99,8 @@ immediate_field op = form_field (register_immediate op)
 abbrev pub slots_of : Mnemonic → List Slot
 slots_of (RegisterRegister op) = Register Rd ∷ Comma ∷ Register Rs1 ∷ Comma ∷ Register Rs2 ∷ []
 slots_of (RegisterImmediate op) = Register Rd ∷ Comma ∷ Register Rs1 ∷ Comma ∷ Value (immediate_field op) ∷ []
-slots_of Lui = Register Rd ∷ Comma ∷ Value Upper ∷ []
-slots_of Auipc = Register Rd ∷ Comma ∷ Value Upper ∷ []
+slots_of Lui = Register Rd ∷ Comma ∷ Value UpperBits ∷ []
+slots_of Auipc = Register Rd ∷ Comma ∷ Value UpperBits ∷ []
 slots_of Jal = Register Rd ∷ Comma ∷ Value JumpOffset ∷ []
 slots_of Jalr = Register Rd ∷ Comma ∷ Value Immediate ∷ Open ∷ Register Rs1 ∷ Close ∷ []
 slots_of (Branch cond) = Register Rs1 ∷ Comma ∷ Register Rs2 ∷ Comma ∷ Value BranchOffset ∷ []
@@ -113,11 +113,11 @@ slots_of Custom =
     Value UnitNumber ∷ Comma ∷ Register Rd ∷ Comma ∷ Register Rs1 ∷ Comma ∷ Register Rs2 ∷ Comma ∷ Register Rs3 ∷ []
 slots_of Cput = Register Rs1 ∷ Comma ∷ Register Rs2 ∷ []
 slots_of Cread = Register Rd ∷ Further ∷ Second ∷ []
-slots_of Data = Value Whole ∷ []
+slots_of Data = Value WholeWord ∷ []
 
 -- the field of the number among the slots. Where there is none, as for `cread`, one that holds 0 and 1
 abbrev pub field_in : List Slot → Field
-field_in [] = Amount
+field_in [] = ShiftAmount
 field_in (Value field ∷ slots) = field
 field_in (slot ∷ slots) = field_in slots
 

@@ -15,8 +15,8 @@ use Rattle.ci_asm.specs.declared.mnemonics.Mnemonic.TheVariants.{Jalr, Branch, L
 use Rattle.ci_asm.specs.declared.mnemonics.Mnemonic.TheVariants.{Custom, Cput, Cread, Data}
 use Rattle.ci_asm.specs.declared.slots.Field.{Field}
 use Rattle.ci_asm.specs.declared.slots.Slot.{Slot}
-use Rattle.ci_asm.specs.declared.slots.Place.{Place}
-use Rattle.ci_asm.specs.declared.slots.Place.TheVariants.{Rd, Rs1, Rs2, Rs3}
+use Rattle.ci_asm.specs.declared.slots.RegisterPlace.{RegisterPlace}
+use Rattle.ci_asm.specs.declared.slots.RegisterPlace.TheVariants.{Rd, Rs1, Rs2, Rs3}
 use Rattle.ci_asm.specs.declared.slots.Slot.TheVariants.{Register, Value, Comma, Open, Close, Further, Second}
 use Rattle.ci_asm.specs.declared.faults.Rule.{Rule}
 use Rattle.ci_asm.specs.declared.faults.Rule.TheVariants.{NoToken, NoMnemonic, NoOperand, OutOfField, Surplus}
@@ -51,7 +51,7 @@ abbrev pub no_operands : Operands
 no_operands = record { registers = no_registers; number = record { negative = false; magnitude = 0 }; label = None }
 
 -- the registers with this one in a place
-abbrev pub with_register : Place → ℕ → Registers → Registers
+abbrev pub with_register : RegisterPlace → ℕ → Registers → Registers
 with_register Rd r registers = record registers { rd = r }
 with_register Rs1 r registers = record registers { rs1 = r }
 with_register Rs2 r registers = record registers { rs2 = r }
