@@ -1,4 +1,4 @@
-//! Machines: what they make of the instructions that are the project's own.
+//! Machines: whether they have units and hidden registers, and what these give and take.
 ghost use Rattle.std.specs.Prelude.{◌≡◌, ℕ, Bool, false, [], ◌∷◌, if◌then◌else◌, is_some, IfSome};
 ghost use Rattle.ci_machine.specs.Steps.{Meaning, IsPlain};
 ghost use Rattle.ci_emu.specs.Machines.{Gives, StandAs};

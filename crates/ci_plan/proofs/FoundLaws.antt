@@ -20,7 +20,7 @@ use Rattle.ci_plan.specs.private.Factors.{factor}
 use Rattle.ci_plan.specs.private.Operators.{step_of, AgreeFor}
 use Rattle.ci_plan.specs.private.Steps.{step_value, words_after}
 use Rattle.ci_plan.specs.private.Drafts.{Draft, IsDraft, Grows, HasNumber, IsAdded, Stands, StandsFor}
-use Rattle.ci_plan.proofs.StepLaws.{operator_steps, choice_step, copies_step, join_step}
+use Rattle.ci_plan.proofs.StepLaws.{operator_steps, choice_step, copies_step, signed_step, join_step}
 use Rattle.ci_plan.proofs.DraftLaws.{grows_on, run_before, stands_as, number_stands, added_stands, stands_for_later, is_at}
 
 -- the bits of a vector from a low one on
@@ -153,6 +153,24 @@ module _ (m : Module) where
         narrow = narrow;
         fit = λ run. copies_fit count width (bits run.names) (found.fit (run_before m old new (grows_on old middle new grows more) run));
       }
+
+  -- a vector of 32 bits, widened by its sign
+  pub signed_found : (old new : Draft) (from place : ℕ) (bits : (List ℕ → Vector) → Vector) → Grows old new
+      → IsAdded old new place (step.Signed from) → StandsFor m old from 32 bits
+      → StandsFor m new place 64 (λ names. above (joined (replicate 32 (bits_of 31 1 (bits names)))) (bits names))
+  signed_found old new from place bits grows added found = record {
+    stands =
+        added_stands m old new place (step.Signed from)
+        (λ names. (above (joined (replicate 32 (bits_of 31 1 (bits names)))) (bits names)).value) added grows
+        (λ run.
+        signed_step (words_after run.words 5 old.steps) (bits run.names) from (is_at m old from 32 bits found run)
+        (found.fit run).width_is);
+    narrow = omega arith;
+    fit = λ run.
+        let v = bits run.names in
+        above_fits (joined (replicate 32 (bits_of 31 1 v))) v 32 32 (copies_fit 32 1 (bits_of 31 1 v) (part_fits 31 1 v))
+        (found.fit (run_before m old new grows run));
+  }
 
   -- one vector above another
   pub join_found : (old new : Draft) (high low place first second : ℕ) (u v : (List ℕ → Vector) → Vector) → Grows old new

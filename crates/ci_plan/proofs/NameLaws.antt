@@ -37,14 +37,18 @@ module _ (m : Module) where
   some_wire : Wire
   some_wire = record { name = []; width = 0; value = nothing }
 
-  -- the wire of this number, as the code finds it
-  pub wire_found : (wires : List Found) (draft : Draft) (k : ℕ) (d : Found) (slice : List Wire) (name bytes : List ℕ)
-      → AreHeld m wires draft → k < length wires → slice ≡ m.wires.list → bytes ≡ name
-      → ((d : Wire) → (slice_index_or slice k d).name ≡ bytes)
+  -- the wire of this number, as the code finds it among the first ones
+  pub wire_found : (wires : List Found) (draft : Draft) (k : ℕ) (d : Found) (slice : List Wire) (name : List ℕ)
+      → AreHeld m wires draft → k < length (take (length wires) slice) → slice ≡ m.wires.list
+      → ((d : Wire) → (slice_index_or (take (length wires) slice) k d).name ≡ name)
       → StandsFor m draft (slice_index_or wires k d).place (slice_index_or wires k d).width (λ names. names name)
-  wire_found wires draft k d slice name bytes held below same_wires same_name named =
+  wire_found wires draft k d slice name held among same named =
+      let few : length wires ≤ length slice = subst (λ ws. length wires ≤ length ws) (sym same) held.few in
+      let whole : length (take (length wires) slice) ≡ length wires = length-take-le (length wires) slice few in
+      let below : k < length wires = omega (arith, among, whole) in
       let e : (slice_index_or m.wires.list k some_wire).name ≡ name =
-      ap (λ ws. (slice_index_or ws k some_wire).name) (sym same_wires) ∙ named some_wire ∙ same_name in
+      ap (λ ws. (slice_index_or ws k some_wire).name) (sym same)
+      ∙ ap (λ w. w.name) (sym (get_or-take (length wires) slice k some_wire below)) ∙ named some_wire in
       subst (λ n. StandsFor m draft (slice_index_or wires k d).place (slice_index_or wires k d).width (λ names. names n)) e
       (held.stand k below d some_wire)
 

@@ -6,15 +6,15 @@ use Rattle.std.proofs.Common.{refl, sym, ap, ◌∙◌, subst, arith}
 use Rattle.std.proofs.Math.Nat.{mod-eq_of_lt, pow-le-pow_right, add-mul-mod_self_right, add-mod-mod, mod-add-mod, mul-add}
 use Rattle.std.proofs.Math.Pow.{mod-mod-pow}
 use Rattle.std.proofs.Math.Seq.{take-suc}
-use Rattle.std.proofs.lemmas.Nat.{and_mask, shl_whole, pow-add, pow_pos, mul-mod_second}
+use Rattle.std.proofs.lemmas.Nat.{and_mask, shl_whole, pow-add, pow_pos, mod_below, mul-mod_second}
 use Rattle.std.proofs.lemmas.List.{length-set, length-take-le, get_or-set_other}
 use Rattle.ci_verilog.specs.declared.vectors.Vector.{Vector}
 use Rattle.ci_verilog.specs.declared.expressions.Operator.{Operator}
 use Rattle.ci_verilog.specs.declared.expressions.Operator.TheVariants as operator
-use Rattle.ci_verilog.specs.Values.{above, joined, operated}
+use Rattle.ci_verilog.specs.Values.{of_width, above, joined, operated}
 use Rattle.ci_verilog.proofs.VectorLaws.{above_in_range, in_64, copies_are_wide, copies_in_range}
 use Rattle.ci_plan.specs.declared.steps.Step.{Step}
-use Rattle.ci_plan.specs.declared.steps.Step.TheVariants.{Times, Choose, Above}
+use Rattle.ci_plan.specs.declared.steps.Step.TheVariants.{Times, Choose, Above, Signed}
 use Rattle.ci_plan.specs.private.Factors.{factor}
 use Rattle.ci_plan.specs.private.Operators.{step_of, AgreeFor}
 use Rattle.ci_plan.specs.private.Steps.{step_value, words_after}
@@ -110,6 +110,18 @@ copies_step words v place number count at is narrow =
     ∙ mul-mod_second v.value (factor count v.width) (2 ^ 64)
     ∙ ap (λ n. n % 2 ^ 64) (copies_value count v)
     ∙ mod-eq_of_lt below
+
+pub signed_step : (words : List ℕ) (v : Vector) (place : ℕ) → IsAt words v place → v.width ≡ 32
+    → step_value words (Signed place) ≡ (above (joined (replicate 32 (of_width 1 (v.value / 2 ^ 31 % 2)))) v).value
+signed_step words v place at wide =
+    let bit = v.value / 2 ^ 31 % 2 in
+    let below : v.value < 2 ^ 32 = subst (λ w. v.value < 2 ^ w) wide at.in_range in
+    let one : bit < 2 = mod_below (v.value / 2 ^ 31) 2 (omega arith) in
+    let copied : bit * factor 32 1 ≡ (joined (replicate 32 (of_width 1 bit))).value = copies_value 32 (of_width 1 bit) in
+    (λ t. (at.value_is t + at.value_is t / 2 ^ 31 % 2 * (2 ^ 64 - 2 ^ 32)) % 2 ^ 64)
+    ∙ mod-eq_of_lt (omega (arith, below, one))
+    ∙ (let e : v.value + bit * (2 ^ 64 - 2 ^ 32) ≡ bit * factor 32 1 * 2 ^ 32 + v.value = omega arith in e)
+    ∙ (λ t. copied t * 2 ^ (sym wide t) + v.value)
 
 -- ---- the factor of copies
 

@@ -86,6 +86,22 @@ pub(crate) fn copies(draft: &mut Draft, count: u8, from: Found) -> Option<Found>
     })
 }
 
+/// A vector of 32 bits, widened to 64 by its sign. None: it has another width, or there is no room.
+pub(crate) fn signed(draft: &mut Draft, from: Found) -> Option<Found>
+    requires { IsDraft draft.old }
+    ensures grows { IfSome result (λ _. Grows draft.old draft.new) }
+    ensures found { IfSome result (λ found. (m : Module) (bits : (List ℕ → Vector) → Vector)
+        → StandsFor m draft.old from.place from.width bits
+        → StandsFor m draft.new found.place found.width
+        (λ names. above (joined (replicate 32 (of_width 1 ((bits names).value / 2 ^ 31 % 2)))) (bits names))) }
+{
+    if from.width != 32 {
+        return None;
+    }
+    let place = draft.step(Step::Signed(from.place))?;
+    Some(Found { width: 64, place })
+}
+
 /// The bits of a vector above those of another one. None: they are too wide, or there is no room.
 pub(crate) fn joined(draft: &mut Draft, high: Found, low: Found) -> Option<Found>
     requires { IsDraft draft.old }

@@ -1,19 +1,21 @@
 //! The steps of operands and expressions.
-ghost use Rattle.std.specs.Prelude.{◌≡◌, map, replicate, IfSome};
+ghost use Rattle.std.specs.Prelude.{◌≡◌, [], ◌∷◌, map, replicate, IfSome};
 ghost use Rattle.std.specs.List.{Contains};
 ghost use Rattle.ci_verilog.specs.Modules.{IsModule};
 ghost use Rattle.ci_verilog.specs.Values.{simple_bits, item_bits, joined, term_bits, expr_value};
 ghost use Rattle.ci_verilog.specs.declared.expressions.Expr.TheVariants.{Two, Choose};
+ghost use Rattle.ci_verilog.specs.declared.expressions.Item.TheVariants.{Plain, Repeat};
+ghost use Rattle.ci_verilog.specs.declared.expressions.Simple.TheVariants.{Whole, Bits};
 ghost use Rattle.ci_plan.specs.private.Drafts.{Grows, Stands, StandsFor};
 ghost use Rattle.ci_plan.specs.private.Names.{AreHeld};
 ghost use Rattle.ci_plan.specs.private.Steps.{IsStep};
 ghost use Rattle.ci_plan.specs.private.Operators.{step_of, AgreeFor};
 
 use crate::drafts::Draft;
-use crate::founds::{Found, constant, copies, joined, part};
+use crate::founds::{Found, constant, copies, joined, part, signed};
 use crate::names::Scope;
 use crate::steps::Step;
-use ci_verilog::{Expr, Item, Operator, Simple, Term, Wire};
+use ci_verilog::{Expr, Item, Name, Operator, Simple, Term, Wire};
 
 /// The step of an operator. None: the operands don't agree.
 fn operator_step(operator: Operator, left: Found, right: Found) -> Option<Step>
@@ -36,6 +38,44 @@ fn operator_step(operator: Operator, left: Found, right: Found) -> Option<Step>
         Operator::Right => Some(Step::Right(left.place, right.place)),
         Operator::Less => Some(Step::Less(left.place, right.place)),
     }
+}
+
+/// The name where the item is 32 copies of its bit 31.
+fn sign(item: &Item) -> Option<&Name>
+    ensures { IfSome result (λ name. item.now ≡ Repeat 32 (Bits name.now 31 31)) }
+{
+    match item {
+        Item::Repeat(count, Simple::Bits(name, high, low)) => {
+            if *count == 32 && *high == 31 && *low == 31 {
+                Some(name)
+            } else {
+                None
+            }
+        }
+        _ => None,
+    }
+}
+
+/// The name whose bits the item is.
+fn whole(item: &Item) -> Option<&Name>
+    ensures { IfSome result (λ name. item.now ≡ Plain (Whole name.now)) }
+{
+    match item {
+        Item::Plain(Simple::Whole(name)) => Some(name),
+        _ => None,
+    }
+}
+
+/// The name that the items widen to 64 bits by its sign, where they are `{32{name[31]}}, name`.
+fn widened(items: &[Item]) -> Option<&Name>
+    ensures { IfSome result (λ name. items.now ≡ Repeat 32 (Bits name.now 31 31) ∷ Plain (Whole name.now) ∷ []) }
+{
+    if items.len() != 2 {
+        return None;
+    }
+    let copied = sign(&items[0])?;
+    let name = whole(&items[1])?;
+    if copied == name { Some(name) } else { None }
 }
 
 /// Each of these answers where the value is behind the steps that it adds. None: there is no room, or the widths don't
@@ -91,6 +131,10 @@ impl Scope<'_> {
             StandsFor self.now.module.now draft.new found.place found.width
             (λ names. joined (map (item_bits names) items.now))) }
     {
+        if let Some(name) = widened(items) {
+            let from = self.name(name)?;
+            return signed(draft, from);
+        }
         let mut bits = constant(draft, 0, 0)?;
         for item in items {
             let next = self.item(draft, item)?;

@@ -26,7 +26,7 @@ pub(crate) struct Plan {
 /// How many words a small plan has.
 const SMALL: usize = 16;
 
-/// How many wires a module with a plan has at most: names are looked for among all of them.
+/// How many wires a module with a plan has at most.
 const WIRES: usize = 256;
 
 /// Adds the steps of the module's wires, and puts down where these stand. None: there is no room.
@@ -163,6 +163,7 @@ impl Plan {
     }
 
     /// The values of y, z and x, by a run on these words.
+    #[inline(always)]
     fn results(&self, words: &mut [u64], arguments: [u32; 5]) -> (u32, u32, u32)
         requires room { 5 + length self.now.draft.steps ≤ length words.old }
         requires are_steps { All (IsStep (length words.old)) self.now.draft.steps }
@@ -183,6 +184,7 @@ impl Plan {
     }
 
     /// The values of y, z and x.
+    #[inline(always)]
     pub(crate) fn run(&self, arguments: [u32; 5]) -> (u32, u32, u32)
         requires y { self.now.y < 64 }
         requires z { self.now.z < 64 }

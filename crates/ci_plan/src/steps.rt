@@ -22,13 +22,17 @@ pub(crate) enum Step {
     Part(u8, u8, u8),
     /// A word above another one of so many bits.
     Above(u8, u8, u8),
+    /// A word of 32 bits, widened to 64 by its sign.
+    Signed(u8),
 }
 
 /// The lowest bits of a word.
 pub(crate) fn low_bits(value: u64, width: u8) -> u64
     ensures { result ≡ value % 2 ^ width }
 {
-    if width < 64 {
+    if width == 32 {
+        value & 0xffff_ffff
+    } else if width < 64 {
         value & ((1 << width) - 1)
     } else {
         value
@@ -80,7 +84,7 @@ impl Step {
             | Step::Right(first, second)
             | Step::Less(first, second) => first < top && second < top,
             Step::Choose(test, first, second) => test < top && first < top && second < top,
-            Step::Part(from, _, _) => from < top,
+            Step::Part(from, _, _) | Step::Signed(from) => from < top,
         }
     }
 
@@ -119,6 +123,10 @@ impl Step {
             }
             Step::Above(high, low, width) => {
                 shifted_left(word(words, high), u64::from(width), 64).wrapping_add(word(words, low))
+            }
+            Step::Signed(from) => {
+                let value = word(words, from);
+                value.wrapping_add((value >> 31) % 2 * 0xffff_ffff_0000_0000)
             }
         }
     }

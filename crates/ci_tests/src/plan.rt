@@ -60,6 +60,18 @@ fn bodies() -> &'static [(u8, bool, &'static str)] {
             assign y = {n[7:0], k[15:8], 16'h1234};\n\
             assign z = {a[3:0], 4'h0, n[11:4], {2{b[15:12]}}, {8{c[0]}}};\nendmodule\n",
         ),
+        (
+            8,
+            false,
+            "wire [63:0] s;\nassign s = {{32{a[31]}}, a} >> b[4:0];\n\
+            assign y = s[63:32];\nassign z = s[31:0];\nendmodule\n",
+        ),
+        (
+            9,
+            false,
+            "wire [63:0] s;\nassign s = {{32{a[31]}}, b};\n\
+            assign y = s[63:32];\nassign z = s[31:0];\nendmodule\n",
+        ),
     ]
 }
 
@@ -98,6 +110,10 @@ fn values() -> &'static [(usize, [u32; 5], (u32, u32, u32))] {
             [0x1234_5678, 0x9abc, 2, 0, 0],
             (0xcdab_1234, 0x80bc_9900, 0),
         ),
+        (8, [0x8000_0000, 4, 0, 0, 0], (0x0fff_ffff, 0xf800_0000, 0)),
+        (8, [0x7fff_ffff, 4, 0, 0, 0], (0, 0x07ff_ffff, 0)),
+        (9, [0x8000_0000, 1, 0, 0, 0], (0xffff_ffff, 1, 0)),
+        (9, [1, 0x8000_0000, 0, 0, 0], (0, 0x8000_0000, 0)),
     ]
 }
 

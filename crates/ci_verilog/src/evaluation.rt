@@ -11,7 +11,7 @@ ghost use Rattle.ci_verilog.specs.private.Held.{Holds, IsHeld, SimpleFits, ItemF
 use crate::expressions::{Expr, Item, Name, Simple, Term, Wire};
 use crate::lookup::{input_named, wire_named};
 use crate::modules::Module;
-use crate::vectors::{Vector, low_bits, operate};
+use crate::vectors::{Vector, operate};
 
 /// The values of the inputs, and of the wires so far.
 #[derive(Clone, Copy)]

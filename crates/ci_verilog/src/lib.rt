@@ -3,6 +3,7 @@
 
 pub use evaluation::eval;
 pub use expressions::{Expr, Item, Items, Name, Operator, Simple, Term, Wire};
+pub use lookup::{input_named, wire_named};
 pub use modules::Module;
 pub use wires::Wires;
 

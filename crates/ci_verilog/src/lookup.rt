@@ -7,7 +7,7 @@ ghost use Rattle.ci_verilog.specs.Modules.{IsInput};
 use crate::expressions::{Name, Wire};
 
 /// The number of the input that has the name, in a wide module or in a narrow one.
-pub(crate) fn input_named(wide: bool, name: &[u8]) -> Option<usize>
+pub fn input_named(wide: bool, name: &[u8]) -> Option<usize>
     ensures some { IfSome result (λ k. IsInput wide name.now k) }
     ensures few { IfSome result (λ k. k < 5) }
     ensures none { IsNone result → (k : ℕ) → ¬ IsInput wide name.now k }
@@ -30,7 +30,7 @@ fn is_named(wires: &[Wire], k: usize, name: &[u8]) -> bool
 }
 
 /// The number of a wire that has the name. The number beside the name is tried first.
-pub(crate) fn wire_named(wires: &[Wire], name: &Name) -> Option<usize>
+pub fn wire_named(wires: &[Wire], name: &Name) -> Option<usize>
     ensures some { IfSome result (λ k. k < length wires.now) }
     ensures named { IfSome result (λ k. (d : Wire) → (slice_index_or wires.now k d).name ≡ name.now) }
     ensures none { IsNone result → (k : ℕ) → k < length wires.now → (d : Wire)

@@ -1,4 +1,4 @@
-//! The machine of a list of modules.
+//! The machine of a list of modules: its units, and that it has hidden registers.
 ghost use Rattle.std.specs.Prelude.{true, length, map, nat_lt, slice_index};
 ghost use Rattle.ci_machine.specs.Extended.{IsExtended};
 ghost use Rattle.ci_xemu.specs.ExtendedReadings.{extended_stands};

@@ -3,7 +3,7 @@ use Rattle.std.specs.Prelude.{ℕ, ◌+◌, ◌-◌, ◌*◌, ◌/◌, ◌%◌, 
 use Rattle.std.specs.Prelude.{bit_and, bit_or, bit_xor, slice_index, slice_set}
 use Rattle.ci_plan.specs.declared.steps.Step.{Step}
 use Rattle.ci_plan.specs.declared.steps.Step.TheVariants.{Plus, Minus, Times, And, Or, Xor, Left, Right, Less}
-use Rattle.ci_plan.specs.declared.steps.Step.TheVariants.{Choose, Part, Above}
+use Rattle.ci_plan.specs.declared.steps.Step.TheVariants.{Choose, Part, Above, Signed}
 
 -- its places are those of so many words, and its widths those of words
 abbrev pub IsStep : ℕ → Step → Type 0
@@ -19,6 +19,7 @@ IsStep n (Less l r) = (l < n) × (r < n)
 IsStep n (Choose test first second) = (test < n) × (first < n) × (second < n)
 IsStep n (Part from low width) = from < n
 IsStep n (Above high low width) = (high < n) × (low < n)
+IsStep n (Signed from) = from < n
 
 module _ (words : List ℕ) where
   -- the word that the step makes, where a sum, a difference and a product are those of words of 64 bits
@@ -37,6 +38,8 @@ module _ (words : List ℕ) where
   step_value (Part from low width) = slice_index words from / 2 ^ low % 2 ^ width
   step_value (Above high low width) =
       (slice_index words high * 2 ^ width % 2 ^ 64 + slice_index words low) % 2 ^ 64
+  step_value (Signed from) =
+      (slice_index words from + slice_index words from / 2 ^ 31 % 2 * (2 ^ 64 - 2 ^ 32)) % 2 ^ 64
 
 -- the words after the steps, of which the first one puts its word at this place, and each other one behind
 abbrev pub words_after : List ℕ → ℕ → List Step → List ℕ

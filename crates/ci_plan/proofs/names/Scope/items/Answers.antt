@@ -1,7 +1,9 @@
-use Rattle.std.proofs.Common.{ℕ, List, arith, sym, subst, map, take}
+use Rattle.std.proofs.Common.{ℕ, List, ◌/◌, ◌%◌, ◌^◌, arith, sym, subst, map, take, replicate}
 use Rattle.std.proofs.lemmas.List.{take_all}
+use Rattle.std.proofs.lemmas.Option.{IfSome_then}
 use Rattle.ci_verilog.specs.declared.vectors.Vector.{Vector}
-use Rattle.ci_verilog.specs.Values.{item_bits, joined}
+use Rattle.ci_verilog.specs.Values.{of_width, above, item_bits, joined}
+use Rattle.ci_verilog.proofs.VectorLaws.{above_nothing}
 use Rattle.ci_plan.specs.private.Drafts.{StandsFor}
 use Rattle.ci_plan.proofs.DraftLaws.{grows_on, stands_for_later}
 use Rattle.ci_plan.proofs.FoundLaws.{items_push}
@@ -37,6 +39,17 @@ loop-item-preserved c =
           (c.in_ok-more.ensures.found m before this (stands_for_later m l.draft d1 l.bits.place l.bits.width before c.in_ok-next.ensures.grows l.invariant.found)
           c.in_ok-next.ensures.found);
     }
+
+pub returns-in-Some-clause-found : goal.returns-in-Some-clause-found
+returns-in-Some-clause-found c =
+    let m = c.args.self.now.module.now in
+    let name = c.in-Some.name.now in
+    IfSome_then c.signed.result c.signed.ensures.found
+    (λ found stands.
+    subst (λ is. StandsFor m c.signed.new.draft found.place found.width (λ names. joined (map (item_bits names) is))) (sym c.in-Some.ensures)
+    (subst (λ (bits : (List ℕ → Vector) → Vector). StandsFor m c.signed.new.draft found.place found.width bits)
+    (λ t. λ names. above (joined (replicate 32 (of_width 1 ((names name).value / 2 ^ 31 % 2)))) (sym (above_nothing (names name)) t))
+    (stands m (λ names. names name) (c.in_ok-from.ensures c.args.draft.now c.requires))))
 
 pub returns-clause-found : goal.returns-clause-found
 returns-clause-found c =

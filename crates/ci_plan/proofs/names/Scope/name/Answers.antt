@@ -7,10 +7,10 @@ pub returns-in-Some : goal.returns-in-Some
 returns-in-Some c draft held =
     input_stands c.args.self.now.module.now draft c.in-Some.place c.args.name.now c.in-Some.ensures.few
     (subst (λ w. IsInput w c.args.name.now c.in-Some.place) c.is_wide.ensures
-    (subst (λ n. IsInput c.is_wide.result n c.in-Some.place) c.as_bytes.ensures c.in-Some.ensures.named))
+    (subst (λ n. IsInput c.is_wide.result n c.in-Some.place) c.as_bytes.ensures c.in-Some.ensures.some))
 
 pub returns : goal.returns
 returns c draft held =
     wire_found c.args.self.now.module.now c.args.self.now.wires.now draft c.in_ok-k.k c.index-self-k.result c.as_slice-wires.result.now
-    c.args.name.now c.as_bytes-2.result.now held c.in_ok-k.ensures.few
-    (c.as_slice-wires.ensures.value ∙ ap (λ w. w.list) c.wires.ensures.value) c.as_bytes-2.ensures c.in_ok-k.ensures.named
+    c.args.name.now held c.in_ok-k.ensures.some
+    (c.as_slice-wires.ensures.value ∙ ap (λ w. w.list) c.wires.ensures.value) c.in_ok-k.ensures.named
