@@ -1,4 +1,4 @@
--- Log books, and the text of each.
+-- Log books, and the text of each in each version.
 use Rattle.std.specs.Prelude.{◌≡◌, ℕ, ◌<◌, ◌≤◌, ◌^◌, List, [], ◌∷◌, ◌++◌, codes, IsTrue}
 use Rattle.std.specs.List.{flat_map, AllByRecursion}
 use Rattle.std.specs.Fmt.{decimal}
@@ -7,11 +7,15 @@ use Rattle.std.specs.FinSet as set
 use Rattle.ci_reading.specs.Hex.{eight_hex_digits}
 use Rattle.ci_reading.specs.Lines.{line}
 use Rattle.ci_word.specs.Members.{members_text}
+use Rattle.ci_log.specs.declared.log.Item.{Item}
 use Rattle.ci_log.specs.declared.book.Entry.{Entry}
 use Rattle.ci_log.specs.declared.book.Entry.TheVariants.{Best, Without, Spent, Take}
 use Rattle.ci_log.specs.declared.book.Finish.{Finish}
 use Rattle.ci_log.specs.declared.book.Finish.TheVariants.{Empty, Count}
+use Rattle.ci_log.specs.declared.book.Version.{Version}
+use Rattle.ci_log.specs.declared.book.Version.TheVariants.{One, Two}
 use Rattle.ci_log.specs.Trees.{IsLog, letters}
+use Rattle.ci_log.specs.Packed.{packed}
 
 -- ---- books
 
@@ -58,26 +62,39 @@ pub record IsBook (book : Book) : Type 0 where
 
 -- ---- texts
 
-abbrev pub entry_text : Entry → List ℕ
-entry_text (Best leader cut log) =
+-- a log in a book of the version
+abbrev pub log_text : Version → List Item → List ℕ
+log_text One log = letters log
+log_text Two log = packed log
+
+abbrev pub entry_text : Version → Entry → List ℕ
+entry_text version (Best leader cut log) =
     line (codes "block " ++ eight_hex_digits leader ++ codes " best" ++ members_text (set.contains cut))
-    ++ line (letters log)
-entry_text (Without leader log) =
-    line (codes "block " ++ eight_hex_digits leader ++ codes " none") ++ line (letters log)
-entry_text (Spent leader budget) = line (codes "block " ++ eight_hex_digits leader ++ codes " spent " ++ decimal budget)
-entry_text (Take leader unit) = line (codes "take " ++ eight_hex_digits leader ++ codes " unit " ++ decimal unit)
+    ++ line (log_text version log)
+entry_text version (Without leader log) =
+    line (codes "block " ++ eight_hex_digits leader ++ codes " none") ++ line (log_text version log)
+entry_text version (Spent leader budget) =
+    line (codes "block " ++ eight_hex_digits leader ++ codes " spent " ++ decimal budget)
+entry_text version (Take leader unit) =
+    line (codes "take " ++ eight_hex_digits leader ++ codes " unit " ++ decimal unit)
 
 abbrev pub finish_text : Finish → List ℕ
 finish_text Empty = line (codes "end none")
 finish_text Count = line (codes "end count")
 
-abbrev pub first_line : List ℕ
-first_line = line (codes "ci-log 1")
+abbrev pub first_line : Version → List ℕ
+first_line One = line (codes "ci-log 1")
+first_line Two = line (codes "ci-log 2")
 
-abbrev pub book_text : Book → List ℕ
-book_text book = first_line ++ flat_map entry_text book.entries ++ finish_text book.finish
+abbrev pub book_text : Version → Book → List ℕ
+book_text version book = first_line version ++ (flat_map (entry_text version) book.entries ++ finish_text book.finish)
+
+-- the bytes spell the book in this version
+pub record SpellsIn (version : Version) (bytes : List ℕ) (book : Book) : Type 0 where
+  pub is_book : IsBook book
+  pub is_text : bytes ≡ book_text version book
 
 -- the bytes spell the book
 pub record Spells (bytes : List ℕ) (book : Book) : Type 0 where
-  pub is_book : IsBook book
-  pub is_text : bytes ≡ book_text book
+  pub version : Version
+  pub spells : SpellsIn version bytes book

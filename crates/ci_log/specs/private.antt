@@ -1,2 +1,6 @@
+pub mod BookReading
+pub mod PackedReading
+pub mod Packing
 pub mod Reading
 pub mod Stored
+pub mod Writing

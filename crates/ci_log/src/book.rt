@@ -28,6 +28,15 @@ pub enum Finish {
     Count,
 }
 
+/// How a book spells its logs.
+#[derive(Clone, Copy, Debug, PartialEq, Eq)]
+pub enum Version {
+    /// A letter for each item.
+    One,
+    /// Half bytes, with runs of equal leaves.
+    Two,
+}
+
 /// A log book: entries, first searches alone and then takes, each with the search that follows it,
 /// and the finish.
 ///

@@ -1,9 +1,10 @@
 //! The entries of a book.
 ghost use Rattle.std.specs.Prelude.{◌≡◌, ◌≤◌, length, IfOk};
 ghost use Rattle.ci_reading.specs.LineReading.{with_front};
-ghost use Rattle.ci_log.specs.private.Reading.{Gives, best, without, spent, search, take, searches, rounds, finish};
+ghost use Rattle.ci_log.specs.private.Reading.{Gives};
+ghost use Rattle.ci_log.specs.private.BookReading.{best, without, spent, search, take, searches, rounds, finish};
 
-use crate::book::{Entry, Finish};
+use crate::book::{Entry, Finish, Version};
 use crate::cuts::nodes;
 use crate::faults::Failure;
 use crate::trees::tree_line;
@@ -27,17 +28,22 @@ const UNITS: Numbers = Numbers {
 };
 
 /// What stands behind the leader of a search that found a cut.
-#[tactic(auto, unfolding(crate::specs::private::Reading::best))]
-fn best(alloc: Global, leader: u32, bytes: &[u8]) -> Result<(Entry, &[u8]), Failure>
+#[tactic(auto, unfolding(crate::specs::private::BookReading::best))]
+fn best(
+    version: Version,
+    alloc: Global,
+    leader: u32,
+    bytes: &[u8],
+) -> Result<(Entry, &[u8]), Failure>
     requires { length bytes.now ≤ 268435456 }
-    ensures { Gives (λ x. (x.0, x.1.now)) result (best leader bytes.now) }
+    ensures { Gives (λ x. (x.0, x.1.now)) result (best version leader bytes.now) }
 {
     let rest = word(bytes, b"best ")?;
     let (cut, rest) = match nodes(rest) {
         Ok(read) => read,
         Err(failure) => return Err(failure),
     };
-    let (log, rest) = match tree_line(alloc, rest) {
+    let (log, rest) = match tree_line(version, alloc, rest) {
         Ok(read) => read,
         Err(failure) => return Err(failure),
     };
@@ -45,13 +51,18 @@ fn best(alloc: Global, leader: u32, bytes: &[u8]) -> Result<(Entry, &[u8]), Fail
 }
 
 /// What stands behind the leader of a search that found no cut.
-#[tactic(auto, unfolding(crate::specs::private::Reading::without))]
-fn without(alloc: Global, leader: u32, bytes: &[u8]) -> Result<(Entry, &[u8]), Failure>
+#[tactic(auto, unfolding(crate::specs::private::BookReading::without))]
+fn without(
+    version: Version,
+    alloc: Global,
+    leader: u32,
+    bytes: &[u8],
+) -> Result<(Entry, &[u8]), Failure>
     requires { length bytes.now ≤ 268435456 }
-    ensures { Gives (λ x. (x.0, x.1.now)) result (without leader bytes.now) }
+    ensures { Gives (λ x. (x.0, x.1.now)) result (without version leader bytes.now) }
 {
     let rest = word(bytes, b"none\n")?;
-    let (log, rest) = match tree_line(alloc, rest) {
+    let (log, rest) = match tree_line(version, alloc, rest) {
         Ok(read) => read,
         Err(failure) => return Err(failure),
     };
@@ -59,7 +70,7 @@ fn without(alloc: Global, leader: u32, bytes: &[u8]) -> Result<(Entry, &[u8]), F
 }
 
 /// What stands behind the leader of a search that needs more than its budget.
-#[tactic(auto, unfolding(crate::specs::private::Reading::spent))]
+#[tactic(auto, unfolding(crate::specs::private::BookReading::spent))]
 fn spent(leader: u32, bytes: &[u8]) -> Result<(Entry, &[u8]), Failure>
     ensures { Gives (λ x. (x.0, x.1.now)) result (spent leader bytes.now) }
 {
@@ -69,25 +80,25 @@ fn spent(leader: u32, bytes: &[u8]) -> Result<(Entry, &[u8]), Failure>
 }
 
 /// A search.
-#[tactic(auto, unfolding(crate::specs::private::Reading::search))]
-fn search(alloc: Global, bytes: &[u8]) -> Result<(Entry, &[u8]), Failure>
+#[tactic(auto, unfolding(crate::specs::private::BookReading::search))]
+fn search(version: Version, alloc: Global, bytes: &[u8]) -> Result<(Entry, &[u8]), Failure>
     requires { length bytes.now ≤ 268435456 }
-    ensures { Gives (λ x. (x.0, x.1.now)) result (search bytes.now) }
+    ensures { Gives (λ x. (x.0, x.1.now)) result (search version bytes.now) }
 {
     let rest = word(bytes, b"block ")?;
     let (leader, rest) = address(rest)?;
     let rest = word(rest, b" ")?;
     if begins_with(rest, b'b') {
-        best(alloc, leader, rest)
+        best(version, alloc, leader, rest)
     } else if begins_with(rest, b'n') {
-        without(alloc, leader, rest)
+        without(version, alloc, leader, rest)
     } else {
         spent(leader, rest)
     }
 }
 
 /// A take.
-#[tactic(auto, unfolding(crate::specs::private::Reading::take))]
+#[tactic(auto, unfolding(crate::specs::private::BookReading::take))]
 fn take(bytes: &[u8]) -> Result<(Entry, &[u8]), Failure>
     ensures { Gives (λ x. (x.0, x.1.now)) result (take bytes.now) }
 {
@@ -100,15 +111,19 @@ fn take(bytes: &[u8]) -> Result<(Entry, &[u8]), Failure>
 }
 
 /// All searches before the first take.
-pub(crate) fn searches(alloc: Global, bytes: &[u8]) -> Result<(Vec<Entry>, &[u8]), Failure>
+pub(crate) fn searches(
+    version: Version,
+    alloc: Global,
+    bytes: &[u8],
+) -> Result<(Vec<Entry>, &[u8]), Failure>
     requires { length bytes.now ≤ 268435456 }
-    ensures entries { Gives (λ x. (x.0.items, x.1.now)) result (searches bytes.now) }
+    ensures entries { Gives (λ x. (x.0.items, x.1.now)) result (searches version bytes.now) }
     ensures left { IfOk result (λ x. length x.1.now ≤ length bytes.now) }
 {
     let mut entries = Vec::new(alloc);
     let mut rest = bytes;
     while begins_with(rest, b'b') {
-        let (entry, after) = search(alloc, rest)?;
+        let (entry, after) = search(version, alloc, rest)?;
         entries.push(entry)?;
         rest = after;
     }
@@ -118,18 +133,19 @@ pub(crate) fn searches(alloc: Global, bytes: &[u8]) -> Result<(Vec<Entry>, &[u8]
 /// All takes, each with the search that follows it, behind these entries.
 pub(crate) fn rounds<'a>(
     entries: Vec<Entry>,
+    version: Version,
     alloc: Global,
     bytes: &'a [u8],
 ) -> Result<(Vec<Entry>, &'a [u8]), Failure>
     requires { length bytes.now ≤ 268435456 }
-    ensures entries { Gives (λ x. (x.0.items, x.1.now)) result (with_front entries.items (rounds bytes.now)) }
+    ensures entries { Gives (λ x. (x.0.items, x.1.now)) result (with_front entries.items (rounds version bytes.now)) }
     ensures left { IfOk result (λ x. length x.1.now ≤ length bytes.now) }
 {
     let mut entries = entries;
     let mut rest = bytes;
     while begins_with(rest, b't') {
         let (take, after) = take(rest)?;
-        let (search, after) = search(alloc, after)?;
+        let (search, after) = search(version, alloc, after)?;
         entries.push(take)?;
         entries.push(search)?;
         rest = after;
@@ -138,7 +154,7 @@ pub(crate) fn rounds<'a>(
 }
 
 /// The finish.
-#[tactic(auto, unfolding(crate::specs::private::Reading::finish))]
+#[tactic(auto, unfolding(crate::specs::private::BookReading::finish))]
 pub(crate) fn finish(bytes: &[u8]) -> Result<(Finish, &[u8]), Failure>
     ensures { Gives (λ x. (x.0, x.1.now)) result (finish bytes.now) }
 {

@@ -6,8 +6,9 @@ use std::alloc::{AllocError, AllocFailed};
 /// Why bytes spell no log book. Offsets are in bytes, from the text's first.
 #[derive(Debug, Drop, thiserror::Error)]
 pub enum LogFault {
-    /// The text differs from its first line, newline included, in a byte that is there.
-    #[error("no log book of version 1")]
+    /// The text differs from the first line of each version, newline included, in a byte that is
+    /// there.
+    #[error("no log book of version 1 or 2")]
     BadHeader,
     /// The byte at the offset is the first with which no book goes on, and none of `Trailing`'s.
     #[error("no log book has this byte: {0}")]

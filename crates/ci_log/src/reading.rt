@@ -2,23 +2,40 @@
 ghost use Rattle.std.specs.Prelude.{◌≡◌, ℕ, ◌<◌, ◌≤◌, length, IfOk, IfErr, Ok, Err};
 ghost use Rattle.ci_log.specs.Books.{Book, Spells};
 ghost use Rattle.ci_log.specs.Faults.{HasFault, IsFaultOf, Answers};
-ghost use Rattle.ci_log.specs.private.Reading.{Gives, body, IsLeft, failure_fault, header_fault};
+ghost use Rattle.ci_reading.specs.Fields.{Gives as GivesField};
+ghost use Rattle.ci_log.specs.private.Reading.{Gives, IsLeft, failure_fault, header_fault};
+ghost use Rattle.ci_log.specs.private.BookReading.{header, body};
 ghost use Rattle.ci_log.specs.declared.faults.LogFault.{LogFault};
 
-use crate::book::LogBook;
+use crate::book::{LogBook, Version};
 use crate::entries::{finish, rounds, searches};
 use crate::faults::{Failure, LogFault};
-use ci_reading::word;
+use ci_reading::{Stop, begins_with, word};
 use std::alloc::Global;
 
-/// What stands behind the first line.
-#[tactic(auto, unfolding(crate::specs::private::Reading::body))]
-fn body(alloc: Global, bytes: &[u8]) -> Result<(LogBook, &[u8]), Failure>
-    requires { length bytes.now ≤ 268435456 }
-    ensures { Gives (λ x. (x.0, x.1.now)) result (body bytes.now) }
+/// The first line, which names the version.
+#[tactic(auto, unfolding(crate::specs::private::BookReading::header))]
+fn header(bytes: &[u8]) -> Result<(Version, &[u8]), Stop>
+    ensures { GivesField (λ x. (x.0, x.1.now)) result (header bytes.now) }
 {
-    let (entries, rest) = searches(alloc, bytes)?;
-    let (entries, rest) = rounds(entries, alloc, rest)?;
+    let rest = word(bytes, b"ci-log ")?;
+    if begins_with(rest, b'1') {
+        let rest = word(rest, b"1\n")?;
+        Ok((Version::One, rest))
+    } else {
+        let rest = word(rest, b"2\n")?;
+        Ok((Version::Two, rest))
+    }
+}
+
+/// What stands behind the first line.
+#[tactic(auto, unfolding(crate::specs::private::BookReading::body))]
+fn body(version: Version, alloc: Global, bytes: &[u8]) -> Result<(LogBook, &[u8]), Failure>
+    requires { length bytes.now ≤ 268435456 }
+    ensures { Gives (λ x. (x.0, x.1.now)) result (body version bytes.now) }
+{
+    let (entries, rest) = searches(version, alloc, bytes)?;
+    let (entries, rest) = rounds(entries, version, alloc, rest)?;
     let (finish, rest) = finish(rest)?;
     Ok((LogBook::new(entries, finish), rest))
 }
@@ -56,11 +73,11 @@ fn book_or_fault(alloc: Global, bytes: &[u8]) -> Result<LogBook, LogFault>
     ensures book { IfOk result (λ book. Spells bytes.now book) }
     ensures fault { IfErr result (IsFaultOf bytes.now) }
 {
-    let rest = match word(bytes, b"ci-log 1\n") {
-        Ok(rest) => rest,
+    let (version, rest) = match header(bytes) {
+        Ok(read) => read,
         Err(stop) => return Err(header_fault(stop.left)),
     };
-    let (book, rest) = match body(alloc, rest) {
+    let (book, rest) = match body(version, alloc, rest) {
         Ok(read) => read,
         Err(failure) => return Err(fault_at(bytes.len(), failure)),
     };
@@ -71,7 +88,8 @@ fn book_or_fault(alloc: Global, bytes: &[u8]) -> Result<LogBook, LogFault>
     }
 }
 
-/// The log book that the bytes spell, all of them. They have to be at most 268,435,456 bytes.
+/// The log book that the bytes spell, all of them, in the version that their first line names. They
+/// have to be at most 268,435,456 bytes.
 ///
 /// # Errors
 ///

@@ -1,9 +1,12 @@
-//! The letters of a log.
+//! The letters of a log, and its line.
 ghost use Rattle.std.specs.Prelude.{◌≡◌, ◌-◌, ◌<◌, ◌≤◌, length};
-ghost use Rattle.ci_log.specs.private.Reading.{Gives, item_of, item, due_after, trees, tree_end, tree_line};
+ghost use Rattle.ci_log.specs.private.Reading.{Gives, item_of, item, due_after, trees, tree_end};
+ghost use Rattle.ci_log.specs.private.BookReading.{tree_in, tree_line};
 
+use crate::book::Version;
 use crate::faults::{Failure, Stop, stopped};
 use crate::log::{Item, Log};
+use crate::packed::packed_tree;
 use std::alloc::Global;
 
 /// The item of a letter.
@@ -35,9 +38,9 @@ fn item(bytes: &[u8]) -> Result<(Item, &[u8]), Failure>
 }
 
 /// How many trees are due behind the item, where so many were due before it.
-fn due_behind(item: Item, due: usize) -> usize
+pub(crate) fn due_behind(item: Item, due: usize) -> usize
     requires some { 0 < due }
-    requires few { due ≤ 268435457 }
+    requires few { due ≤ 3000000000 }
     ensures { result ≡ due_after item (due - 1) }
 {
     match item {
@@ -76,13 +79,28 @@ fn tree_end(bytes: &[u8]) -> Result<&[u8], Failure>
     }
 }
 
-/// A log's line.
-#[tactic(auto, unfolding(crate::specs::private::Reading::tree_line))]
-pub(crate) fn tree_line(alloc: Global, bytes: &[u8]) -> Result<(Log, &[u8]), Failure>
+/// A tree in a book of the version.
+fn tree_in(version: Version, alloc: Global, bytes: &[u8]) -> Result<(Vec<Item>, &[u8]), Failure>
     requires { length bytes.now ≤ 268435456 }
-    ensures { Gives (λ x. (x.0, x.1.now)) result (tree_line bytes.now) }
+    ensures { Gives (λ x. (x.0.items, x.1.now)) result (tree_in version bytes.now) }
 {
-    let (items, rest) = tree(alloc, bytes)?;
+    match version {
+        Version::One => tree(alloc, bytes),
+        Version::Two => packed_tree(alloc, bytes),
+    }
+}
+
+/// A log's line in a book of the version.
+#[tactic(auto, unfolding(crate::specs::private::BookReading::tree_line))]
+pub(crate) fn tree_line(
+    version: Version,
+    alloc: Global,
+    bytes: &[u8],
+) -> Result<(Log, &[u8]), Failure>
+    requires { length bytes.now ≤ 268435456 }
+    ensures { Gives (λ x. (x.0, x.1.now)) result (tree_line version bytes.now) }
+{
+    let (items, rest) = tree_in(version, alloc, bytes)?;
     let rest = tree_end(rest)?;
     Ok((Log::new(items), rest))
 }

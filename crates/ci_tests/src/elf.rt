@@ -317,7 +317,7 @@ fn expect_loaded(rt: &impl Abort, image: &Image, rows: &[(u32, Option<u8>)]) {
     }
 }
 
-/// Asserts what segments an image has.
+/// Asserts what segments an image has, by the order of their headers and by that of their addresses.
 fn expect_segments(rt: &impl Abort, image: &Image) {
     let text = Segment {
         address: 0x1_0000,
@@ -326,12 +326,13 @@ fn expect_segments(rt: &impl Abort, image: &Image) {
         file_size: 128,
     };
     let values = Segment {
-        address: 0x2_0000,
+        address: 0x0_8000,
         memory_size: 12,
         offset: 128,
         file_size: 12,
     };
     assert_eq!(rt; image.segments(), [text, values].as_slice());
+    assert_eq!(rt; image.segments_by_address(), [values, text].as_slice());
 }
 
 /// Asserts what range an image has.
@@ -347,7 +348,9 @@ fn expect_range(rt: &impl Abort, image: &Image) {
 
 #[test]
 fn an_image_has_the_parts_of_its_file(rt: HostRuntime) -> Result<(), Fail> {
-    let bytes = frame(rt.alloc(), &[0x13, 0x73], &[1000], &[5, 6, 7])?;
+    let mut bytes = frame(rt.alloc(), &[0x13, 0x73], &[1000], &[5, 6, 7])?;
+    // The values lie below the text.
+    change(&rt, &mut bytes, &[(92, 0x8000)]);
     let image = image_of(&rt, rt.alloc(), &bytes)?;
     assert_eq!(rt; image.entry(), 0x1_0074);
     assert_eq!(rt; image.bytes(), bytes.as_slice());
@@ -368,11 +371,12 @@ fn an_image_has_the_parts_of_its_file(rt: HostRuntime) -> Result<(), Fail> {
         &rt,
         &image,
         &[
+            (0x7fff, None),
+            (0x8004, Some(6)),
+            (0x800c, None),
             (0xffff, None),
             (0x1_0001, Some(0x45)),
             (0x1_0080, None),
-            (0x2_0004, Some(6)),
-            (0x2_000c, None),
         ],
     );
     drop(image);

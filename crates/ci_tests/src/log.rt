@@ -1,7 +1,9 @@
 //! A book of two searches and a take, a longer book, faults of texts, and a tree in a region.
-use ci_log::{Child, Entry, Finish, Item, LogBook, LogFault, LogNode, flatten, read, write};
+use ci_log::{
+    Child, Entry, Finish, Item, LogBook, LogFault, LogNode, flatten, read, write, write_packed,
+};
 use ci_region::Region;
-use std::alloc::AllocError;
+use std::alloc::{AllocError, Global};
 use std::process::Abort;
 use std::test::Fail;
 
@@ -17,6 +19,12 @@ fn rounds() -> &'static [u8] {
     b"ci-log 1\nblock 00010074 spent 9999999\nblock 0001009c best 0 255\nF\nblock 000100c4 none\nBCI\n\
 take 0001009c unit 0\nblock 0001009c best 10 11 200\nBFG\ntake 0001009c unit 31\nblock 0001009c none\nO\n\
 end count\n"
+}
+
+/// The first text's book in version 2.
+fn packed() -> &'static [u8] {
+    b"ci-log 2\nblock 00010074 best 0 2\n\x00\x10\x15\x00\x56\x40\n\
+take 00010074 unit 0\nblock 00010074 none\n\x40\nend none\n"
 }
 
 /// The book of a short text.
@@ -56,6 +64,17 @@ fn expect_text(
     text: &[u8],
 ) -> Result<(), AllocError> {
     let written = write(rt.alloc(), book)?;
+    assert_eq!(rt; written.as_slice(), text);
+    Ok(())
+}
+
+/// Asserts that a book is written as this text in version 2.
+fn expect_packed(
+    rt: &(impl AllocGlobal + Abort),
+    book: &LogBook,
+    text: &[u8],
+) -> Result<(), AllocError> {
+    let written = write_packed(rt.alloc(), book)?;
     assert_eq!(rt; written.as_slice(), text);
     Ok(())
 }
@@ -184,9 +203,13 @@ fn several_rounds_both_ways(rt: HostRuntime) -> Result<(), Fail> {
 fn faults() -> &'static [(&'static str, LogFault)] {
     &[
         ("", LogFault::Unfinished),
+        ("ci-log ", LogFault::Unfinished),
         ("ci-log 1", LogFault::Unfinished),
+        ("ci-lag 2", LogFault::BadHeader),
         ("ci-log 1x", LogFault::BadHeader),
-        ("ci-log 2\n", LogFault::BadHeader),
+        ("ci-log 2\n", LogFault::Unfinished),
+        ("ci-log 3\n", LogFault::BadHeader),
+        ("ci-log 2x", LogFault::BadHeader),
         ("ci-log 1\nx", LogFault::BadItem(9)),
         (
             "ci-log 1\nblock 0001007A none\nG\nend none\n",
@@ -245,7 +268,112 @@ fn faults() -> &'static [(&'static str, LogFault)] {
         ),
         ("ci-log 1\nend nine\n", LogFault::BadItem(14)),
         ("ci-log 1\nend none\n\n", LogFault::Trailing(18)),
+        // In version 2, a tree that isn't whole, another finish, and a byte behind the end.
+        (
+            "ci-log 2\nblock 00010074 none\n\x00\x05",
+            LogFault::Unfinished,
+        ),
+        ("ci-log 2\nend nine\n", LogFault::BadItem(14)),
+        ("ci-log 2\nend none\n\n", LogFault::Trailing(18)),
     ]
+}
+
+/// Asserts that two texts spell one book, the second in version 2.
+fn expect_both_ways(
+    rt: &(impl AllocGlobal + Abort),
+    text: &[u8],
+    packed: &[u8],
+) -> Result<(), Fail> {
+    let book = book_of(rt, text)?;
+    let outcome = expect_packed(rt, &book, packed);
+    drop(book);
+    outcome?;
+    let book = book_of(rt, packed)?;
+    let outcome = expect_text(rt, &book, text);
+    drop(book);
+    outcome?;
+    Ok(())
+}
+
+#[test]
+fn a_packed_text_both_ways(rt: HostRuntime) -> Result<(), Fail> {
+    assert_eq!(rt; packed().len(), 92);
+    expect_both_ways(&rt, text(), packed())
+}
+
+/// Trees with runs of leaves, and what stands for them in version 2.
+fn runs() -> &'static [(&'static [u8], &'static [u8])] {
+    &[
+        // Runs of one leaf and of two.
+        (b"BBIOC", b"\x00\x31\x20"),
+        (b"BOBOO", b"\x01\x01\x60"),
+        // One that goes on behind a node, and one of five leaves behind another run.
+        (b"BBOOO", b"\x00\x17"),
+        (b"BBBBBBGGFFFFF", b"\x00\x00\x00\x46\x59"),
+        // Runs of 10, 11, 12, 21 and 22 leaves.
+        (b"BBBBBBBBBFFFFFFFFFF", b"\x00\x00\x00\x00\x05\xe0"),
+        (b"BBBBBBBBBBFFFFFFFFFFF", b"\x00\x00\x00\x00\x00\x5f"),
+        (b"BBBBBBBBBBBCCCCCCCCCCCC", b"\x00\x00\x00\x00\x00\x02\xf6"),
+        (
+            b"BBBBBBBBBBBBBBBBBBBBGGGGGGGGGGGGGGGGGGGGG",
+            b"\x00\x00\x00\x00\x00\x00\x00\x00\x00\x00\x4f\xf0",
+        ),
+        (
+            b"BBBBBBBBBBBBBBBBBBBBBOOOOOOOOOOOOOOOOOOOOOO",
+            b"\x00\x00\x00\x00\x00\x00\x00\x00\x00\x00\x01\xff\x60",
+        ),
+    ]
+}
+
+/// A book of one search, with these bytes for its first line and for its tree.
+fn book_with(alloc: Global, first: &[u8], tree: &[u8]) -> Result<Vec<u8>, AllocError> {
+    let mut text = Vec::from_slice(alloc, first)?;
+    text.extend_from_slice(b"block 00010074 none\n")?;
+    text.extend_from_slice(tree)?;
+    text.extend_from_slice(b"\nend none\n")?;
+    Ok(text)
+}
+
+#[test]
+fn runs_of_leaves_both_ways(rt: HostRuntime) -> Result<(), Fail> {
+    for (tree, packed) in runs() {
+        let text = book_with(rt.alloc(), b"ci-log 1\n", *tree)?;
+        let packed = book_with(rt.alloc(), b"ci-log 2\n", *packed)?;
+        expect_both_ways(&rt, &text, &packed)?;
+    }
+    Ok(())
+}
+
+/// What stands for the tree of a search in a book of version 2, and what the fault of that book is.
+fn packed_faults() -> &'static [(&'static [u8], LogFault)] {
+    &[
+        // A filling half that isn't 0, and a tree that goes on behind its end.
+        (b"\x41", LogFault::BadItem(29)),
+        (b"\x40\x40", LogFault::Trailing(30)),
+        // Two equal leaves that are no run: in one byte, in two, and behind one that ended.
+        (b"\x05\x50", LogFault::BadItem(30)),
+        (b"\x05\x05\x50", LogFault::BadItem(31)),
+        (b"\x00\x05\x65", LogFault::BadItem(31)),
+        // A half byte behind 5 + s, one behind a branch, and one at the beginning.
+        (b"\x00\x00\x56\x60", LogFault::BadItem(32)),
+        (b"\x06", LogFault::BadItem(29)),
+        (b"\x60", LogFault::BadItem(29)),
+        // A run past the end of the tree, by one leaf and by ten.
+        (b"\x05\x70", LogFault::BadItem(30)),
+        (b"\x05\xf0", LogFault::BadItem(30)),
+        // Letters, and a tree that isn't whole.
+        (b"BFF", LogFault::BadItem(29)),
+        (b"\x00\n", LogFault::BadItem(30)),
+    ]
+}
+
+#[test]
+fn the_first_fault_of_a_packed_tree(rt: HostRuntime) -> Result<(), Fail> {
+    for (tree, due) in packed_faults() {
+        let text = book_with(rt.alloc(), b"ci-log 2\n", *tree)?;
+        assert!(rt; has_fault(&rt, &text, due));
+    }
+    Ok(())
 }
 
 #[test]

@@ -1,5 +1,5 @@
-use Rattle.ci_log.proofs.TreeReading.{tree_log}
+use Rattle.ci_log.proofs.LogReading.{log_read}
 use Rattle.ci_log.proofs.trees.tree_line.Goals as goal
 
 pub new-requires : goal.new-requires
-new-requires c = tree_log c.args.bytes.now c.in_ok-items.rest.now c.in_ok-items.items.items c.requires c.in_ok-items.ensures
+new-requires c = log_read c.args.version c.args.bytes.now c.in_ok-items.rest.now c.in_ok-items.items.items c.requires c.in_ok-items.ensures
