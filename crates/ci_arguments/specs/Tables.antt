@@ -1,15 +1,15 @@
 -- For every reader: the table of the commands and of their options.
-use Rattle.std.specs.Prelude.{ℕ, Bool, true, false, List, [], ◌∷◌, codes}
+use Rattle.std.specs.Prelude.{ℕ, Bool, true, false, List, [], ◌∷◌, ◌++◌, codes}
 use Rattle.ci_arguments.specs.declared.tables.Access.TheVariants.{Reads, Writes}
 use Rattle.ci_arguments.specs.declared.tables.CommandName.{CommandName}
-use Rattle.ci_arguments.specs.declared.tables.CommandName.TheVariants.{Best, Asm, Dis, Run, Blocks, Eval, Find, Check, Load}
+use Rattle.ci_arguments.specs.declared.tables.CommandName.TheVariants.{Best, Asm, Dis, Run, Blocks, Eval, Find, Check, Relog, Load}
 use Rattle.ci_arguments.specs.declared.tables.DefaultValue.{DefaultValue}
 use Rattle.ci_arguments.specs.declared.tables.DefaultValue.TheVariants as default
 use Rattle.ci_arguments.specs.declared.tables.Kind.{Kind}
 use Rattle.ci_arguments.specs.declared.tables.Kind.TheVariants.{File, Number, Word}
 use Rattle.ci_arguments.specs.declared.tables.OptionName.{OptionName}
 use Rattle.ci_arguments.specs.declared.tables.OptionName.TheVariants.{Inputs, Outputs, Count, Budget, Steps, Units, Table}
-use Rattle.ci_arguments.specs.declared.tables.OptionName.TheVariants.{Input, Leader, At, ArgumentD, ArgumentE}
+use Rattle.ci_arguments.specs.declared.tables.OptionName.TheVariants.{Input, Leader, At, ArgumentD, ArgumentE, LogVersion}
 
 -- An option of a command: its name without hyphens, which one it is, the kind of its values, whether it may stand more
 -- than once, and what it is set to where it is not given.
@@ -61,6 +61,10 @@ steps = single (codes "steps") Steps (Number 1 4294967296) (default.Number 16777
 abbrev pub input : OptionRow
 input = single (codes "input") Input (File Reads) default.Nothing
 
+-- the version of the log book that is written
+abbrev pub log_version : ℕ → OptionRow
+log_version usual = single (codes "log") LogVersion (Number 1 2) (default.Number usual)
+
 -- what a choice of cuts is bounded by and made from
 abbrev pub choice : List OptionRow
 choice =
@@ -80,7 +84,8 @@ commands =
     ∷ command_of (codes "eval") Eval (File Reads ∷ Number 0 31 ∷ Word ∷ Word ∷ Word ∷ [])
     (single (codes "d") ArgumentD Word default.Nothing ∷ single (codes "e") ArgumentE Word default.Nothing ∷ [])
     ∷ command_of (codes "find") Find
-    (File Reads ∷ File Writes ∷ File Writes ∷ File Writes ∷ File Writes ∷ []) choice
+    (File Reads ∷ File Writes ∷ File Writes ∷ File Writes ∷ File Writes ∷ []) (choice ++ log_version 1 ∷ [])
     ∷ command_of (codes "check") Check (File Reads ∷ File Reads ∷ File Reads ∷ File Reads ∷ []) choice
+    ∷ command_of (codes "relog") Relog (File Reads ∷ File Writes ∷ []) (log_version 2 ∷ [])
     ∷ command_of (codes "load") Load (Number 0 4294967295 ∷ []) []
     ∷ []

@@ -19,6 +19,8 @@ pub enum CommandName {
     Find,
     /// `check`
     Check,
+    /// `relog`
+    Relog,
     /// `load`
     Load,
 }
@@ -50,6 +52,8 @@ pub enum OptionName {
     ArgumentD,
     /// `--e`
     ArgumentE,
+    /// `--log`
+    LogVersion,
 }
 
 /// What a command does with a file.
@@ -119,139 +123,191 @@ const SEED: Kind = Kind::Number {
     maximum: 4_294_967_295,
 };
 
-const IN: NamedOption<'static> = (
-    "in",
+const IN: CommandOption<'static> = (
+    (
+        "in",
+        OptionShape {
+            option: OptionName::Inputs,
+            kind: Kind::Number {
+                minimum: 1,
+                maximum: 5,
+            },
+            repeatable: false,
+        },
+    ),
+    DefaultValue::Number(3),
+);
+
+const OUT: CommandOption<'static> = (
+    (
+        "out",
+        OptionShape {
+            option: OptionName::Outputs,
+            kind: Kind::Number {
+                minimum: 1,
+                maximum: 3,
+            },
+            repeatable: false,
+        },
+    ),
+    DefaultValue::Number(2),
+);
+
+const COUNT: CommandOption<'static> = (
+    (
+        "count",
+        OptionShape {
+            option: OptionName::Count,
+            kind: Kind::Number {
+                minimum: 1,
+                maximum: 32,
+            },
+            repeatable: false,
+        },
+    ),
+    DefaultValue::Number(32),
+);
+
+const BUDGET: CommandOption<'static> = (
+    (
+        "budget",
+        OptionShape {
+            option: OptionName::Budget,
+            kind: Kind::Number {
+                minimum: 1,
+                maximum: 4_194_304,
+            },
+            repeatable: false,
+        },
+    ),
+    DefaultValue::Number(65_536),
+);
+
+const STEPS: CommandOption<'static> = (
+    (
+        "steps",
+        OptionShape {
+            option: OptionName::Steps,
+            kind: Kind::Number {
+                minimum: 1,
+                maximum: 4_294_967_296,
+            },
+            repeatable: false,
+        },
+    ),
+    DefaultValue::Number(16_777_216),
+);
+
+const UNITS: CommandOption<'static> = (
+    (
+        "units",
+        OptionShape {
+            option: OptionName::Units,
+            kind: READ,
+            repeatable: false,
+        },
+    ),
+    DefaultValue::Nothing,
+);
+
+const TABLE: CommandOption<'static> = (
+    (
+        "table",
+        OptionShape {
+            option: OptionName::Table,
+            kind: READ,
+            repeatable: false,
+        },
+    ),
+    DefaultValue::Nothing,
+);
+
+const INPUT: CommandOption<'static> = (
+    (
+        "input",
+        OptionShape {
+            option: OptionName::Input,
+            kind: READ,
+            repeatable: false,
+        },
+    ),
+    DefaultValue::Nothing,
+);
+
+const LEADER: CommandOption<'static> = (
+    (
+        "leader",
+        OptionShape {
+            option: OptionName::Leader,
+            kind: Kind::Word,
+            repeatable: true,
+        },
+    ),
+    DefaultValue::Nothing,
+);
+
+const AT: CommandOption<'static> = (
+    (
+        "at",
+        OptionShape {
+            option: OptionName::At,
+            kind: Kind::Word,
+            repeatable: false,
+        },
+    ),
+    DefaultValue::Nothing,
+);
+
+const ARGUMENT_D: CommandOption<'static> = (
+    (
+        "d",
+        OptionShape {
+            option: OptionName::ArgumentD,
+            kind: Kind::Word,
+            repeatable: false,
+        },
+    ),
+    DefaultValue::Nothing,
+);
+
+const ARGUMENT_E: CommandOption<'static> = (
+    (
+        "e",
+        OptionShape {
+            option: OptionName::ArgumentE,
+            kind: Kind::Word,
+            repeatable: false,
+        },
+    ),
+    DefaultValue::Nothing,
+);
+
+const LOG: NamedOption<'static> = (
+    "log",
     OptionShape {
-        option: OptionName::Inputs,
+        option: OptionName::LogVersion,
         kind: Kind::Number {
             minimum: 1,
-            maximum: 5,
+            maximum: 2,
         },
-        repeatable: false,
-    },
-);
-
-const OUT: NamedOption<'static> = (
-    "out",
-    OptionShape {
-        option: OptionName::Outputs,
-        kind: Kind::Number {
-            minimum: 1,
-            maximum: 3,
-        },
-        repeatable: false,
-    },
-);
-
-const COUNT: NamedOption<'static> = (
-    "count",
-    OptionShape {
-        option: OptionName::Count,
-        kind: Kind::Number {
-            minimum: 1,
-            maximum: 32,
-        },
-        repeatable: false,
-    },
-);
-
-const BUDGET: NamedOption<'static> = (
-    "budget",
-    OptionShape {
-        option: OptionName::Budget,
-        kind: Kind::Number {
-            minimum: 1,
-            maximum: 4_194_304,
-        },
-        repeatable: false,
-    },
-);
-
-const STEPS: NamedOption<'static> = (
-    "steps",
-    OptionShape {
-        option: OptionName::Steps,
-        kind: Kind::Number {
-            minimum: 1,
-            maximum: 4_294_967_296,
-        },
-        repeatable: false,
-    },
-);
-
-const UNITS: NamedOption<'static> = (
-    "units",
-    OptionShape {
-        option: OptionName::Units,
-        kind: READ,
-        repeatable: false,
-    },
-);
-
-const TABLE: NamedOption<'static> = (
-    "table",
-    OptionShape {
-        option: OptionName::Table,
-        kind: READ,
-        repeatable: false,
-    },
-);
-
-const INPUT: NamedOption<'static> = (
-    "input",
-    OptionShape {
-        option: OptionName::Input,
-        kind: READ,
-        repeatable: false,
-    },
-);
-
-const LEADER: NamedOption<'static> = (
-    "leader",
-    OptionShape {
-        option: OptionName::Leader,
-        kind: Kind::Word,
-        repeatable: true,
-    },
-);
-
-const AT: NamedOption<'static> = (
-    "at",
-    OptionShape {
-        option: OptionName::At,
-        kind: Kind::Word,
-        repeatable: false,
-    },
-);
-
-const ARGUMENT_D: NamedOption<'static> = (
-    "d",
-    OptionShape {
-        option: OptionName::ArgumentD,
-        kind: Kind::Word,
-        repeatable: false,
-    },
-);
-
-const ARGUMENT_E: NamedOption<'static> = (
-    "e",
-    OptionShape {
-        option: OptionName::ArgumentE,
-        kind: Kind::Word,
         repeatable: false,
     },
 );
 
 /// What a choice of cuts is bounded by and made from.
-const CHOICE: &[CommandOption<'static>] = &[
-    (IN, DefaultValue::Number(3)),
-    (OUT, DefaultValue::Number(2)),
-    (COUNT, DefaultValue::Number(32)),
-    (BUDGET, DefaultValue::Number(65_536)),
-    (STEPS, DefaultValue::Number(16_777_216)),
-    (TABLE, DefaultValue::Nothing),
-    (INPUT, DefaultValue::Nothing),
-    (LEADER, DefaultValue::Nothing),
+const CHOICE: &[CommandOption<'static>] = &[IN, OUT, COUNT, BUDGET, STEPS, TABLE, INPUT, LEADER];
+
+/// That, and the version of the log book that is written.
+const FIND: &[CommandOption<'static>] = &[
+    IN,
+    OUT,
+    COUNT,
+    BUDGET,
+    STEPS,
+    TABLE,
+    INPUT,
+    LEADER,
+    (LOG, DefaultValue::Number(1)),
 ];
 
 /// The table of the commands.
@@ -260,14 +316,7 @@ pub const COMMANDS: &[CommandRow<'static>] = &[
         "best",
         CommandName::Best,
         &[READ],
-        &[
-            (IN, DefaultValue::Number(3)),
-            (OUT, DefaultValue::Number(2)),
-            (BUDGET, DefaultValue::Number(65_536)),
-            (TABLE, DefaultValue::Nothing),
-            (LEADER, DefaultValue::Nothing),
-            (AT, DefaultValue::Nothing),
-        ],
+        &[IN, OUT, BUDGET, TABLE, LEADER, AT],
     ),
     ("asm", CommandName::Asm, &[READ, WRITTEN], &[]),
     ("dis", CommandName::Dis, &[READ], &[]),
@@ -275,39 +324,32 @@ pub const COMMANDS: &[CommandRow<'static>] = &[
         "run",
         CommandName::Run,
         &[READ],
-        &[
-            (STEPS, DefaultValue::Number(16_777_216)),
-            (UNITS, DefaultValue::Nothing),
-            (TABLE, DefaultValue::Nothing),
-            (INPUT, DefaultValue::Nothing),
-        ],
+        &[STEPS, UNITS, TABLE, INPUT],
     ),
-    (
-        "blocks",
-        CommandName::Blocks,
-        &[READ],
-        &[(LEADER, DefaultValue::Nothing)],
-    ),
+    ("blocks", CommandName::Blocks, &[READ], &[LEADER]),
     (
         "eval",
         CommandName::Eval,
         &[READ, MODULE, Kind::Word, Kind::Word, Kind::Word],
-        &[
-            (ARGUMENT_D, DefaultValue::Nothing),
-            (ARGUMENT_E, DefaultValue::Nothing),
-        ],
+        &[ARGUMENT_D, ARGUMENT_E],
     ),
     (
         "find",
         CommandName::Find,
         &[READ, WRITTEN, WRITTEN, WRITTEN, WRITTEN],
-        CHOICE,
+        FIND,
     ),
     (
         "check",
         CommandName::Check,
         &[READ, READ, READ, READ],
         CHOICE,
+    ),
+    (
+        "relog",
+        CommandName::Relog,
+        &[READ, WRITTEN],
+        &[(LOG, DefaultValue::Number(2))],
     ),
     ("load", CommandName::Load, &[SEED], &[]),
 ];

@@ -1,18 +1,12 @@
 //! Worked calls of `find` and `check`, over several files in memory.
 use crate::common::{
-    answer, calls, expect_call, expect_failing, expect_files, expect_of_text, expect_over,
-    files_of, hold, program, unit_of_sums,
+    answer, book, calls, expect_call, expect_failing, expect_file, expect_files, expect_of_text,
+    expect_over, files_of, hold, packed_book, program, unit_of_sums,
 };
 use ci_io::{MemShelf, MemSink, SureShelf};
 use std::alloc::{AllocError, Global};
 use std::collections::BTreeMap;
 use std::process::Abort;
-
-/// A log book of a choice with one output, whose logs were written by hand.
-fn book() -> &'static str {
-    "ci-log 1\nblock 00010074 best 0 2\nBBOBOFBBFFG\ntake 00010074 unit 0\n\
-block 00010074 none\nG\nend none\n"
-}
 
 /// The report of a choice for the calls of two functions.
 fn calls_report() -> &'static [u8] {
@@ -64,14 +58,6 @@ fn file_of(alloc: Global, bytes: Vec<u8>) -> Result<BTreeMap<String, Vec<u8>>, A
 /// A shelf with this file `F` alone.
 fn shelf_of(alloc: Global, bytes: Vec<u8>) -> Result<SureShelf, AllocError> {
     Ok(SureShelf::new(file_of(alloc, bytes)?))
-}
-
-/// Asserts what a file of the shelf holds.
-fn expect_file(rt: &impl Abort, files: &BTreeMap<String, Vec<u8>>, name: &str, bytes: &[u8]) {
-    match files.get(name) {
-        Some(file) => assert_eq!(rt; file.as_slice(), bytes, "the file {name}"),
-        None => assert!(rt; false, "no file {name}"),
-    }
 }
 
 #[test]
@@ -139,15 +125,16 @@ fn expect_check(
     expect_over(rt, files, text, status, line.as_bytes())
 }
 
-/// The same of the right book with one text in the place of another.
+/// The same of this book with one text in the place of another.
 fn expect_changed(
     rt: &(impl Abort + AllocGlobal),
+    book: &str,
     from: &str,
     to: &str,
     status: u8,
     line: &str,
 ) -> Result<(), AllocError> {
-    let changed = book().replace(rt.alloc(), from, to)?;
+    let changed = book.replace(rt.alloc(), from, to)?;
     let outcome = expect_check(rt, changed.as_str(), status, line);
     drop(changed);
     outcome
@@ -157,12 +144,42 @@ fn expect_changed(
 fn books_that_are_refused(rt: HostRuntime) -> Result<(), AllocError> {
     expect_check(&rt, book(), 0, "accepted\n")?;
     let gains_more = "fault 11 rejected 0 00010074 10 5\n";
-    expect_changed(&rt, "FFG", "FFF", 11, gains_more)?;
-    expect_changed(&rt, "end none\n", "end none\nx", 10, "fault 10 log 4 97\n")?;
-    expect_changed(&rt, "end none\n", "end none", 10, "fault 10 log 3 0\n")?;
-    expect_check(&rt, "", 10, "fault 10 log 3 0\n")?;
+    expect_changed(&rt, book(), "FFG", "FFF", 11, gains_more)?;
+    let behind = "fault 10 log 4 97\n";
+    expect_changed(&rt, book(), "end none\n", "end none\nx", 10, behind)?;
+    let unfinished = "fault 10 log 3 0\n";
+    expect_changed(&rt, book(), "end none\n", "end none", 10, unfinished)?;
+    expect_check(&rt, "", 10, unfinished)?;
     expect_check(&rt, "ci-lag 1\n", 10, "fault 10 log 1 0\n")?;
     expect_check(&rt, "ci-log 1\nend nine\n", 10, "fault 10 log 2 14\n")
+}
+
+#[test]
+fn packed_books(rt: HostRuntime) -> Result<(), AllocError> {
+    let (packed, bad_filling) = (packed_book(), "fault 10 log 2 38\n");
+    expect_check(&rt, packed, 0, "accepted\n")?;
+    expect_changed(&rt, packed, "\x40\ntake", "\x41\ntake", 10, bad_filling)
+}
+
+/// Asserts how a file of the shelf begins.
+fn expect_front(rt: &impl Abort, files: &BTreeMap<String, Vec<u8>>, name: &str, front: &[u8]) {
+    match files.get(name) {
+        Some(file) => assert!(rt; file.as_slice().starts_with(front), "the file {name}"),
+        None => assert!(rt; false, "no file {name}"),
+    }
+}
+
+// Which logs the book has is free.
+#[test]
+fn a_choice_with_a_packed_book(rt: HostRuntime) -> Result<(), AllocError> {
+    let mut shelf = shelf_of(rt.alloc(), over_a_load(&rt)?)?;
+    let summary = b"cuts 1 units 1 skipped 0 gain 1\n";
+    let text = "find F N U L R --out 1 --log 2";
+    expect_call(&rt, &mut shelf, text, 0, summary);
+    expect_front(&rt, shelf.files(), "L", b"ci-log 2\n");
+    expect_call(&rt, &mut shelf, "check F N U L --out 1", 0, b"accepted\n");
+    drop(shelf);
+    Ok(())
 }
 
 #[test]

@@ -1,6 +1,6 @@
 //! Worked calls, over one file `F` and a sink in memory.
 use crate::common::{
-    answer, expect, expect_call, expect_each, expect_failing, expect_of, files_of, sums,
+    answer, expect, expect_each, expect_failing, expect_faults, expect_written, files_of, sums,
 };
 use ci_io::{MemSink, SureShelf};
 use std::alloc::{AllocError, Global};
@@ -229,6 +229,7 @@ fn calls_of_one_file() -> &'static [&'static str] {
         "blocks F",
         "asm F OUT",
         "dis F",
+        "relog F OUT",
     ]
 }
 
@@ -298,27 +299,13 @@ fn puts_that_fail(rt: HostRuntime) -> Result<(), AllocError> {
     expect_puts(&rt, 2, "")
 }
 
-/// Assembles the text `F` to `OUT`, and asserts the bytes of `OUT`, and that nothing was put.
-fn expect_assembly(
-    rt: &(impl Abort + AllocGlobal),
-    text: &[u8],
-    written: &[u8],
-) -> Result<(), AllocError> {
-    let mut shelf = SureShelf::new(files_of(rt.alloc(), Some(text), None, None)?);
-    expect_call(rt, &mut shelf, "asm F OUT", 0, b"");
-    let found = shelf.files().get("OUT").map(|bytes| bytes.as_slice());
-    assert_eq!(rt; found, Some(written));
-    drop(shelf);
-    Ok(())
-}
-
 #[test]
 fn texts(rt: HostRuntime) -> Result<(), AllocError> {
     let sum: &[u8] = &[0xB3, 0x02, 0xB5, 0x00];
-    expect_assembly(&rt, b"add x5, x10, x11\n", sum)?;
+    expect_written(&rt, b"add x5, x10, x11\n", "asm F OUT", b"", sum)?;
     let branch: &[u8] = &[0x63, 0x90, 0x04, 0x00];
-    expect_assembly(&rt, b"T: bne x9, x0, T\n", branch)?;
-    expect_assembly(&rt, b"", &[])
+    expect_written(&rt, b"T: bne x9, x0, T\n", "asm F OUT", b"", branch)?;
+    expect_written(&rt, b"", "asm F OUT", b"", &[])
 }
 
 /// Texts outside the grammar, and what is said of them. The first isn't UTF-8.
@@ -333,20 +320,9 @@ fn wrong_texts() -> &'static [(&'static [u8], &'static str)] {
     ]
 }
 
-/// Asserts what `asm` says of texts outside the grammar.
-fn expect_no_assemblies(
-    rt: &(impl Abort + AllocGlobal),
-    rows: &[(&[u8], &str)],
-) -> Result<(), AllocError> {
-    for (text, line) in rows {
-        expect_of(rt, *text, "asm F OUT", 13, line.as_bytes())?;
-    }
-    Ok(())
-}
-
 #[test]
 fn texts_with_faults(rt: HostRuntime) -> Result<(), AllocError> {
-    expect_no_assemblies(&rt, wrong_texts())
+    expect_faults(&rt, "asm F OUT", 13, wrong_texts())
 }
 
 /// Bytes, and the lines of their words: a unit word, a read of the first hidden result and a word of neither table are

@@ -92,6 +92,19 @@ pub(crate) fn expect_files(
     drop(due);
 }
 
+/// Asserts what a file of the shelf holds.
+pub(crate) fn expect_file(
+    rt: &impl Abort,
+    files: &BTreeMap<String, Vec<u8>>,
+    name: &str,
+    bytes: &[u8],
+) {
+    match files.get(name) {
+        Some(file) => assert_eq!(rt; file.as_slice(), bytes, "the file {name}"),
+        None => assert!(rt; false, "no file {name}"),
+    }
+}
+
 /// Calls the program over these files, and asserts its status and the bytes that it put, and of a call that is refused
 /// that it left all files as they were.
 pub(crate) fn expect_over(
@@ -113,7 +126,7 @@ pub(crate) fn expect_over(
     Ok(())
 }
 
-/// The same of the status and the line where the call of this number of the shelf fails.
+/// The same where the call of this number of the shelf fails: its status, its line, and that all files are as before.
 pub(crate) fn expect_failing(
     rt: &(impl Abort + AllocGlobal),
     files: BTreeMap<String, Vec<u8>>,
@@ -122,8 +135,11 @@ pub(crate) fn expect_failing(
     status: u8,
     line: &str,
 ) -> Result<(), AllocError> {
-    let mut shelf = MemShelf::new(files, vec![in rt.alloc(); failing]?);
+    let faults = vec![in rt.alloc(); failing]?;
+    let before = files.clone()?;
+    let mut shelf = MemShelf::new(files, faults);
     expect_call(rt, &mut shelf, text, status, line.as_bytes());
+    expect_files(rt, text, shelf.files(), before);
     drop(shelf);
     Ok(())
 }
@@ -175,6 +191,34 @@ pub(crate) fn expect_lines(
     for (text, status, line) in rows {
         expect_of(rt, file, text, *status, line.as_bytes())?;
     }
+    Ok(())
+}
+
+/// Calls the program over each of these files `F`, and asserts its status and the line that it put.
+pub(crate) fn expect_faults(
+    rt: &(impl Abort + AllocGlobal),
+    text: &str,
+    status: u8,
+    rows: &[(&[u8], &str)],
+) -> Result<(), AllocError> {
+    for (file, line) in rows {
+        expect_of(rt, *file, text, status, line.as_bytes())?;
+    }
+    Ok(())
+}
+
+/// Calls the program over a file `F`, and asserts that it succeeds, the bytes that it put and those of the file `OUT`.
+pub(crate) fn expect_written(
+    rt: &(impl Abort + AllocGlobal),
+    file: &[u8],
+    text: &str,
+    put: &[u8],
+    written: &[u8],
+) -> Result<(), AllocError> {
+    let mut shelf = SureShelf::new(files_of(rt.alloc(), Some(file), None, None)?);
+    expect_call(rt, &mut shelf, text, 0, put);
+    expect_file(rt, shelf.files(), "OUT", written);
+    drop(shelf);
     Ok(())
 }
 
@@ -284,4 +328,16 @@ pub(crate) fn unit_of_sums() -> &'static str {
 /// The block of two sums, of which the second writes the register of the first: the words 00b502b3 and 00c282b3.
 pub(crate) fn sums() -> &'static [u8] {
     &[0xB3, 0x02, 0xB5, 0x00, 0xB3, 0x82, 0xC2, 0x00]
+}
+
+/// A log book of a choice with one output, whose logs were written by hand.
+pub(crate) fn book() -> &'static str {
+    "ci-log 1\nblock 00010074 best 0 2\nBBOBOFBBFFG\ntake 00010074 unit 0\n\
+block 00010074 none\nG\nend none\n"
+}
+
+/// The same in version 2, whose trees were packed by hand.
+pub(crate) fn packed_book() -> &'static str {
+    "ci-log 2\nblock 00010074 best 0 2\n\x00\x10\x15\x00\x56\x40\ntake 00010074 unit 0\n\
+block 00010074 none\n\x40\nend none\n"
 }

@@ -7,6 +7,8 @@
 #[cfg(test)]
 mod analyses;
 #[cfg(test)]
+mod books;
+#[cfg(test)]
 mod choices;
 #[cfg(test)]
 mod commands;

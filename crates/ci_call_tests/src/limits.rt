@@ -259,5 +259,6 @@ fn words_at_their_limit(rt: HostRuntime) -> Result<(), AllocError> {
 // Lengths up to the limit are left out, since a book takes 256 MiB, and as much again while it is read.
 #[test]
 fn a_book_above_its_limit(rt: HostRuntime) -> Result<(), AllocError> {
-    expect_too_large(&rt, "L", 268_435_457, "check F N U L")
+    expect_too_large(&rt, "L", 268_435_457, "check F N U L")?;
+    expect_too_large(&rt, "L", 268_435_457, "relog L OUT")
 }

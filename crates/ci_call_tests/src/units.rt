@@ -1,5 +1,5 @@
 //! Worked calls of `eval`, over one file `F` in memory.
-use crate::common::{expect, expect_each, unit_of_sums};
+use crate::common::{expect, expect_each, expect_faults, unit_of_sums};
 use std::alloc::AllocError;
 use std::process::Abort;
 
@@ -49,11 +49,11 @@ fn narrow_and_wide() -> &'static str {
 }
 
 /// Texts that spell no modules, and the line of their fault.
-fn refused() -> &'static [(&'static str, &'static str)] {
+fn refused() -> &'static [(&'static [u8], &'static str)] {
     &[
-        ("x", "fault 9 units 2 0\n"),
-        ("@", "fault 9 units 1 0\n"),
-        ("// cycles 1\nmodule ci_1(", "fault 9 units 9 19\n"),
+        (b"x", "fault 9 units 2 0\n"),
+        (b"@", "fault 9 units 1 0\n"),
+        (b"// cycles 1\nmodule ci_1(", "fault 9 units 9 19\n"),
     ]
 }
 
@@ -73,14 +73,6 @@ fn expect_of_units(
     line: &str,
 ) -> Result<(), AllocError> {
     expect(rt, Some(units.as_bytes()), text, status, line)
-}
-
-/// The same for each of these texts, whose first fault the line tells.
-fn expect_faults(rt: &(impl Abort + AllocGlobal), rows: &[(&str, &str)]) -> Result<(), AllocError> {
-    for (units, line) in rows {
-        expect_of_units(rt, units, "eval F 0 0x0 0x0 0x0", 9, line)?;
-    }
-    Ok(())
 }
 
 #[test]
@@ -145,7 +137,7 @@ fn unreadable() -> &'static [&'static str] {
 
 #[test]
 fn calls_that_are_refused(rt: HostRuntime) -> Result<(), AllocError> {
-    expect_faults(&rt, refused())?;
+    expect_faults(&rt, "eval F 0 0x0 0x0 0x0", 9, refused())?;
     let text = "eval F 3 0x0 0x0 0x0";
     let line = "fault 7 unsupported 00000003 00000000\n";
     expect_of_units(&rt, "", text, 7, line)?;

@@ -5,5 +5,6 @@ pub mod BlocksCommand
 pub mod AsmCommand
 pub mod DisCommand
 pub mod EvalCommand
+pub mod RelogCommand
 pub mod RunCommand
 pub mod private

@@ -10,4 +10,5 @@ pub mod best;
 pub mod blocks;
 pub mod dis;
 pub mod eval;
+pub mod relog;
 pub mod run;

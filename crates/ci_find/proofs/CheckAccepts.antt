@@ -1,8 +1,8 @@
--- `check` accepts what `find` wrote, with the same names and options.
-use Rattle.std.proofs.Common.{◌≡◌, ◌∙◌, ℕ, List, Some, sym, ap, subst, lit<, arith}
+-- `check` accepts what `find` wrote, with the same names and options except --log.
+use Rattle.std.proofs.Common.{◌≡◌, ◌≢◌, ◌∙◌, ℕ, List, Some, map, sym, ap, subst, lit<, arith}
 use Rattle.std.specs.Prelude.{option_map, slice_get, unwrap_or}
 use Rattle.ci_io.specs.Outcomes.{Files}
-use Rattle.ci_arguments.specs.Words.{Reading, ReadsAs, name_at, number_in, number_set}
+use Rattle.ci_arguments.specs.Words.{Reading, ReadsAs, name_at, name_in, number_in, number_set, word_in}
 use Rattle.ci_arguments.specs.declared.tables.CommandName.TheVariants.{Find, Check}
 use Rattle.ci_arguments.specs.declared.tables.OptionName.{OptionName}
 use Rattle.ci_arguments.specs.declared.tables.OptionName.TheVariants as option
@@ -15,7 +15,7 @@ use Rattle.ci_calls.specs.Files.{book_input}
 use Rattle.ci_calls.specs.Finishing.{with_files}
 use Rattle.ci_calls.specs.Inputs.{Input, AreRead, IsFileRefusal}
 use Rattle.ci_find.specs.CheckCommand.{check_inputs, IsCheckRefused}
-use Rattle.ci_find.specs.ChoiceReading.{find_names, settings_of, IsPlanOf}
+use Rattle.ci_find.specs.ChoiceReading.{find_output, settings_of, IsPlanOf}
 use Rattle.ci_find.specs.Commands.{inputs_by, MakesBy, RefusesBy}
 use Rattle.ci_find.specs.Endings.{IsDone, IsRefusal, usage, file, once_read}
 use Rattle.ci_find.specs.Laws.{AreSameChoice, CheckAcceptsChoices, HoldTheSame, IsOfLongBook}
@@ -27,23 +27,31 @@ use Rattle.ci_find.proofs.SameFiles.{read_there, refusal_there}
 module _ (find check : Reading) (same : AreSameChoice find check) where
   -- both have the same settings,
   same_settings : (plan : Plan) → settings_of check plan ≡ settings_of find plan
-  same_settings plan = λ i. settings_of (record {
-    command = check.command;
-    values = check.values;
-    settings = λ o. sym (same.settings o) i;
-  }) plan
+  same_settings plan =
+      let steps = sym (same.settings option.Steps (λ e. cc)) in
+      let leaders = sym (same.settings option.Leader (λ e. cc)) in
+      let table = sym (same.settings option.Table (λ e. cc)) in
+      let input = sym (same.settings option.Input (λ e. cc)) in
+      λ i. record {
+        steps = unwrap_or (option_map number_in (slice_get (steps i) 0)) 0;
+        named = map word_in (leaders i);
+        plan = plan;
+        table = option_map name_in (slice_get (table i) 0);
+        input = option_map name_in (slice_get (input i) 0);
+      }
 
   -- the same limits
   same_plan : (plan : Plan) → IsPlanOf check plan → IsPlanOf find plan
   same_plan plan is = record {
-    inputs = is.inputs ∙ same_number option.Inputs;
-    outputs = is.outputs ∙ same_number option.Outputs;
-    count = is.count ∙ same_number option.Count;
-    budget = is.budget ∙ same_number option.Budget;
+    inputs = is.inputs ∙ same_number option.Inputs (λ e. cc);
+    outputs = is.outputs ∙ same_number option.Outputs (λ e. cc);
+    count = is.count ∙ same_number option.Count (λ e. cc);
+    budget = is.budget ∙ same_number option.Budget (λ e. cc);
   }
     where
-      same_number : (o : OptionName) → number_set check o ≡ number_set find o
-      same_number o = ap (λ values. unwrap_or (option_map number_in (slice_get values 0)) 0) (sym (same.settings o))
+      same_number : (o : OptionName) → o ≢ option.LogVersion → number_set check o ≡ number_set find o
+      same_number o other =
+          ap (λ values. unwrap_or (option_map number_in (slice_get values 0)) 0) (sym (same.settings o other))
 
   -- and files of the same names
   same_inputs : (plan : Plan) → inputs_by Check check
@@ -87,14 +95,14 @@ module _
   -- of these nothing else is refused,
   of_files : (refusal : Refusal) → IsFileRefusal (Some after) read_inputs refusal → IsLong refusal
   of_files refusal is =
-      file_case held (name_at find 0) (find_names find) (settings_of find plan) success choice.read choice.made.2 choice.files
+      file_case held (name_at find 0) (find_output find) (settings_of find plan) success choice.read choice.made.2 choice.files
       (names_differ find_words find reads_find same.finds) (all_else find_words find reads_find same.finds) refusal is
 
   -- nor is anything once they are read
   of_choice : (refusal : Refusal) (bytes : List (List ℕ)) → AreRead (Some after) read_inputs bytes
       → IsCheckRefused (settings_of find plan) bytes refusal → ⊥
   of_choice refusal bytes are is =
-      once_case held (name_at find 0) (find_names find) (settings_of find plan) success choice.read choice.made.2 choice.files
+      once_case held (name_at find 0) (find_output find) (settings_of find plan) success choice.read choice.made.2 choice.files
       (names_differ find_words find reads_find same.finds) (all_else find_words find reads_find same.finds) refusal bytes are
       is
 

@@ -17,17 +17,17 @@ use Rattle.ci_calls.specs.Finishing.{with_files}
 use Rattle.ci_calls.specs.Inputs.{Input, IsGood, AreRead, IsRefusedFile, absent, too_large, malformed, IsFileRefusal}
 use Rattle.ci_calls.proofs.OneRefusal.{read_once, read_or_refused}
 use Rattle.ci_find.specs.CheckCommand.{CheckFiles, CheckNames, check_inputs, IsCheckRefused}
-use Rattle.ci_find.specs.FindCommand.{FindNames, IsFindMade, find_inputs}
+use Rattle.ci_find.specs.FindCommand.{FindOutput, IsFindMade, find_inputs}
 use Rattle.ci_find.specs.Laws.{HoldTheSame, IsOfLongBook}
 use Rattle.ci_find.specs.Profiled.{Settings, run_files}
 use Rattle.ci_find.proofs.LeftFiles.{AreElse, AreThere, NamesDiffer, are_there}
 use Rattle.ci_find.proofs.OneChoice.{acceptable_or_refused}
 use Rattle.ci_find.proofs.SameFiles.{Same, read_there}
 
-module _ (held : Files) (executable_name : List ℕ) (names : FindNames) (settings : Settings) (success : Success)
-    (read : List (List ℕ)) (made : IsFindMade names settings read success)
+module _ (held : Files) (executable_name : List ℕ) (output : FindOutput) (settings : Settings) (success : Success)
+    (read : List (List ℕ)) (made : IsFindMade output settings read success)
     (files : AreRead (Some held) (find_inputs executable_name settings.table settings.input) read)
-    (apart : NamesDiffer names) (elsewhere : AreElse names (find_inputs executable_name settings.table settings.input)) where
+    (apart : NamesDiffer output) (elsewhere : AreElse output (find_inputs executable_name settings.table settings.input)) where
   -- the files that it leaves
   abbrev pub left : Files
   left = with_files success.writes.items held
@@ -37,13 +37,13 @@ module _ (held : Files) (executable_name : List ℕ) (names : FindNames) (settin
   units_text = text_of (modules_of made.choice.units)
 
   -- what its names hold
-  there : AreThere names held left units_text made.choice.logs_text made.choice.report_text made.choice.new_bytes
+  there : AreThere output held left units_text made.choice.logs_text made.choice.report_text made.choice.new_bytes
   there =
-      are_there names held success.writes.items units_text made.choice.logs_text made.choice.report_text
+      are_there output held success.writes.items units_text made.choice.logs_text made.choice.report_text
       made.choice.new_bytes apart made.choice.writes_are
 
   -- of files that were read both hold the same
-  stay_the_same : (inputs : List Input) → AreElse names inputs → HoldTheSame inputs held left
+  stay_the_same : (inputs : List Input) → AreElse output inputs → HoldTheSame inputs held left
   stay_the_same [] others = All-nil (Same held left)
   stay_the_same (input ∷ inputs) others =
       All-cons (Same held left) input inputs (sym (there.stays input.name others.0)) (stay_the_same inputs others.1)
@@ -63,7 +63,7 @@ module _ (held : Files) (executable_name : List ℕ) (names : FindNames) (settin
       (stay_the_same (executable_input executable_name ∷ run_inputs) elsewhere) held_files
 
   -- and those that were written are good
-  good_new : IsGood (Some left) (new_file_input names.new) made.choice.new_bytes
+  good_new : IsGood (Some left) (new_file_input output.new) made.choice.new_bytes
   good_new = record {
     there = there.new_there;
     within_limit =
@@ -80,20 +80,23 @@ module _ (held : Files) (executable_name : List ℕ) (names : FindNames) (settin
   units_spell : Spell units_text (modules_of made.choice.units)
   units_spell = units_spelt made.choice.units made.choice.units_keep
 
-  good_units : IsGood (Some left) (units_input names.units) units_text
+  good_units : IsGood (Some left) (units_input output.units) units_text
   good_units = record {
     there = there.units_there;
     within_limit = units_text_short made.choice.units made.choice.units_keep;
     well_formed = (modules_of made.choice.units, units_spell);
   }
 
+  logs_spell : Spells made.choice.logs_text made.choice.book
+  logs_spell = record { version = output.version; spells = made.choice.logs_are }
+
   -- the log book has its form
-  good_logs : (bytes : List ℕ) → finite.get left names.logs ≡ Some bytes → length bytes ≤ 268435456
-      → IsGood (Some left) (book_input names.logs) bytes
+  good_logs : (bytes : List ℕ) → finite.get left output.logs ≡ Some bytes → length bytes ≤ 268435456
+      → IsGood (Some left) (book_input output.logs) bytes
   good_logs bytes is within = record {
     there = is;
     within_limit = within;
-    well_formed = (made.choice.book, subst (λ text. Spells text made.choice.book) same made.choice.logs_are);
+    well_formed = (made.choice.book, subst (λ text. Spells text made.choice.book) same logs_spell);
   }
     where
       same : made.choice.logs_text ≡ bytes
@@ -101,7 +104,7 @@ module _ (held : Files) (executable_name : List ℕ) (names : FindNames) (settin
 
   -- the files of the check
   abbrev pub names_read : CheckNames
-  names_read = record { new = names.new; units = names.units; logs = names.logs }
+  names_read = record { new = output.new; units = output.units; logs = output.logs }
 
   abbrev pub inputs : List Input
   inputs = check_inputs executable_name names_read settings.table settings.input
@@ -123,7 +126,7 @@ module _ (held : Files) (executable_name : List ℕ) (names : FindNames) (settin
     modules = modules_of made.choice.units;
     book = made.choice.book;
     modules_are = units_spell;
-    book_is = made.choice.logs_are;
+    book_is = logs_spell;
   }
 
   -- once they are read nothing is refused
@@ -155,8 +158,8 @@ module _ (held : Files) (executable_name : List ℕ) (names : FindNames) (settin
       read_or_refused left (input ∷ []) (bytes ∷ []) refusal (good, tt) (inl is)
 
   -- the log book alone may be refused, for its length
-  book_case : (refusal : Refusal) → IsRefusedFile (Some left) (book_input names.logs) refusal
-      → IsOfLongBook (Some left) names.logs refusal
+  book_case : (refusal : Refusal) → IsRefusedFile (Some left) (book_input output.logs) refusal
+      → IsOfLongBook (Some left) output.logs refusal
   book_case refusal (absent name is none) =
       let both : None ≡ Some made.choice.logs_text = sym none ∙ there.logs_there in absurd cc
   book_case refusal (too_large name bytes is here longer) = record {
@@ -168,16 +171,16 @@ module _ (held : Files) (executable_name : List ℕ) (names : FindNames) (settin
     too_long = longer;
   }
   book_case refusal (malformed {refusal = r} bytes here within bad) =
-      absurd (good_or_not (book_input names.logs) bytes r (good_logs bytes here within) (malformed bytes here within bad))
+      absurd (good_or_not (book_input output.logs) bytes r (good_logs bytes here within) (malformed bytes here within bad))
 
   -- so may the files be, and for nothing else
-  pub file_case : (refusal : Refusal) → IsFileRefusal (Some left) inputs refusal → IsOfLongBook (Some left) names.logs refusal
+  pub file_case : (refusal : Refusal) → IsFileRefusal (Some left) inputs refusal → IsOfLongBook (Some left) output.logs refusal
   file_case refusal (inl a) =
       absurd (good_or_not (executable_input executable_name) made.executable refusal left_files.0 a)
   file_case refusal (inr (b, x, inl a)) =
-      absurd (good_or_not (new_file_input names.new) made.choice.new_bytes refusal good_new a)
+      absurd (good_or_not (new_file_input output.new) made.choice.new_bytes refusal good_new a)
   file_case refusal (inr (b, x, inr (c, y, inl a))) =
-      absurd (good_or_not (units_input names.units) units_text refusal good_units a)
+      absurd (good_or_not (units_input output.units) units_text refusal good_units a)
   file_case refusal (inr (b, x, inr (c, y, inr (d, z, inl a)))) = book_case refusal a
   file_case refusal (inr (b, x, inr (c, y, inr (d, z, inr (e, w, rest))))) =
       absurd (read_or_refused left run_inputs made.others refusal left_files.1 rest)

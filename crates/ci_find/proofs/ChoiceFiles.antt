@@ -11,7 +11,7 @@ use Rattle.ci_select.specs.Instances.{AreOfSomeFile}
 use Rattle.ci_runs.specs.ChosenFiles.{IsChosenFile}
 use Rattle.ci_calls.specs.declared.success.Success.{Success}
 use Rattle.ci_calls.specs.Files.{AreLatencies}
-use Rattle.ci_find.specs.FindCommand.{FindNames, IsFindMade}
+use Rattle.ci_find.specs.FindCommand.{FindOutput, IsFindMade}
 use Rattle.ci_find.specs.Profiled.{Settings, instance_by}
 
 -- the latencies are a table
@@ -20,8 +20,8 @@ are_table None latencies are = subst IsLatencyTable (sym are) usual_is_table
 are_table (Some bytes) latencies (document, is_document, sound, is) =
     subst IsLatencyTable (sym is) (IsLatencyTable-table_of document sound)
 
-module _ (names : FindNames) (settings : Settings) (read : List (List ℕ)) (success : Success)
-    (made : IsFindMade names settings read success) (kept : KeepsRules made.executable (rules made.executable)) where
+module _ (output : FindOutput) (settings : Settings) (read : List (List ℕ)) (success : Success)
+    (made : IsFindMade output settings read success) (kept : KeepsRules made.executable (rules made.executable)) where
   -- it is a chosen file, with its units and its new file,
   pub chosen_file :
       IsChosenFile (instance_by made.profiled) made.profiled.files.file made.choice.book made.choice.units made.choice.new_bytes

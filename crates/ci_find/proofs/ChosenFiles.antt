@@ -10,7 +10,7 @@ use Rattle.ci_calls.specs.declared.success.Success.{Success}
 use Rattle.ci_calls.specs.Evaluations.{Evaluates}
 use Rattle.ci_calls.specs.Finishing.{Change, Takes, with_files}
 use Rattle.ci_calls.specs.Inputs.{AreRead}
-use Rattle.ci_find.specs.ChoiceReading.{find_names, settings_of}
+use Rattle.ci_find.specs.ChoiceReading.{find_output, settings_of}
 use Rattle.ci_find.specs.Commands.{inputs_by, MakesBy}
 use Rattle.ci_find.specs.Endings.{Ends, IsDone}
 use Rattle.ci_find.specs.FindCommand.{IsFindMade}
@@ -29,7 +29,7 @@ module _ (held : Files) (words : List (List ℕ)) (success : Success) (is_done :
   evaluated : Evaluates (Some held) (inputs_by Find reading) (MakesBy Find reading) success
   evaluated = found words reading reads finds (Some held) success is_done
 
-  made : IsFindMade (find_names reading) (settings_of reading evaluated.made.0) evaluated.read success
+  made : IsFindMade (find_output reading) (settings_of reading evaluated.made.0) evaluated.read success
   made = evaluated.made.2
 
   -- of the files that it reads
@@ -37,10 +37,10 @@ module _ (held : Files) (words : List (List ℕ)) (success : Success) (is_done :
   read_are = subst (AreRead (Some held) (inputs_by Find reading)) made.read_is evaluated.files
 
   -- what it leaves
-  there : AreThere (find_names reading) held (with_files success.writes.items held) (text_of (modules_of made.choice.units))
+  there : AreThere (find_output reading) held (with_files success.writes.items held) (text_of (modules_of made.choice.units))
       made.choice.logs_text made.choice.report_text made.choice.new_bytes
   there =
-      are_there (find_names reading) held success.writes.items (text_of (modules_of made.choice.units)) made.choice.logs_text
+      are_there (find_output reading) held success.writes.items (text_of (modules_of made.choice.units)) made.choice.logs_text
       made.choice.report_text made.choice.new_bytes (names_differ words reading reads finds) made.choice.writes_are
 
   chosen : IsChosenOver reading held (with_files success.writes.items held) sink_before sink_after

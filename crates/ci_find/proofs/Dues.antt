@@ -4,7 +4,7 @@ use Rattle.ci_io.specs.Outcomes.{Files}
 use Rattle.ci_select.specs.declared.plan.Plan.{Plan}
 use Rattle.ci_arguments.specs.Words.{Reading, ReadsAs, HasNoReading, number_at, name_set, number_set, word_set, words_set}
 use Rattle.ci_arguments.specs.declared.tables.CommandName.{CommandName}
-use Rattle.ci_arguments.specs.declared.tables.CommandName.TheVariants.{Best, Asm, Dis, Run, Blocks, Eval, Find, Check, Load}
+use Rattle.ci_arguments.specs.declared.tables.CommandName.TheVariants.{Best, Asm, Dis, Run, Blocks, Eval, Find, Check, Relog, Load}
 use Rattle.ci_arguments.specs.declared.tables.OptionName.TheVariants as option
 use Rattle.ci_arguments.proofs.Readings.{one_reading}
 use Rattle.ci_calls.specs.declared.refusals.Refusal.{Refusal}
@@ -19,7 +19,7 @@ use Rattle.ci_commands.specs.EvalCommand.{IsNoModule}
 use Rattle.ci_commands.proofs.OneBlock.{best_or_refused, blocks_or_refused}
 use Rattle.ci_commands.proofs.OneModule.{eval_or_refused}
 use Rattle.ci_find.specs.CheckCommand.{IsCheckRefused}
-use Rattle.ci_find.specs.ChoiceReading.{find_names, settings_of, IsPlanOf}
+use Rattle.ci_find.specs.ChoiceReading.{find_output, settings_of, IsPlanOf}
 use Rattle.ci_find.specs.Commands.{arguments_of, inputs_of, IsMade, IsRefusedOf, MakesBy, RefusesBy}
 use Rattle.ci_find.specs.Endings.{IsRefusal, usage, file, once_read, IsDue}
 use Rattle.ci_find.specs.FindCommand.{IsFindRefused}
@@ -51,11 +51,12 @@ made_or_refused Blocks reading read success refusal made is =
 made_or_refused Eval reading read success refusal made is =
     eval_or_refused read success refusal (number_at reading 1) (arguments_of reading) made is
 made_or_refused Find reading read success refusal made is =
-    find_or_refused (find_names reading) (settings_of reading made.0) read success refusal made.2
+    find_or_refused (find_output reading) (settings_of reading made.0) read success refusal made.2
     (found_by reading read refusal made.0 made.1 is)
 made_or_refused Check reading read success refusal made is =
     check_or_refused (settings_of reading made.0) read success refusal made.2
     (checked_by reading read refusal made.0 made.1 is)
+made_or_refused Relog reading read success refusal made is = is
 made_or_refused Load reading read success refusal made is = is
 
 -- it is refused with one status
@@ -77,6 +78,7 @@ refused_once Find reading read first second a b =
     find_refused_once (settings_of reading a.0) read first second a.2 (found_by reading read second a.0 a.1 b)
 refused_once Check reading read first second a b =
     check_refused_once (settings_of reading a.0) read first second a.2 (checked_by reading read second a.0 a.1 b)
+refused_once Relog reading read first second a b = absurd a
 refused_once Load reading read first second a b = absurd a
 
 -- ---- one status is due

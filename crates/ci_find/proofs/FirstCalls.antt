@@ -21,7 +21,7 @@ use Rattle.ci_calls.specs.Inputs.{Input}
 use Rattle.ci_calls.specs.Reads.{reads_of, IsRefusedAs, AreStoppedReads, out_of_memory, one_more}
 use Rattle.ci_calls.specs.Reads as stopped
 use Rattle.ci_calls.specs.Refusals.{status_of}
-use Rattle.ci_find.specs.ChoiceReading.{find_files, find_names}
+use Rattle.ci_find.specs.ChoiceReading.{find_files, find_output}
 use Rattle.ci_find.specs.Commands.{RefusesBy}
 use Rattle.ci_find.specs.EndsBy.{IsRefusalBy, usage, unread, once_read, no_memory, EndsBy, finished, refused}
 use Rattle.ci_find.specs.FindCommand.{written}
@@ -36,7 +36,7 @@ use Rattle.ci_find.proofs.NoWrites.{refusal_no_write}
 
 module _ (reading : Reading) (reads puts : List Call) (status : ℕ) (success : Success) (is : IsFound reading reads success) where
   abbrev files : List (List ℕ × List ℕ)
-  files = files_written (find_names reading) is.bytes
+  files = files_written (find_output reading) is.bytes
 
   -- behind so many files, by the last call
   stops_at : (number : ℕ) (last writes : List Call) → number ≤ 4 → writes ≡ whole_writes (take number files) ++ last

@@ -9,7 +9,7 @@ use Rattle.ci_select.specs.declared.plan.Plan.{Plan}
 use Rattle.ci_arguments.specs.Words.{Reading}
 use Rattle.ci_calls.specs.declared.success.Success.{Success}
 use Rattle.ci_calls.specs.Files.{input_bytes}
-use Rattle.ci_find.specs.ChoiceReading.{IsPlanOf, settings_of, find_names}
+use Rattle.ci_find.specs.ChoiceReading.{IsPlanOf, settings_of, find_output}
 use Rattle.ci_find.specs.FindCommand.{IsFindMade}
 use Rattle.ci_find.specs.Headline.{FoundBytes, IsChosen}
 use Rattle.ci_find.specs.Profiled.{instance_by}
@@ -17,7 +17,7 @@ use Rattle.ci_find.proofs.ChoiceFiles.{chosen_file}
 use Rattle.ci_find.proofs.ChoiceLaws.{choices_tell}
 
 module _ (reading : Reading) (read : List (List ℕ)) (success : Success) (plan : Plan) (is_plan : IsPlanOf reading plan)
-    (made : IsFindMade (find_names reading) (settings_of reading plan) read success) where
+    (made : IsFindMade (find_output reading) (settings_of reading plan) read success) where
   abbrev pub found_bytes : FoundBytes
   found_bytes = record {
     executable = made.executable;
@@ -34,8 +34,8 @@ module _ (reading : Reading) (read : List (List ℕ)) (success : Success) (plan 
       let settings = settings_of reading plan in
       let choice = made.choice in
       let run = made.profiled.is_profiled in
-      let is_chosen = chosen_file (find_names reading) settings read success made kept in
-      let told = choices_tell (find_names reading) settings read success made kept in
+      let is_chosen = chosen_file (find_output reading) settings read success made kept in
+      let told = choices_tell (find_output reading) settings read success made kept in
       record {
         files = record {
           plan = plan;

@@ -9,7 +9,7 @@ use Rattle.ci_calls.specs.declared.success.Success.{Success}
 use Rattle.ci_calls.specs.declared.success.Written.{Written}
 use Rattle.ci_calls.specs.Called.{writes_of}
 use Rattle.ci_calls.specs.Reads.{AreFit, reads_of}
-use Rattle.ci_find.specs.ChoiceReading.{settings_of, find_names, find_files}
+use Rattle.ci_find.specs.ChoiceReading.{settings_of, find_output, find_files}
 use Rattle.ci_find.specs.Commands.{inputs_by, MakesBy}
 use Rattle.ci_find.specs.EndsBy.{IsDueBy}
 use Rattle.ci_find.specs.FindCommand.{IsFindMade, written}
@@ -39,14 +39,14 @@ pub record IsFound (reading : Reading) (reads : List Call) (success : Success) :
   pub bytes : FoundBytes
   pub fit : AreFit (find_files reading) (bytes_read bytes)
   pub reads_are : reads ≡ reads_of (find_files reading) (bytes_read bytes)
-  pub writes_are : map written success.writes.items ≡ files_written (find_names reading) bytes
+  pub writes_are : map written success.writes.items ≡ files_written (find_output reading) bytes
   pub text_is : success.text.items ≡ bytes.text
   pub chosen : IsChosen reading bytes
 
 is_found : (reading : Reading) (reads : List Call) (success : Success) → IsMadeBy Find reading reads success
     → IsFound reading reads success
 is_found reading reads success by =
-    let made : IsFindMade (find_names reading) (settings_of reading by.made.0) by.answered success = by.made.2 in
+    let made : IsFindMade (find_output reading) (settings_of reading by.made.0) by.answered success = by.made.2 in
     let fit : AreFit (find_files reading) (made.executable ∷ made.others) =
     subst (AreFit (find_files reading)) made.read_is by.fit in
     record {

@@ -8,22 +8,22 @@ use Rattle.ci_arguments.specs.declared.tables.OptionName.TheVariants as option
 use Rattle.ci_arguments.proofs.Readings.{one_reading}
 use Rattle.ci_calls.specs.declared.success.Success.{Success}
 use Rattle.ci_calls.specs.Evaluations.{Evaluates}
-use Rattle.ci_find.specs.ChoiceReading.{find_names}
+use Rattle.ci_find.specs.ChoiceReading.{find_output}
 use Rattle.ci_find.specs.Commands.{inputs_by, MakesBy}
 use Rattle.ci_find.specs.Endings.{IsDone}
-use Rattle.ci_find.specs.FindCommand.{FindNames, find_inputs}
+use Rattle.ci_find.specs.FindCommand.{FindOutput, find_inputs}
 use Rattle.ci_find.specs.Profiled.{run_files}
 use Rattle.ci_find.proofs.LeftFiles.{AreElse, IsElse, NamesDiffer}
 use Rattle.ci_find.proofs.WrittenNames.{logs_are_written, name_apart, new_is_written, report_is_written, set_apart, units_are_written}
 
 -- where the table and the input, if there are any, are no file that is written, neither of both is
-else_optional : (names : FindNames) (table input : Option (List ℕ))
-    → ((name : List ℕ) → table ≡ Some name → IsElse names name)
-    → ((name : List ℕ) → input ≡ Some name → IsElse names name) → AreElse names (run_files table input)
-else_optional names None None of_table of_input = tt
-else_optional names None (Some y) of_table of_input = (of_input y refl, tt)
-else_optional names (Some x) None of_table of_input = (of_table x refl, tt)
-else_optional names (Some x) (Some y) of_table of_input = (of_table x refl, (of_input y refl, tt))
+else_optional : (output : FindOutput) (table input : Option (List ℕ))
+    → ((name : List ℕ) → table ≡ Some name → IsElse output name)
+    → ((name : List ℕ) → input ≡ Some name → IsElse output name) → AreElse output (run_files table input)
+else_optional output None None of_table of_input = tt
+else_optional output None (Some y) of_table of_input = (of_input y refl, tt)
+else_optional output (Some x) None of_table of_input = (of_table x refl, tt)
+else_optional output (Some x) (Some y) of_table of_input = (of_table x refl, (of_input y refl, tt))
 
 module _ (words : List (List ℕ)) (reading : Reading) (reads : ReadsAs words reading) (finds : reading.command ≡ Find) where
   -- what is due is what `find` makes
@@ -35,7 +35,7 @@ module _ (words : List (List ℕ)) (reading : Reading) (reads : ReadsAs words re
       (one_reading words done.reading reading done.reads reads) done.made)
 
   -- the names of the files that it writes differ
-  pub names_differ : NamesDiffer (find_names reading)
+  pub names_differ : NamesDiffer (find_output reading)
   names_differ = record {
     new_of_report = name_apart words reading reads finds 1 new_is_written 4 (inr (lit< tt));
     new_of_logs = name_apart words reading reads finds 1 new_is_written 3 (inr (lit< tt));
@@ -46,7 +46,7 @@ module _ (words : List (List ℕ)) (reading : Reading) (reads : ReadsAs words re
   }
 
   -- from them that of OLD,
-  old_is_else : IsElse (find_names reading) (name_at reading 0)
+  old_is_else : IsElse (find_output reading) (name_at reading 0)
   old_is_else = record {
     units = name_apart words reading reads finds 2 units_are_written 0 (inl (lit< tt));
     logs = name_apart words reading reads finds 3 logs_are_written 0 (inl (lit< tt));
@@ -55,7 +55,7 @@ module _ (words : List (List ℕ)) (reading : Reading) (reads : ReadsAs words re
   }
 
   -- those of files that options name,
-  set_is_else : (o : OptionName) (name : List ℕ) → name_set reading o ≡ Some name → IsElse (find_names reading) name
+  set_is_else : (o : OptionName) (name : List ℕ) → name_set reading o ≡ Some name → IsElse (find_output reading) name
   set_is_else o name is = record {
     units = set_apart words reading reads finds 2 units_are_written o name is;
     logs = set_apart words reading reads finds 3 logs_are_written o name is;
@@ -65,9 +65,9 @@ module _ (words : List (List ℕ)) (reading : Reading) (reads : ReadsAs words re
 
   -- and so those of all files that it reads
   pub all_else :
-      AreElse (find_names reading) (find_inputs (name_at reading 0) (name_set reading option.Table) (name_set reading option.Input))
+      AreElse (find_output reading) (find_inputs (name_at reading 0) (name_set reading option.Table) (name_set reading option.Input))
   all_else = (
     old_is_else,
-    else_optional (find_names reading) (name_set reading option.Table) (name_set reading option.Input)
+    else_optional (find_output reading) (name_set reading option.Table) (name_set reading option.Input)
         (set_is_else option.Table) (set_is_else option.Input),
   )

@@ -10,7 +10,7 @@ use Rattle.ci_calls.specs.declared.success.Written.{Written}
 use Rattle.ci_calls.specs.Finishing.{with_files}
 use Rattle.ci_calls.specs.Inputs.{Input}
 use Rattle.ci_calls.proofs.Contents.{with_file-get}
-use Rattle.ci_find.specs.FindCommand.{FindNames, written}
+use Rattle.ci_find.specs.FindCommand.{FindOutput, written}
 
 -- ---- files that are put on a shelf
 
@@ -42,70 +42,70 @@ by_pairs (w ∷ writes) files = by_pairs writes (with_file w.name.now (Some w.by
 -- ---- the files of a choice
 
 -- a name that none of the files has that are written
-pub record IsElse (names : FindNames) (name : List ℕ) : Type 0 where
-  pub units : name ≢ names.units
-  pub logs : name ≢ names.logs
-  pub report : name ≢ names.report
-  pub new : name ≢ names.new
+pub record IsElse (output : FindOutput) (name : List ℕ) : Type 0 where
+  pub units : name ≢ output.units
+  pub logs : name ≢ output.logs
+  pub report : name ≢ output.report
+  pub new : name ≢ output.new
 
 -- no file that is read has the name of one that is written
-abbrev pub AreElse : FindNames → List Input → Type 0
-AreElse names [] = ⊤
-AreElse names (input ∷ inputs) = IsElse names input.name × AreElse names inputs
+abbrev pub AreElse : FindOutput → List Input → Type 0
+AreElse output [] = ⊤
+AreElse output (input ∷ inputs) = IsElse output input.name × AreElse output inputs
 
 -- the names of the files that are written differ
-pub record NamesDiffer (names : FindNames) : Type 0 where
-  pub new_of_report : names.report ≢ names.new
-  pub new_of_logs : names.logs ≢ names.new
-  pub new_of_units : names.units ≢ names.new
-  pub report_of_logs : names.logs ≢ names.report
-  pub report_of_units : names.units ≢ names.report
-  pub logs_of_units : names.units ≢ names.logs
+pub record NamesDiffer (output : FindOutput) : Type 0 where
+  pub new_of_report : output.report ≢ output.new
+  pub new_of_logs : output.logs ≢ output.new
+  pub new_of_units : output.units ≢ output.new
+  pub report_of_logs : output.logs ≢ output.report
+  pub report_of_units : output.units ≢ output.report
+  pub logs_of_units : output.units ≢ output.logs
 
 -- the names hold these texts, and each other name what it held
-pub record AreThere (names : FindNames) (held left : Files) (units logs report new : List ℕ) : Type 0 where
-  pub units_there : finite.get left names.units ≡ Some units
-  pub logs_there : finite.get left names.logs ≡ Some logs
-  pub report_there : finite.get left names.report ≡ Some report
-  pub new_there : finite.get left names.new ≡ Some new
-  pub stays : (name : List ℕ) → IsElse names name → finite.get left name ≡ finite.get held name
+pub record AreThere (output : FindOutput) (held left : Files) (units logs report new : List ℕ) : Type 0 where
+  pub units_there : finite.get left output.units ≡ Some units
+  pub logs_there : finite.get left output.logs ≡ Some logs
+  pub report_there : finite.get left output.report ≡ Some report
+  pub new_there : finite.get left output.new ≡ Some new
+  pub stays : (name : List ℕ) → IsElse output name → finite.get left name ≡ finite.get held name
 
-module _ (names : FindNames) (held : Files) (writes : List Written) (units logs report new : List ℕ)
-    (apart : NamesDiffer names)
-    (are : map written writes ≡ (names.units, units) ∷ (names.logs, logs) ∷ (names.report, report) ∷ (names.new, new) ∷ []) where
+module _ (output : FindOutput) (held : Files) (writes : List Written) (units logs report new : List ℕ)
+    (apart : NamesDiffer output)
+    (are : map written writes ≡ (output.units, units) ∷ (output.logs, logs) ∷ (output.report, report) ∷ (output.new, new) ∷ []) where
   -- the shelf behind the first file that is written, and so on
   abbrev behind_units : Files
-  behind_units = with_file names.units (Some units) held
+  behind_units = with_file output.units (Some units) held
 
   abbrev behind_logs : Files
-  behind_logs = with_file names.logs (Some logs) behind_units
+  behind_logs = with_file output.logs (Some logs) behind_units
 
   abbrev behind_report : Files
-  behind_report = with_file names.report (Some report) behind_logs
+  behind_report = with_file output.report (Some report) behind_logs
 
   -- what is left is the shelf behind the last one
-  left_is : with_files writes held ≡ with_file names.new (Some new) behind_report
+  left_is : with_files writes held ≡ with_file output.new (Some new) behind_report
   left_is = by_pairs writes held ∙ ap (λ pairs. with_pairs pairs held) are
 
   -- but for this one it has what was there before it
-  not_new : (name : List ℕ) → name ≢ names.new → finite.get (with_files writes held) name ≡ finite.get behind_report name
-  not_new name other = ap (λ files. finite.get files name) left_is ∙ put_elsewhere names.new new behind_report name other
+  not_new : (name : List ℕ) → name ≢ output.new → finite.get (with_files writes held) name ≡ finite.get behind_report name
+  not_new name other = ap (λ files. finite.get files name) left_is ∙ put_elsewhere output.new new behind_report name other
 
   -- so the names hold what was written
-  pub are_there : AreThere names held (with_files writes held) units logs report new
+  pub are_there : AreThere output held (with_files writes held) units logs report new
   are_there = record {
     units_there =
-        not_new names.units apart.new_of_units
-        ∙ put_elsewhere names.report report behind_logs names.units apart.report_of_units
-        ∙ put_elsewhere names.logs logs behind_units names.units apart.logs_of_units ∙ put_here names.units units held;
+        not_new output.units apart.new_of_units
+        ∙ put_elsewhere output.report report behind_logs output.units apart.report_of_units
+        ∙ put_elsewhere output.logs logs behind_units output.units apart.logs_of_units ∙ put_here output.units units held;
     logs_there =
-        not_new names.logs apart.new_of_logs
-        ∙ put_elsewhere names.report report behind_logs names.logs apart.report_of_logs
-        ∙ put_here names.logs logs behind_units;
-    report_there = not_new names.report apart.new_of_report ∙ put_here names.report report behind_logs;
-    new_there = ap (λ files. finite.get files names.new) left_is ∙ put_here names.new new behind_report;
+        not_new output.logs apart.new_of_logs
+        ∙ put_elsewhere output.report report behind_logs output.logs apart.report_of_logs
+        ∙ put_here output.logs logs behind_units;
+    report_there = not_new output.report apart.new_of_report ∙ put_here output.report report behind_logs;
+    new_there = ap (λ files. finite.get files output.new) left_is ∙ put_here output.new new behind_report;
     stays = λ name other.
-        not_new name other.new ∙ put_elsewhere names.report report behind_logs name other.report
-        ∙ put_elsewhere names.logs logs behind_units name other.logs
-        ∙ put_elsewhere names.units units held name other.units;
+        not_new name other.new ∙ put_elsewhere output.report report behind_logs name other.report
+        ∙ put_elsewhere output.logs logs behind_units name other.logs
+        ∙ put_elsewhere output.units units held name other.units;
   }

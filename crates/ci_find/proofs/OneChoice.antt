@@ -19,7 +19,7 @@ use Rattle.ci_calls.specs.declared.success.Success.{Success}
 use Rattle.ci_calls.specs.Refusals.{status_of}
 use Rattle.ci_find.specs.ChoiceReading.{IsPlanOf}
 use Rattle.ci_find.specs.Profiled.{Profiled, Settings, instance_by}
-use Rattle.ci_find.specs.FindCommand.{FindNames, IsFindMade, IsFindRefused}
+use Rattle.ci_find.specs.FindCommand.{FindOutput, IsFindMade, IsFindRefused}
 use Rattle.ci_find.specs.CheckCommand.{CheckFiles, IsCheckMade, IsCheckRefused, rejected, unprofiled}
 use Rattle.ci_find.proofs.OneProfile.{Unprofiled, profiled_alike, profiled_or_not, same_file, unprofiled_once}
 
@@ -68,9 +68,9 @@ find_moved {settings} {read} {refusal} {executable} {others} read_is is =
     subst (λ T. T) (λ i. Unprofiled settings (same i) (same_others i) refusal) (is.files, is.unprofiled)
 
 -- for files of which a choice is made nothing is refused
-pub find_or_refused : (names : FindNames) (settings : Settings) (read : List (List ℕ)) (success : Success)
-    (refusal : Refusal) → IsFindMade names settings read success → IsFindRefused settings read refusal → ⊥
-find_or_refused names settings read success refusal made is =
+pub find_or_refused : (output : FindOutput) (settings : Settings) (read : List (List ℕ)) (success : Success)
+    (refusal : Refusal) → IsFindMade output settings read success → IsFindRefused settings read refusal → ⊥
+find_or_refused output settings read success refusal made is =
     profiled_or_not made.profiled (find_moved made.read_is is)
 
 -- others are refused with one status

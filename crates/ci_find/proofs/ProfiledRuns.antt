@@ -22,7 +22,7 @@ use Rattle.ci_calls.specs.Inputs.{Input}
 use Rattle.ci_calls.specs.Reads.{HaveRead, IsSuccessOf, IsRefusalOf}
 use Rattle.ci_calls.proofs.InputLaws.{read_without_memory}
 use Rattle.ci_find.specs.Profiled.{Settings, RunFiles, IsProfiled, IsUnprofiled, custom}
-use Rattle.ci_find.specs.FindCommand.{FindNames, IsChoice, IsFindMade, IsFindRefused}
+use Rattle.ci_find.specs.FindCommand.{FindOutput, IsChoice, IsFindMade, IsFindRefused}
 use Rattle.ci_find.specs.private.Unprofiled.{IsUnprofiledCause}
 
 -- ---- the run
@@ -98,10 +98,10 @@ module _
   pub find_made :
       (profile : Profile) (blocks : List Block) (live : Sets)
       → IsProfiled run.file run.latencies input settings.steps settings.named profile blocks live
-      → (names : FindNames) (success : Success)
-      → IsChoice (instance_of profile blocks live run.latencies settings.plan) profile run.file names success
-      → IsSuccessOf read_may_fail write_may_fail before after inputs (IsFindMade names settings) success
-  find_made profile blocks live is names success choice = record {
+      → (output : FindOutput) (success : Success)
+      → IsChoice (instance_of profile blocks live run.latencies settings.plan) profile run.file output success
+      → IsSuccessOf read_may_fail write_may_fail before after inputs (IsFindMade output settings) success
+  find_made profile blocks live is output success choice = record {
     answered = executable ∷ others;
     read = files;
     made = record {

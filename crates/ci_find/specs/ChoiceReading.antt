@@ -1,11 +1,14 @@
--- For every reader: the names and the settings of a choice, as the words of `find` or `check` have them.
-use Rattle.std.specs.Prelude.{◌≡◌, List}
+-- For every reader: the names and the settings of a choice, as the words of `find` or `check` have them, and the version
+-- of a log book, as those of `find` or `relog` have it.
+use Rattle.std.specs.Prelude.{◌≡◌, ◌==◌, List, if◌then◌else◌}
 use Rattle.ci_arguments.specs.Words.{Reading, name_at, name_set, number_set, words_set}
 use Rattle.ci_arguments.specs.declared.tables.OptionName.TheVariants as option
 use Rattle.ci_calls.specs.Inputs.{Input}
+use Rattle.ci_log.specs.declared.book.Version.{Version}
+use Rattle.ci_log.specs.declared.book.Version.TheVariants.{One, Two}
 use Rattle.ci_select.specs.declared.plan.Plan.{Plan}
 use Rattle.ci_find.specs.CheckCommand.{CheckNames, check_inputs}
-use Rattle.ci_find.specs.FindCommand.{FindNames, find_inputs}
+use Rattle.ci_find.specs.FindCommand.{FindOutput, find_inputs}
 use Rattle.ci_find.specs.Profiled.{Settings}
 
 -- the limits are those of the reading
@@ -24,12 +27,17 @@ settings_of reading plan = record {
   input = name_set reading option.Input;
 }
 
-abbrev pub find_names : Reading → FindNames
-find_names reading = record {
+-- the version of the number that --log names, which is 1 or 2
+abbrev pub log_version : Reading → Version
+log_version reading = if number_set reading option.LogVersion == 2 then Two else One
+
+abbrev pub find_output : Reading → FindOutput
+find_output reading = record {
   new = name_at reading 1;
   units = name_at reading 2;
   logs = name_at reading 3;
   report = name_at reading 4;
+  version = log_version reading;
 }
 
 abbrev pub check_names : Reading → CheckNames

@@ -5,7 +5,7 @@ use Rattle.ci_io.specs.Outcomes.{ShelfState}
 use Rattle.ci_cut.specs.declared.graph.Limits.{Limits}
 use Rattle.ci_arguments.specs.Words.{Reading, name_at, number_at, word_at, name_set, number_set, word_set, words_set}
 use Rattle.ci_arguments.specs.declared.tables.CommandName.{CommandName}
-use Rattle.ci_arguments.specs.declared.tables.CommandName.TheVariants.{Best, Asm, Dis, Run, Blocks, Eval, Find, Check, Load}
+use Rattle.ci_arguments.specs.declared.tables.CommandName.TheVariants.{Best, Asm, Dis, Run, Blocks, Eval, Find, Check, Relog, Load}
 use Rattle.ci_arguments.specs.declared.tables.OptionName.TheVariants as option
 use Rattle.ci_calls.specs.declared.refusals.Refusal.{Refusal}
 use Rattle.ci_calls.specs.declared.success.Success.{Success}
@@ -18,8 +18,9 @@ use Rattle.ci_commands.specs.DisCommand.{dis_inputs, IsDisMade}
 use Rattle.ci_commands.specs.RunCommand.{run_inputs, IsRunMade}
 use Rattle.ci_commands.specs.BlocksCommand.{blocks_inputs, IsBlocksMade, IsBlocksRefused}
 use Rattle.ci_commands.specs.EvalCommand.{eval_inputs, IsEvalMade, IsEvalRefused}
+use Rattle.ci_commands.specs.RelogCommand.{relog_inputs, IsRelogMade}
 use Rattle.ci_select.specs.declared.plan.Plan.{Plan}
-use Rattle.ci_find.specs.ChoiceReading.{IsPlanOf, settings_of, find_names, find_files, check_files}
+use Rattle.ci_find.specs.ChoiceReading.{IsPlanOf, log_version, settings_of, find_output, find_files, check_files}
 use Rattle.ci_find.specs.FindCommand.{IsFindMade, IsFindRefused}
 use Rattle.ci_find.specs.LoadCommand.{IsLoadMade}
 use Rattle.ci_find.specs.CheckCommand.{IsCheckMade, IsCheckRefused}
@@ -82,7 +83,7 @@ call_by Find reading = record {
   inputs = find_files reading;
   Makes = λ read success.
       (plan : Plan) × IsPlanOf reading plan
-      × IsFindMade (find_names reading) (settings_of reading plan) read success;
+      × IsFindMade (find_output reading) (settings_of reading plan) read success;
   Refuses = λ read refusal.
       (plan : Plan) × IsPlanOf reading plan × IsFindRefused (settings_of reading plan) read refusal;
 }
@@ -92,6 +93,11 @@ call_by Check reading = record {
       (plan : Plan) × IsPlanOf reading plan × IsCheckMade (settings_of reading plan) read success;
   Refuses = λ read refusal.
       (plan : Plan) × IsPlanOf reading plan × IsCheckRefused (settings_of reading plan) read refusal;
+}
+call_by Relog reading = record {
+  inputs = relog_inputs (name_at reading 0);
+  Makes = IsRelogMade (name_at reading 1) (log_version reading);
+  Refuses = RefusesNothing;
 }
 call_by Load reading = record {
   inputs = [];

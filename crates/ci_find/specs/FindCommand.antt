@@ -7,7 +7,8 @@ use Rattle.ci_elf.specs.Executables.{Executable}
 use Rattle.ci_emu.specs.declared.profile.Profile.{Profile}
 use Rattle.ci_log.specs.declared.book.Entry.{Entry}
 use Rattle.ci_log.specs.declared.book.Entry.TheVariants.{Spent}
-use Rattle.ci_log.specs.Books.{Book, Spells}
+use Rattle.ci_log.specs.Books.{Book, SpellsIn}
+use Rattle.ci_log.specs.declared.book.Version.{Version}
 use Rattle.ci_machine.specs.Words.{AreBytes}
 use Rattle.ci_unit.specs.Tables.{IsTable}
 use Rattle.ci_unit.specs.Units.{Unit}
@@ -32,12 +33,13 @@ use Rattle.ci_find.specs.Profiled.{Settings, RunFiles, Profiled, IsUnprofiled, i
 abbrev pub find_inputs : List ℕ → (table input : Option (List ℕ)) → List Input
 find_inputs file table input = executable_input file ∷ run_files table input
 
--- the names of the files that it writes
-pub record FindNames : Type 0 where
+-- what it writes: the names of the files, and the version of the log book
+pub record FindOutput : Type 0 where
   pub new : List ℕ
   pub units : List ℕ
   pub logs : List ℕ
   pub report : List ℕ
+  pub version : Version
 
 abbrev pub is_spent : Entry → Bool
 is_spent (Spent leader budget) = true
@@ -56,10 +58,10 @@ summary_line entries units saved = line (summary entries units saved)
 abbrev pub written : Written → List ℕ × List ℕ
 written file = (file.name.now, file.bytes.items)
 
--- There is a legal book of the instance, in which each search was given up exactly by need. Its units, its text, its
--- report and its new file are written, in this order, and the line of its numbers is put. The file and the new one
--- are of bytes.
-pub record IsChoice (instance : Instance) (profile : Profile) (file : Executable) (names : FindNames)
+-- There is a legal book of the instance, in which each search was given up exactly by need. Its units, its text in the
+-- version, its report and its new file are written, in this order, and the line of its numbers is put. The file and the
+-- new one are of bytes.
+pub record IsChoice (instance : Instance) (profile : Profile) (file : Executable) (output : FindOutput)
     (success : Success) : Type 0 where
   pub book : Book
   pub units : List Unit
@@ -72,25 +74,25 @@ pub record IsChoice (instance : Instance) (profile : Profile) (file : Executable
   pub units_are : AreUnits instance (reverse book.entries) units
   pub units_keep : IsTable units
   pub saved_is : IsSaved instance (reverse book.entries) saved
-  pub logs_are : Spells logs_text book
+  pub logs_are : SpellsIn output.version logs_text book
   pub report_is : IsReport instance profile book report_text
   pub new_is : IsNewFile instance file (reverse book.entries) new_bytes
   pub file_of_bytes : AreBytes file.bytes
   pub new_of_bytes : AreBytes new_bytes
   pub writes_are :
       map written success.writes.items
-      ≡ (names.units, text_of (modules_of units)) ∷ (names.logs, logs_text) ∷ (names.report, report_text)
-      ∷ (names.new, new_bytes) ∷ []
+      ≡ (output.units, text_of (modules_of units)) ∷ (output.logs, logs_text) ∷ (output.report, report_text)
+      ∷ (output.new, new_bytes) ∷ []
   pub text_is : success.text.items ≡ summary_line book.entries units saved
 
 -- It makes a choice for the executable, by its profiled run.
-pub record IsFindMade (names : FindNames) (settings : Settings) (read : List (List ℕ)) (success : Success) :
+pub record IsFindMade (output : FindOutput) (settings : Settings) (read : List (List ℕ)) (success : Success) :
     Type 0 where
   pub executable : List ℕ
   pub others : List (List ℕ)
   pub read_is : read ≡ executable ∷ others
   pub profiled : Profiled settings executable others
-  pub choice : IsChoice (instance_by profiled) profiled.profile profiled.files.file names success
+  pub choice : IsChoice (instance_by profiled) profiled.profile profiled.files.file output success
 
 -- it refuses files that can't be chosen from
 pub record IsFindRefused (settings : Settings) (read : List (List ℕ)) (refusal : Refusal) : Type 0 where

@@ -10,7 +10,7 @@ use Rattle.ci_calls.specs.declared.refusals.Refusal.TheVariants.{Write, Put, NoM
 use Rattle.ci_calls.specs.Called.{IsLinePut}
 use Rattle.ci_calls.specs.Reads.{AreFit, reads_of}
 use Rattle.ci_calls.specs.Refusals.{Name}
-use Rattle.ci_find.specs.ChoiceReading.{find_names, find_files}
+use Rattle.ci_find.specs.ChoiceReading.{find_output, find_files}
 use Rattle.ci_find.specs.Headline.{FoundBytes, bytes_read, files_written, whole_writes, IsChosen}
 use Rattle.ci_find.specs.SinceCalls.{HasNoWrite}
 
@@ -42,8 +42,8 @@ pub record AreFirstWhole (reading : Reading) (calls puts : List Call) (status : 
   pub last : List Call
   pub calls_are : calls
       ≡ reads_of (find_files reading) (bytes_read bytes)
-      ++ (whole_writes (take number (files_written (find_names reading) bytes)) ++ last)
-  pub stops : StopsAt bytes.text (drop number (files_written (find_names reading) bytes)) last puts status
+      ++ (whole_writes (take number (files_written (find_output reading) bytes)) ++ last)
+  pub stops : StopsAt bytes.text (drop number (files_written (find_output reading) bytes)) last puts status
 
 -- memory ran out before there was anything to write, and the fault line says so
 pub record IsBeforeWrites (calls puts : List Call) (status : ℕ) : Type 0 where

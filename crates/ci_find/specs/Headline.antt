@@ -17,7 +17,7 @@ use Rattle.ci_isa.specs.declared.instruction.Insn.{Insn}
 use Rattle.ci_cut.specs.Best.{IsBest}
 use Rattle.ci_log.specs.declared.book.Entry.{Entry}
 use Rattle.ci_log.specs.declared.book.Entry.TheVariants.{Take}
-use Rattle.ci_log.specs.Books.{Book, Spells}
+use Rattle.ci_log.specs.Books.{Book, SpellsIn}
 use Rattle.ci_verilog.specs.Modules.{Module}
 use Rattle.ci_vread.specs.Spelling.{Spell}
 use Rattle.ci_unit.specs.Units.{unit_of}
@@ -37,8 +37,8 @@ use Rattle.ci_arguments.specs.declared.tables.CommandName.TheVariants.{Find}
 use Rattle.ci_arguments.specs.Words.{Reading, ReadsAs}
 use Rattle.ci_calls.specs.Files.{input_bytes}
 use Rattle.ci_calls.specs.Reads.{AreFit, reads_of}
-use Rattle.ci_find.specs.ChoiceReading.{IsPlanOf, settings_of, find_names, find_files}
-use Rattle.ci_find.specs.FindCommand.{FindNames, summary_line}
+use Rattle.ci_find.specs.ChoiceReading.{IsPlanOf, log_version, settings_of, find_output, find_files}
+use Rattle.ci_find.specs.FindCommand.{FindOutput, summary_line}
 use Rattle.ci_find.specs.Profiled.{Profiled, instance_by}
 
 -- ---- what is read, written and put
@@ -59,9 +59,10 @@ abbrev pub bytes_read : FoundBytes → List (List ℕ)
 bytes_read bytes = bytes.executable ∷ bytes.others
 
 -- what is written, by names and bytes, in order: UNITS, LOGS, REPORT, NEW
-abbrev pub files_written : FindNames → FoundBytes → List (List ℕ × List ℕ)
-files_written names bytes =
-    (names.units, bytes.units) ∷ (names.logs, bytes.logs) ∷ (names.report, bytes.report) ∷ (names.new, bytes.new) ∷ []
+abbrev pub files_written : FindOutput → FoundBytes → List (List ℕ × List ℕ)
+files_written output bytes =
+    (output.units, bytes.units) ∷ (output.logs, bytes.logs) ∷ (output.report, bytes.report) ∷ (output.new, bytes.new)
+    ∷ []
 
 -- one whole write for each
 abbrev pub whole_writes : List (List ℕ × List ℕ) → List Call
@@ -70,8 +71,8 @@ whole_writes files = map (λ file. write file.0 file.1 (Ok tt)) files
 -- ---- the written executable, the written Verilog, and the book of the cuts
 
 -- What is written are the modules of the units of a legal book for the run that the executable is chosen from, this
--- book, its report, and the executable with the folded blocks. The text that is put has what the cuts of the book save
--- over that run.
+-- book in the version that --log names, its report, and the executable with the folded blocks. The text that is put has
+-- what the cuts of the book save over that run.
 pub record AreFiles (reading : Reading) (bytes : FoundBytes) : Type 0 where
   pub plan : Plan
   pub is_plan : IsPlanOf reading plan
@@ -79,7 +80,7 @@ pub record AreFiles (reading : Reading) (bytes : FoundBytes) : Type 0 where
   pub modules : List Module
   pub book : Book
   pub modules_are : Spell bytes.units modules
-  pub book_is : Spells bytes.logs book
+  pub book_is : SpellsIn (log_version reading) bytes.logs book
   pub acceptable : IsAcceptable (instance_by profiled) profiled.files.file book modules bytes.new
   pub report_is : IsReport (instance_by profiled) profiled.profile book bytes.report
   pub saved : ℕ
@@ -133,7 +134,7 @@ pub record IsChosenBy (reading : Reading) (calls puts : List Call) : Type 0 wher
   pub bytes : FoundBytes
   pub fit : AreFit (find_files reading) (bytes_read bytes)
   pub calls_are : calls
-      ≡ reads_of (find_files reading) (bytes_read bytes) ++ whole_writes (files_written (find_names reading) bytes)
+      ≡ reads_of (find_files reading) (bytes_read bytes) ++ whole_writes (files_written (find_output reading) bytes)
   pub puts_are : puts ≡ put bytes.text (Ok tt) ∷ []
   pub chosen : IsChosen reading bytes
 

@@ -7,7 +7,7 @@ use Rattle.ci_arguments.specs.declared.tables.CommandName.TheVariants.{Find}
 use Rattle.ci_arguments.specs.Words.{Reading, ReadsAs}
 use Rattle.ci_calls.specs.Finishing.{Takes}
 use Rattle.ci_calls.specs.Inputs.{AreRead}
-use Rattle.ci_find.specs.ChoiceReading.{find_names, find_files}
+use Rattle.ci_find.specs.ChoiceReading.{find_output, find_files}
 use Rattle.ci_find.specs.Headline.{FoundBytes, bytes_read, IsChosen}
 
 -- What `find` reads was held before, and what it writes is left; the sink took the text; and of these bytes all of the
@@ -15,10 +15,10 @@ use Rattle.ci_find.specs.Headline.{FoundBytes, bytes_read, IsChosen}
 pub record IsChosenOver (reading : Reading) (held left : Files) (sink_before sink_after : SinkState) : Type 0 where
   pub bytes : FoundBytes
   pub read_are : AreRead (Some held) (find_files reading) (bytes_read bytes)
-  pub units_left : map.get left (find_names reading).units ≡ Some bytes.units
-  pub logs_left : map.get left (find_names reading).logs ≡ Some bytes.logs
-  pub report_left : map.get left (find_names reading).report ≡ Some bytes.report
-  pub new_left : map.get left (find_names reading).new ≡ Some bytes.new
+  pub units_left : map.get left (find_output reading).units ≡ Some bytes.units
+  pub logs_left : map.get left (find_output reading).logs ≡ Some bytes.logs
+  pub report_left : map.get left (find_output reading).report ≡ Some bytes.report
+  pub new_left : map.get left (find_output reading).new ≡ Some bytes.new
   pub put : Takes sink_before sink_after bytes.text
   pub chosen : IsChosen reading bytes
 

@@ -1,5 +1,5 @@
 -- What holds of all choices, checks and loads: laws, which the functions of `src/laws.rt` have as their contracts.
-use Rattle.std.specs.Prelude.{◌≡◌, ℕ, ◌+◌, ◌<◌, ◌⊎◌, List, Option, Some, All, length}
+use Rattle.std.specs.Prelude.{◌≡◌, ◌≢◌, ℕ, ◌+◌, ◌<◌, ◌⊎◌, List, Option, Some, All, length}
 use Rattle.std.specs.FinMap as map
 use Rattle.ci_io.specs.Outcomes.{Files}
 use Rattle.ci_elf.specs.Rules.{rules, KeepsRules}
@@ -10,6 +10,7 @@ use Rattle.ci_vread.specs.Spelling.{Spell}
 use Rattle.ci_arguments.specs.Words.{Reading, ReadsAs, name_at}
 use Rattle.ci_arguments.specs.declared.tables.CommandName.TheVariants.{Find, Check}
 use Rattle.ci_arguments.specs.declared.tables.OptionName.{OptionName}
+use Rattle.ci_arguments.specs.declared.tables.OptionName.TheVariants.{LogVersion}
 use Rattle.ci_calls.specs.declared.refusals.Refusal.{Refusal}
 use Rattle.ci_calls.specs.declared.refusals.Refusal.TheVariants.{TooLarge}
 use Rattle.ci_calls.specs.declared.success.Success.{Success}
@@ -18,7 +19,7 @@ use Rattle.ci_calls.specs.Inputs.{Input, MayHold}
 use Rattle.ci_calls.specs.Refusals.{Name, status_of}
 use Rattle.ci_find.specs.Commands.{inputs_by}
 use Rattle.ci_find.specs.Endings.{Ends, IsAnswered, IsDone, IsRefusal}
-use Rattle.ci_find.specs.FindCommand.{FindNames, IsFindMade}
+use Rattle.ci_find.specs.FindCommand.{FindOutput, IsFindMade}
 use Rattle.ci_find.specs.Headline.{TellTheBest}
 use Rattle.ci_find.specs.LoadCommand.{IsLoadMade}
 use Rattle.ci_find.specs.Profiled.{Settings, instance_by}
@@ -28,20 +29,20 @@ use Rattle.ci_find.specs.Profiled.{Settings, instance_by}
 -- What `find` makes of an executable that keeps all rules tells the best, and the text of its modules spells them.
 abbrev pub ChoicesTellTheBest : Type 0
 ChoicesTellTheBest =
-    (names : FindNames) (settings : Settings) (read : List (List ℕ)) (success : Success)
-    (made : IsFindMade names settings read success) → KeepsRules made.executable (rules made.executable)
+    (output : FindOutput) (settings : Settings) (read : List (List ℕ)) (success : Success)
+    (made : IsFindMade output settings read success) → KeepsRules made.executable (rules made.executable)
     → Spell (text_of (modules_of made.choice.units)) (modules_of made.choice.units)
     × TellTheBest (instance_by made.profiled) (modules_of made.choice.units) made.choice.book
 
 -- ---- `check` of what `find` wrote
 
 -- One reading asks for a choice and the other for its check, with the same names of OLD, NEW, UNITS and LOGS, and the
--- same options.
+-- same options except --log.
 pub record AreSameChoice (find check : Reading) : Type 0 where
   pub finds : find.command ≡ Find
   pub checks : check.command ≡ Check
   pub names : (place : ℕ) → place < 4 → name_at find place ≡ name_at check place
-  pub settings : (option : OptionName) → find.settings option ≡ check.settings option
+  pub settings : (option : OptionName) → option ≢ LogVersion → find.settings option ≡ check.settings option
 
 -- Of each of the files that are read both hold the same: the same bytes under its name, or nothing.
 abbrev pub HoldTheSame : List Input → Files → Files → Type 0

@@ -5,7 +5,7 @@ ghost use Rattle.ci_arguments.specs.Ranges.{KeepsRanges, KeepsPlaces};
 ghost use Rattle.ci_arguments.specs.Read.{reading_of};
 ghost use Rattle.ci_arguments.specs.declared.tables.OptionName.TheVariants as option;
 ghost use Rattle.ci_arguments.specs.Words.{words_set};
-ghost use Rattle.ci_find.specs.ChoiceReading.{settings_of, IsPlanOf};
+ghost use Rattle.ci_find.specs.ChoiceReading.{log_version, settings_of, IsPlanOf};
 ghost use Rattle.ci_find.specs.Commands.{IsAnswerBy};
 ghost use Rattle.ci_find.specs.private.Chosen.{settings_by, KeepsChoiceRanges};
 ghost use Rattle.ci_find.specs.EndsBy.{IsDueBy, IsRefusalBy};
@@ -14,16 +14,17 @@ ghost use Rattle.ci_io.specs.MadeCalls.{AreMade};
 ghost use Rattle.ci_io.specs.Outcomes.{ShelfState};
 
 use crate::check::{self, CheckNames};
-use crate::find::{self, FindNames};
+use crate::find::{self, FindOutput};
 use crate::load;
 use crate::profiling::ChoiceSettings;
 use ci_arguments::{CommandName, OptionName, Words, WordsErr, read_words};
 use ci_calls::{Refusal, Success};
 use ci_commands::best::BestSettings;
 use ci_commands::run::RunSettings;
-use ci_commands::{asm, best, blocks, dis, eval, run};
+use ci_commands::{asm, best, blocks, dis, eval, relog, run};
 use ci_cut::Limits;
 use ci_io::Shelf;
+use ci_log::Version;
 use ci_select::Plan;
 use std::alloc::Global;
 
@@ -72,6 +73,9 @@ fn evaluate_command<'a, F: Shelf>(
         CommandName::Eval => evaluate_eval(alloc, words, shelf),
         CommandName::Find => evaluate_find(alloc, words, shelf),
         CommandName::Check => evaluate_check(alloc, words, shelf),
+        CommandName::Relog => {
+            relog::evaluate(alloc, file, words.name_at(1), log_version(words), shelf)
+        }
         CommandName::Load => evaluate_load(alloc, words),
     }
 }
@@ -136,7 +140,7 @@ fn evaluate_eval<'a, F: Shelf>(
     eval::evaluate(alloc, words.name_at(0), number, arguments, shelf)
 }
 
-/// What `find` makes of its files, by the names and the settings that the words say.
+/// What `find` makes of its files, by the output and the settings that the words say.
 fn evaluate_find<'a, F: Shelf>(
     alloc: Global,
     words: &Words<'a>,
@@ -148,14 +152,15 @@ fn evaluate_find<'a, F: Shelf>(
         CommandName.Find (reading_of words.now) result }
 {
     let leaders = words.words(alloc, OptionName::Leader)?;
-    let names = FindNames {
+    let output = FindOutput {
         new: words.name_at(1),
         units: words.name_at(2),
         logs: words.name_at(3),
         report: words.name_at(4),
+        version: log_version(words),
     };
     let settings = choice_settings(words, leaders.as_slice());
-    find::evaluate(alloc, words.name_at(0), &names, &settings, shelf)
+    find::evaluate(alloc, words.name_at(0), &output, &settings, shelf)
 }
 
 /// What `check` makes of its files, by the names and the settings that the words say.
@@ -187,6 +192,17 @@ fn evaluate_load<'a>(alloc: Global, words: &Words<'a>) -> Result<Success<'a>, Re
 {
     let seed = words.number_at(0) as u32;
     Ok(load::evaluate(alloc, seed)?)
+}
+
+/// The version of the log book that the words name.
+fn log_version(words: &Words) -> Version
+    ensures { result ≡ log_version (reading_of words.now) }
+{
+    if words.number(OptionName::LogVersion) == 2 {
+        Version::Two
+    } else {
+        Version::One
+    }
 }
 
 /// The settings of a choice that the words of `find` or `check` say.

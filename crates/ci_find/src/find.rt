@@ -2,7 +2,7 @@
 ghost use Rattle.std.specs.Prelude.{◌≡◌, ◌≤◌, ◌∷◌, [], ℕ, List, Ok, IfOk, filter, length, map, reverse};
 ghost use Rattle.std.specs.String.{string_bytes};
 ghost use Rattle.ci_elf.specs.Rules.{IsReadAs};
-ghost use Rattle.ci_log.specs.Books.{Spells};
+ghost use Rattle.ci_log.specs.Books.{SpellsIn};
 ghost use Rattle.ci_vemit.specs.Templates.{modules_of};
 ghost use Rattle.ci_vemit.specs.Texts.{text_of};
 ghost use Rattle.ci_report.specs.Reports.{IsReport};
@@ -15,27 +15,28 @@ ghost use Rattle.ci_calls.specs.Refused.{name_in};
 ghost use Rattle.ci_find.specs.Profiled.{IsProfiled};
 ghost use Rattle.ci_find.specs.FindCommand.{find_inputs, is_spent, summary, summary_line, written};
 ghost use Rattle.ci_find.specs.FindCommand.{IsChoice, IsFindMade, IsFindRefused};
-ghost use Rattle.ci_find.specs.private.Chosen.{instance_from, names_of, settings_by};
+ghost use Rattle.ci_find.specs.private.Chosen.{instance_from, output_of, settings_by};
 
 use crate::profiling::{ChoiceSettings, Profiled, RunFiles, profiled_run, read_run_files};
 use ci_calls::{Refusal, Success, Written, read_image};
 use ci_elf::Image;
 use ci_io::Shelf;
 use ci_lat::Table;
-use ci_log::Entry;
+use ci_log::{Entry, Version, write_in};
 use ci_machine::laws::bytes_are_small;
 use ci_report::report;
 use ci_select::{Chosen, Plan, choose};
 use ci_vemit::emit;
 use std::alloc::{AllocError, Global};
 
-/// The names of the files that `find` writes.
+/// What `find` writes: the names of the files, and the version of the log book.
 #[derive(Clone, Copy)]
-pub struct FindNames<'a> {
+pub struct FindOutput<'a> {
     pub new: &'a str,
     pub units: &'a str,
     pub logs: &'a str,
     pub report: &'a str,
+    pub version: Version,
 }
 
 /// The texts of a choice.
@@ -64,21 +65,21 @@ struct Texts {
 pub fn evaluate<'a, F: Shelf>(
     alloc: Global,
     file: &'a str,
-    names: &FindNames<'a>,
+    output: &FindOutput<'a>,
     settings: &ChoiceSettings<'a, '_>,
     shelf: &mut F,
 ) -> Result<Success<'a>, Refusal<'a>>
     requires { settings.now.steps ≤ 4294967296 }
     ensures { IsAnswerOf F.read_may_fail F.write_may_fail (F.state shelf.old) (F.state shelf.new)
         (find_inputs file.now (name_in settings.now.table) (name_in settings.now.input))
-        (IsFindMade (names_of names.now) (settings_by settings.now))
+        (IsFindMade (output_of output.now) (settings_by settings.now))
         (IsFindRefused (settings_by settings.now)) result }
 {
     let image = read_image(alloc, file, shelf)?;
     let RunFiles { table, input } = read_run_files(alloc, settings.table, settings.input, shelf)?;
     let (steps, leaders) = (settings.steps, settings.leaders);
     let profiled = profiled_run(alloc, &image, &table, input, steps, leaders)?;
-    let outcome = success_of(alloc, &image, &table, &profiled, names, &settings.plan);
+    let outcome = success_of(alloc, &image, &table, &profiled, output, &settings.plan);
     drop(profiled);
     drop(image);
     let success = outcome?;
@@ -91,14 +92,14 @@ fn success_of<'a>(
     image: &Image,
     table: &Table,
     profiled: &Profiled,
-    names: &FindNames<'a>,
+    output: &FindOutput<'a>,
     plan: &Plan,
 ) -> Result<Success<'a>, AllocError>
     requires image { IsReadAs image.now.bytes (Ok image.now) }
     requires profiled { (input : List ℕ) × (steps : ℕ) × (named : List ℕ) × IsProfiled image.now table.now input steps
         named profiled.now.profile profiled.now.analysis.blocks profiled.now.analysis.live }
     ensures { IfOk result (IsChoice (instance_from table.now profiled.now plan.now)
-        profiled.now.profile image.now (names_of names.now)) }
+        profiled.now.profile image.now (output_of output.now)) }
 {
     let (profile, analysis) = (&profiled.profile, &profiled.analysis);
     let (blocks, live) = (&analysis.blocks, &analysis.live);
@@ -107,19 +108,20 @@ fn success_of<'a>(
     bytes_are_small(chosen.image.bytes());
     // What a table of units keeps is known where they are read.
     let _units = chosen.units.as_slice();
-    let outcome = texts_of(alloc, profiled, table, plan, &chosen);
+    let outcome = texts_of(alloc, profiled, table, plan, output.version, &chosen);
     let new = new_bytes(chosen);
     let texts = outcome?;
-    let success = success_with(alloc, names, texts, new)?;
+    let success = success_with(alloc, output, texts, new)?;
     Ok(success)
 }
 
-/// The texts of a choice.
+/// The texts of a choice, the log book in this version.
 fn texts_of(
     alloc: Global,
     profiled: &Profiled,
     table: &Table,
     plan: &Plan,
+    version: Version,
     chosen: &Chosen,
 ) -> Result<Texts, AllocError>
     requires takes { AreTaken (instance_from table.now profiled.now plan.now)
@@ -129,7 +131,7 @@ fn texts_of(
     requires saved { IsSaved (instance_from table.now profiled.now plan.now)
         (reverse chosen.now.book.entries) chosen.now.saved }
     ensures units { IfOk result (λ texts. texts.units.items ≡ text_of (modules_of chosen.now.units)) }
-    ensures logs { IfOk result (λ texts. Spells texts.logs.items chosen.now.book) }
+    ensures logs { IfOk result (λ texts. SpellsIn version texts.logs.items chosen.now.book) }
     ensures report { IfOk result (λ texts. IsReport (instance_from table.now profiled.now plan.now)
         profiled.now.profile chosen.now.book texts.report.items) }
     ensures line { IfOk result (λ texts. texts.line.items
@@ -138,7 +140,7 @@ fn texts_of(
     let (profile, analysis) = (&profiled.profile, &profiled.analysis);
     let report = report(alloc, profile, analysis, table, plan, chosen)?;
     let units = emit(alloc, &chosen.units)?;
-    let logs = ci_log::write(alloc, &chosen.book)?;
+    let logs = write_in(alloc, version, &chosen.book)?;
     let mut line = summary(alloc, chosen)?;
     line.push('\n')?;
     Ok(Texts {
@@ -159,30 +161,30 @@ fn new_bytes(chosen: Chosen) -> Vec<u8>
 /// The texts of a choice and its new file under their names, and the line of its numbers.
 fn success_with<'a>(
     alloc: Global,
-    names: &FindNames<'a>,
+    output: &FindOutput<'a>,
     texts: Texts,
     new: Vec<u8>,
 ) -> Result<Success<'a>, AllocError>
     ensures writes { IfOk result (λ success. map written success.writes.items
-        ≡ (names.now.units.now, texts.units.items) ∷ (names.now.logs.now, texts.logs.items)
-        ∷ (names.now.report.now, texts.report.items) ∷ (names.now.new.now, new.items) ∷ []) }
+        ≡ (output.now.units.now, texts.units.items) ∷ (output.now.logs.now, texts.logs.items)
+        ∷ (output.now.report.now, texts.report.items) ∷ (output.now.new.now, new.items) ∷ []) }
     ensures text { IfOk result (λ success. success.text.items ≡ texts.line.items) }
 {
     let writes = vec![in alloc;
         Written {
-            name: names.units,
+            name: output.units,
             bytes: texts.units,
         },
         Written {
-            name: names.logs,
+            name: output.logs,
             bytes: texts.logs,
         },
         Written {
-            name: names.report,
+            name: output.report,
             bytes: texts.report,
         },
         Written {
-            name: names.new,
+            name: output.new,
             bytes: new,
         },
     ]?;

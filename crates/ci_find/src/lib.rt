@@ -46,11 +46,14 @@ mod profiling;
 ///   UNITS at the words A, B and C; of a wide module, with y, z and x at the words A, B, C, D and E. D and E are 0 if
 ///   left out.
 /// - `find OLD NEW UNITS LOGS REPORT`, with the options `--in N`, `--out N`, `--count N`, `--budget N`, `--steps N`,
-///   `--table FILE`, `--input FILE` and `--leader ADDR`: chooses cuts of the basic blocks of the executable OLD, by a
-///   run of it. It writes the modules of their units to UNITS, the log book of the choice to LOGS, its report to REPORT
-///   and the executable that uses the units to NEW, in this order, and then puts a line of numbers.
-/// - `check OLD NEW UNITS LOGS`, with the same options: puts `accepted` where NEW, UNITS and LOGS are those of such a
-///   choice.
+///   `--table FILE`, `--input FILE`, `--leader ADDR` and `--log N`: chooses cuts of the basic blocks of the executable
+///   OLD, by a run of it. It writes the modules of their units to UNITS, the log book of the choice, in version N, to
+///   LOGS, its report to REPORT and the executable that uses the units to NEW, in this order, and then puts a line of
+///   numbers.
+/// - `check OLD NEW UNITS LOGS`, with the same options except `--log`: puts `accepted` where NEW, UNITS and LOGS are
+///   those of such a choice.
+/// - `relog LOGS OUT`, with the option `--log N`: writes the book that LOGS spells to OUT, in version N, and then puts
+///   a line with N and the length of OUT.
 /// - `load SEED`: makes the program of the seed, runs it, chooses cuts of its blocks by the default options, runs the
 ///   program that uses their units, and puts a line of numbers and the output. It reads and writes no file.
 ///

@@ -82,7 +82,8 @@ fn eval_shown(alloc: Global, said: &Words) -> Result<String, AllocError> {
     Ok(text)
 }
 
-/// What `find` or `check` is asked, in short: its files, and then the numbers and the other files.
+/// What `find` or `check` is asked, in short: its files, and then the numbers, the last of which is the version of the
+/// log book, 0 of `check`, and the other files.
 fn choice_shown(
     alloc: Global,
     said: &Words,
@@ -100,6 +101,7 @@ fn choice_shown(
         OptionName::Count,
         OptionName::Budget,
         OptionName::Steps,
+        OptionName::LogVersion,
     ] {
         let number = said.number(option);
         write!(text, " {number}")?;
@@ -134,6 +136,11 @@ fn said_shown(alloc: Global, said: &Words) -> Result<String, AllocError> {
         CommandName::Eval => eval_shown(alloc, said),
         CommandName::Find => choice_shown(alloc, said, "find", 5),
         CommandName::Check => choice_shown(alloc, said, "check", 4),
+        CommandName::Relog => {
+            let (logs, out) = (said.name_at(0), said.name_at(1));
+            let version = said.number(OptionName::LogVersion);
+            format!(in alloc; "relog {logs} {out} {version}")
+        }
         CommandName::Load => {
             let seed = said.number_at(0);
             format!(in alloc; "load {seed}")
@@ -198,10 +205,13 @@ fn options_stand_anywhere(rt: HostRuntime) -> Result<(), AllocError> {
 
 fn choices() -> &'static [Told] {
     &[
-        ("find A B C D E", "find A B C D E 3 2 32 65536 16777216 - -"),
+        (
+            "find A B C D E",
+            "find A B C D E 3 2 32 65536 16777216 1 - -",
+        ),
         (
             "find --count=8 A B C D E --steps 5 --leader 0x10 --table T --budget 7 --in 1 --input I --out 1",
-            "find A B C D E 1 1 8 7 5 T I leader 10",
+            "find A B C D E 1 1 8 7 5 1 T I leader 10",
         ),
         ("find A A B C D", "none"),
         ("find A B C D C", "none"),
@@ -210,12 +220,12 @@ fn choices() -> &'static [Told] {
         ("find A B C D", "none"),
         (
             "find A B C D E --table A",
-            "find A B C D E 3 2 32 65536 16777216 A -",
+            "find A B C D E 3 2 32 65536 16777216 1 A -",
         ),
         ("find A B C D E --table=E", "none"),
         (
             "check A A B B --count 1",
-            "check A A B B 3 2 1 65536 16777216 - -",
+            "check A A B B 3 2 1 65536 16777216 0 - -",
         ),
         ("check A B C D E", "none"),
     ]
@@ -224,6 +234,42 @@ fn choices() -> &'static [Told] {
 #[test]
 fn choices_and_their_options(rt: HostRuntime) -> Result<(), AllocError> {
     expect(&rt, choices())
+}
+
+fn versions() -> &'static [Told] {
+    &[
+        ("relog A B", "relog A B 2"),
+        ("relog A B --log 1", "relog A B 1"),
+        ("relog --log=2 A -- B", "relog A B 2"),
+        ("relog A ./A --log 01", "relog A ./A 1"),
+        ("relog A A", "none"),
+        ("relog A", "none"),
+        ("relog A B C", "none"),
+        ("relog A B --log 0", "none"),
+        ("relog A B --log 3", "none"),
+        ("relog A B --log", "none"),
+        ("relog A B --log=", "none"),
+        ("relog A B --log 0x1", "none"),
+        ("relog A B --log 1 --log=1", "none"),
+        ("relog A B --in 3", "none"),
+        (
+            "find A B C D E --log 2",
+            "find A B C D E 3 2 32 65536 16777216 2 - -",
+        ),
+        (
+            "find --log=1 A B C D E",
+            "find A B C D E 3 2 32 65536 16777216 1 - -",
+        ),
+        ("find A B C D E --log 3", "none"),
+        ("find A B C D E --log 2 --log 2", "none"),
+        ("check A B C D --log 1", "none"),
+        ("best F --log 1", "none"),
+    ]
+}
+
+#[test]
+fn versions_of_log_books(rt: HostRuntime) -> Result<(), AllocError> {
+    expect(&rt, versions())
 }
 
 fn unreadable() -> &'static [Told] {

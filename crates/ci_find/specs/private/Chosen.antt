@@ -9,9 +9,9 @@ use Rattle.ci_calls.specs.Refused.{name_in}
 use Rattle.ci_find.specs.declared.profiling.ChoiceSettings.{ChoiceSettings}
 use Rattle.ci_find.specs.declared.profiling.Profiled.{Profiled as Run}
 use Rattle.ci_find.specs.declared.check.CheckNames.{CheckNames as NamesOfCheck}
-use Rattle.ci_find.specs.declared.find.FindNames.{FindNames as NamesOfFind}
+use Rattle.ci_find.specs.declared.find.FindOutput.{FindOutput as OutputOfFind}
 use Rattle.ci_find.specs.Profiled.{Settings}
-use Rattle.ci_find.specs.FindCommand.{FindNames}
+use Rattle.ci_find.specs.FindCommand.{FindOutput}
 use Rattle.ci_find.specs.CheckCommand.{CheckNames}
 
 abbrev pub settings_by : ChoiceSettings → Settings
@@ -23,9 +23,14 @@ settings_by settings = record {
   input = name_in settings.input;
 }
 
-abbrev pub names_of : NamesOfFind → FindNames
-names_of names =
-    record { new = names.new.now; units = names.units.now; logs = names.logs.now; report = names.report.now }
+abbrev pub output_of : OutputOfFind → FindOutput
+output_of output = record {
+  new = output.new.now;
+  units = output.units.now;
+  logs = output.logs.now;
+  report = output.report.now;
+  version = output.version;
+}
 
 abbrev pub check_names_of : NamesOfCheck → CheckNames
 check_names_of names = record { new = names.new.now; units = names.units.now; logs = names.logs.now }

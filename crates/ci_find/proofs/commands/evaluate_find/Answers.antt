@@ -3,8 +3,8 @@ use Rattle.std.proofs.Common.{◌≡◌, ◌∙◌, inl, ap, arith}
 use Rattle.std.proofs.lemmas.Result.{err_from_is_err_and}
 use Rattle.ci_arguments.specs.Read.{reading_of}
 use Rattle.ci_calls.proofs.InputLaws.{nothing_read}
-use Rattle.ci_find.specs.ChoiceReading.{find_names}
-use Rattle.ci_find.specs.FindCommand.{FindNames, find_inputs, IsFindMade, IsFindRefused}
+use Rattle.ci_find.specs.ChoiceReading.{find_output}
+use Rattle.ci_find.specs.FindCommand.{FindOutput, find_inputs, IsFindMade, IsFindRefused}
 use Rattle.ci_find.specs.Profiled.{Settings}
 use Rattle.ci_find.proofs.ChoiceWords.{find_ranges, answered_by}
 use Rattle.ci_find.proofs.commands.evaluate_find.Goals as goal
@@ -27,22 +27,24 @@ returns-in_err-leaders g c =
 pub returns : goal.returns
 returns g c =
     let reading = reading_of c.args.words.now in
-    let names : FindNames = record {
+    let output : FindOutput = record {
       new = c.name_at.result.now;
       units = c.name_at-2.result.now;
       logs = c.name_at-3.result.now;
       report = c.name_at-4.result.now;
+      version = c.log_version.result;
     } in
-    let names_are : names ≡ find_names reading =
+    let output_is : output ≡ find_output reading =
     λ i. record {
       new = c.name_at.ensures i;
       units = c.name_at-2.ensures i;
       logs = c.name_at-3.ensures i;
       report = c.name_at-4.ensures i;
+      version = c.log_version.ensures i;
     } in
     answered_by reading c.choice_settings-settings.result.plan c.choice_settings-settings.ensures.plan
     g.F.Shelf.read_may_fail g.F.Shelf.write_may_fail (g.F.Shelf.state c.args.shelf.now)
     (g.F.Shelf.state c.evaluate.new.shelf)
-    (λ file names settings. find_inputs file settings.table settings.input) IsFindMade IsFindRefused
-    c.evaluate.result c.name_at-5.ensures names_are
+    (λ file output settings. find_inputs file settings.table settings.input) IsFindMade IsFindRefused
+    c.evaluate.result c.name_at-5.ensures output_is
     (c.choice_settings-settings.ensures.settings (c.as_slice.ensures.value ∙ c.in_ok-leaders.ensures)) c.evaluate.ensures

@@ -8,7 +8,7 @@ use Rattle.ci_calls.specs.Refused.{name_in}
 use Rattle.ci_calls.proofs.InputLaws.{HaveRead-append, read_without_memory, unread_behind}
 use Rattle.ci_find.specs.Profiled.{RunFiles, run_files}
 use Rattle.ci_find.specs.FindCommand.{find_inputs}
-use Rattle.ci_find.specs.private.Chosen.{names_of, settings_by}
+use Rattle.ci_find.specs.private.Chosen.{output_of, settings_by}
 use Rattle.ci_find.proofs.ProfiledRuns.{files_of, find_refused, find_made}
 use Rattle.ci_find.proofs.find.evaluate.Given.{Over}
 use Rattle.ci_find.proofs.find.evaluate.Goals as goal
@@ -99,4 +99,4 @@ returns g c =
     c.in_ok-table.field-0.input.items c.in_ok-table.ensures.read.6 g.F.Shelf.read_may_fail g.F.Shelf.write_may_fail
     (g.F.Shelf.state c.args.shelf.now) (g.F.Shelf.state c.read_run_files.new.shelf) (all_files g here)
     profiled.profile profiled.analysis.blocks profiled.analysis.live c.in_ok-profiled.ensures.done
-    (names_of c.args.names.now) c.in_ok-success.success c.in_ok-success.ensures
+    (output_of c.args.output.now) c.in_ok-success.success c.in_ok-success.ensures

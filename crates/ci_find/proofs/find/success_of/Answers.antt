@@ -1,7 +1,7 @@
 -- The bytes of the file are small, and so are those of the new file; the choice is made.
 use Rattle.std.proofs.Common.{◌∙◌, [], ◌∷◌, subst}
 use Rattle.ci_machine.specs.Words.{AreBytes}
-use Rattle.ci_find.specs.private.Chosen.{names_of}
+use Rattle.ci_find.specs.private.Chosen.{output_of}
 use Rattle.ci_find.proofs.find.success_of.Goals as goal
 
 pub returns : goal.returns
@@ -11,7 +11,7 @@ returns c =
     let texts = c.in_ok-texts.texts in
     let told = c.in_ok-texts.ensures in
     let success = c.in_ok-success.ensures in
-    let names = names_of c.args.names.now in
+    let output = output_of c.args.output.now in
     record {
       book = chosen.book;
       units = chosen.units;
@@ -31,7 +31,7 @@ returns c =
       new_of_bytes = subst AreBytes c.bytes-2.ensures c.bytes_are_small-2.ensures;
       writes_are =
           success.writes
-          ∙ (λ i. (names.units, told.units i) ∷ (names.logs, texts.logs.items) ∷ (names.report, texts.report.items)
-          ∷ (names.new, c.new_bytes-new.ensures i) ∷ []);
+          ∙ (λ i. (output.units, told.units i) ∷ (output.logs, texts.logs.items) ∷ (output.report, texts.report.items)
+          ∷ (output.new, c.new_bytes-new.ensures i) ∷ []);
       text_is = success.text ∙ told.line;
     }
