@@ -100,12 +100,12 @@ function misread_value(shown, name, value,    n, to) {
 
 # Says a fault line by the first row of docs/faults.tsv that fits it and its call. What the call printed is read, with a
 # dot behind it: as a name may have newlines, all of that is the line. A part of the answer stands before it only where
-# standard output didn't take the rest; `asm` and `find` put none that begins so, and there it is a line with a name.
+# standard output didn't take the rest; commands that write files put none that begins so: there it's a line with a name.
 function explain_fault(status, call,    i, line, text, row, part, n, name, fits, at) {
     for (i = 4; i < ARGC && call !~ / /; i++) if (ARGV[i] ~ /^--at(=|$)/) call = call " --at"
     while ((getline line < "-") > 0) text = text line "\n"
     if (!sub(/\n\.\n$/, "", text) || status <= 1) return
-    if (status == 3 && text ~ /fault 3 write -$/ && !(text ~ /^fault 3 write / && call ~ /^(asm|find)$/))
+    if (status == 3 && text ~ /fault 3 write -$/ && !(text ~ /^fault 3 write / && call ~ /^(asm|find|relog)$/))
         text = "fault 3 write -"
     if (index(text, "fault " status " ") != 1) return
     while ((getline row < (ENVIRON["TOP"] "/docs/faults.tsv")) > 0) {

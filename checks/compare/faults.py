@@ -34,7 +34,8 @@ FILES = {
     "4.v": unit("wire [0:0] w; assign w = 1'h1; wire [0:0] w;"),
     "5.v": unit("assign y = 65'h0;"), "6.v": unit("wire [64:0] w;"), "7.v": unit("wire [0:0] w; assign v = 1'h0;"),
     "8.v": unit("".join(f"wire [0:0] w{n}; assign w{n} = 1'h0;\n" for n in range(2048)) + "wire [0:0] w;"),
-    "9.v": unit("", "module ci_1"),
+    "9.v": unit("", "module ci_1"), "packed": b"ci-log 2\nb\0", "cut.logs": b"ci-log 2",
+    "ends": b"ci-log 2\nend none\n", "ended": b"ci-log 2\nend none\n\n",
 }
 # Calls, the fault lines that they end with, and these in words.
 ENDS = (
@@ -72,6 +73,12 @@ ENDS = (
      "an ELF file, and no bare words: give --at if it is an executable"),
     ("best crc32.elf --at=0x4", "7 unsupported 00000004 00000000",
      "no block begins at 00000004: blocks lists where they do"),
+    ("relog huge out", "4 too large huge", "huge has more than 268,435,456 bytes"),
+    ("relog text out", "10 log 1 0", "LOGS is no log book: due is the line ci-log 1 or ci-log 2"),
+    ("relog packed out", "10 log 2 10", "byte 10 of LOGS: no log book goes on so"),
+    ("relog cut.logs out", "10 log 3 0", "LOGS ends too early"),
+    ("relog ended out", "10 log 4 18", "byte 18 of LOGS: something stands behind a whole log, or behind the end"),
+    ("relog ends no/folder", "3 write no/folder", "no/folder can't be written"),
     ("eval big 0 0x0 0x0 0x0", "4 too large big", "big has more than 4,194,304 bytes"),
     ("eval units 1 0x0 0x0 0x0", "7 unsupported 00000001 00000000",
      "the file has no module 00000001 (hex): modules count from 0"),
@@ -107,6 +114,7 @@ def look(check):
     os.symlink(os.path.join(SAMPLES, "crc32.elf"), check.path("crc32.elf"))
     for name, content in FILES.items():
         check.write(name, content)
+    os.truncate(check.write("huge", b""), 268435457)
     for call, line, due in ENDS:
         words = call.split()
         done = check.call(*words, text=True)

@@ -4,7 +4,8 @@ Each C program of checks/programs is compiled for RV32IM with -O2 and with -Os, 
 executables of samples/ are taken as they are. `find` chooses cuts of each by the profile of its run on an input, with
 the default options, with the greatest limits on inputs and outputs, and with others. The steps of that run are those
 that qemu-riscv32 says it made. The summary, UNITS, REPORT, NEW and all of LOGS but the trees have to be those of the
-plain reading, the trees have to be accepted by it, and `check` has to accept all. NEW has to run as the executable
+plain reading, the trees have to be accepted by it, and `check` has to accept all, also with the book in version 2 by
+`relog`, which has to be that of a plain writer, and gives LOGS again. NEW has to run as the executable
 does, on the profiled input and on others, with as many steps where no access ends it, and on the profiled input at a
 cost that is less by the gain of the summary. The units have to be the cuts' operations by Icarus Verilog too. And where
 one byte of LOGS, UNITS or NEW is changed, `check` has to print what the plain reading says. An executable with words of
@@ -18,6 +19,7 @@ from checks.common import Check, main, read
 from checks.generators.blocks import costly
 from checks.oracles import units
 from checks.oracles.blocks import Text
+from checks.oracles.books import packed_text
 from checks.oracles.choices import Choice, Plan, trees_of
 from checks.oracles.cuts import Table
 from checks.tools import compiled
@@ -103,6 +105,7 @@ def compare(finds, name, path, steps, settings):
         return
     compare_files(finds, name, choice, summary)
     finds.same(f"{name}: check", finds.told("check", *files, *words), b"accepted\n")
+    compare_versions(finds, name, ["check", *files[:3], "packed", *words])
     compare_runs(finds, name, path, settings, choice.saved)
     compare_changes(finds, name, choice, ["check", *files, *words])
     finds.texts.add(choice.units_text(), choice.units)
@@ -119,6 +122,16 @@ def compare_files(finds, name, choice, summary):
                             ("LOGS", logs, choice.logs(trees_of(logs))),
                             ("the plain verdict", choice.verdict(logs), "accepted\n")):
         finds.same(f"{name}: {what}", ours, due)
+
+
+def compare_versions(finds, name, check):
+    """Compares the log book in version 2, which `check` has to accept too, and what version 1 it has."""
+    logs = finds.read("logs")
+    for version, words, due in (2, ("logs", "packed"), packed_text(logs.decode())), (1, ("packed", "again"), logs):
+        line = b"relog version %d bytes %d\n" % (version, len(due))
+        finds.same(f"{name}: relog {version}", finds.told("relog", *words, "--log", f"{version}"), line)
+        finds.same(f"{name}: version {version}", finds.read(words[1]), due)
+    finds.same(f"{name}: check in version 2", finds.told(*check), b"accepted\n")
 
 
 def compare_runs(finds, name, path, settings, saved):

@@ -1,16 +1,17 @@
-"""Compares what `rumtsafi find` and `check` print with worked rows.
+"""Compares what `rumtsafi find`, `check` and `relog` print with worked rows.
 
 For each reason by which `check` rejects files there are some that it has to reject by it, made from the right files of
 a small program; a plain reading of log books has to find the same. Other rows are of a program with calls, a jump table
-and environment calls, whose files have to be these, byte by byte, but for the logs of searches; and of refusals, which
-may write no file but those before the one that can't be written.
+and environment calls, whose files have to be these, byte by byte, but for the logs of searches; of the log book of the
+small program in both versions; and of refusals, which may write no file but those before the one that can't be written.
 """
 import os
 from collections import Counter
 
 from checks.common import Check, main
 from checks.generators.choice_rows import (CALLS, CALLS_LOGS, CALLS_REPORT, CALLS_UNITS, CONSTANTS, FOLDED, LOGS,
-                                           PATCHES, SUMS, UNIT, VALUES, WRITTEN)
+                                           PACKED_LOGS, PATCHES, SUMS, UNIT, VALUES, WRITTEN)
+from checks.oracles.books import packed_text
 from checks.oracles.choices import Choice, Plan, Profile, is_book, trees_of
 from checks.oracles.cuts import Table
 from readers import executable
@@ -107,6 +108,34 @@ def rejections(rows, old, new):
     rows.same("the reasons", sorted(map(int, reasons)), list(range(1, 13)))
 
 
+def versions(rows):
+    """The log book of the program of two sums in both versions."""
+    rows.line("relog logs packed", "relog version 2 bytes 92")
+    rows.need_file("packed", PACKED_LOGS)
+    rows.line("check old new units packed --out 1", "accepted")
+    rows.line("relog packed again --log 1", "relog version 1 bytes 97")
+    rows.need_file("again", LOGS.encode())
+    for name, version, data in ("packed", 2, PACKED_LOGS), ("logs", 1, LOGS.encode()):
+        rows.line(f"relog {name} again --log {version}", f"relog version {version} bytes {len(data)}")
+        rows.need_file("again", data)
+    rows.write("packed-wrong", PACKED_LOGS[:38] + b"\x41" + PACKED_LOGS[39:])
+    rows.line("check old new units packed-wrong --out 1", "fault 10 log 2 38")
+    for words, due in (("packed-wrong never", "fault 10 log 2 38"), ("missing never", "fault 2 read missing"),
+                       ("bad never", "fault 10 log 1 0"), ("empty never", "fault 10 log 3 0"),
+                       ("packed packed", "fault 1 usage"), ("packed never --log 3", "fault 1 usage"),
+                       ("packed never --log", "fault 1 usage"), ("packed", "fault 1 usage"),
+                       ("packed missing/out", "fault 3 write missing/out")):
+        rows.line(f"relog {words}", due)
+    rows.need_file("never", None)
+    for version, files in (1, "new units found report"), (2, "packed-new packed-units packed-logs packed-report"):
+        rows.line(f"find old {files} --out 1 --log {version}", "cuts 1 units 1 skipped 0 gain 1")
+    for name in "new", "units", "report":
+        rows.need_file(f"packed-{name}", rows.read(name))
+    rows.need_file("packed-logs", packed_text(rows.read("found").decode()))
+    rows.line("check old packed-new packed-units packed-logs --out 1", "accepted")
+    rows.line("check old new units packed --out 1 --log 2", "fault 1 usage")
+
+
 def order(rows):
     """Which of several faults comes first, and files of another choice, with those of the program of two sums there."""
     rows.write("empty", b"")
@@ -174,6 +203,7 @@ def refusals(rows):
 def look(rows):
     rejections(rows, *sums(rows))
     order(rows)
+    versions(rows)
     calls(rows)
     refusals(rows)
     return f"{rows.calls} calls compared"

@@ -1,4 +1,5 @@
 """Two programs, each with the files that `find` has to write of it, for the checks."""
+from checks.oracles.books import packed_text
 from readers.templates import unit_text
 
 A, B, C = (("input", number) for number in range(3))
@@ -14,6 +15,7 @@ block 00010074 none
 G
 end none
 """
+PACKED_LOGS = packed_text(LOGS)
 # Calls through a jump table in data, returns, a write and an exit; constants, values, and what `find` has to write.
 CALLS = """start: lui x8, 0x20
        addi x9, x0, 4

@@ -8,7 +8,7 @@ from dataclasses import dataclass
 
 from checks.common import read
 from checks.generators.choice_rows import (CALLS, CALLS_BLOCKS, CALLS_REPORT, CALLS_UNITS, CONSTANTS, FOLDED, LOGS,
-                                           SUMS, UNIT, VALUES, WRITTEN)
+                                           PACKED_LOGS, SUMS, UNIT, VALUES, WRITTEN)
 from readers import executable
 
 # What stands in each file that a call writes.
@@ -41,6 +41,7 @@ COMMANDS = (
     Call("find old new units logs report --out 1", b"cuts 1 units 1 skipped 0 gain 1\n", FOUND),
     Call(f"find calls new units logs report {OPTIONS}", b"cuts 2 units 2 skipped 0 gain 8\n", FOUND_IN_CALLS),
     Call("check old its-new its-units its-logs --out 1", b"accepted\n", {}),
+    Call("relog its-logs packed", b"relog version 2 bytes 92\n", {"packed": PACKED_LOGS}),
     Call(f"run calls {OPTIONS}", WRITTEN + b"end exit 00000000 steps 61 cost 75\n", {}),
     Call("run its-new --units its-units", b"end access 00000000 4 steps 3 cost 3\n", {}),
     Call("asm text out", b"", {"out": ADDED}),

@@ -57,10 +57,11 @@ CLAIMS = {
     "8": Claim(ENDS, ("Run",)),
     "9": Claim(ENDS, ("Asm", "Dis"), (("crates/ci_asm/src/disassembler.rt", "show"),)),
     "10": Claim(ENDS, ("Eval",)),
-    "11": Claim(ENDS, READERS),
-    "12": Claim((*ENDS, "cause", "ends", "due", "statuses", "complete", "printed")),
-    "13": Claim(("no_write", "writes", "files_stay", "left")),
-    "14": Claim((*ENDS, "first_files", "ends", "complete", "left")),
+    "11": Claim(ENDS, ("Relog",)),
+    "12": Claim(ENDS, READERS),
+    "13": Claim((*ENDS, "cause", "ends", "due", "statuses", "complete", "printed")),
+    "14": Claim(("no_write", "writes", "files_stay", "left")),
+    "15": Claim((*ENDS, "first_files", "ends", "complete", "left")),
 }
 
 

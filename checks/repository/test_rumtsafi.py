@@ -38,7 +38,7 @@ rumtsafi area OLD --limit N [--in N]
 """
 # The numbers of the lines on each of these commands.
 USAGE_LINES = {"eval": (0, 1, 9, 10), "area": (2, 3, 4, 6, 7, 8)}
-MISSING = f"{USAGE}rumtsafi: a command is missing; there are: find check best blocks run eval load asm dis\n"
+MISSING = f"{USAGE}rumtsafi: a command is missing; there are: find check relog best blocks run eval load asm dis\n"
 TOOLCHAIN = "kit of the tests"
 NO_PROGRAM = "there is no program that runs here: ./rumtsafi --build builds it"
 FOREIGN = "bin/rumtsafi doesn't run on this machine: ./rumtsafi --build builds one that does"
@@ -313,7 +313,11 @@ class Shipped(Repository):
                             "--d takes 0x and one to eight hex digits, which '4' is not"),
                            (["best"], "best takes FILE, and FILE is missing"),
                            (["asm", "a", "b", "c d"], "asm takes TEXT OUT, and 'c d' is a word too many"),
-                           (["asm", "a", "a"], "asm can't write 'a', which it names twice")):
+                           (["asm", "a", "a"], "asm can't write 'a', which it names twice"),
+                           (["relog", "a", "a"], "relog can't write 'a', which it names twice"),
+                           (["relog", "a", "b", "--log"], "--log lacks its value"),
+                           (["relog", "a", "b", "--log", "3"], "--log takes a number from 1 to 2, which '3' is not"),
+                           (["check", "--log", "2", *"abcd"], "check has no option '--log'")):
             status, _, told = self.use(*words)
             self.assertEqual(status, 1)
             self.assertTrue(told.splitlines()[-1].startswith(f"rumtsafi: {why}"), told)
@@ -366,11 +370,13 @@ class Shipped(Repository):
         for report in "/dev/null", "/dev/stderr", "missing":
             self.assertEqual(self.use("find", "a", "b", "c", "d", report), (0, "a choice\n", ""))
         logs = os.path.join(self.room, "logs")
-        for length, note in (2 ** 28, ""), (2 ** 28 + 1, "rumtsafi: 'logs' has 268435457 bytes, and check reads "
-                                            "268435456: a smaller --budget makes it shorter\n"):
-            with open(logs, "wb") as file:
-                file.truncate(length)
-            self.assertEqual(self.use("find", "a", "b", "c", "logs", "missing"), (0, "a choice\n", note))
+        note = "rumtsafi: 'logs' has 268435457 bytes, and check reads 268435456: {} makes it shorter\n"
+        for version, advice in (1, "--log 2, or a smaller --budget,"), (2, "a smaller --budget"):
+            for length, told in (2 ** 28, ""), (2 ** 28 + 1, note.format(advice)):
+                with open(logs, "wb") as file:
+                    file.write(b"ci-log %d\n" % version)
+                    file.truncate(length)
+                self.assertEqual(self.use("find", "a", "b", "c", "logs", "missing"), (0, "a choice\n", told))
         # A note that can't be written changes nothing.
         script = os.path.join(self.root, "rumtsafi")
         done = subprocess.run(["bash", "-c", '"$@" 2> /dev/full', "bash", script, "find", *"abcd", "a report"],
@@ -542,6 +548,8 @@ class AtTerminal(Repository):
                 (2, "fault 2 read a\n\n", ["dis", "a\n"], f"a? {isnt_there}"),
                 (3, "fault 3 write a\nfault 3 write -\n", ["asm", "b", "a\nfault 3 write -"],
                  "a?fault 3 write - can't be written"),
+                (3, "fault 3 write a\nfault 3 write -\n", ["relog", "b", "a\nfault 3 write -"],
+                 "a?fault 3 write - can't be written"),
                 (3, "fault 3 write a\nfault 3 write -\n", ["run", "b"], "standard output didn't take the answer"),
                 (3, "cuts 1 fault 3 write -\n", ["find", *"abcde"], "standard output didn't take the answer"),
                 (2, "fault 3 write a\nfault 2 read b\n", ["dis", "b"], None), (2, "fault 2 read b", ["dis", "b"], None),
@@ -631,6 +639,7 @@ class Made(unittest.TestCase):
         self.assertEqual(self.complete("best", "--table", "crc32.e"), "crc32.elf")
         self.assertEqual(self.complete("best", "--in", ""), "")
         self.assertEqual(self.complete("eval", "crc32.e"), "crc32.elf")
+        self.assertEqual(self.complete("relog", "crc32.elf", "--"), "--log")
         self.assertEqual(self.complete("eval", "crc32.elf", "c"), "")
         self.assertEqual(self.complete("eval", "crc32.elf", "0", "-"), "--d --e")
         self.assertEqual(self.complete("eval", "crc32.elf", "0", "--d", ""), "")

@@ -1,11 +1,11 @@
 """Compares the pages that `views/report` makes with REPORT and with what the program says.
 
 Pages are made of choices for samples and for programs that GCC compiled, by the usual limits on inputs and outputs and
-by the greatest ones, one without a cut and one with a skipped block. The numbers on top, of blocks, of cuts and of
-units have to be those of REPORT, with the units by what they save, which sums up to its total, and what a unit's
-expressions give has to be what `eval` prints. A page may ask for nothing from outside and have no script; its parts
-have to be well nested, named and described. Chromium opens two pages at two widths, where nothing may stand out on the
-right side. Files that are no choice are refused; wrong calls end with the usage and status 2.
+by the greatest ones, one without a cut, one with a skipped block and one with a log book of version 2. The numbers on
+top, of blocks, of cuts and of units have to be those of REPORT, with the units by what they save, which sums up to its
+total, and what a unit's expressions give has to be what `eval` prints. A page may ask for nothing from outside and have
+no script; its parts have to be well nested, named and described. Chromium opens two pages at two widths, where nothing
+may stand out on the right side. Files that are no choice are refused; wrong calls end with the usage and status 2.
 """
 import html.parser
 import os
@@ -169,6 +169,10 @@ def look(views):
     compare_page(views, "skipped")
     said = " ".join(words(parts_of(views, "skipped")[1]))
     views.need("--budget 8000 3098" in said, "the skipped block lacks its budget")
+    views.choose("packed", sample, "--input", viewing.INPUT, "--log", "2")
+    views.works("report", "packed", "--input", viewing.INPUT)
+    views.same("the page by a log book in version 2", *(
+        re.sub(b"packed|sha256", b"", views.read(os.path.join(name, "report.html"))) for name in ("packed", "sha256")))
     for name in SHOWN:
         compare_widths(views, name)
     views.choose("refused", os.path.join(TOP, "README.md"))
