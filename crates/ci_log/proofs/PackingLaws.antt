@@ -1,5 +1,5 @@
 -- Half bytes that are written one after the other.
-use Rattle.std.proofs.Common.{◌≡◌, ℕ, suc, ◌+◌, ◌-◌, ◌<◌, ◌≤◌, true, false, cond, List, [], ◌∷◌, ◌++◌, length, take, get_or, replicate, refl, sym, ap, ◌∙◌, subst, arith, append_assoc, append-nil, Option, Result, Ok, Err, IfOk, OnOk}
+use Rattle.std.proofs.Common.{◌≡◌, ℕ, suc, ◌+◌, ◌-◌, ◌<◌, ◌≤◌, true, false, cond, List, [], ◌∷◌, ◌++◌, length, take, get_or, replicate, refl, sym, ap, ◌∙◌, subst, arith, append_assoc, append-nil, Option}
 use Rattle.std.proofs.lemmas.List.{replicate_more, take_all, take_more}
 use Rattle.ci_log.specs.declared.log.Item.{Item}
 use Rattle.ci_log.specs.declared.log.Item.TheVariants.{B}
@@ -43,14 +43,11 @@ leaves_written a b h k leaves some written =
 pub half_written : (a b : List ℕ) (h k : Option ℕ) (half due : ℕ) → half ≡ due → GoesOn a h (half ∷ []) b k → GoesOn a h (due ∷ []) b k
 half_written a b h k half due same written = subst (λ v. GoesOn a h (v ∷ []) b k) same written
 
--- what an answer says, where it says more
-pub if_ok_then : {A E : Type 0} {P Q : A → Type 0} (r : Result A E) → ((x : A) → P x → Q x) → IfOk r P → IfOk r Q
-if_ok_then (Ok x) more is = more x is
-if_ok_then (Err e) more is = is
-
-pub on_ok : {A E : Type 0} {P Q : Type 0} (r : Result A E) → (P → Q) → OnOk r P → OnOk r Q
-on_ok (Ok x) more is = more is
-on_ok (Err e) more is = is
+-- an item behind a leaf alone
+pub no_more_written : (a b : List ℕ) (h k : Option ℕ) (more half due : ℕ) → more ≡ 0 → half ≡ due → GoesOn a h (half ∷ []) b k
+    → GoesOn a h (more_leaves more ++ due ∷ []) b k
+no_more_written a b h k more half due none same written =
+    subst (λ n. GoesOn a h (more_leaves n ++ due ∷ []) b k) (sym none) (half_written a b h k half due same written)
 
 -- ---- items
 

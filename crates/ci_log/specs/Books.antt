@@ -67,16 +67,18 @@ abbrev pub log_text : Version → List Item → List ℕ
 log_text One log = letters log
 log_text Two log = packed log
 
-abbrev pub entry_text : Version → Entry → List ℕ
-entry_text version (Best leader cut log) =
+-- an entry's first line
+abbrev pub entry_head : Entry → List ℕ
+entry_head (Best leader cut log) =
     line (codes "block " ++ eight_hex_digits leader ++ codes " best" ++ members_text (set.contains cut))
-    ++ line (log_text version log)
-entry_text version (Without leader log) =
-    line (codes "block " ++ eight_hex_digits leader ++ codes " none") ++ line (log_text version log)
-entry_text version (Spent leader budget) =
-    line (codes "block " ++ eight_hex_digits leader ++ codes " spent " ++ decimal budget)
-entry_text version (Take leader unit) =
-    line (codes "take " ++ eight_hex_digits leader ++ codes " unit " ++ decimal unit)
+entry_head (Without leader log) = line (codes "block " ++ eight_hex_digits leader ++ codes " none")
+entry_head (Spent leader budget) = line (codes "block " ++ eight_hex_digits leader ++ codes " spent " ++ decimal budget)
+entry_head (Take leader unit) = line (codes "take " ++ eight_hex_digits leader ++ codes " unit " ++ decimal unit)
+
+abbrev pub entry_text : Version → Entry → List ℕ
+entry_text version (Best leader cut log) = entry_head (Best leader cut log) ++ line (log_text version log)
+entry_text version (Without leader log) = entry_head (Without leader log) ++ line (log_text version log)
+entry_text version entry = entry_head entry
 
 abbrev pub finish_text : Finish → List ℕ
 finish_text Empty = line (codes "end none")

@@ -3,4 +3,3 @@ pub mod PackedReading
 pub mod Packing
 pub mod Reading
 pub mod Stored
-pub mod Writing

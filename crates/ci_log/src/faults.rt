@@ -10,14 +10,15 @@ pub enum LogFault {
     /// there.
     #[error("no log book of version 1 or 2")]
     BadHeader,
-    /// The byte at the offset is the first with which no book goes on, and none of `Trailing`'s.
+    /// The byte at the offset is the first with which no book goes on, and none of `Trailing`'s. In version 2 a byte is
+    /// so for either half, also for a filling half that isn't 0.
     #[error("no log book has this byte: {0}")]
     BadItem(u32),
     /// The text is the beginning of a book and ends too early.
     #[error("the text ends too early")]
     Unfinished,
-    /// At the offset stands a byte other than a newline directly behind a whole tree, or the first
-    /// byte behind the finish.
+    /// At the offset stands a byte other than a newline directly behind a whole tree, its filling half included, or the
+    /// first byte behind the finish.
     #[error("a byte behind the end: {0}")]
     Trailing(u32),
     /// Memory ran out.

@@ -16,16 +16,15 @@
 //! stands there. A tree is the letters of a log in preorder: `B` and then its two children, or one
 //! of `O`, `C`, `I`, `G`, `F`.
 //!
-//! Version 2 begins by `ci-log 2`, and a tree is packed there, two half bytes a byte. `B` to `F` are
-//! the half bytes 0 to 5. A maximal run of equal leaves that follow on one another is the leaf's half
-//! byte, then 15 for each ten more, and then 5 and as many as are left, if any are. Bytes are filled
-//! from the high half; where the number of half bytes is odd the last low half is 0.
+//! Version 2 begins by `ci-log 2`, and a tree is packed there, two half bytes a byte. `B`, `O`, `C`, `I`, `G` and `F`
+//! are the half bytes 0 to 5. A maximal run of equal leaves that follow on one another is the leaf's half byte, then 15
+//! for each ten more, and then the half byte 5 + s for the s that are left, if any are. Bytes are filled from the high
+//! half; where the number of half bytes is odd the last low half is 0.
 //!
-//! The definitions in `specs` say what a log is (`Trees`), what its packed bytes are (`Packed`), what
-//! the text of a book is in each version (`Books`) and
-//! what the first fault of a text is (`Faults`), both of whole texts, and which log a tree in a region
-//! is (`RegionTrees`). The other files of `specs` say what the private functions compute; `proofs`
-//! shows that both agree.
+//! The definitions in `specs` say what a log is (`Trees`) and what its packed bytes are (`Packed`); of whole texts, what
+//! that of a book is in each version (`Books`), and what the first fault of one is (`Faults`); and which log a tree in a
+//! region is (`RegionTrees`). The other files of `specs` say what the private functions compute; `proofs` shows that both
+//! agree.
 #![tactic(auto)]
 
 pub use book::{Entry, Finish, LogBook, Version};

@@ -62,6 +62,8 @@ fn push_last(text: &mut Vec<u8>, high: Option<u8>, leaves: usize) -> Result<Opti
 }
 
 /// Appends the half bytes for so many more leaves of a run.
+#[cold]
+#[inline(never)]
 fn push_more(text: &mut Vec<u8>, high: Option<u8>, more: usize) -> Result<Option<u8>, AllocError>
     requires { IsHalf high }
     ensures written { IfOk result (GoesOn text.old.items high (more_leaves more) text.new.items) }
@@ -97,6 +99,9 @@ fn push_next(
         (GoesOn text.old.items high (more_leaves more ++ half_byte item ∷ []) text.new.items) }
     ensures half { IfOk result IsHalf }
 {
+    if more == 0 {
+        return push_half(text, high, half_byte(item));
+    }
     let high = push_more(text, high, more)?;
     push_half(text, high, half_byte(item))
 }

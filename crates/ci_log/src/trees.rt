@@ -100,7 +100,8 @@ pub(crate) fn tree_line(
     requires { length bytes.now ≤ 268435456 }
     ensures { Gives (λ x. (x.0, x.1.now)) result (tree_line version bytes.now) }
 {
-    let (items, rest) = tree_in(version, alloc, bytes)?;
+    let (mut items, rest) = tree_in(version, alloc, bytes)?;
+    items.shrink_to_fit();
     let rest = tree_end(rest)?;
     Ok((Log::new(items), rest))
 }

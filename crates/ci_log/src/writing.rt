@@ -5,8 +5,7 @@ ghost use Rattle.std.specs.Fmt.{decimal};
 ghost use Rattle.ci_reading.specs.Hex.{eight_hex_digits};
 ghost use Rattle.ci_reading.specs.Lines.{line};
 ghost use Rattle.ci_log.specs.Trees.{letter, letters};
-ghost use Rattle.ci_log.specs.Books.{SpellsIn, log_text, entry_text, finish_text, first_line};
-ghost use Rattle.ci_log.specs.private.Writing.{entry_head};
+ghost use Rattle.ci_log.specs.Books.{SpellsIn, log_text, entry_head, entry_text, finish_text, first_line};
 ghost use Rattle.ci_log.specs.declared.book.Version.TheVariants.{One, Two};
 
 use crate::book::{Entry, Finish, LogBook, Version};
@@ -34,7 +33,18 @@ fn letter(item: Item) -> u8
 fn push_letters(text: &mut Vec<u8>, items: &[Item]) -> Result<(), AllocError>
     ensures { OnOk result (text.new.items ≡ text.old.items ++ letters items.now) }
 {
-    for item in items {
+    let mut rest = items;
+    while let [first, second, third, fourth, after @ ..] = rest {
+        let letters = [
+            letter(*first),
+            letter(*second),
+            letter(*third),
+            letter(*fourth),
+        ];
+        text.extend_from_slice(&letters)?;
+        rest = after;
+    }
+    for item in rest {
         text.push(letter(*item))?;
     }
     Ok(())

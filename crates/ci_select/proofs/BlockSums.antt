@@ -18,7 +18,7 @@ use Rattle.ci_select.specs.Instances.{AreBlocksOf, AreOfSomeFile}
 -- ---- a block
 
 -- blocks of well-formed files end below the top of memory
-pub block_below_top :
+block_below_top :
     {file : Executable} {leaders : List ℕ} {block : Block} → IsWellFormed file → IsBlockAt file leaders block
     → end_of_block block ≤ memory_top
 block_below_top formed at =

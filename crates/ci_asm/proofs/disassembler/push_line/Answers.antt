@@ -1,18 +1,15 @@
-use Rattle.std.proofs.Common.{◌++◌, OnOk, Result, Ok, Err, sym, ap, ◌∙◌, append_assoc, codes}
+use Rattle.std.proofs.Common.{◌++◌, sym, ap, ◌∙◌, append_assoc, codes}
+use Rattle.std.proofs.lemmas.Result.{on_ok_weaker}
 use Rattle.std.specs.String.{string_bytes}
 use Rattle.ci_reading.specs.Hex.{eight_hex_digits}
 use Rattle.ci_asm.specs.Shown.{shown}
 use Rattle.ci_asm.proofs.disassembler.push_line.Goals as goal
 
-on_ok : {A E P Q : Type 0} (r : Result A E) → (P → Q) → OnOk r P → OnOk r Q
-on_ok (Ok x) f p = f p
-on_ok (Err e) f p = tt
-
 pub returns-in_ok-push_mnemonic-in-Illegal : goal.returns-in_ok-push_mnemonic-in-Illegal
 returns-in_ok-push_mnemonic-in-Illegal c =
     let old = string_bytes c.args.text.now in
     let digits = codes "0x" ++ eight_hex_digits c.in-Illegal.word in
-    on_ok c.push_word.result
+    on_ok_weaker c.push_word.result
     (λ e. e ∙ (ap (λ t. t ++ digits) c.in_ok-push_mnemonic-in-Illegal.ensures ∙ (append_assoc old (codes ".word ") digits
     ∙ ap (λ i. old ++ shown i) (sym c.in-Illegal.is))))
     c.push_word.ensures
