@@ -10,17 +10,19 @@ use Rattle.ci_verilog.specs.declared.vectors.Vector.{Vector}
 use Rattle.ci_verilog.specs.declared.expressions.Expr.TheVariants.{Two, Choose}
 use Rattle.ci_verilog.specs.declared.expressions.Item.{Item}
 use Rattle.ci_verilog.specs.declared.expressions.Operator.{Operator}
+use Rattle.ci_verilog.specs.declared.expressions.Operator.TheVariants as operator
 use Rattle.ci_verilog.specs.declared.expressions.Term.{Term}
 use Rattle.ci_verilog.specs.Modules.{Module}
-use Rattle.ci_verilog.specs.Values.{of_width, above, joined, item_bits, term_bits, expr_value}
+use Rattle.ci_verilog.specs.Values.{of_width, above, joined, item_bits, operated, term_bits, expr_value}
 use Rattle.ci_verilog.specs.private.Held.{Fits}
 use Rattle.ci_verilog.proofs.VectorLaws.{above_assoc, above_nothing, nothing_above, above_in_range, copies_are_wide, copies_in_range}
+use Rattle.ci_plan.specs.declared.steps.Step.{Step}
 use Rattle.ci_plan.specs.declared.steps.Step.TheVariants as step
 use Rattle.ci_plan.specs.private.Factors.{factor}
-use Rattle.ci_plan.specs.private.Operators.{step_of, AgreeFor}
+use Rattle.ci_plan.specs.private.Operators.{step_of, AgreeFor, widened_bits}
 use Rattle.ci_plan.specs.private.Steps.{step_value, words_after}
-use Rattle.ci_plan.specs.private.Drafts.{Draft, IsDraft, Grows, HasNumber, IsAdded, Stands, StandsFor}
-use Rattle.ci_plan.proofs.StepLaws.{operator_steps, choice_step, copies_step, signed_step, join_step}
+use Rattle.ci_plan.specs.private.Drafts.{Draft, IsDraft, Grows, HasNumber, MakesAs, IsAdded, Stands, StandsFor}
+use Rattle.ci_plan.proofs.StepLaws.{operator_steps, choice_step, copies_step, signed_step, signed_product_step, join_step}
 use Rattle.ci_plan.proofs.DraftLaws.{grows_on, run_before, stands_as, number_stands, added_stands, stands_for_later, is_at}
 
 -- the bits of a vector from a low one on
@@ -157,11 +159,11 @@ module _ (m : Module) where
   -- a vector of 32 bits, widened by its sign
   pub signed_found : (old new : Draft) (from place : ℕ) (bits : (List ℕ → Vector) → Vector) → Grows old new
       → IsAdded old new place (step.Signed from) → StandsFor m old from 32 bits
-      → StandsFor m new place 64 (λ names. above (joined (replicate 32 (bits_of 31 1 (bits names)))) (bits names))
+      → StandsFor m new place 64 (λ names. widened_bits (bits names))
   signed_found old new from place bits grows added found = record {
     stands =
         added_stands m old new place (step.Signed from)
-        (λ names. (above (joined (replicate 32 (bits_of 31 1 (bits names)))) (bits names)).value) added grows
+        (λ names. (widened_bits (bits names)).value) added grows
         (λ run.
         signed_step (words_after run.words 5 old.steps) (bits run.names) from (is_at m old from 32 bits found run)
         (found.fit run).width_is);
@@ -171,6 +173,17 @@ module _ (m : Module) where
         above_fits (joined (replicate 32 (bits_of 31 1 v))) v 32 32 (copies_fit 32 1 (bits_of 31 1 v) (part_fits 31 1 v))
         (found.fit (run_before m old new grows run));
   }
+
+  -- the product of two vectors of 32 bits, each widened by its sign
+  pub signed_product_stands : (old new : Draft) (l r place : ℕ) (u v : (List ℕ → Vector) → Vector) → Grows old new
+      → IsAdded old new place (step.SignedTimes l r) → StandsFor m old l 32 u → StandsFor m old r 32 v
+      → Stands m new place (λ names. operated operator.Times (widened_bits (u names)) (widened_bits (v names)))
+  signed_product_stands old new l r place u v grows added found_u found_v =
+      added_stands m old new place (step.SignedTimes l r)
+      (λ names. operated operator.Times (widened_bits (u names)) (widened_bits (v names))) added grows
+      (λ run.
+      signed_product_step (words_after run.words 5 old.steps) (u run.names) (v run.names) l r (is_at m old l 32 u found_u run)
+      (is_at m old r 32 v found_v run) (found_u.fit run).width_is (found_v.fit run).width_is)
 
   -- one vector above another
   pub join_found : (old new : Draft) (high low place first second : ℕ) (u v : (List ℕ → Vector) → Vector) → Grows old new
@@ -210,18 +223,19 @@ module _ (m : Module) where
       lowest n w none = subst (λ k. w.value ≡ k * 2 ^ w.width + w.value) none (let e : 0 * 2 ^ w.width ≡ 0 = omega arith in omega (arith, e))
 
   -- an operator on two operands
-  pub two_stand : (old new : Draft) (o : Operator) (left right : Term) (l r place first second : ℕ) → Grows old new
-      → IsAdded old new place (step_of o l r first) → AgreeFor o first second
+  pub two_stand : (old new : Draft) (done : Step) (o : Operator) (left right : Term) (l r place first second : ℕ) → IsDraft old
+      → Grows old new → IsAdded old new place done → MakesAs old (step_of o l r first) done → AgreeFor o first second
       → StandsFor m old l first (λ names. term_bits names left) → StandsFor m old r second (λ names. term_bits names right)
       → Stands m new place (λ names. expr_value names (Two o left right))
-  two_stand old new o left right l r place first second grows added agree found_l found_r =
-      added_stands m old new place (step_of o l r first) (λ names. expr_value names (Two o left right)) added grows
+  two_stand old new done o left right l r place first second is grows added makes agree found_l found_r =
+      added_stands m old new place done (λ names. expr_value names (Two o left right)) added grows
       (λ run.
       let u = term_bits run.names left in
       let v = term_bits run.names right in
       let words = words_after run.words 5 old.steps in
       let fits_u = found_l.fit run in
-      subst (λ w. step_value words (step_of o l r w) ≡ expr_value run.names (Two o left right)) fits_u.width_is
+      makes.same words (λ p n has. (number_stands m old p n is has).is run)
+      ∙ subst (λ w. step_value words (step_of o l r w) ≡ expr_value run.names (Two o left right)) fits_u.width_is
       (operator_steps words u v l r (is_at m old l first (λ names. term_bits names left) found_l run)
       (is_at m old r second (λ names. term_bits names right) found_r run) o
       (subst (λ w. AgreeFor o w v.width) (sym fits_u.width_is)

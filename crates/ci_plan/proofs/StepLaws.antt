@@ -14,10 +14,10 @@ use Rattle.ci_verilog.specs.declared.expressions.Operator.TheVariants as operato
 use Rattle.ci_verilog.specs.Values.{of_width, above, joined, operated}
 use Rattle.ci_verilog.proofs.VectorLaws.{above_in_range, in_64, copies_are_wide, copies_in_range}
 use Rattle.ci_plan.specs.declared.steps.Step.{Step}
-use Rattle.ci_plan.specs.declared.steps.Step.TheVariants.{Times, Choose, Above, Signed}
+use Rattle.ci_plan.specs.declared.steps.Step.TheVariants.{Times, Choose, Above, Signed, SignedTimes}
 use Rattle.ci_plan.specs.private.Factors.{factor}
-use Rattle.ci_plan.specs.private.Operators.{step_of, AgreeFor}
-use Rattle.ci_plan.specs.private.Steps.{step_value, words_after}
+use Rattle.ci_plan.specs.private.Operators.{step_of, AgreeFor, widened_bits}
+use Rattle.ci_plan.specs.private.Steps.{signed_word, step_value, words_after}
 
 -- ---- words of 64 bits
 
@@ -112,16 +112,24 @@ copies_step words v place number count at is narrow =
     ∙ mod-eq_of_lt below
 
 pub signed_step : (words : List ℕ) (v : Vector) (place : ℕ) → IsAt words v place → v.width ≡ 32
-    → step_value words (Signed place) ≡ (above (joined (replicate 32 (of_width 1 (v.value / 2 ^ 31 % 2)))) v).value
+    → step_value words (Signed place) ≡ (widened_bits v).value
 signed_step words v place at wide =
     let bit = v.value / 2 ^ 31 % 2 in
     let below : v.value < 2 ^ 32 = subst (λ w. v.value < 2 ^ w) wide at.in_range in
     let one : bit < 2 = mod_below (v.value / 2 ^ 31) 2 (omega arith) in
     let copied : bit * factor 32 1 ≡ (joined (replicate 32 (of_width 1 bit))).value = copies_value 32 (of_width 1 bit) in
-    (λ t. (at.value_is t + at.value_is t / 2 ^ 31 % 2 * (2 ^ 64 - 2 ^ 32)) % 2 ^ 64)
+    (λ t. signed_word (at.value_is t))
     ∙ mod-eq_of_lt (omega (arith, below, one))
     ∙ (let e : v.value + bit * (2 ^ 64 - 2 ^ 32) ≡ bit * factor 32 1 * 2 ^ 32 + v.value = omega arith in e)
     ∙ (λ t. copied t * 2 ^ (sym wide t) + v.value)
+
+pub signed_product_step : (words : List ℕ) (u v : Vector) (l r : ℕ) → IsAt words u l → IsAt words v r → u.width ≡ 32
+    → v.width ≡ 32 → step_value words (SignedTimes l r) ≡ operated operator.Times (widened_bits u) (widened_bits v)
+signed_product_step words u v l r at_l at_r wide_u wide_v =
+    let copied : (joined (replicate 32 (of_width 1 (u.value / 2 ^ 31 % 2)))).width ≡ 32 * 1 =
+    copies_are_wide 32 (of_width 1 (u.value / 2 ^ 31 % 2)) in
+    let wide : 64 ≡ (widened_bits u).width = omega (arith, copied, wide_u) in
+    (λ t. signed_step words u l at_l wide_u t * signed_step words v r at_r wide_v t % 2 ^ (wide t))
 
 -- ---- the factor of copies
 

@@ -1,15 +1,17 @@
 //! The steps of operands and expressions.
-ghost use Rattle.std.specs.Prelude.{◌≡◌, [], ◌∷◌, map, replicate, IfSome};
+ghost use Rattle.std.specs.Prelude.{◌≡◌, ℕ, List, [], ◌∷◌, map, replicate, IfSome};
 ghost use Rattle.std.specs.List.{Contains};
 ghost use Rattle.ci_verilog.specs.Modules.{IsModule};
-ghost use Rattle.ci_verilog.specs.Values.{simple_bits, item_bits, joined, term_bits, expr_value};
+ghost use Rattle.ci_verilog.specs.Values.{simple_bits, item_bits, joined, operated, term_bits, expr_value};
+ghost use Rattle.ci_verilog.specs.declared.vectors.Vector.{Vector};
+ghost use Rattle.ci_verilog.specs.declared.expressions.Operator.TheVariants.{Times};
 ghost use Rattle.ci_verilog.specs.declared.expressions.Expr.TheVariants.{Two, Choose};
 ghost use Rattle.ci_verilog.specs.declared.expressions.Item.TheVariants.{Plain, Repeat};
 ghost use Rattle.ci_verilog.specs.declared.expressions.Simple.TheVariants.{Whole, Bits};
-ghost use Rattle.ci_plan.specs.private.Drafts.{Grows, Stands, StandsFor};
+ghost use Rattle.ci_plan.specs.private.Drafts.{Grows, HasNumber, MakesAs, Stands, StandsFor};
 ghost use Rattle.ci_plan.specs.private.Names.{AreHeld};
 ghost use Rattle.ci_plan.specs.private.Steps.{IsStep};
-ghost use Rattle.ci_plan.specs.private.Operators.{step_of, AgreeFor};
+ghost use Rattle.ci_plan.specs.private.Operators.{step_of, AgreeFor, widened_bits};
 
 use crate::drafts::Draft;
 use crate::founds::{Found, constant, copies, joined, part, signed};
@@ -37,6 +39,34 @@ fn operator_step(operator: Operator, left: Found, right: Found) -> Option<Step>
         Operator::Left => Some(Step::Left(left.place, right.place, left.width)),
         Operator::Right => Some(Step::Right(left.place, right.place)),
         Operator::Less => Some(Step::Less(left.place, right.place)),
+    }
+}
+
+/// The number that stands at the place, if one below 64 does.
+fn amount_at(draft: &Draft, place: u8) -> Option<u8>
+    ensures { IfSome result (λ amount. HasNumber draft.now place amount) }
+{
+    match draft.number_at(place) {
+        Some(number) if number < 64 => Some(number as u8),
+        _ => None,
+    }
+}
+
+/// The step, or where it shifts by a number, one that has the number in it.
+fn by_number(draft: &Draft, step: Step) -> Step
+    requires { IsStep 64 step }
+    ensures { MakesAs draft.now step result }
+{
+    match step {
+        Step::Left(from, place, width) => match amount_at(draft, place) {
+            Some(amount) => Step::LeftBy(from, amount, width),
+            None => step,
+        },
+        Step::Right(from, place) => match amount_at(draft, place) {
+            Some(amount) => Step::RightBy(from, amount),
+            None => step,
+        },
+        _ => step,
     }
 }
 
@@ -76,6 +106,35 @@ fn widened(items: &[Item]) -> Option<&Name>
     let copied = sign(&items[0])?;
     let name = whole(&items[1])?;
     if copied == name { Some(name) } else { None }
+}
+
+/// The name that the operand widens to 64 bits by its sign, where it is so.
+fn widened_name(term: &Term) -> Option<&Name>
+    ensures { IfSome result (λ name. (names : List ℕ → Vector) → term_bits names term.now ≡ widened_bits (names name.now)) }
+{
+    match term {
+        Term::Join(items) => widened(items.as_slice()),
+        _ => None,
+    }
+}
+
+/// The names whose product the operator makes, each widened to 64 bits by its sign, where it is so.
+fn signed_factors<'a>(
+    operator: Operator,
+    left: &'a Term,
+    right: &'a Term,
+) -> Option<(&'a Name, &'a Name)>
+    ensures { IfSome result (λ factors. (names : List ℕ → Vector) → expr_value names (Two operator left.now right.now)
+        ≡ operated Times (widened_bits (names factors.0.now)) (widened_bits (names factors.1.now))) }
+{
+    match operator {
+        Operator::Times => {
+            let first = widened_name(left)?;
+            let second = widened_name(right)?;
+            Some((first, second))
+        }
+        _ => None,
+    }
 }
 
 /// Each of these answers where the value is behind the steps that it adds. None: there is no room, or the widths don't
@@ -158,6 +217,23 @@ impl Scope<'_> {
         }
     }
 
+    /// The product of two names, each widened to 64 bits by its sign. None: there is no room, or one has other bits than
+    /// 32.
+    fn signed_product(&self, draft: &mut Draft, left: &Name, right: &Name) -> Option<u8>
+        requires { AreHeld self.now.module.now self.now.wires.now draft.old }
+        ensures grows { IfSome result (λ _. Grows draft.old draft.new) }
+        ensures stands { IfSome result (λ place.
+            Stands self.now.module.now draft.new place
+            (λ names. operated Times (widened_bits (names left.now)) (widened_bits (names right.now)))) }
+    {
+        let first = self.name(left)?;
+        let second = self.name(right)?;
+        if first.width != 32 || second.width != 32 {
+            return None;
+        }
+        draft.step(Step::SignedTimes(first.place, second.place))
+    }
+
     /// The value of an operator on two operands.
     fn two(&self, draft: &mut Draft, operator: Operator, left: &Term, right: &Term) -> Option<u8>
         requires { AreHeld self.now.module.now self.now.wires.now draft.old }
@@ -166,9 +242,13 @@ impl Scope<'_> {
             Stands self.now.module.now draft.new place
             (λ names. expr_value names (Two operator left.now right.now))) }
     {
+        if let Some((first, second)) = signed_factors(operator, left, right) {
+            return self.signed_product(draft, first, second);
+        }
         let first = self.term(draft, left)?;
         let second = self.term(draft, right)?;
         let step = operator_step(operator, first, second)?;
+        let step = by_number(draft, step);
         draft.step(step)
     }
 

@@ -3,7 +3,7 @@ ghost use Rattle.std.specs.Prelude.{◌≡◌, ℕ, ◌+◌, ◌%◌, ◌^◌, �
 ghost use Rattle.std.specs.Prelude.{slice_index};
 ghost use Rattle.ci_plan.specs.private.Drafts.{IsDraft};
 ghost use Rattle.ci_plan.specs.private.Names.{AreHeld};
-ghost use Rattle.ci_plan.specs.private.Plans.{FitsIn, IsPlanOf, IsRun};
+ghost use Rattle.ci_plan.specs.private.Plans.{FitsIn, IsPlanOf, IsRun, words_of};
 ghost use Rattle.ci_plan.specs.private.Steps.{IsStep, words_after};
 
 use crate::drafts::{Draft, INPUTS, WORDS};
@@ -19,12 +19,20 @@ pub(crate) struct Plan {
     y: u8,
     z: u8,
     x: u8,
-    /// Whether the first SMALL words are enough, so that a run copies fewer.
-    is_small: bool,
+    size: Size,
 }
 
-/// How many words a small plan has.
+/// How many of a plan's words are enough for its runs: the first SMALL, the first MIDDLE, or all. A run copies no more.
+#[derive(Clone, Copy)]
+enum Size {
+    Small,
+    Middle,
+    Whole,
+}
+
 const SMALL: usize = 16;
+
+const MIDDLE: usize = 32;
 
 /// How many wires a module with a plan has at most.
 const WIRES: usize = 256;
@@ -67,6 +75,7 @@ fn open(words: &mut [u64], arguments: [u32; 5])
 }
 
 /// Makes the steps, of which each puts its word behind those before it.
+#[inline(always)]
 fn make(steps: &[Step], words: &mut [u64])
     requires room { 5 + length steps.now ≤ length words.old }
     requires are_steps { All (IsStep (length words.old)) steps.now }
@@ -124,15 +133,35 @@ fn fits_in(top: u8, draft: &Draft, y: u8, z: u8, x: u8) -> bool
         && x < top
 }
 
+/// How many words are enough for the plan.
+fn size_of(draft: &Draft, y: u8, z: u8, x: u8) -> Size
+    requires draft { IsDraft draft.now }
+    requires y { y < 64 }
+    requires z { z < 64 }
+    requires x { x < 64 }
+    ensures { FitsIn (words_of result) draft.now y z x }
+{
+    if fits_in(SMALL as u8, draft, y, z, x) {
+        Size::Small
+    } else if fits_in(MIDDLE as u8, draft, y, z, x) {
+        Size::Middle
+    } else {
+        Size::Whole
+    }
+}
+
 impl Plan {
     /// The plan of the module, of few words if these are enough. None: there is no room for its steps.
     pub(crate) fn of(module: &Module) -> Option<Plan>
         ensures { IfSome result (λ plan. IsPlanOf «module».now plan) }
     {
-        match Plan::within(module, SMALL as u8) {
-            Some(plan) => Some(plan),
-            None => Plan::within(module, WORDS as u8),
+        if let Some(plan) = Plan::within(module, SMALL as u8) {
+            return Some(plan);
         }
+        if let Some(plan) = Plan::within(module, MIDDLE as u8) {
+            return Some(plan);
+        }
+        Plan::within(module, WORDS as u8)
     }
 
     /// The plan of the module, whose words stand below the top. None: there is no room for its steps.
@@ -152,30 +181,29 @@ impl Plan {
         let z = scope.expr(&mut draft, module.z())?;
         let x = scope.expr(&mut draft, module.x())?;
         // A test of the whole plan is shorter than a proof that each place of a step stays below the top.
-        let is_small = fits_in(SMALL as u8, &draft, y, z, x);
+        let size = size_of(&draft, y, z, x);
         Some(Plan {
             draft,
             y,
             z,
             x,
-            is_small,
+            size,
         })
     }
 
-    /// The values of y, z and x, by a run on these words.
+    /// The values of y, z and x, by a run on a copy of the first words, so many.
     #[inline(always)]
-    fn results(&self, words: &mut [u64], arguments: [u32; 5]) -> (u32, u32, u32)
-        requires room { 5 + length self.now.draft.steps ≤ length words.old }
-        requires are_steps { All (IsStep (length words.old)) self.now.draft.steps }
-        requires numbers { (p : ℕ) → self.now.draft.lowest ≤ p
-            → slice_index words.old p ≡ slice_index self.now.draft.words p }
-        requires y { self.now.y < length words.old }
-        requires z { self.now.z < length words.old }
-        requires x { self.now.x < length words.old }
+    fn run_on<const N: usize>(&self, arguments: [u32; 5]) -> (u32, u32, u32)
+        requires fits { FitsIn N self.now.draft self.now.y self.now.z self.now.x }
+        requires few { N ≤ 64 }
         ensures { IsRun self.now arguments result }
     {
-        open(words, arguments);
-        make(self.draft.steps(), words);
+        let Some(first) = self.draft.words().first_chunk::<N>() else {
+            return (0, 0, 0);
+        };
+        let mut words = *first;
+        open(&mut words, arguments);
+        make(self.draft.steps(), &mut words);
         (
             low_word(words[usize::from(self.y)]),
             low_word(words[usize::from(self.z)]),
@@ -186,19 +214,13 @@ impl Plan {
     /// The values of y, z and x.
     #[inline(always)]
     pub(crate) fn run(&self, arguments: [u32; 5]) -> (u32, u32, u32)
-        requires y { self.now.y < 64 }
-        requires z { self.now.z < 64 }
-        requires x { self.now.x < 64 }
-        requires small { IsTrue self.now.is_small → FitsIn 16 self.now.draft self.now.y self.now.z self.now.x }
+        requires { FitsIn (words_of self.now.size) self.now.draft self.now.y self.now.z self.now.x }
         ensures { IsRun self.now arguments result }
     {
-        if self.is_small {
-            let mut words = [0; SMALL];
-            words.copy_from_slice(&self.draft.words()[..SMALL]);
-            self.results(&mut words, arguments)
-        } else {
-            let mut words = *self.draft.words();
-            self.results(&mut words, arguments)
+        match self.size {
+            Size::Small => self.run_on::<SMALL>(arguments),
+            Size::Middle => self.run_on::<MIDDLE>(arguments),
+            Size::Whole => self.run_on::<WORDS>(arguments),
         }
     }
 }

@@ -61,9 +61,17 @@ impl Prepared<'_> {
         let _wires = self.module.wires();
         match &self.plan {
             Some(plan) => plan.run([a, b, c, d, e]),
-            None => eval(self.module, a, b, c, d, e),
+            None => evaluated(self.module, a, b, c, d, e),
         }
     }
+}
+
+/// What `eval` gives, by a call: it takes 16 KiB of the stack, which no use of a plan has to take too.
+#[inline(never)]
+fn evaluated(module: &Module, a: u32, b: u32, c: u32, d: u32, e: u32) -> (u32, u32, u32)
+    ensures { IsValueOf «module».now (a ∷ b ∷ c ∷ d ∷ e ∷ []) (result.0 ∷ result.1 ∷ result.2 ∷ []) }
+{
+    eval(module, a, b, c, d, e)
 }
 
 /// The modules, made ready in their order. An Err is out of memory.

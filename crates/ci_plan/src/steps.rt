@@ -1,6 +1,6 @@
 //! The steps of a plan.
 ghost use Rattle.std.specs.Prelude.{◌≡◌, ◌<◌, ◌≤◌, ◌*◌, ◌/◌, ◌%◌, ◌^◌, length, slice_index, IsTrue};
-ghost use Rattle.ci_plan.specs.private.Steps.{IsStep, step_value};
+ghost use Rattle.ci_plan.specs.private.Steps.{IsStep, signed_word, step_value};
 
 /// A step of a plan: it makes one word of others, which it names by their places.
 #[derive(Clone, Copy)]
@@ -15,6 +15,10 @@ pub(crate) enum Step {
     /// The shift to the left, of so many bits.
     Left(u8, u8, u8),
     Right(u8, u8),
+    /// The shift to the left by a number, of so many bits.
+    LeftBy(u8, u8, u8),
+    /// The shift to the right by a number.
+    RightBy(u8, u8),
     Less(u8, u8),
     /// The third word where the first is 0, else the second.
     Choose(u8, u8, u8),
@@ -24,6 +28,8 @@ pub(crate) enum Step {
     Above(u8, u8, u8),
     /// A word of 32 bits, widened to 64 by its sign.
     Signed(u8),
+    /// The product of two words of 32 bits, each widened to 64 by its sign.
+    SignedTimes(u8, u8),
 }
 
 /// The lowest bits of a word.
@@ -58,6 +64,13 @@ fn shifted_right(value: u64, amount: u64) -> u64
     if amount < 64 { value >> amount } else { 0 }
 }
 
+/// A word of 32 bits, widened to 64 by its sign.
+fn signed(value: u64) -> u64
+    ensures { result ≡ signed_word value }
+{
+    value.wrapping_add((value >> 31) % 2 * 0xffff_ffff_0000_0000)
+}
+
 /// The word at the place.
 fn word(words: &[u64], place: u8) -> u64
     requires { place < length words.now }
@@ -82,13 +95,18 @@ impl Step {
             | Step::Or(first, second)
             | Step::Xor(first, second)
             | Step::Right(first, second)
-            | Step::Less(first, second) => first < top && second < top,
+            | Step::Less(first, second)
+            | Step::SignedTimes(first, second) => first < top && second < top,
             Step::Choose(test, first, second) => test < top && first < top && second < top,
-            Step::Part(from, _, _) | Step::Signed(from) => from < top,
+            Step::LeftBy(from, _, _)
+            | Step::RightBy(from, _)
+            | Step::Part(from, _, _)
+            | Step::Signed(from) => from < top,
         }
     }
 
     /// The word that the step makes of these.
+    #[inline(always)]
     pub(crate) fn value(self, words: &[u64]) -> u64
         requires { IsStep (length words.now) self }
         ensures { result ≡ step_value words.now self }
@@ -110,6 +128,10 @@ impl Step {
                 shifted_left(word(words, left), word(words, right), width)
             }
             Step::Right(left, right) => shifted_right(word(words, left), word(words, right)),
+            Step::LeftBy(from, amount, width) => {
+                shifted_left(word(words, from), u64::from(amount), width)
+            }
+            Step::RightBy(from, amount) => shifted_right(word(words, from), u64::from(amount)),
             Step::Less(left, right) => u64::from(word(words, left) < word(words, right)),
             Step::Choose(test, first, second) => {
                 if word(words, test) == 0 {
@@ -124,9 +146,9 @@ impl Step {
             Step::Above(high, low, width) => {
                 shifted_left(word(words, high), u64::from(width), 64).wrapping_add(word(words, low))
             }
-            Step::Signed(from) => {
-                let value = word(words, from);
-                value.wrapping_add((value >> 31) % 2 * 0xffff_ffff_0000_0000)
+            Step::Signed(from) => signed(word(words, from)),
+            Step::SignedTimes(left, right) => {
+                signed(word(words, left)).wrapping_mul(signed(word(words, right)))
             }
         }
     }

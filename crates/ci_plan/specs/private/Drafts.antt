@@ -5,7 +5,7 @@ use Rattle.ci_verilog.specs.Modules.{Module}
 use Rattle.ci_verilog.specs.Values.{Settles}
 use Rattle.ci_verilog.specs.private.Held.{Fits}
 use Rattle.ci_plan.specs.declared.steps.Step.{Step}
-use Rattle.ci_plan.specs.private.Steps.{IsStep, words_after}
+use Rattle.ci_plan.specs.private.Steps.{IsStep, step_value, words_after}
 
 -- Words, of which the first five are those of the inputs and those from the lowest number on are numbers, and steps,
 -- which put their words behind those of the inputs, one behind the other.
@@ -34,6 +34,12 @@ pub record HasNumber (draft : Draft) (place n : ℕ) : Type 0 where
   pub below : place < 64
   pub among : draft.lowest ≤ place
   pub is : slice_index draft.words place ≡ n
+
+-- the step makes the other one's word, where the numbers stand at their places
+pub record MakesAs (draft : Draft) (other step : Step) : Type 0 where
+  pub is_step : IsStep 64 step
+  pub same : (words : List ℕ) → ((p n : ℕ) → HasNumber draft p n → slice_index words p ≡ n)
+      → step_value words step ≡ step_value words other
 
 -- the step was added, and puts its word at the place
 pub record IsAdded (old new : Draft) (place : ℕ) (step : Step) : Type 0 where

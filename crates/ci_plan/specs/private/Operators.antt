@@ -1,7 +1,9 @@
 -- For private contracts: the steps of operators.
-use Rattle.std.specs.Prelude.{◌≡◌, ℕ, ⊤}
+use Rattle.std.specs.Prelude.{◌≡◌, ℕ, ◌/◌, ◌%◌, ◌^◌, replicate, ⊤}
+use Rattle.ci_verilog.specs.declared.vectors.Vector.{Vector}
 use Rattle.ci_verilog.specs.declared.expressions.Operator.{Operator}
 use Rattle.ci_verilog.specs.declared.expressions.Operator.TheVariants as operator
+use Rattle.ci_verilog.specs.Values.{of_width, above, joined}
 use Rattle.ci_plan.specs.declared.steps.Step.{Step}
 use Rattle.ci_plan.specs.declared.steps.Step.TheVariants.{Plus, Minus, Times, And, Or, Xor, Left, Right, Less}
 
@@ -21,3 +23,7 @@ step_of operator.Less l r width = Less l r
 abbrev pub AgreeFor : Operator → ℕ → ℕ → Type 0
 AgreeFor operator.Minus left right = left ≡ right
 AgreeFor _ left right = ⊤
+
+-- the vector behind 32 copies of its bit 31
+abbrev pub widened_bits : Vector → Vector
+widened_bits v = above (joined (replicate 32 (of_width 1 (v.value / 2 ^ 31 % 2)))) v

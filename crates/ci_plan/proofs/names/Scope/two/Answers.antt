@@ -1,7 +1,7 @@
 use Rattle.std.proofs.Common.{subst}
 use Rattle.std.proofs.lemmas.Option.{IfSome_then}
 use Rattle.ci_verilog.specs.Values.{term_bits}
-use Rattle.ci_plan.specs.private.Drafts.{IsAdded}
+use Rattle.ci_plan.specs.private.Drafts.{MakesAs}
 use Rattle.ci_plan.proofs.DraftLaws.{grows_on, stands_for_later}
 use Rattle.ci_plan.proofs.FoundLaws.{if_both, two_stand}
 use Rattle.ci_plan.proofs.NameLaws.{held_later}
@@ -29,7 +29,8 @@ returns-clause-stands c =
     let r = c.in_ok-second.second in
     if_both c.step.result c.step.ensures.grows c.step.ensures.added
     (λ place more added.
-    two_stand m d2 c.step.new.self c.args.operator c.args.left.now c.args.right.now l.place r.place place l.width r.width more
-    (subst (λ s. IsAdded d2 c.step.new.self place s) c.in_ok-step.ensures.is added) c.in_ok-step.ensures.agree
+    two_stand m d2 c.step.new.self c.by_number-step.result c.args.operator c.args.left.now c.args.right.now l.place r.place place
+    l.width r.width c.in_ok-second.ensures.grows.is_draft more added
+    (subst (λ s. MakesAs d2 s c.by_number-step.result) c.in_ok-step.ensures.is c.by_number-step.ensures) c.in_ok-step.ensures.agree
     (stands_for_later m d1 d2 l.place l.width (λ names. term_bits names c.args.left.now) c.in_ok-second.ensures.grows c.in_ok-first.ensures.found)
     c.in_ok-second.ensures.found)

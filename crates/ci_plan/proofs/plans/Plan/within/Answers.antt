@@ -44,5 +44,5 @@ returns c =
           stands_later m d2 d3 c.in_ok-z.z (λ names. expr_value names m.z) c.in_ok-x.ensures.grows
           (subst (λ e. Stands m d2 c.in_ok-z.z (λ names. expr_value names e)) c.z.ensures c.in_ok-z.ensures.stands);
       x = subst (λ e. Stands m d3 c.in_ok-x.x (λ names. expr_value names e)) c.x.ensures c.in_ok-x.ensures.stands;
-      small = c.fits_in-is_small.ensures;
+      fits = c.size_of-size.ensures;
     }
