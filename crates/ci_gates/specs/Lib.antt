@@ -1,0 +1,4 @@
+pub mod Counts
+pub mod Modules
+pub mod Laws
+pub mod private

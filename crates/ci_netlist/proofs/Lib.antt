@@ -1,0 +1,12 @@
+pub mod NumberLaws
+pub mod SpellingLaws
+pub mod ValueLaws
+pub mod FoundReading
+pub mod BitReading
+pub mod GateReading
+pub mod OutputReading
+pub mod NetlistReading
+pub mod TextReading
+pub mod SettledLaws
+pub mod ReadingLoops
+pub mod WritingLaws

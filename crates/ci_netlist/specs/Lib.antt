@@ -1,0 +1,5 @@
+pub mod Netlists
+pub mod Texts
+pub mod Faults
+pub mod Laws
+pub mod private
