@@ -2,7 +2,7 @@
 use Rattle.std.specs.Prelude.{ℕ, Bool, true, false, List, [], ◌∷◌, ◌++◌, codes}
 use Rattle.ci_arguments.specs.declared.tables.Access.TheVariants.{Reads, Writes}
 use Rattle.ci_arguments.specs.declared.tables.CommandName.{CommandName}
-use Rattle.ci_arguments.specs.declared.tables.CommandName.TheVariants.{Best, Asm, Dis, Run, Blocks, Eval, Find, Check, Relog, Load}
+use Rattle.ci_arguments.specs.declared.tables.CommandName.TheVariants.{Best, Asm, Dis, Run, Blocks, Eval, Find, Check, Relog, Gates, Geval, Load}
 use Rattle.ci_arguments.specs.declared.tables.DefaultValue.{DefaultValue}
 use Rattle.ci_arguments.specs.declared.tables.DefaultValue.TheVariants as default
 use Rattle.ci_arguments.specs.declared.tables.Kind.{Kind}
@@ -65,6 +65,15 @@ input = single (codes "input") Input (File Reads) default.Nothing
 abbrev pub log_version : ℕ → OptionRow
 log_version usual = single (codes "log") LogVersion (Number 1 2) (default.Number usual)
 
+-- a file with modules or netlists, the number of one of them, and the first three words at which its value is taken
+abbrev pub evaluated : List Kind
+evaluated = File Reads ∷ Number 0 31 ∷ Word ∷ Word ∷ Word ∷ []
+
+-- the other two words
+abbrev pub others : List OptionRow
+others =
+    single (codes "d") ArgumentD Word default.Nothing ∷ single (codes "e") ArgumentE Word default.Nothing ∷ []
+
 -- what a choice of cuts is bounded by and made from
 abbrev pub choice : List OptionRow
 choice =
@@ -81,11 +90,12 @@ commands =
     ∷ command_of (codes "run") Run (File Reads ∷ [])
     (steps ∷ single (codes "units") Units (File Reads) default.Nothing ∷ table ∷ input ∷ [])
     ∷ command_of (codes "blocks") Blocks (File Reads ∷ []) (leader ∷ [])
-    ∷ command_of (codes "eval") Eval (File Reads ∷ Number 0 31 ∷ Word ∷ Word ∷ Word ∷ [])
-    (single (codes "d") ArgumentD Word default.Nothing ∷ single (codes "e") ArgumentE Word default.Nothing ∷ [])
+    ∷ command_of (codes "eval") Eval evaluated others
     ∷ command_of (codes "find") Find
     (File Reads ∷ File Writes ∷ File Writes ∷ File Writes ∷ File Writes ∷ []) (choice ++ log_version 1 ∷ [])
     ∷ command_of (codes "check") Check (File Reads ∷ File Reads ∷ File Reads ∷ File Reads ∷ []) choice
     ∷ command_of (codes "relog") Relog (File Reads ∷ File Writes ∷ []) (log_version 2 ∷ [])
+    ∷ command_of (codes "gates") Gates (File Reads ∷ File Writes ∷ []) []
+    ∷ command_of (codes "geval") Geval evaluated others
     ∷ command_of (codes "load") Load (Number 0 4294967295 ∷ []) []
     ∷ []

@@ -21,6 +21,10 @@ pub enum CommandName {
     Check,
     /// `relog`
     Relog,
+    /// `gates`
+    Gates,
+    /// `geval`
+    Geval,
     /// `load`
     Load,
 }
@@ -111,8 +115,8 @@ const READ: Kind = Kind::File(Access::Reads);
 
 const WRITTEN: Kind = Kind::File(Access::Writes);
 
-/// The number of a module.
-const MODULE: Kind = Kind::Number {
+/// The number of a module or of a netlist.
+const PLACE: Kind = Kind::Number {
     minimum: 0,
     maximum: 31,
 };
@@ -297,7 +301,7 @@ const LOG: NamedOption<'static> = (
 /// What a choice of cuts is bounded by and made from.
 const CHOICE: &[CommandOption<'static>] = &[IN, OUT, COUNT, BUDGET, STEPS, TABLE, INPUT, LEADER];
 
-/// That, and the version of the log book that is written.
+/// What a choice is bounded by and made from, and the version of its log book.
 const FIND: &[CommandOption<'static>] = &[
     IN,
     OUT,
@@ -309,6 +313,12 @@ const FIND: &[CommandOption<'static>] = &[
     LEADER,
     (LOG, DefaultValue::Number(1)),
 ];
+
+/// A file with modules or netlists, the number of one of them, and the first three words at which its value is taken.
+const EVALUATED: &[Kind] = &[READ, PLACE, Kind::Word, Kind::Word, Kind::Word];
+
+/// The other two words.
+const OTHERS: &[CommandOption<'static>] = &[ARGUMENT_D, ARGUMENT_E];
 
 /// The table of the commands.
 pub const COMMANDS: &[CommandRow<'static>] = &[
@@ -327,12 +337,7 @@ pub const COMMANDS: &[CommandRow<'static>] = &[
         &[STEPS, UNITS, TABLE, INPUT],
     ),
     ("blocks", CommandName::Blocks, &[READ], &[LEADER]),
-    (
-        "eval",
-        CommandName::Eval,
-        &[READ, MODULE, Kind::Word, Kind::Word, Kind::Word],
-        &[ARGUMENT_D, ARGUMENT_E],
-    ),
+    ("eval", CommandName::Eval, EVALUATED, OTHERS),
     (
         "find",
         CommandName::Find,
@@ -351,5 +356,7 @@ pub const COMMANDS: &[CommandRow<'static>] = &[
         &[READ, WRITTEN],
         &[(LOG, DefaultValue::Number(2))],
     ),
+    ("gates", CommandName::Gates, &[READ, WRITTEN], &[]),
+    ("geval", CommandName::Geval, EVALUATED, OTHERS),
     ("load", CommandName::Load, &[SEED], &[]),
 ];

@@ -16,18 +16,21 @@ use Rattle.ci_lat.specs.Faults.{HaveFault}
 use Rattle.ci_log.specs.declared.faults.LogFault.{LogFault}
 use Rattle.ci_log.specs.declared.faults.LogFault.TheVariants as log
 use Rattle.ci_log.specs.Faults.{IsFaultOf as IsLogFaultOf}
+use Rattle.ci_netlist.specs.declared.faults.GateFault.{GateFault}
+use Rattle.ci_netlist.specs.declared.faults.GateFault.TheVariants as net
+use Rattle.ci_netlist.specs.Faults.{IsFaultOf as IsNetFaultOf}
 use Rattle.ci_vread.specs.declared.faults.VFault.{VFault}
 use Rattle.ci_vread.specs.declared.faults.VFault.TheVariants as verilog
 use Rattle.ci_vread.specs.Promised.{IsFaultOf}
 use Rattle.ci_calls.specs.declared.refusals.Refusal.{Refusal}
 use Rattle.ci_calls.specs.declared.refusals.Refusal.TheVariants.{NoMemory}
 use Rattle.ci_calls.specs.Files.{program_input, input_bytes}
-use Rattle.ci_calls.specs.Forms.{any_bytes}
-use Rattle.ci_calls.specs.Forms.{Form, IsWellFormed, IsMalformed, executable_file, latency_table, verilog_units, log_book}
+use Rattle.ci_calls.specs.Forms.{Form, IsWellFormed, IsMalformed, any_bytes, executable_file, latency_table}
+use Rattle.ci_calls.specs.Forms.{verilog_units, log_book, gate_netlists}
 use Rattle.ci_calls.specs.Inputs.{Input}
 use Rattle.ci_calls.specs.Reads.{AreFit, reads_of, IsRefusedAs, AreStoppedReads, HaveRead, HaveNotRead, out_of_memory, refused}
 use Rattle.ci_calls.specs.Reads.{one_more, IsReadingOf, IsOptionalReadingOf}
-use Rattle.ci_calls.specs.Refused.{elf_refusal, log_refusal, table_refusal, units_refusal}
+use Rattle.ci_calls.specs.Refused.{elf_refusal, log_refusal, nets_refusal, table_refusal, units_refusal}
 
 -- ---- lists of files
 
@@ -89,6 +92,11 @@ pub bad_book : (bytes : List ℕ) (fault : LogFault) → IsLogFaultOf bytes faul
     → IsRefusedFor log_book bytes (log_refusal fault)
 bad_book bytes log.NoMemory has = inr refl
 bad_book bytes fault has = inl has
+
+pub bad_nets : (bytes : List ℕ) (fault : GateFault) → IsNetFaultOf bytes fault
+    → IsRefusedFor gate_netlists bytes (nets_refusal fault)
+bad_nets bytes net.NoMemory has = inr refl
+bad_nets bytes (net.Bad offset) has = inl has
 
 module _ (read_may_fail write_may_fail : List ℕ → Bool) where
   abbrev Read : ShelfState → ShelfState → List Input → List (List ℕ) → Type 0

@@ -3,11 +3,12 @@ use Rattle.std.proofs.Common.{◌≡◌, ℕ, inl, inr, List, [], ◌∷◌, Opt
 use Rattle.ci_io.specs.Outcomes.{Files}
 use Rattle.ci_lat.proofs.FaultLaws.{table_or_fault}
 use Rattle.ci_log.proofs.OneFault.{no_fault as no_log_fault}
+use Rattle.ci_netlist.proofs.TextReading.{texts_have_no_fault}
 use Rattle.ci_vread.proofs.TextLaws.{never_both}
 use Rattle.ci_calls.specs.declared.refusals.Refusal.{Refusal}
-use Rattle.ci_calls.specs.declared.refusals.Refusal.TheVariants.{BadElf, BadTable, BadUnits, BadLog, BadAsm}
-use Rattle.ci_calls.specs.Forms.{Form, assembler_text, executable_file, latency_table, log_book, verilog_units}
-use Rattle.ci_calls.specs.Forms.{IsWellFormed, IsMalformed}
+use Rattle.ci_calls.specs.declared.refusals.Refusal.TheVariants.{BadElf, BadTable, BadUnits, BadLog, BadAsm, BadNets}
+use Rattle.ci_calls.specs.Forms.{Form, assembler_text, executable_file, gate_netlists, latency_table, log_book}
+use Rattle.ci_calls.specs.Forms.{verilog_units, IsWellFormed, IsMalformed}
 use Rattle.ci_calls.specs.Inputs.{Input, IsGood, AreRead, IsRefusedFile, absent, too_large, malformed, IsFileRefusal}
 use Rattle.ci_calls.specs.Refusals.{status_of}
 use Rattle.ci_calls.proofs.FormLaws.{text_or_fault, kept_or_broken}
@@ -23,6 +24,7 @@ formed_or_not executable_file bytes (BadElf fault) good bad = kept_or_broken byt
 formed_or_not latency_table bytes (BadTable fault) good bad = table_or_fault bytes good.0 fault good.1 bad
 formed_or_not verilog_units bytes (BadUnits kind offset) good bad = never_both bytes good.0 kind offset good.1 bad
 formed_or_not log_book bytes (BadLog fault) good bad = no_log_fault bytes good.0 fault good.1 bad
+formed_or_not gate_netlists bytes (BadNets offset) good bad = texts_have_no_fault bytes offset good bad
 formed_or_not form bytes refusal good bad = absurd bad
 
 -- bytes are malformed with one status
@@ -38,6 +40,8 @@ malformed_once verilog_units bytes (BadUnits kind offset) (BadUnits kind' offset
 malformed_once verilog_units bytes (BadUnits kind offset) second a b = absurd b
 malformed_once log_book bytes (BadLog fault) (BadLog fault') a b = refl
 malformed_once log_book bytes (BadLog fault) second a b = absurd b
+malformed_once gate_netlists bytes (BadNets offset) (BadNets offset') a b = refl
+malformed_once gate_netlists bytes (BadNets offset) second a b = absurd b
 malformed_once form bytes first second a b = absurd a
 
 -- ---- the files of a shelf that tells them

@@ -2,7 +2,7 @@
 use Rattle.std.specs.Prelude.{ℕ, List, Option}
 use Rattle.ci_io.specs.Outcomes.{Files}
 use Rattle.ci_calls.specs.declared.refusals.Refusal.{Refusal}
-use Rattle.ci_calls.specs.declared.refusals.Refusal.TheVariants.{Unsupported}
+use Rattle.ci_calls.specs.declared.refusals.Refusal.TheVariants.{Unsupported, ManyGates}
 use Rattle.ci_calls.specs.declared.success.Success.{Success}
 use Rattle.ci_calls.specs.Inputs.{Input, AreRead}
 
@@ -22,3 +22,8 @@ RefusesNothing read refusal = ⊥
 abbrev pub IsUnsupported : (ℕ → ℕ → Type 0) → Refusal → Type 0
 IsUnsupported P (Unsupported position word) = P position word
 IsUnsupported P refusal = ⊥
+
+-- the refusal of modules with too many gates, which names a module and a number of gates with this property
+abbrev pub IsManyGates : (ℕ → ℕ → Type 0) → Refusal → Type 0
+IsManyGates P (ManyGates number gates) = P number gates
+IsManyGates P refusal = ⊥

@@ -5,7 +5,7 @@ use Rattle.ci_lat.specs.Latencies.{Latencies, usual}
 use Rattle.ci_lat.specs.Faults.{AreTable}
 use Rattle.ci_verilog.specs.Modules.{Module}
 use Rattle.ci_vread.specs.Spelling.{Spell}
-use Rattle.ci_calls.specs.Forms.{any_bytes, executable_file, latency_table, log_book, verilog_units}
+use Rattle.ci_calls.specs.Forms.{any_bytes, executable_file, gate_netlists, latency_table, log_book, verilog_units}
 use Rattle.ci_calls.specs.Inputs.{Input}
 
 abbrev pub executable_input : List ℕ → Input
@@ -21,6 +21,10 @@ units_input name = record { name = name; limit = 4194304; form = verilog_units }
 -- a log book
 abbrev pub book_input : List ℕ → Input
 book_input name = record { name = name; limit = 268435456; form = log_book }
+
+-- netlists
+abbrev pub nets_input : List ℕ → Input
+nets_input name = record { name = name; limit = 268435456; form = gate_netlists }
 
 -- the new file of a choice, which may hold anything
 abbrev pub new_file_input : List ℕ → Input

@@ -6,11 +6,14 @@ use Rattle.ci_lat.specs.Latencies.{Latencies}
 use Rattle.ci_lat.specs.Faults.{AreTable, HaveFault}
 use Rattle.ci_log.specs.Books.{Book, Spells}
 use Rattle.ci_log.specs.Faults.{HasFault as HasLogFault}
+use Rattle.ci_netlist.specs.Faults.{IsBad}
+use Rattle.ci_netlist.specs.Netlists.{Netlist}
+use Rattle.ci_netlist.specs.Texts.{Spells as SpellsNets}
 use Rattle.ci_verilog.specs.Modules.{Module}
 use Rattle.ci_vread.specs.Rules.{HasFault as HasUnitFault}
 use Rattle.ci_vread.specs.Spelling.{Spell}
 use Rattle.ci_calls.specs.declared.refusals.Refusal.{Refusal}
-use Rattle.ci_calls.specs.declared.refusals.Refusal.TheVariants.{BadElf, BadTable, BadUnits, BadLog, BadAsm}
+use Rattle.ci_calls.specs.declared.refusals.Refusal.TheVariants.{BadElf, BadTable, BadUnits, BadLog, BadAsm, BadNets}
 
 -- ---- assembler texts as bytes
 
@@ -34,6 +37,7 @@ pub data Form : Type 0 where
   latency_table : Form
   verilog_units : Form
   log_book : Form
+  gate_netlists : Form
 
 abbrev pub IsWellFormed : Form → List ℕ → Type 0
 IsWellFormed any_bytes bytes = ⊤
@@ -42,6 +46,7 @@ IsWellFormed executable_file bytes = KeepsRules bytes (rules bytes)
 IsWellFormed latency_table bytes = (latencies : Latencies) × AreTable bytes latencies
 IsWellFormed verilog_units bytes = (modules : List Module) × Spell bytes modules
 IsWellFormed log_book bytes = (book : Book) × Spells bytes book
+IsWellFormed gate_netlists bytes = (nets : List Netlist) × SpellsNets bytes nets
 
 -- the refusal of bytes that are not of the form
 abbrev pub IsMalformed : Form → List ℕ → Refusal → Type 0
@@ -50,4 +55,5 @@ IsMalformed executable_file bytes (BadElf fault) = BreaksFirst bytes (rules byte
 IsMalformed latency_table bytes (BadTable fault) = HaveFault bytes fault
 IsMalformed verilog_units bytes (BadUnits kind offset) = HasUnitFault bytes kind offset
 IsMalformed log_book bytes (BadLog fault) = HasLogFault bytes fault
+IsMalformed gate_netlists bytes (BadNets offset) = IsBad bytes offset
 IsMalformed form bytes refusal = ⊥

@@ -14,7 +14,7 @@ use Rattle.ci_log.specs.declared.faults.LogFault.TheVariants as log
 use Rattle.ci_calls.specs.declared.refusals.Refusal.{Refusal}
 use Rattle.ci_calls.specs.declared.refusals.Refusal.TheVariants.{Usage, Read, Write, Put, TooLarge, BadElf, BadTable}
 use Rattle.ci_calls.specs.declared.refusals.Refusal.TheVariants.{Unsupported, TextTouched, BadUnits, BadLog, Rejected}
-use Rattle.ci_calls.specs.declared.refusals.Refusal.TheVariants.{NoMemory, BadAsm}
+use Rattle.ci_calls.specs.declared.refusals.Refusal.TheVariants.{NoMemory, BadAsm, ManyGates, BadNets}
 
 -- the name of a file, as words and refusals hold it
 abbrev pub Name : Type 0
@@ -35,6 +35,8 @@ status_of (BadLog fault) = 10
 status_of (Rejected round leader item reason) = 11
 status_of NoMemory = 12
 status_of (BadAsm kind line column) = 13
+status_of (ManyGates number gates) = 14
+status_of (BadNets offset) = 15
 
 -- a word and two numbers, or three
 abbrev pub pair_text : List ℕ → ℕ → ℕ → List ℕ
@@ -89,6 +91,10 @@ rejected_text round leader item reason =
     codes "rejected" ++ codes " " ++ decimal round ++ codes " " ++ eight_hex_digits leader ++ codes " " ++ decimal item
     ++ codes " " ++ decimal reason
 
+-- the module up to which modules have too many gates, and how many they have
+abbrev pub many_text : ℕ → ℕ → List ℕ
+many_text number gates = pair_text (codes "many") number gates
+
 -- what stands in the fault line behind the status
 abbrev pub text_of : Refusal → List ℕ
 text_of Usage = codes "usage"
@@ -105,6 +111,8 @@ text_of (BadLog fault) = log_text fault
 text_of (Rejected round leader item reason) = rejected_text round leader item reason
 text_of NoMemory = codes "no memory"
 text_of (BadAsm kind line column) = numbers_text (codes "asm") kind line column
+text_of (ManyGates number gates) = many_text number gates
+text_of (BadNets offset) = codes "nets " ++ decimal offset
 
 abbrev pub line_of : Refusal → List ℕ
 line_of refusal = line (codes "fault " ++ decimal (status_of refusal) ++ codes " " ++ text_of refusal)

@@ -11,12 +11,14 @@ use Rattle.ci_lat.specs.declared.faults.LatFault.{LatFault}
 use Rattle.ci_lat.specs.declared.faults.LatFault.TheVariants as lat
 use Rattle.ci_log.specs.declared.faults.LogFault.{LogFault}
 use Rattle.ci_log.specs.declared.faults.LogFault.TheVariants as log
+use Rattle.ci_netlist.specs.declared.faults.GateFault.{GateFault}
+use Rattle.ci_netlist.specs.declared.faults.GateFault.TheVariants as net
 use Rattle.ci_verilog.specs.Modules.{Module}
 use Rattle.ci_vread.specs.declared.faults.VFault.{VFault}
 use Rattle.ci_vread.specs.declared.faults.VFault.TheVariants as verilog
 use Rattle.ci_calls.specs.declared.refusals.Refusal.{Refusal}
 use Rattle.ci_calls.specs.declared.refusals.Refusal.TheVariants.{Read, BadElf, BadTable, BadUnits, BadLog, NoMemory}
-use Rattle.ci_calls.specs.declared.refusals.Refusal.TheVariants.{BadAsm}
+use Rattle.ci_calls.specs.declared.refusals.Refusal.TheVariants.{BadAsm, BadNets}
 use Rattle.ci_calls.specs.Inputs.{Input, AreRead, IsFileRefusal, IsDueName}
 use Rattle.ci_calls.specs.Refusals.{Name}
 
@@ -52,6 +54,11 @@ log_refusal fault = BadLog fault
 abbrev pub asm_refusal : AsmFault → Refusal
 asm_refusal (assembly.Bad kind line column) = BadAsm kind line column
 asm_refusal assembly.NoMemory = NoMemory
+
+-- the refusal of a file that holds no netlists, or for which memory ran out
+abbrev pub nets_refusal : GateFault → Refusal
+nets_refusal (net.Bad offset) = BadNets offset
+nets_refusal net.NoMemory = NoMemory
 
 -- ---- files that are not read
 

@@ -4,8 +4,9 @@ ghost use Rattle.ci_elf.specs.Executables.{IsImageOf};
 ghost use Rattle.ci_lat.specs.Faults.{AreTable};
 ghost use Rattle.ci_vread.specs.Spelling.{Spell};
 ghost use Rattle.ci_log.specs.Books.{Spells};
+ghost use Rattle.ci_netlist.specs.Texts.{Spells as SpellsNets};
 ghost use Rattle.ci_calls.specs.Files.{book_input, executable_input, new_file_input, program_input, table_input};
-ghost use Rattle.ci_calls.specs.Files.{units_input, AreLatencies, AreModules, input_bytes};
+ghost use Rattle.ci_calls.specs.Files.{nets_input, units_input, AreLatencies, AreModules, input_bytes};
 ghost use Rattle.ci_io.specs.CallLists.{read as made_read};
 ghost use Rattle.ci_io.specs.MadeCalls.{AreMade};
 ghost use Rattle.ci_calls.specs.Refused.{name_in, modules_in};
@@ -18,6 +19,7 @@ use ci_elf::Image;
 use ci_io::{Shelf, ShelfErr};
 use ci_lat::Table;
 use ci_log::LogBook;
+use ci_netlist::Netlist;
 use ci_verilog::Module;
 use std::alloc::Global;
 
@@ -32,6 +34,9 @@ const UNITS_LIMIT: u64 = 4_194_304;
 
 /// The maximum length of a text of a log book, in bytes.
 const BOOK_LIMIT: u64 = 268_435_456;
+
+/// The maximum length of a text of netlists, in bytes.
+const NETS_LIMIT: u64 = 268_435_456;
 
 /// The maximum length of the input of a program, in bytes.
 const INPUT_LIMIT: u64 = 16_777_216;
@@ -187,6 +192,25 @@ pub fn read_book<'a, F: Shelf>(
     let bytes = read_file(alloc, name, BOOK_LIMIT, shelf)?;
     let book = ci_log::read(alloc, bytes.as_slice())?;
     Ok(book)
+}
+
+/// The netlists whose text the file of a name is.
+///
+/// # Errors
+///
+/// `Read` where no file has the name, or reading it failed. `TooLarge` where the file has more than 268,435,456 bytes.
+/// `BadNets` where it is no text of netlists, by its fault. `NoMemory`: memory ran out.
+pub fn read_nets<'a, F: Shelf>(
+    alloc: Global,
+    name: &'a str,
+    shelf: &mut F,
+) -> Result<Vec<Netlist>, Refusal<'a>>
+    ensures { IsReadingOf F.read_may_fail F.write_may_fail (F.state shelf.old) (F.state shelf.new)
+        (nets_input name.now) result (λ bytes nets. SpellsNets bytes nets.items) }
+{
+    let bytes = read_file(alloc, name, NETS_LIMIT, shelf)?;
+    let nets = ci_netlist::read(alloc, bytes.as_slice())?;
+    Ok(nets)
 }
 
 /// The bytes of the file of a name, which may hold anything.

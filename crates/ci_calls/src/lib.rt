@@ -4,8 +4,8 @@
 
 pub use finishing::finish;
 pub use inputs::{
-    read_book, read_file, read_image, read_input, read_new_file, read_optional_units, read_table,
-    read_units,
+    read_book, read_file, read_image, read_input, read_nets, read_new_file, read_optional_units,
+    read_table, read_units,
 };
 pub use refusals::{Refusal, refuse};
 pub use success::{Success, Written};

@@ -9,13 +9,14 @@ ghost use Rattle.ci_calls.specs.Finishing.{IsPut};
 ghost use Rattle.ci_calls.specs.RefusedCalls.{IsRefused};
 ghost use Rattle.ci_calls.specs.Refusals.{elf_fault_numbers, elf_text, line_of, log_fault_numbers, log_text};
 ghost use Rattle.ci_calls.specs.Refusals.{numbers_text, pair_text, rejected_text, status_of, table_text, text_of};
-ghost use Rattle.ci_calls.specs.Refusals.{words_text};
+ghost use Rattle.ci_calls.specs.Refusals.{many_text, words_text};
 
 use ci_asm::AsmFault;
 use ci_elf::ElfFault;
 use ci_io::Sink;
 use ci_lat::LatFault;
 use ci_log::LogFault;
+use ci_netlist::GateFault;
 use ci_reading::push_word;
 use ci_vread::VFault;
 use std::alloc::{AllocError, AllocFailed, Global};
@@ -69,6 +70,16 @@ pub enum Refusal<'a> {
         kind: u8,
         line: u32,
         column: u32,
+    },
+    /// The modules up to the one of this number have together so many gates, more than a netlist may have; those before
+    /// it don't.
+    ManyGates {
+        module: u32,
+        gates: u64,
+    },
+    /// The file holds no netlists, by a fault at this offset in bytes.
+    BadNets {
+        offset: u32,
     },
 }
 
@@ -169,6 +180,21 @@ impl<'a> From<AsmFault> for Refusal<'a> {
     }
 }
 
+/// A file holds no netlists, or memory ran out for it.
+impl<'a> From<GateFault> for Refusal<'a> {
+    ghost use Rattle.std.specs.Prelude.{◌≡◌};
+    ghost use Rattle.ci_calls.specs.Refused.{nets_refusal};
+
+    ghost from_gives = { λ fault refusal. refusal ≡ nets_refusal fault };
+
+    fn from(fault: GateFault) -> Refusal<'a> {
+        match fault {
+            GateFault::Bad(offset) => Refusal::BadNets { offset },
+            GateFault::NoMemory => Refusal::NoMemory,
+        }
+    }
+}
+
 impl<'a> Refusal<'a> {
     /// The status with which the call ends.
     pub fn status(&self) -> u8
@@ -189,6 +215,8 @@ impl<'a> Refusal<'a> {
             Refusal::Rejected { .. } => 11,
             Refusal::NoMemory => 12,
             Refusal::BadAsm { .. } => 13,
+            Refusal::ManyGates { .. } => 14,
+            Refusal::BadNets { .. } => 15,
         }
     }
 
@@ -237,6 +265,8 @@ impl<'a> Refusal<'a> {
             Refusal::BadAsm { kind, line, column } => {
                 numbers_text(alloc, "asm", *kind, *line, *column)
             }
+            Refusal::ManyGates { module, gates } => many_text(alloc, *module, *gates),
+            Refusal::BadNets { offset } => format!(in alloc; "nets {offset}"),
         }
     }
 }
@@ -353,6 +383,16 @@ fn pair_text(alloc: Global, word: &str, first: u8, second: u32) -> Result<String
     let mut text = String::from_str(alloc, word)?;
     write!(text, " {first}")?;
     write!(text, " {second}")?;
+    Ok(text)
+}
+
+/// That the modules up to the one of this number have too many gates.
+fn many_text(alloc: Global, number: u32, gates: u64) -> Result<String, AllocError>
+    ensures { IfOk result (λ text. string_bytes text ≡ many_text number gates) }
+{
+    let mut text = String::from_str(alloc, "many")?;
+    write!(text, " {number}")?;
+    write!(text, " {gates}")?;
     Ok(text)
 }
 

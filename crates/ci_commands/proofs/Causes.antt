@@ -6,8 +6,8 @@ use Rattle.ci_io.specs.Outcomes.{ShelfState}
 use Rattle.ci_asm.specs.declared.faults.AsmFault.{AsmFault}
 use Rattle.ci_asm.specs.declared.faults.AsmFault.TheVariants as assembly
 use Rattle.ci_calls.specs.declared.refusals.Refusal.{Refusal}
-use Rattle.ci_calls.specs.declared.refusals.Refusal.TheVariants.{Unsupported, NoMemory}
-use Rattle.ci_calls.specs.Evaluations.{IsUnsupported}
+use Rattle.ci_calls.specs.declared.refusals.Refusal.TheVariants.{Unsupported, NoMemory, ManyGates}
+use Rattle.ci_calls.specs.Evaluations.{IsUnsupported, IsManyGates}
 use Rattle.ci_calls.specs.Inputs.{Input}
 use Rattle.ci_calls.specs.Reads.{HaveRead, HaveNotRead, IsRefusalOf}
 use Rattle.ci_calls.specs.Refused.{asm_refusal}
@@ -49,6 +49,15 @@ unsupported_status P refusal is = absurd is
 pub unsupported_once : (P Q : ℕ → ℕ → Type 0) (first second : Refusal) → IsUnsupported P first → IsUnsupported Q second
     → status_of first ≡ status_of second
 unsupported_once P Q first second a b = unsupported_status P first a ∙ sym (unsupported_status Q second b)
+
+-- and so have modules with too many gates
+many_gates_status : (P : ℕ → ℕ → Type 0) (refusal : Refusal) → IsManyGates P refusal → status_of refusal ≡ 14
+many_gates_status P (ManyGates number gates) is = refl
+many_gates_status P refusal is = absurd is
+
+pub many_gates_once : (P Q : ℕ → ℕ → Type 0) (first second : Refusal) → IsManyGates P first → IsManyGates Q second
+    → status_of first ≡ status_of second
+many_gates_once P Q first second a b = many_gates_status P first a ∙ sym (many_gates_status Q second b)
 
 -- a file that holds no assembler text is refused
 module _

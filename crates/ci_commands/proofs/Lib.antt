@@ -2,6 +2,7 @@ mod Listed
 mod WordLaws
 mod ListedLaws
 pub mod OneBlock
+mod GateLaws
 pub mod OneModule
 pub mod Causes
 mod RunTexts

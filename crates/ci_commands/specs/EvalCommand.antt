@@ -39,11 +39,15 @@ pub record IsEvalMade (number : ℕ) (arguments : List ℕ) (read : List (List �
   pub text_is : success.text.items ≡ results_line chosen.wires.wide y z x
   pub writes_none : success.writes.items ≡ []
 
--- the text has no module of the number, which is named, with 0 for a word
-pub record IsNoModule (modules : List Module) (number position word : ℕ) : Type 0 where
-  pub absent : length modules ≤ number
+-- of so many, counted from 0, there is none of the number, which is named, with 0 for a word
+pub record IsPast (count number position word : ℕ) : Type 0 where
+  pub absent : count ≤ number
   pub position_is : position ≡ number
   pub word_is : word ≡ 0
+
+-- the text has no module of the number
+abbrev pub IsNoModule : List Module → ℕ → ℕ → ℕ → Type 0
+IsNoModule modules number = IsPast (length modules) number
 
 -- it refuses a text that has no module of the number
 pub record IsEvalRefused (number : ℕ) (read : List (List ℕ)) (refusal : Refusal) : Type 0 where

@@ -5,6 +5,8 @@ pub mod BlocksCommand
 pub mod AsmCommand
 pub mod DisCommand
 pub mod EvalCommand
+pub mod GatesCommand
+pub mod GevalCommand
 pub mod RelogCommand
 pub mod RunCommand
 pub mod private

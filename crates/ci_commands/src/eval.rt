@@ -46,8 +46,14 @@ pub fn evaluate<'a, F: Shelf>(
     })
 }
 
-/// The line of the results of a module.
-fn results_text(alloc: Global, wide: bool, y: u32, z: u32, x: u32) -> Result<String, AllocError>
+/// The line of the results of a module, or of a netlist, which has three.
+pub(crate) fn results_text(
+    alloc: Global,
+    wide: bool,
+    y: u32,
+    z: u32,
+    x: u32,
+) -> Result<String, AllocError>
     ensures { IfOk result (λ text. string_bytes text ≡ results_line wide y z x) }
 {
     let mut text = String::new(alloc);

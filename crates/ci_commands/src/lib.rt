@@ -10,5 +10,7 @@ pub mod best;
 pub mod blocks;
 pub mod dis;
 pub mod eval;
+pub mod gates;
+pub mod geval;
 pub mod relog;
 pub mod run;

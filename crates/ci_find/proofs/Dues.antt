@@ -1,10 +1,10 @@
 -- What is due to the words over the files that a shelf tells: one status.
-use Rattle.std.proofs.Common.{◌≡◌, ℕ, ◌⊎◌, inl, inr, List, Some, sym, subst, ◌∙◌}
+use Rattle.std.proofs.Common.{◌≡◌, ℕ, ◌⊎◌, inl, inr, List, length, Some, sym, subst, ◌∙◌}
 use Rattle.ci_io.specs.Outcomes.{Files}
 use Rattle.ci_select.specs.declared.plan.Plan.{Plan}
-use Rattle.ci_arguments.specs.Words.{Reading, ReadsAs, HasNoReading, number_at, name_set, number_set, word_set, words_set}
+use Rattle.ci_arguments.specs.Words.{Reading, ReadsAs, HasNoReading, name_at, number_at, name_set, number_set, word_set, words_set}
 use Rattle.ci_arguments.specs.declared.tables.CommandName.{CommandName}
-use Rattle.ci_arguments.specs.declared.tables.CommandName.TheVariants.{Best, Asm, Dis, Run, Blocks, Eval, Find, Check, Relog, Load}
+use Rattle.ci_arguments.specs.declared.tables.CommandName.TheVariants.{Best, Asm, Dis, Run, Blocks, Eval, Find, Check, Relog, Gates, Geval, Load}
 use Rattle.ci_arguments.specs.declared.tables.OptionName.TheVariants as option
 use Rattle.ci_arguments.proofs.Readings.{one_reading}
 use Rattle.ci_calls.specs.declared.refusals.Refusal.{Refusal}
@@ -14,10 +14,11 @@ use Rattle.ci_calls.specs.Refusals.{status_of}
 use Rattle.ci_calls.proofs.OneRefusal.{read_once, read_or_refused, refusal_once}
 use Rattle.ci_commands.specs.BestCommand.{HoldsNoBlock}
 use Rattle.ci_block.specs.CustomWords.{IsFirstCustomWord}
-use Rattle.ci_commands.proofs.Causes.{unsupported_once}
-use Rattle.ci_commands.specs.EvalCommand.{IsNoModule}
+use Rattle.ci_commands.proofs.Causes.{many_gates_once, unsupported_once}
+use Rattle.ci_commands.specs.EvalCommand.{IsNoModule, IsPast}
+use Rattle.ci_commands.specs.GatesCommand.{IsFirstTooMany}
 use Rattle.ci_commands.proofs.OneBlock.{best_or_refused, blocks_or_refused}
-use Rattle.ci_commands.proofs.OneModule.{eval_or_refused}
+use Rattle.ci_commands.proofs.OneModule.{eval_or_refused, gates_or_refused, geval_or_refused}
 use Rattle.ci_find.specs.CheckCommand.{IsCheckRefused}
 use Rattle.ci_find.specs.ChoiceReading.{find_output, settings_of, IsPlanOf}
 use Rattle.ci_find.specs.Commands.{arguments_of, inputs_of, IsMade, IsRefusedOf, MakesBy, RefusesBy}
@@ -57,6 +58,9 @@ made_or_refused Check reading read success refusal made is =
     check_or_refused (settings_of reading made.0) read success refusal made.2
     (checked_by reading read refusal made.0 made.1 is)
 made_or_refused Relog reading read success refusal made is = is
+made_or_refused Gates reading read success refusal made is = gates_or_refused read success refusal (name_at reading 1) made is
+made_or_refused Geval reading read success refusal made is =
+    geval_or_refused read success refusal (number_at reading 1) (arguments_of reading) made is
 made_or_refused Load reading read success refusal made is = is
 
 -- it is refused with one status
@@ -79,6 +83,11 @@ refused_once Find reading read first second a b =
 refused_once Check reading read first second a b =
     check_refused_once (settings_of reading a.0) read first second a.2 (checked_by reading read second a.0 a.1 b)
 refused_once Relog reading read first second a b = absurd a
+refused_once Gates reading read first second a b =
+    many_gates_once (IsFirstTooMany a.modules) (IsFirstTooMany b.modules) first second a.many b.many
+refused_once Geval reading read first second a b =
+    unsupported_once (IsPast (length a.nets) (number_at reading 1)) (IsPast (length b.nets) (number_at reading 1)) first second
+    a.unsupported b.unsupported
 refused_once Load reading read first second a b = absurd a
 
 -- ---- one status is due

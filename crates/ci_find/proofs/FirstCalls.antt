@@ -10,13 +10,14 @@ use Rattle.ci_arguments.specs.Words.{Reading, ReadsAs}
 use Rattle.ci_arguments.proofs.Readings.{one_reading}
 use Rattle.ci_elf.specs.Executables.{Executable}
 use Rattle.ci_calls.specs.declared.refusals.Refusal.{Refusal}
-use Rattle.ci_calls.specs.declared.refusals.Refusal.TheVariants.{BadElf, BadTable, BadUnits, BadLog, NoMemory, BadAsm}
+use Rattle.ci_calls.specs.declared.refusals.Refusal.TheVariants.{BadElf, BadTable, BadUnits, BadLog, NoMemory, BadAsm, BadNets}
 use Rattle.ci_calls.specs.declared.success.Success.{Success}
 use Rattle.ci_calls.specs.declared.success.Written.{Written}
 use Rattle.ci_calls.specs.Called.{writes_of, IsLinePut, PutsText, PutsRefusal, taken, put_failed}
 use Rattle.ci_calls.specs.Called.{FinishesBy, all_written, write_failed}
 use Rattle.ci_calls.specs.Called as called
-use Rattle.ci_calls.specs.Forms.{Form, IsMalformed, assembler_text, executable_file, latency_table, verilog_units, log_book}
+use Rattle.ci_calls.specs.Forms.{Form, IsMalformed, assembler_text, executable_file, gate_netlists, latency_table, verilog_units}
+use Rattle.ci_calls.specs.Forms.{log_book}
 use Rattle.ci_calls.specs.Inputs.{Input}
 use Rattle.ci_calls.specs.Reads.{reads_of, IsRefusedAs, AreStoppedReads, out_of_memory, one_more}
 use Rattle.ci_calls.specs.Reads as stopped
@@ -108,6 +109,7 @@ malformed_status executable_file bytes (BadElf fault) is same = omega (arith, sa
 malformed_status latency_table bytes (BadTable fault) is same = omega (arith, same)
 malformed_status verilog_units bytes (BadUnits kind offset) is same = omega (arith, same)
 malformed_status log_book bytes (BadLog fault) is same = omega (arith, same)
+malformed_status gate_netlists bytes (BadNets offset) is same = omega (arith, same)
 malformed_status form bytes refusal is same = absurd is
 
 refused_status : (input : Input) (answer : Answer) (refusal : Refusal) → IsRefusedAs input answer refusal → status_of refusal ≢ 3

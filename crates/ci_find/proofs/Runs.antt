@@ -6,7 +6,7 @@ use Rattle.ci_io.specs.Outcomes.{Files, ShelfState}
 use Rattle.ci_arguments.specs.Words.{Reading, ReadsAs}
 use Rattle.ci_calls.specs.declared.refusals.Refusal.{Refusal}
 use Rattle.ci_calls.specs.declared.refusals.Refusal.TheVariants.{Usage, Read, Write, Put, TooLarge, BadElf, BadTable, Unsupported}
-use Rattle.ci_calls.specs.declared.refusals.Refusal.TheVariants.{TextTouched, BadUnits, BadLog, Rejected, NoMemory, BadAsm}
+use Rattle.ci_calls.specs.declared.refusals.Refusal.TheVariants.{TextTouched, BadUnits, BadLog, Rejected, NoMemory, BadAsm, ManyGates, BadNets}
 use Rattle.ci_calls.specs.declared.success.Success.{Success}
 use Rattle.ci_calls.specs.Reads.{IsRefusalOf}
 use Rattle.ci_calls.specs.Refused.{IsRefusedBy}
@@ -122,7 +122,7 @@ Answers-due words change status ends (Some held) tells = λ due is. Answers-end 
 -- ---- the statuses
 
 abbrev statuses : List ℕ
-statuses = 0 ∷ 1 ∷ 2 ∷ 3 ∷ 4 ∷ 5 ∷ 6 ∷ 7 ∷ 8 ∷ 9 ∷ 10 ∷ 11 ∷ 12 ∷ 13 ∷ []
+statuses = 0 ∷ 1 ∷ 2 ∷ 3 ∷ 4 ∷ 5 ∷ 6 ∷ 7 ∷ 8 ∷ 9 ∷ 10 ∷ 11 ∷ 12 ∷ 13 ∷ 14 ∷ 15 ∷ []
 
 -- the status of a refusal is one of them
 refusal-status : (refusal : Refusal) → Contains statuses (status_of refusal)
@@ -140,6 +140,8 @@ refusal-status (BadLog fault) = (10, lit< tt, refl)
 refusal-status (Rejected round leader item reason) = (11, lit< tt, refl)
 refusal-status NoMemory = (12, lit< tt, refl)
 refusal-status (BadAsm kind line column) = (13, lit< tt, refl)
+refusal-status (ManyGates number gates) = (14, lit< tt, refl)
+refusal-status (BadNets offset) = (15, lit< tt, refl)
 
 Finishes-status : (change : Change) (success : Success) (status : ℕ) → Finishes change success status → Contains statuses status
 Finishes-status change success status (done written took) = (0, lit< tt, refl)

@@ -5,7 +5,7 @@ use Rattle.ci_io.specs.Outcomes.{ShelfState}
 use Rattle.ci_cut.specs.declared.graph.Limits.{Limits}
 use Rattle.ci_arguments.specs.Words.{Reading, name_at, number_at, word_at, name_set, number_set, word_set, words_set}
 use Rattle.ci_arguments.specs.declared.tables.CommandName.{CommandName}
-use Rattle.ci_arguments.specs.declared.tables.CommandName.TheVariants.{Best, Asm, Dis, Run, Blocks, Eval, Find, Check, Relog, Load}
+use Rattle.ci_arguments.specs.declared.tables.CommandName.TheVariants.{Best, Asm, Dis, Run, Blocks, Eval, Find, Check, Relog, Gates, Geval, Load}
 use Rattle.ci_arguments.specs.declared.tables.OptionName.TheVariants as option
 use Rattle.ci_calls.specs.declared.refusals.Refusal.{Refusal}
 use Rattle.ci_calls.specs.declared.success.Success.{Success}
@@ -19,6 +19,8 @@ use Rattle.ci_commands.specs.RunCommand.{run_inputs, IsRunMade}
 use Rattle.ci_commands.specs.BlocksCommand.{blocks_inputs, IsBlocksMade, IsBlocksRefused}
 use Rattle.ci_commands.specs.EvalCommand.{eval_inputs, IsEvalMade, IsEvalRefused}
 use Rattle.ci_commands.specs.RelogCommand.{relog_inputs, IsRelogMade}
+use Rattle.ci_commands.specs.GatesCommand.{gates_inputs, IsGatesMade, IsGatesRefused}
+use Rattle.ci_commands.specs.GevalCommand.{geval_inputs, IsGevalMade, IsGevalRefused}
 use Rattle.ci_select.specs.declared.plan.Plan.{Plan}
 use Rattle.ci_find.specs.ChoiceReading.{IsPlanOf, log_version, settings_of, find_output, find_files, check_files}
 use Rattle.ci_find.specs.FindCommand.{IsFindMade, IsFindRefused}
@@ -98,6 +100,16 @@ call_by Relog reading = record {
   inputs = relog_inputs (name_at reading 0);
   Makes = IsRelogMade (name_at reading 1) (log_version reading);
   Refuses = RefusesNothing;
+}
+call_by Gates reading = record {
+  inputs = gates_inputs (name_at reading 0);
+  Makes = IsGatesMade (name_at reading 1);
+  Refuses = IsGatesRefused;
+}
+call_by Geval reading = record {
+  inputs = geval_inputs (name_at reading 0);
+  Makes = IsGevalMade (number_at reading 1) (arguments_of reading);
+  Refuses = IsGevalRefused (number_at reading 1);
 }
 call_by Load reading = record {
   inputs = [];

@@ -1,12 +1,12 @@
 //! Which command the words mean, and what it makes of its files, or why it makes nothing.
-ghost use Rattle.std.specs.Prelude.{◌≡◌, ℕ, Bool, List, IfOk, IfErr, map};
+ghost use Rattle.std.specs.Prelude.{◌≡◌, ℕ, ◌≤◌, Bool, List, [], ◌∷◌, IfOk, IfErr, map};
 ghost use Rattle.std.specs.String.{string_bytes};
 ghost use Rattle.ci_arguments.specs.Ranges.{KeepsRanges, KeepsPlaces};
 ghost use Rattle.ci_arguments.specs.Read.{reading_of};
 ghost use Rattle.ci_arguments.specs.declared.tables.OptionName.TheVariants as option;
-ghost use Rattle.ci_arguments.specs.Words.{words_set};
+ghost use Rattle.ci_arguments.specs.Words.{number_at, words_set};
 ghost use Rattle.ci_find.specs.ChoiceReading.{log_version, settings_of, IsPlanOf};
-ghost use Rattle.ci_find.specs.Commands.{IsAnswerBy};
+ghost use Rattle.ci_find.specs.Commands.{arguments_of, IsAnswerBy};
 ghost use Rattle.ci_find.specs.private.Chosen.{settings_by, KeepsChoiceRanges};
 ghost use Rattle.ci_find.specs.EndsBy.{IsDueBy, IsRefusalBy};
 ghost use Rattle.ci_io.specs.CallLists.{Call};
@@ -21,7 +21,7 @@ use ci_arguments::{CommandName, OptionName, Words, WordsErr, read_words};
 use ci_calls::{Refusal, Success};
 use ci_commands::best::BestSettings;
 use ci_commands::run::RunSettings;
-use ci_commands::{asm, best, blocks, dis, eval, relog, run};
+use ci_commands::{asm, best, blocks, dis, eval, gates, geval, relog, run};
 use ci_cut::Limits;
 use ci_io::Shelf;
 use ci_log::Version;
@@ -76,6 +76,8 @@ fn evaluate_command<'a, F: Shelf>(
         CommandName::Relog => {
             relog::evaluate(alloc, file, words.name_at(1), log_version(words), shelf)
         }
+        CommandName::Gates => gates::evaluate(alloc, file, words.name_at(1), shelf),
+        CommandName::Geval => evaluate_geval(alloc, words, shelf),
         CommandName::Load => evaluate_load(alloc, words),
     }
 }
@@ -133,11 +135,36 @@ fn evaluate_eval<'a, F: Shelf>(
     ensures { IsAnswerBy F.read_may_fail F.write_may_fail (F.state shelf.old) (F.state shelf.new)
         CommandName.Eval (reading_of words.now) result }
 {
+    let (number, arguments) = number_and_arguments(words);
+    eval::evaluate(alloc, words.name_at(0), number, arguments, shelf)
+}
+
+/// What `geval` makes of its file, by the netlist and the inputs that the words say.
+fn evaluate_geval<'a, F: Shelf>(
+    alloc: Global,
+    words: &Words<'a>,
+    shelf: &mut F,
+) -> Result<Success<'a>, Refusal<'a>>
+    requires { KeepsPlaces CommandName.Geval (reading_of words.now) }
+    ensures { IsAnswerBy F.read_may_fail F.write_may_fail (F.state shelf.old) (F.state shelf.new)
+        CommandName.Geval (reading_of words.now) result }
+{
+    let (number, arguments) = number_and_arguments(words);
+    geval::evaluate(alloc, words.name_at(0), number, arguments, shelf)
+}
+
+/// The number of a module or of a netlist, and the values of its inputs a, b, c, d and e, that the words say.
+fn number_and_arguments(words: &Words) -> (u32, (u32, u32, u32, u32, u32))
+    requires { number_at (reading_of words.now) 1 ≤ 31 }
+    ensures number { result.0 ≡ number_at (reading_of words.now) 1 }
+    ensures arguments { (result.1.0 ∷ result.1.1 ∷ result.1.2 ∷ result.1.3 ∷ result.1.4 ∷ [])
+        ≡ arguments_of (reading_of words.now) }
+{
     let number = words.number_at(1) as u32;
     let d = words.word(OptionName::ArgumentD).unwrap_or(0);
     let e = words.word(OptionName::ArgumentE).unwrap_or(0);
     let arguments = (words.word_at(2), words.word_at(3), words.word_at(4), d, e);
-    eval::evaluate(alloc, words.name_at(0), number, arguments, shelf)
+    (number, arguments)
 }
 
 /// What `find` makes of its files, by the output and the settings that the words say.

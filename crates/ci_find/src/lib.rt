@@ -54,27 +54,32 @@ mod profiling;
 ///   those of such a choice.
 /// - `relog LOGS OUT`, with the option `--log N`: writes the book that LOGS spells to OUT, in version N, and then puts
 ///   a line with N and the length of OUT.
+/// - `gates UNITS OUT`: writes the netlists of all modules of UNITS to OUT, and then puts a line with the numbers of
+///   modules and of gates.
+/// - `geval NETS K A B C`, with the options `--d D` and `--e E`: puts a line with the results y, z and x of netlist K
+///   of NETS at the words A, B, C, D and E. D and E are 0 if left out.
 /// - `load SEED`: makes the program of the seed, runs it, chooses cuts of its blocks by the default options, runs the
 ///   program that uses their units, and puts a line of numbers and the output. It reads and writes no file.
 ///
 /// Files are read in the order that the words have them, then units, table, input, each with its limit and its form
-/// tested before the next; only what gives status 7, 8 or 11 is tested once all are read. Nothing is written before all
-/// are read, and the text is put once all is written. The contract says so of the calls that are made on any shelf and
-/// any sink, by their names, their bytes and their answers, and of the files where the shelf tells them. Every refusal
-/// puts one fault line:
+/// tested before the next; only what gives status 7, 8, 11 or 14 is tested once all are read. Nothing is written before
+/// all are read, and the text is put once all is written. The contract says so of the calls that are made on any shelf
+/// and any sink, by their names, their bytes and their answers, and of the files where the shelf tells them. Every
+/// refusal puts one fault line:
 ///
 /// - 1, `fault 1 usage`: the words have no reading.
 /// - 2, `fault 2 read NAME`: the file isn't there, or reading it failed.
 /// - 3, `fault 3 write NAME`: writing the file failed, or the sink, whose name is `-`, failed to take the text.
 /// - 4, `fault 4 too large NAME`: the file has more bytes than one of its kind may have: 1024 for the words of a block,
-///   1,048,576 for FILE of `dis` and for a text, 65,536 for a table, 4,194,304 for modules, 268,435,456 for a log book,
-///   and 16,777,216 for an executable, NEW of `check` and an input.
+///   1,048,576 for FILE of `dis` and for a text, 65,536 for a table, 4,194,304 for modules, 268,435,456 for a log book
+///   and for netlists, and 16,777,216 for an executable, NEW of `check` and an input.
 /// - 5, `fault 5 elf RULE A B`: the file is no executable, and RULE is the number of the fault and A and B its numbers.
 /// - 6, `fault 6 table RULE KEY`: the file is no latency table, and RULE is the number of the fault and KEY its key.
 /// - 7, `fault 7 unsupported POSITION WORD`: in an executable, the address of the first word of a custom opcode and
 ///   that word, or the address of `--at`, where no block begins, and 0; in a file of words, its length, where that is
 ///   no multiple of four, and 0, or the offset of the first word of a custom opcode or of a terminator that isn't last,
-///   and that word; of `eval` the number of the module, where the file has none of it, and 0.
+///   and that word; of `eval` the number of the module, and of `geval` that of the netlist, where the file has none of
+///   it, and 0.
 /// - 8, `fault 8 text touched PC ADDR`: the profiled run of `find` or `check` touches the text: the pc of the first
 ///   step that does, and the first byte of the text that it moves.
 /// - 9, `fault 9 units KIND OFFSET`: the file spells no modules, by its first fault.
@@ -82,6 +87,10 @@ mod profiling;
 /// - 11, `fault 11 rejected ROUND LEADER ITEM REASON`: the files are those of no choice: their first wrong place.
 /// - 12, `fault 12 no memory`: memory ran out.
 /// - 13, `fault 13 asm KIND LINE COLUMN`: the file holds no assembler text. Where it isn't UTF-8 the numbers are 1 1 1.
+/// - 14, `fault 14 many K N`: the modules of `gates` have more than 4,194,304 gates: the number of the first module up
+///   to which they have more, and how many they have up to it.
+/// - 15, `fault 15 nets OFFSET`: the file is no text of netlists, by the offset of its first wrong byte, or by its
+///   length where it ends too early.
 pub fn run<F: Shelf, O: Sink>(alloc: Global, words: &Vec<String>, shelf: &mut F, out: &mut O) -> u8
     // Over every shelf and every sink: just the calls were made on them that their lists have since the call began.
     ensures called { AreMade F.read_may_fail F.write_may_fail (F.state shelf.old) (F.state shelf.new)
@@ -130,7 +139,7 @@ pub fn run<F: Shelf, O: Sink>(alloc: Global, words: &Vec<String>, shelf: &mut F,
         (F.state shelf.old) (F.state shelf.new) (O.state out.old) (O.state out.new))
         status result) }
     // No other status comes.
-    ensures statuses { Contains (0 ∷ 1 ∷ 2 ∷ 3 ∷ 4 ∷ 5 ∷ 6 ∷ 7 ∷ 8 ∷ 9 ∷ 10 ∷ 11 ∷ 12 ∷ 13 ∷ []) result }
+    ensures statuses { Contains (0 ∷ 1 ∷ 2 ∷ 3 ∷ 4 ∷ 5 ∷ 6 ∷ 7 ∷ 8 ∷ 9 ∷ 10 ∷ 11 ∷ 12 ∷ 13 ∷ 14 ∷ 15 ∷ []) result }
     // A refusal changes no file.
     ensures files_stay { result ≢ 0 → result ≢ 3 → result ≢ 12 → (F.state shelf.new).files ≡ (F.state shelf.old).files }
     // No file changes but those that the command writes, and these by a success or a write that failed.
