@@ -92,8 +92,8 @@ fn a_put_that_fails(rt: HostRuntime) -> Result<(), AllocError> {
     let mut out = MemSink::new(alloc, vec![in alloc; 1u64]?);
     let mut shelf = SureShelf::new(files_of(alloc, Some(book().as_bytes()), None, None)?);
     let answer = answer(alloc, "relog F OUT", &mut shelf, &mut out);
-    assert_eq!(rt; answer.ok(), Some(3));
-    assert_eq!(rt; out.taken(), b"fault 3 write -\n".as_slice());
+    assert!(rt; answer.ok() == Some(3));
+    assert!(rt; out.taken() == b"fault 3 write -\n".as_slice());
     drop(out);
     expect_file(&rt, shelf.files(), "OUT", packed_book().as_bytes());
     drop(shelf);

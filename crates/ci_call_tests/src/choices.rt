@@ -296,8 +296,8 @@ fn expect_no_summary(
     let mut out = MemSink::new(alloc, vec![in alloc; 1u64]?);
     let mut shelf = SureShelf::new(files_before(rt, there)?);
     let answer = answer(alloc, find(), &mut shelf, &mut out);
-    assert_eq!(rt; answer.ok(), Some(3));
-    assert_eq!(rt; out.taken(), b"fault 3 write -\n".as_slice());
+    assert!(rt; answer.ok() == Some(3));
+    assert!(rt; out.taken() == b"fault 3 write -\n".as_slice());
     drop(out);
     let due = files_after(rt, there, whole, 4);
     expect_files(rt, "a put", shelf.files(), due?);
@@ -315,7 +315,7 @@ fn expect_failures(
     let summary = b"cuts 1 units 1 skipped 0 gain 1\n";
     expect_call(rt, &mut sure, find(), 0, summary);
     // The three files that it read, and the four that it wrote.
-    assert_eq!(rt; sure.files().len(), 7);
+    assert!(rt; sure.files().len() == 7);
     expect_file(rt, sure.files(), "UNITS", unit_of_sums().as_bytes());
     let outcome = expect_failing_calls(rt, there, sure.files(), failing_calls());
     let no_summary = expect_no_summary(rt, there, sure.files());

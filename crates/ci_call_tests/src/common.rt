@@ -76,8 +76,8 @@ pub(crate) fn expect_call(
     let alloc = rt.alloc();
     let mut out = SureSink::new(alloc);
     let answer = answer(alloc, text, shelf, &mut out);
-    assert_eq!(rt; answer.ok(), Some(status), "the status of {text}");
-    assert_eq!(rt; out.taken(), put, "what {text} put");
+    assert!(rt; answer.ok() == Some(status), "the status of {text}");
+    assert!(rt; out.taken() == put, "what {text} put");
     drop(out);
 }
 
@@ -100,7 +100,7 @@ pub(crate) fn expect_file(
     bytes: &[u8],
 ) {
     match files.get(name) {
-        Some(file) => assert_eq!(rt; file.as_slice(), bytes, "the file {name}"),
+        Some(file) => assert!(rt; file.as_slice() == bytes, "the file {name}"),
         None => assert!(rt; false, "no file {name}"),
     }
 }

@@ -63,7 +63,7 @@ fn expect_damage(
     line: &str,
 ) -> Result<(), AllocError> {
     let mut bytes = program(rt, &[0x00000013], &[], &[])?;
-    assert_eq!(rt; bytes.len(), 280);
+    assert!(rt; bytes.len() == 280);
     let mut place = offset;
     for word in words {
         let edit = [(place, *word)];

@@ -25,6 +25,8 @@ mod limits;
 #[cfg(test)]
 mod load;
 #[cfg(test)]
+mod netlists;
+#[cfg(test)]
 mod plans;
 #[cfg(test)]
 mod runs;

@@ -56,7 +56,7 @@ fn expect_of_length(
     let count = shelf.files().len();
     expect_call(rt, &mut shelf, text, status, put);
     if status != 0 {
-        assert_eq!(rt; shelf.files().len(), count, "the files after {text}");
+        assert!(rt; shelf.files().len() == count, "the files after {text}");
     }
     drop(shelf);
     Ok(())
@@ -174,6 +174,7 @@ fn units() -> &'static [(&'static str, &'static str, u8, &'static str)] {
             7,
             "fault 7 unsupported 00000000 00000000\n",
         ),
+        ("U", "gates U OUT", 0, "modules 0 gates 0\n"),
         ("U", "run F --units U", 0, "end break steps 1 cost 1\n"),
         ("U", "check F N U L", 0, "accepted\n"),
     ]
@@ -256,9 +257,10 @@ fn words_at_their_limit(rt: HostRuntime) -> Result<(), AllocError> {
     expect_too_large(&rt, "F", 1_048_577, "dis F")
 }
 
-// Lengths up to the limit are left out, since a book takes 256 MiB, and as much again while it is read.
+// Lengths up to the limit are left out, since a text takes 256 MiB, and as much again while it is read.
 #[test]
-fn a_book_above_its_limit(rt: HostRuntime) -> Result<(), AllocError> {
+fn books_and_netlists_above_their_limit(rt: HostRuntime) -> Result<(), AllocError> {
     expect_too_large(&rt, "L", 268_435_457, "check F N U L")?;
-    expect_too_large(&rt, "L", 268_435_457, "relog L OUT")
+    expect_too_large(&rt, "L", 268_435_457, "relog L OUT")?;
+    expect_too_large(&rt, "L", 268_435_457, "geval L 0 0x0 0x0 0x0")
 }

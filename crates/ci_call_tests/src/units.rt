@@ -4,7 +4,7 @@ use std::alloc::AllocError;
 use std::process::Abort;
 
 /// The unit of the upper word of a product of a signed and an unsigned number.
-fn product() -> &'static str {
+pub(crate) fn product() -> &'static str {
     "// cycles 4\n\
     module ci_0(input [31:0] a, input [31:0] b, input [31:0] c, output [31:0] y, output [31:0] z);\n\
     wire [31:0] p0;\nassign p0 = a;\nwire [31:0] q0;\nassign q0 = b;\n\

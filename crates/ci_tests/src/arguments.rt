@@ -66,10 +66,10 @@ fn run_shown(alloc: Global, said: &Words) -> Result<String, AllocError> {
     Ok(text)
 }
 
-/// What `eval` is asked, in short.
-fn eval_shown(alloc: Global, said: &Words) -> Result<String, AllocError> {
-    let (units, number) = (said.name_at(0), said.number_at(1));
-    let mut text = format!(in alloc; "eval {units} {number}")?;
+/// What `eval` or `geval` is asked, in short.
+fn eval_shown(alloc: Global, said: &Words, name: &str) -> Result<String, AllocError> {
+    let (file, number) = (said.name_at(0), said.number_at(1));
+    let mut text = format!(in alloc; "{name} {file} {number}")?;
     for place in 2..5 {
         let word = said.word_at(place);
         write!(text, " {word}")?;
@@ -133,7 +133,7 @@ fn said_shown(alloc: Global, said: &Words) -> Result<String, AllocError> {
             push_leaders(alloc, &mut text, said)?;
             Ok(text)
         }
-        CommandName::Eval => eval_shown(alloc, said),
+        CommandName::Eval => eval_shown(alloc, said, "eval"),
         CommandName::Find => choice_shown(alloc, said, "find", 5),
         CommandName::Check => choice_shown(alloc, said, "check", 4),
         CommandName::Relog => {
@@ -141,6 +141,11 @@ fn said_shown(alloc: Global, said: &Words) -> Result<String, AllocError> {
             let version = said.number(OptionName::LogVersion);
             format!(in alloc; "relog {logs} {out} {version}")
         }
+        CommandName::Gates => {
+            let (units, out) = (said.name_at(0), said.name_at(1));
+            format!(in alloc; "gates {units} {out}")
+        }
+        CommandName::Geval => eval_shown(alloc, said, "geval"),
         CommandName::Load => {
             let seed = said.number_at(0);
             format!(in alloc; "load {seed}")
@@ -169,7 +174,7 @@ type Told = (&'static str, &'static str);
 
 /// Asserts that what a line reads as is what is wanted.
 fn is_reading(rt: &impl Abort, line: &str, text: &str, wanted: &str) {
-    assert_eq!(rt; text, wanted, "the reading of {line}");
+    assert!(rt; text == wanted, "the reading of {line}");
 }
 
 /// Asserts what each line reads as, in short.
@@ -252,6 +257,26 @@ fn versions() -> &'static [Told] {
         ("relog A B --log 0x1", "none"),
         ("relog A B --log 1 --log=1", "none"),
         ("relog A B --in 3", "none"),
+        ("gates A B", "gates A B"),
+        ("gates -- A ./A", "gates A ./A"),
+        ("gates A A", "none"),
+        ("gates A", "none"),
+        ("gates A B C", "none"),
+        ("gates A B --log 1", "none"),
+        ("geval A 3 0x1 0xFf 0x10", "geval A 3 1 255 16"),
+        (
+            "geval --d=0x10 A 031 0x0 -- 0x0 0x2",
+            "geval A 31 0 0 2 d 10",
+        ),
+        (
+            "geval A 1 0x2 0x3 0x4 --e 0x5 --d 0x6",
+            "geval A 1 2 3 4 d 6 e 5",
+        ),
+        ("geval A 32 0x0 0x0 0x0", "none"),
+        ("geval A 1 0x0 0x0", "none"),
+        ("geval A 1 0x0 0x0 0x0 0x0", "none"),
+        ("geval A 1 0x0 0x0 0", "none"),
+        ("geval A 1 0x0 0x0 0x0 --log 1", "none"),
         (
             "find A B C D E --log 2",
             "find A B C D E 3 2 32 65536 16777216 2 - -",

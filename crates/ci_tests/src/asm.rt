@@ -79,7 +79,7 @@ fn assembly(rt: &(impl Abort + AllocGlobal), text: &str) -> Result<Vec<u32>, Asm
 /// The text has these words.
 fn are_words(rt: &(impl Abort + AllocGlobal), text: &str, due: &[u32]) -> Result<(), AsmFault> {
     let words = assembly(rt, text)?;
-    assert_eq!(rt; words.as_slice(), due, "{text}");
+    assert!(rt; words.as_slice() == due, "{text}");
     Ok(())
 }
 
@@ -87,7 +87,7 @@ fn are_words(rt: &(impl Abort + AllocGlobal), text: &str, due: &[u32]) -> Result
 fn is_shown(rt: &(impl Abort + AllocGlobal), word: u32, text: &str) -> Result<(), AllocError> {
     if let Some(insn) = decode_x(word) {
         let shown = show(rt.alloc(), &insn)?;
-        assert_eq!(rt; shown.as_str(), text);
+        assert!(rt; shown.as_str() == text);
     }
     Ok(())
 }
@@ -99,7 +99,7 @@ fn is_shown_as_word(
     text: &str,
 ) -> Result<(), AllocError> {
     let shown = show(rt.alloc(), &insn_at(word))?;
-    assert_eq!(rt; shown.as_str(), text);
+    assert!(rt; shown.as_str() == text);
     Ok(())
 }
 
@@ -107,7 +107,7 @@ fn is_shown_as_word(
 fn has_fault(rt: &(impl Abort + AllocGlobal), text: &str, fault: (u8, u32, u32)) {
     match assembly(rt, text) {
         Err(AsmFault::Bad { kind, line, column }) => {
-            assert_eq!(rt; (kind, line, column), fault, "{text}");
+            assert!(rt; (kind, line, column) == fault, "{text}");
         }
         _ => assert!(rt; false, "{text}"),
     }
@@ -312,7 +312,7 @@ fn has_first(
     word: u32,
 ) -> Result<(), AsmFault> {
     let words = words_around(rt, before, count, after)?;
-    assert_eq!(rt; words.as_slice().first().copied(), Some(word));
+    assert!(rt; words.as_slice().first().copied() == Some(word));
     Ok(())
 }
 
@@ -325,14 +325,14 @@ fn has_last(
     word: u32,
 ) -> Result<(), AsmFault> {
     let words = words_around(rt, before, count, after)?;
-    assert_eq!(rt; words.as_slice().last().copied(), Some(word));
+    assert!(rt; words.as_slice().last().copied() == Some(word));
     Ok(())
 }
 
 #[test]
 fn has_at_most_262144_words(rt: HostRuntime) -> Result<(), Fail> {
     let words = words_around(&rt, "", 262_144, "")?;
-    assert_eq!(rt; words.len(), 262_144);
+    assert!(rt; words.len() == 262_144);
     has_fault_around(&rt, "", 262_144, "# no word\nebreak @", (7, 262_146, 1))?;
     Ok(())
 }

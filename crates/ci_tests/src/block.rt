@@ -26,7 +26,7 @@ fn expect_leaders(
     wanted: &[u32],
 ) -> Result<(), Fail> {
     let leaders = leaders(alloc, image, targets, given)?;
-    assert_eq!(rt; leaders.all(), wanted);
+    assert!(rt; leaders.all() == wanted);
     Ok(())
 }
 
@@ -98,7 +98,7 @@ fn expect_lengths(
     for block in blocks.all() {
         lengths.push(block.insns.len())?;
     }
-    assert_eq!(rt; lengths.as_slice(), wanted);
+    assert!(rt; lengths.as_slice() == wanted);
     Ok(())
 }
 
@@ -113,7 +113,7 @@ fn expect_nexts(
     for block in blocks.all() {
         nexts.push(block.next)?;
     }
-    assert_eq!(rt; nexts.as_slice(), wanted);
+    assert!(rt; nexts.as_slice() == wanted);
     Ok(())
 }
 
@@ -223,12 +223,12 @@ fn expect_two_ranges(
     blocks: usize,
 ) -> Result<(), Fail> {
     let image = changed(rt, alloc, &[NOP; 4], &[NOP], &[], edits)?;
-    assert_eq!(rt; image.ranges().len(), 2);
+    assert!(rt; image.ranges().len() == 2);
     let leaders = expect_leaders(rt, alloc, &image, &[], &[], wanted);
     let count = count_of_blocks(alloc, &image);
     drop(image);
     leaders?;
-    assert_eq!(rt; count?, blocks);
+    assert!(rt; count? == blocks);
     Ok(())
 }
 
@@ -251,7 +251,7 @@ fn symbols_make_leaders(rt: HostRuntime) -> Result<(), Fail> {
     let symbols = [0, 0x10078, 0, 0, 0, 0x1007e, 0, 0, 0, 0x10084, 0, 0];
     let entries = [(84, 0), (116 + 68 + 124, 2), (116 + 68 + 156, 16)];
     let image = changed(&rt, alloc, &[NOP; 4], &[1000], &symbols, &entries)?;
-    assert_eq!(rt; image.symbols().len(), 3);
+    assert!(rt; image.symbols().len() == 3);
     let outcome = expect_leaders(&rt, alloc, &image, &[], &[], &[0x10074, 0x10078]);
     drop(image);
     outcome
@@ -342,7 +342,7 @@ fn expect_custom(
     due: Option<CustomWord>,
 ) -> Result<(), Fail> {
     let image = image_of(rt, alloc, text, &[])?;
-    assert_eq!(rt; first_custom_word(&image), due);
+    assert!(rt; first_custom_word(&image) == due);
     drop(image);
     Ok(())
 }

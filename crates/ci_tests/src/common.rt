@@ -134,7 +134,7 @@ pub(crate) fn expect_counts(
     steps: u64,
     cost: u64,
 ) {
-    assert_eq!(rt; profile.end, end);
-    assert_eq!(rt; profile.steps, steps);
-    assert_eq!(rt; profile.cost, cost);
+    assert!(rt; profile.end == end);
+    assert!(rt; profile.steps == steps);
+    assert!(rt; profile.cost == cost);
 }

@@ -15,9 +15,8 @@ use std::process::Abort;
 fn has_terms(rt: &impl Abort, graph: &Graph, members: &[u8], due: (bool, u32, u32)) {
     let cut = row_below(rt, graph.nodes().len(), members);
     let convex = is_convex(graph, &cut);
-    assert_eq!(rt;
-        (convex, inputs(graph, &cut), outputs(graph, &cut)),
-        due,
+    assert!(rt;
+        (convex, inputs(graph, &cut), outputs(graph, &cut)) == due,
         "terms of {members:?}"
     );
 }
@@ -40,9 +39,8 @@ fn expect_terms(
 /// Asserts the hardware time and the gain of a set of nodes.
 fn has_value(rt: &impl Abort, graph: &Graph, members: &[u8], due: (u32, i64)) {
     let cut = row_below(rt, graph.nodes().len(), members);
-    assert_eq!(rt;
-        (hardware(graph, &cut), gain(graph, &cut)),
-        due,
+    assert!(rt;
+        (hardware(graph, &cut), gain(graph, &cut)) == due,
         "value of {members:?}"
     );
 }
@@ -298,8 +296,8 @@ fn a_pair_of_adds(rt: HostRuntime) -> Result<(), AllocError> {
     };
     assert!(rt; fits(&graph, &ONE_OUTPUT, &pair));
     assert!(rt; !fits(&graph, &two_inputs, &pair));
-    assert_eq!(rt; best_in(&rt, &graph, &ONE_OUTPUT), Some(pair));
-    assert_eq!(rt; best_in(&rt, &graph, &two_inputs), None);
+    assert!(rt; best_in(&rt, &graph, &ONE_OUTPUT) == Some(pair));
+    assert!(rt; best_in(&rt, &graph, &two_inputs) == None);
     drop(graph);
     Ok(())
 }
@@ -316,7 +314,7 @@ fn expect_best(
         Some(members) => Some(row_below(rt, parts.len(), members)),
         None => None,
     };
-    assert_eq!(rt; best_in(rt, &graph, &ONE_OUTPUT), due);
+    assert!(rt; best_in(rt, &graph, &ONE_OUTPUT) == due);
     drop(graph);
     Ok(())
 }
@@ -446,7 +444,7 @@ fn expect_best_within(
 ) -> Result<(), AllocError> {
     let graph = graph_of(rt, alloc, parts)?;
     let due = Some(row_below(rt, parts.len(), members));
-    assert_eq!(rt; best_in(rt, &graph, limits), due);
+    assert!(rt; best_in(rt, &graph, limits) == due);
     drop(graph);
     Ok(())
 }

@@ -37,21 +37,20 @@ fn graph_of(rt: &impl Abort, alloc: Global, words: &[u32]) -> Result<Graph, Allo
 
 /// Compares the nodes of a graph.
 fn check(rt: &impl Abort, graph: &Graph, told: &[Told]) {
-    assert_eq!(rt; graph.nodes().len(), told.len());
+    assert!(rt; graph.nodes().len() == told.len());
     for (k, (node, (sources, before, live))) in graph.nodes().iter().zip(told).enumerate() {
-        assert_eq!(rt; node.sources.as_slice(), *sources, "sources of {k}");
-        assert_eq!(rt; node.before, set_of(before), "arcs into {k}");
-        assert_eq!(rt; node.live, *live, "life of {k}");
+        assert!(rt; node.sources.as_slice() == *sources, "sources of {k}");
+        assert!(rt; node.before == set_of(before), "arcs into {k}");
+        assert!(rt; node.live == *live, "life of {k}");
     }
 }
 
 /// Compares which nodes may be members, and their latencies and delays.
 fn check_costs(rt: &impl Abort, graph: &Graph, told: &[(bool, u32, u32)]) {
-    assert_eq!(rt; graph.nodes().len(), told.len());
+    assert!(rt; graph.nodes().len() == told.len());
     for (k, (node, costs)) in graph.nodes().iter().zip(told).enumerate() {
-        assert_eq!(rt;
-            (node.eligible, node.latency, node.delay),
-            *costs,
+        assert!(rt;
+            (node.eligible, node.latency, node.delay) == *costs,
             "costs of {k}"
         );
     }
@@ -74,7 +73,7 @@ fn expect_nodes(
 fn no_instruction(rt: HostRuntime) -> Result<(), Fail> {
     let graph = graph_of(&rt, rt.alloc(), &[])?;
     check(&rt, &graph, &[]);
-    assert_eq!(rt; (graph.read(), graph.pad()), (1, 0));
+    assert!(rt; (graph.read(), graph.pad()) == (1, 0));
     drop(graph);
     Ok(())
 }
@@ -89,7 +88,7 @@ fn the_operands_of_a_call(rt: HostRuntime) -> Result<(), Fail> {
     assert!(rt; insns.len() == 2);
     let call = sources(rt.alloc(), &insns, 1)?;
     let told: &[Source] = &[Entry(10), Entry(11), Entry(12), Made(0)];
-    assert_eq!(rt; call.as_slice(), told);
+    assert!(rt; call.as_slice() == told);
     Ok(())
 }
 
@@ -117,7 +116,7 @@ fn expect_bundled(
     let insns = insns_of(alloc, words)?;
     let bundled = are_bundled(&insns);
     drop(insns);
-    assert_eq!(rt; bundled, due);
+    assert!(rt; bundled == due);
     Ok(())
 }
 
@@ -401,8 +400,8 @@ fn terminators() -> &'static [u32] {
 /// Asserts that a sum has an arc into a word behind it, to which nothing else ties it, or that it has none.
 fn expect_arc(rt: &impl Abort, alloc: Global, word: u32, before: &[u8]) -> Result<(), AllocError> {
     let graph = graph_of(rt, alloc, &[0x00B5_02B3, word])?;
-    assert_eq!(rt; graph.nodes().len(), 2);
-    assert_eq!(rt; graph.nodes()[1].before, set_of(before), "{word:08x}");
+    assert!(rt; graph.nodes().len() == 2);
+    assert!(rt; graph.nodes()[1].before == set_of(before), "{word:08x}");
     drop(graph);
     Ok(())
 }

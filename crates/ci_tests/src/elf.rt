@@ -49,7 +49,7 @@ type Row<'a> = (&'a [(usize, u32)], Option<ElfFault>);
 fn are_faults(rt: &impl Abort, alloc: Global, rows: &[Row<'_>]) -> Result<(), AllocError> {
     for (edits, due) in rows {
         let found = changed(rt, alloc, edits)?;
-        assert_eq!(rt; found, *due, "{edits:?}");
+        assert!(rt; found == *due, "{edits:?}");
     }
     Ok(())
 }
@@ -91,7 +91,7 @@ fn a_file_has_these_words(rt: HostRuntime) -> Result<(), Fail> {
         due.extend_from_slice(&word.to_le_bytes())?;
     }
     let file = frame(rt.alloc(), &[0x13], &[1000], &[5])?;
-    assert_eq!(rt; file.as_slice(), due.as_slice());
+    assert!(rt; file.as_slice() == due.as_slice());
     Ok(())
 }
 
@@ -99,7 +99,7 @@ fn a_file_has_these_words(rt: HostRuntime) -> Result<(), Fail> {
 fn a_file_may_be_cut(rt: HostRuntime) -> Result<(), Fail> {
     for (len, due) in fronts() {
         let found = cut(&rt, rt.alloc(), *len)?;
-        assert_eq!(rt; found, *due, "{len}");
+        assert!(rt; found == *due, "{len}");
     }
     Ok(())
 }
@@ -306,14 +306,14 @@ fn the_text_is_tested(rt: HostRuntime) -> Result<(), AllocError> {
 /// Asserts which addresses lie in the text of an image.
 fn expect_in_text(rt: &impl Abort, image: &Image, rows: &[(u32, bool)]) {
     for (address, due) in rows {
-        assert_eq!(rt; image.in_text(*address), *due, "{address:x}");
+        assert!(rt; image.in_text(*address) == *due, "{address:x}");
     }
 }
 
 /// Asserts what bytes an image loads.
 fn expect_loaded(rt: &impl Abort, image: &Image, rows: &[(u32, Option<u8>)]) {
     for (address, due) in rows {
-        assert_eq!(rt; image.loaded_byte(*address), *due, "{address:x}");
+        assert!(rt; image.loaded_byte(*address) == *due, "{address:x}");
     }
 }
 
@@ -331,8 +331,8 @@ fn expect_segments(rt: &impl Abort, image: &Image) {
         offset: 128,
         file_size: 12,
     };
-    assert_eq!(rt; image.segments(), [text, values].as_slice());
-    assert_eq!(rt; image.segments_by_address(), [values, text].as_slice());
+    assert!(rt; image.segments() == [text, values].as_slice());
+    assert!(rt; image.segments_by_address() == [values, text].as_slice());
 }
 
 /// Asserts what range an image has.
@@ -341,9 +341,9 @@ fn expect_range(rt: &impl Abort, image: &Image) {
         start: 0x1_0074,
         words: 2,
     };
-    assert_eq!(rt; image.ranges(), [words].as_slice());
+    assert!(rt; image.ranges() == [words].as_slice());
     let range = range_with(image.ranges(), 0x1_007b);
-    assert_eq!(rt; range, Some(0));
+    assert!(rt; range == Some(0));
 }
 
 #[test]
@@ -352,11 +352,11 @@ fn an_image_has_the_parts_of_its_file(rt: HostRuntime) -> Result<(), Fail> {
     // The values lie below the text.
     change(&rt, &mut bytes, &[(92, 0x8000)]);
     let image = image_of(&rt, rt.alloc(), &bytes)?;
-    assert_eq!(rt; image.entry(), 0x1_0074);
-    assert_eq!(rt; image.bytes(), bytes.as_slice());
+    assert!(rt; image.entry() == 0x1_0074);
+    assert!(rt; image.bytes() == bytes.as_slice());
     expect_segments(&rt, &image);
     expect_range(&rt, &image);
-    assert_eq!(rt; image.symbols().len(), 0);
+    assert!(rt; image.symbols().len() == 0);
     expect_in_text(
         &rt,
         &image,
@@ -393,7 +393,7 @@ fn expect_text(
     let mut bytes = frame(alloc, &[0x13, 0x73], &[], &[])?;
     change(rt, &mut bytes, edits);
     let image = image_of(rt, alloc, &bytes)?;
-    assert_eq!(rt; image.ranges(), [range].as_slice());
+    assert!(rt; image.ranges() == [range].as_slice());
     drop(image);
     Ok(())
 }
@@ -419,7 +419,7 @@ fn the_text_is_whole_words(rt: HostRuntime) -> Result<(), Fail> {
 fn expect_word(rt: &impl Abort, image: &Image, address: u32, word: u32) {
     assert!(rt; address % 4 == 0);
     assert!(rt; image.in_text(address));
-    assert_eq!(rt; image.word(address), word);
+    assert!(rt; image.word(address) == word);
 }
 
 #[test]
@@ -433,11 +433,11 @@ fn a_word_is_patched(rt: HostRuntime) -> Result<(), Fail> {
     assert!(rt; image.in_text(0x1_0078));
     image.patch(0x1_0078, 0x0010_0073);
     expect_word(&rt, &image, 0x1_0078, 0x0010_0073);
-    assert_eq!(rt; image.bytes(), expected.as_slice());
+    assert!(rt; image.bytes() == expected.as_slice());
     drop(image);
     let copy = copy?;
     expect_word(&rt, &copy, 0x1_0078, 0x73);
-    assert_eq!(rt; copy.bytes(), bytes.as_slice());
+    assert!(rt; copy.bytes() == bytes.as_slice());
     drop(copy);
     Ok(())
 }
@@ -445,15 +445,15 @@ fn a_word_is_patched(rt: HostRuntime) -> Result<(), Fail> {
 /// Asserts where the two words of a file have their places.
 fn expect_places(rt: &impl Abort, alloc: Global, image: &Image) -> Result<(), AllocError> {
     let places = Places::new(alloc, image.ranges())?;
-    assert_eq!(rt; places.ranges(), image.ranges());
-    assert_eq!(rt; places.len(), 2);
+    assert!(rt; places.ranges() == image.ranges());
+    assert!(rt; places.len() == 2);
     assert!(rt; places.in_text(0x1_007b) && !places.in_text(0x1_007c));
     let mut last = 7;
     let near = places.near(&mut last, 0x1_0078);
-    assert_eq!(rt; near, Some(1));
-    assert_eq!(rt; last, 0);
+    assert!(rt; near == Some(1));
+    assert!(rt; last == 0);
     let between = places.of(0x1_007a);
-    assert_eq!(rt; between, None);
+    assert!(rt; between == None);
     Ok(())
 }
 
@@ -475,7 +475,7 @@ fn expect_symbols(
     symbols: &[u32],
 ) -> Result<(), ElfFault> {
     let image = image_of(rt, alloc, bytes)?;
-    assert_eq!(rt; image.symbols(), symbols);
+    assert!(rt; image.symbols() == symbols);
     drop(image);
     Ok(())
 }
@@ -615,11 +615,8 @@ fn large_fault(rt: &impl Abort, alloc: Global, last: u32) -> Result<Option<ElfFa
 
 #[test]
 fn many_headers_take_little_time(rt: HostRuntime) -> Result<(), Fail> {
-    assert_eq!(rt; large_fault(&rt, rt.alloc(), 0x10_0000)?, None);
+    assert!(rt; large_fault(&rt, rt.alloc(), 0x10_0000)? == None);
     let overlap = Some(ElfFault::Overlap(0, MANY - 1));
-    assert_eq!(rt;
-        large_fault(&rt, rt.alloc(), 0x10_0000 + 4 * (MANY - 1))?,
-        overlap
-    );
+    assert!(rt; large_fault(&rt, rt.alloc(), 0x10_0000 + 4 * (MANY - 1))? == overlap);
     Ok(())
 }

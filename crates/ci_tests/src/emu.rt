@@ -22,7 +22,7 @@ fn profile(rt: &impl Abort, alloc: Global, text: &[u32], n: u64) -> Result<Profi
 /// Fails where blocks were entered another number of times.
 fn check_entries(rt: &impl Abort, profile: &Profile, due: &[(u32, u64)]) {
     for (leader, entries) in due {
-        assert_eq!(rt; profile.entries(*leader), *entries, "{leader:x}");
+        assert!(rt; profile.entries(*leader) == *entries, "{leader:x}");
     }
 }
 
@@ -31,15 +31,15 @@ fn calls_write_and_exit(rt: HostRuntime) -> Result<(), Fail> {
     let alloc = rt.alloc();
     let mut state = opening(&rt, alloc, calls(), &[1000], table(), b"")?;
     let profile = run(alloc, &mut state, &Table::usual(), 4294967296);
-    assert_eq!(&rt; state.output(), [0xe8, 0x1d, 0, 0].as_slice());
-    assert_eq!(&rt; state.pc(), 0x100c0);
+    assert!(&rt; state.output() == [0xe8, 0x1d, 0, 0].as_slice());
+    assert!(&rt; state.pc() == 0x100c0);
     drop(state);
     let profile = profile?;
     expect_counts(&rt, &profile, Some(End::Exit(0)), 61, 75);
-    assert_eq!(&rt; profile.touched, None);
+    assert!(&rt; profile.touched == None);
     let entries = [(0x10074, 1), (0x10080, 4), (0x100d4, 2), (0x100d6, 0)];
     check_entries(&rt, &profile, &entries);
-    assert_eq!(&rt; profile.targets(), [0x1008c, 0x100c4, 0x100d4].as_slice());
+    assert!(&rt; profile.targets() == [0x1008c, 0x100c4, 0x100d4].as_slice());
     drop(profile);
     Ok(())
 }
@@ -49,7 +49,7 @@ fn ends_after_so_many_steps(rt: HostRuntime) -> Result<(), Fail> {
     let jump_to_itself = profile(&rt, rt.alloc(), &[0x0000006f], 3)?;
     expect_counts(&rt, &jump_to_itself, None, 3, 6);
     check_entries(&rt, &jump_to_itself, &[(0x10074, 3)]);
-    assert_eq!(&rt; jump_to_itself.targets(), [].as_slice());
+    assert!(&rt; jump_to_itself.targets() == [].as_slice());
     drop(jump_to_itself);
     Ok(())
 }
@@ -74,7 +74,7 @@ fn ends_by_each_cause(rt: HostRuntime) -> Result<(), Fail> {
     let alloc = rt.alloc();
     let odd_jump = profile(&rt, alloc, &[0x00200067], 9)?;
     expect_counts(&rt, &odd_jump, Some(End::Misaligned(2)), 1, 2);
-    assert_eq!(&rt; odd_jump.targets(), [].as_slice());
+    assert!(&rt; odd_jump.targets() == [].as_slice());
     drop(odd_jump);
     let no_op = [0x00000013];
     check_run(&rt, alloc, &no_op, End::Fetch(0x10078), 2, 0)?;
@@ -90,7 +90,7 @@ fn tells_the_first_touch(rt: HostRuntime) -> Result<(), Fail> {
     // auipc x5, 0; lw x6, 0(x5); ebreak
     let profile = profile(&rt, rt.alloc(), &[0x00000297, 0x0002a303, 0x00100073], 9)?;
     expect_counts(&rt, &profile, Some(End::Break), 3, 4);
-    assert_eq!(&rt; profile.touched, Some((0x10078, 0x10074)));
+    assert!(&rt; profile.touched == Some((0x10078, 0x10074)));
     drop(profile);
     Ok(())
 }
@@ -102,8 +102,8 @@ fn check_step(
     outcome: Outcome,
     pc: u32,
 ) -> Result<(), AllocError> {
-    assert_eq!(rt; step(state)?, outcome);
-    assert_eq!(rt; state.pc(), pc);
+    assert!(rt; step(state)? == outcome);
+    assert!(rt; state.pc() == pc);
     Ok(())
 }
 
@@ -178,7 +178,7 @@ fn check_directed(rt: &impl Abort, alloc: Global, told: Told) -> Result<(), Fail
     let mut state = opening(rt, alloc, &[word], &[], &[], b"")?;
     state.set_register(link, 7);
     let made = check_step(rt, &mut state, outcome, pc);
-    assert_eq!(rt; state.register(link), value, "{word:08x}");
+    assert!(rt; state.register(link) == value, "{word:08x}");
     drop(state);
     made?;
     Ok(())
@@ -204,8 +204,8 @@ fn overwritten() -> &'static [u32] {
 fn decodes_a_word_that_was_written(rt: HostRuntime) -> Result<(), Fail> {
     let profile = profile(&rt, rt.alloc(), overwritten(), 99)?;
     expect_counts(&rt, &profile, Some(End::Break), 13, 15);
-    assert_eq!(&rt; profile.entries(0x1007c), 3);
-    assert_eq!(&rt; profile.touched, Some((0x10088, 0x10098)));
+    assert!(&rt; profile.entries(0x1007c) == 3);
+    assert!(&rt; profile.touched == Some((0x10088, 0x10098)));
     drop(profile);
     Ok(())
 }
@@ -225,8 +225,8 @@ fn decodes_a_word_that_was_read(rt: HostRuntime) -> Result<(), Fail> {
     drop(state);
     let profile = profile?;
     expect_counts(&rt, &profile, Some(End::Break), 8, 9);
-    assert_eq!(&rt; profile.entries(0x10084), 2);
-    assert_eq!(&rt; profile.touched, Some((0x10088, 0x10084)));
+    assert!(&rt; profile.entries(0x10084) == 2);
+    assert!(&rt; profile.touched == Some((0x10088, 0x10084)));
     drop(profile);
     Ok(())
 }

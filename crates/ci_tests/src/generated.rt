@@ -38,8 +38,8 @@ const LAST_WORDS: [u8; 52] = [
 #[test]
 fn words_of_seed_seven(rt: HostRuntime) -> Result<(), Fail> {
     let file = program(rt.alloc(), 7)?;
-    assert_eq!(rt; file.len(), 65120);
-    assert_eq!(rt; &file[116..152], FIRST_GROUP.as_slice());
-    assert_eq!(rt; &file[64908..64960], LAST_WORDS.as_slice());
+    assert!(rt; file.len() == 65120);
+    assert!(rt; &file[116..152] == FIRST_GROUP.as_slice());
+    assert!(rt; (&file[64908..64960]) == LAST_WORDS.as_slice());
     Ok(())
 }

@@ -43,7 +43,7 @@ fn expect_read(
     wanted: &[u8],
 ) -> Result<(), ShelfErr> {
     let bytes = shelf.read(alloc, name, limit)?;
-    assert_eq!(rt; bytes.as_slice(), wanted);
+    assert!(rt; bytes.as_slice() == wanted);
     Ok(())
 }
 
@@ -56,7 +56,7 @@ fn expect_no_read(
     limit: u64,
     wanted: ShelfErr,
 ) {
-    assert_eq!(rt; shelf.read(alloc, name, limit).err(), Some(wanted));
+    assert!(rt; shelf.read(alloc, name, limit).err() == Some(wanted));
 }
 
 // Reads and writes on the map with one file.
@@ -68,7 +68,7 @@ fn reads_and_writes(rt: &impl Abort, alloc: Global, shelf: &mut SureShelf) -> Re
     shelf.write(alloc, "a", b"other")?;
     expect_read(rt, alloc, shelf, "a", u64::MAX, b"other")?;
     expect_read(rt, alloc, shelf, "b", 0, b"")?;
-    assert_eq!(rt; shelf.files().len(), 2);
+    assert!(rt; shelf.files().len() == 2);
     Ok(())
 }
 
@@ -88,7 +88,7 @@ fn sure_sink_takes_all(rt: HostRuntime) -> Result<(), Fail> {
     sink.put(b"one ")?;
     sink.put(b"")?;
     sink.put(b"two")?;
-    assert_eq!(rt; sink.taken(), b"one two".as_slice());
+    assert!(rt; sink.taken() == b"one two".as_slice());
     Ok(())
 }
 
@@ -96,7 +96,7 @@ fn sure_sink_takes_all(rt: HostRuntime) -> Result<(), Fail> {
 fn second_fails(rt: &impl Abort, alloc: Global, shelf: &mut MemShelf) -> Result<(), ShelfErr> {
     expect_read(rt, alloc, shelf, "a", 4, b"four")?;
     let failed = shelf.write(alloc, "a", b"two");
-    assert_eq!(rt; failed, Err(ShelfErr::Fault));
+    assert!(rt; failed == Err(ShelfErr::Fault));
     expect_read(rt, alloc, shelf, "a", 4, b"four")?;
     shelf.write(alloc, "a", b"two")?;
     expect_read(rt, alloc, shelf, "a", 4, b"two")
@@ -116,10 +116,10 @@ fn mem_shelf_fails_at_the_second_call(rt: HostRuntime) -> Result<(), Fail> {
 fn mem_sink_fails_at_the_first_call(rt: HostRuntime) -> Result<(), Fail> {
     let alloc = rt.alloc();
     let mut sink = MemSink::new(alloc, vec![in alloc; 1]?);
-    assert_eq!(rt; sink.put(b"one").err(), Some(SinkErr::Fault));
-    assert_eq!(rt; sink.taken().len(), 0);
+    assert!(rt; sink.put(b"one").err() == Some(SinkErr::Fault));
+    assert!(rt; sink.taken().len() == 0);
     sink.put(b"two")?;
-    assert_eq!(rt; sink.taken(), b"two".as_slice());
+    assert!(rt; sink.taken() == b"two".as_slice());
     Ok(())
 }
 
@@ -137,16 +137,13 @@ fn file_shelf_reads_and_writes_files(rt: HostRuntime) -> Result<(), Fail> {
     expect_no_read(&rt, alloc, &mut shelf, name, 4, ShelfErr::Fault);
     expect_no_read(&rt, alloc, &mut shelf, ".", 4, ShelfErr::Fault);
     let failed = shelf.write(alloc, ".", b"four");
-    assert_eq!(rt; failed, Err(ShelfErr::Fault));
+    assert!(rt; failed == Err(ShelfErr::Fault));
     Ok(())
 }
 
 #[test]
 fn std_sink_writes_or_fails(rt: HostRuntime) -> Result<(), Fail> {
     StdSink::new(&rt).put(b"written\n")?;
-    assert_eq!(rt;
-        StdSink::new(&Shut).put(b"lost").err(),
-        Some(SinkErr::Fault)
-    );
+    assert!(rt; StdSink::new(&Shut).put(b"lost").err() == Some(SinkErr::Fault));
     Ok(())
 }

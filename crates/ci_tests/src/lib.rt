@@ -22,6 +22,8 @@ mod elf;
 #[cfg(test)]
 mod emu;
 #[cfg(test)]
+mod gates;
+#[cfg(test)]
 mod generated;
 #[cfg(test)]
 mod graphs;

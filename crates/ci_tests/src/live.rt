@@ -75,9 +75,9 @@ fn live_rows(
 
 /// Asserts what each row has.
 fn expect_rows(rt: &impl Abort, rows: &[Row], wanted: &[&[u8]]) {
-    assert_eq!(rt; rows.len(), wanted.len());
+    assert!(rt; rows.len() == wanted.len());
     for (row, numbers) in rows.iter().zip(wanted) {
-        assert_eq!(rt; *row, set_of(numbers));
+        assert!(rt; *row == set_of(numbers));
     }
 }
 
@@ -142,7 +142,7 @@ fn expect_leaders(
     let analysis = analysis?;
     let leaders = leaders_in(alloc, &analysis);
     drop(analysis);
-    assert_eq!(rt; leaders?.as_slice(), wanted);
+    assert!(rt; leaders?.as_slice() == wanted);
     Ok(())
 }
 

@@ -64,7 +64,7 @@ fn expect_text(
     text: &[u8],
 ) -> Result<(), AllocError> {
     let written = write(rt.alloc(), book)?;
-    assert_eq!(rt; written.as_slice(), text);
+    assert!(rt; written.as_slice() == text);
     Ok(())
 }
 
@@ -75,7 +75,7 @@ fn expect_packed(
     text: &[u8],
 ) -> Result<(), AllocError> {
     let written = write_packed(rt.alloc(), book)?;
-    assert_eq!(rt; written.as_slice(), text);
+    assert!(rt; written.as_slice() == text);
     Ok(())
 }
 
@@ -89,10 +89,10 @@ fn is_take(entry: &Entry, due_leader: u32, due_unit: u8) -> bool {
 
 #[test]
 fn a_text_both_ways(rt: HostRuntime) -> Result<(), Fail> {
-    assert_eq!(rt; text().len(), 97);
+    assert!(rt; text().len() == 97);
     let book = book_of(&rt, text())?;
-    assert_eq!(rt; book.entries().len(), 3);
-    assert_eq!(rt; book.finish(), Finish::Empty);
+    assert!(rt; book.entries().len() == 3);
+    assert!(rt; book.finish() == Finish::Empty);
     assert!(rt; is_take(&book.entries()[1], 0x0001_0074, 0));
     let outcome = expect_text(&rt, &book, text());
     drop(book);
@@ -121,11 +121,11 @@ fn items() -> &'static [Item] {
 fn expect_first(rt: &impl Abort, entry: &Entry) {
     match entry {
         Entry::Best { leader, cut, log } => {
-            assert_eq!(rt; *leader, 0x0001_0074);
-            assert_eq!(rt; cut.count(), 2);
+            assert!(rt; *leader == 0x0001_0074);
+            assert!(rt; cut.count() == 2);
             assert!(rt; cut.has(0));
             assert!(rt; cut.has(2));
-            assert_eq!(rt; log.items(), items());
+            assert!(rt; log.items() == items());
         }
         _ => assert!(rt; false),
     }
@@ -134,7 +134,7 @@ fn expect_first(rt: &impl Abort, entry: &Entry) {
 #[test]
 fn the_first_entry(rt: HostRuntime) -> Result<(), Fail> {
     let book = book_of(&rt, text())?;
-    assert_eq!(rt; book.entries().len(), 3);
+    assert!(rt; book.entries().len() == 3);
     expect_first(&rt, &book.entries()[0]);
     drop(book);
     Ok(())
@@ -144,7 +144,7 @@ fn the_first_entry(rt: HostRuntime) -> Result<(), Fail> {
 fn another_last_letter(rt: HostRuntime) -> Result<(), Fail> {
     let mut text = Vec::from_slice(rt.alloc(), text())?;
     assert!(rt; text.len() == 97);
-    assert_eq!(rt; text[43], b'G');
+    assert!(rt; text[43] == b'G');
     text[43] = b'F';
     let book = book_of(&rt, &text)?;
     let outcome = expect_text(&rt, &book, &text);
@@ -174,15 +174,15 @@ fn has_fault_in_front(
 
 #[test]
 fn the_last_newline_missing(rt: HostRuntime) {
-    assert_eq!(rt; text().len(), 97);
+    assert!(rt; text().len() == 97);
     assert!(rt; has_fault_in_front(&rt, text(), 96, &LogFault::Unfinished));
 }
 
 #[test]
 fn several_rounds_both_ways(rt: HostRuntime) -> Result<(), Fail> {
     let book = book_of(&rt, rounds())?;
-    assert_eq!(rt; book.entries().len(), 7);
-    assert_eq!(rt; book.finish(), Finish::Count);
+    assert!(rt; book.entries().len() == 7);
+    assert!(rt; book.finish() == Finish::Count);
     assert!(rt;
         matches!(
             &book.entries()[0],
@@ -297,7 +297,7 @@ fn expect_both_ways(
 
 #[test]
 fn a_packed_text_both_ways(rt: HostRuntime) -> Result<(), Fail> {
-    assert_eq!(rt; packed().len(), 92);
+    assert!(rt; packed().len() == 92);
     expect_both_ways(&rt, text(), packed())
 }
 
@@ -351,14 +351,16 @@ fn packed_faults() -> &'static [(&'static [u8], LogFault)] {
         (b"\x41", LogFault::BadItem(29)),
         (b"\x40\x40", LogFault::Trailing(30)),
         // Two equal leaves that are no run: in one byte, in two, and behind one that ended.
+        (b"\x00\x55\x60", LogFault::BadItem(30)),
         (b"\x05\x50", LogFault::BadItem(30)),
         (b"\x05\x05\x50", LogFault::BadItem(31)),
         (b"\x00\x05\x65", LogFault::BadItem(31)),
-        // A half byte behind 5 + s, one behind a branch, and one at the beginning.
+        // A half byte for more leaves behind 5 + s, behind a branch, and at the beginning.
         (b"\x00\x00\x56\x60", LogFault::BadItem(32)),
+        (b"\x00\x00\x56\xf0", LogFault::BadItem(32)),
         (b"\x06", LogFault::BadItem(29)),
         (b"\x60", LogFault::BadItem(29)),
-        // A run past the end of the tree, by one leaf and by ten.
+        // A run past the end of the tree, by one leaf and by nine.
         (b"\x05\x70", LogFault::BadItem(30)),
         (b"\x05\xf0", LogFault::BadItem(30)),
         // Letters, and a tree that isn't whole.
@@ -394,9 +396,9 @@ fn tree_in_a_region(rt: HostRuntime) -> Result<(), Fail> {
         taken: Child::Inner(below),
         left_out: Child::Leaf(Item::G),
     })?;
-    assert_eq!(rt; region.used(), 2);
+    assert!(rt; region.used() == 2);
     let log = flatten(rt.alloc(), &region, Child::Inner(root))?;
     let items = [Item::B, Item::B, Item::C, Item::F, Item::G];
-    assert_eq!(rt; log.items(), items.as_slice());
+    assert!(rt; log.items() == items.as_slice());
     Ok(())
 }

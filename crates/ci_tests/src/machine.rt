@@ -115,33 +115,35 @@ fn answer(state: &mut State, asked: Asked) -> Result<u32, AllocError> {
 
 /// Fails where other bytes were written.
 fn expect_output(rt: &impl Abort, state: &State, due: &[u8]) {
-    assert_eq!(rt; state.output(), due);
+    assert!(rt; state.output() == due);
 }
 
 /// Takes a step, and fails where its answer is another one.
 fn expect_step(rt: &impl Abort, state: &mut State, step: &Step) -> Result<(), AllocError> {
     match step {
         Step::Load(address, width, due) => {
-            assert_eq!(rt; state.load(*address, *width), *due, "at {address:x}");
+            assert!(rt; state.load(*address, *width) == *due, "at {address:x}");
         }
         Step::Near(address, width, due) => {
-            assert_eq!(rt; state.load_near(*address, *width), *due, "near {address:x}");
+            assert!(rt;
+                state.load_near(*address, *width) == *due,
+                "near {address:x}"
+            );
         }
         Step::Store(address, width, value, due) => {
-            assert_eq!(rt;
-                state.store(*address, *width, *value),
-                *due,
+            assert!(rt;
+                state.store(*address, *width, *value) == *due,
                 "into {address:x}"
             );
         }
-        Step::Answer(asked, due) => assert_eq!(rt; answer(state, *asked)?, *due, "{asked:?}"),
+        Step::Answer(asked, due) => assert!(rt; answer(state, *asked)? == *due, "{asked:?}"),
         Step::Access(address, due) => {
             let touched = state.touched_by_access(*address, Width::Word);
-            assert_eq!(rt; touched, *due, "{address:x}");
+            assert!(rt; touched == *due, "{address:x}");
         }
         Step::Moved(asked, due) => {
             ask(state, *asked);
-            assert_eq!(rt; state.touched_by_call(), *due, "{asked:?}");
+            assert!(rt; state.touched_by_call() == *due, "{asked:?}");
         }
         Step::Output(due) => expect_output(rt, state, due),
     }
@@ -177,16 +179,16 @@ fn expect_of_small(rt: &impl Abort, alloc: Global, steps: &[Step]) -> Result<(),
 #[test]
 fn opens(rt: HostRuntime) -> Result<(), Fail> {
     let state = sample(&rt, rt.alloc())?;
-    assert_eq!(&rt; state.pc(), 0x10004);
+    assert!(&rt; state.pc() == 0x10004);
     for n in 0..32 {
         let due = if n == 2 { 0x7ffffff0 } else { 0 };
-        assert_eq!(&rt; state.register(x(n)), due, "x{n}");
+        assert!(&rt; state.register(x(n)) == due, "x{n}");
     }
-    assert_eq!(&rt; state.hidden(0), 0);
-    assert_eq!(&rt; state.hidden(1), 0);
-    assert_eq!(&rt; state.operand(0), 0);
-    assert_eq!(&rt; state.operand(1), 0);
-    assert_eq!(&rt; state.output().len(), 0);
+    assert!(&rt; state.hidden(0) == 0);
+    assert!(&rt; state.hidden(1) == 0);
+    assert!(&rt; state.operand(0) == 0);
+    assert!(&rt; state.operand(1) == 0);
+    assert!(&rt; state.output().len() == 0);
     drop(state);
     Ok(())
 }
@@ -200,7 +202,7 @@ const TEXT: Range = Range {
 #[test]
 fn knows_its_text(rt: HostRuntime) -> Result<(), Fail> {
     let state = sample(&rt, rt.alloc())?;
-    assert_eq!(&rt; state.text(), [TEXT].as_slice());
+    assert!(&rt; state.text() == [TEXT].as_slice());
     assert!(&rt; state.in_text(0x10000));
     assert!(&rt; state.in_text(0x10007));
     assert!(&rt; !state.in_text(0xffff));
@@ -219,14 +221,14 @@ fn keeps_registers(rt: HostRuntime) -> Result<(), Fail> {
     state.set_operand(0, 11);
     state.set_operand(1, 13);
     state.set_pc(12);
-    assert_eq!(&rt; state.register(x(0)), 0);
-    assert_eq!(&rt; state.register(x(31)), 8);
-    assert_eq!(&rt; state.register(x(2)), 0x7ffffff0);
-    assert_eq!(&rt; state.hidden(0), 9);
-    assert_eq!(&rt; state.hidden(1), 10);
-    assert_eq!(&rt; state.operand(0), 11);
-    assert_eq!(&rt; state.operand(1), 13);
-    assert_eq!(&rt; state.pc(), 12);
+    assert!(&rt; state.register(x(0)) == 0);
+    assert!(&rt; state.register(x(31)) == 8);
+    assert!(&rt; state.register(x(2)) == 0x7ffffff0);
+    assert!(&rt; state.hidden(0) == 9);
+    assert!(&rt; state.hidden(1) == 10);
+    assert!(&rt; state.operand(0) == 11);
+    assert!(&rt; state.operand(1) == 13);
+    assert!(&rt; state.pc() == 12);
     drop(state);
     Ok(())
 }
@@ -507,11 +509,11 @@ fn bounds_the_heap(rt: HostRuntime) -> Result<(), Fail> {
 
 /// Fails where a call that there is not is answered, or the call that exits does not end the run.
 fn expect_end(rt: &impl Abort, state: &mut State) -> Result<(), AllocError> {
-    assert_eq!(rt; answer(state, (1, (5, 6, 7)))?, 0xffffffda);
-    assert_eq!(rt; state.register(x(11)), 6);
+    assert!(rt; answer(state, (1, (5, 6, 7)))? == 0xffffffda);
+    assert!(rt; state.register(x(11)) == 6);
     ask(state, (93, (0x12345, 0, 0)));
-    assert_eq!(rt; state.environment_call()?, Call::Exit(0x12345));
-    assert_eq!(rt; state.register(x(10)), 0x12345);
+    assert!(rt; state.environment_call()? == Call::Exit(0x12345));
+    assert!(rt; state.register(x(10)) == 0x12345);
     Ok(())
 }
 

@@ -72,11 +72,29 @@ fn bodies() -> &'static [(u8, bool, &'static str)] {
             "wire [63:0] s;\nassign s = {{32{a[31]}}, b};\n\
             assign y = s[63:32];\nassign z = s[31:0];\nendmodule\n",
         ),
+        (
+            10,
+            true,
+            "wire [63:0] v;\nassign v = {a, b};\nwire [63:0] s;\nassign s = v << 6'h3f;\n\
+            wire [63:0] t;\nassign t = v >> 6'h3f;\nwire [63:0] u;\nassign u = v >> 7'h40;\n\
+            assign y = s[63:32];\nassign z = t[31:0];\nassign x = u[31:0];\nendmodule\n",
+        ),
+        (
+            11,
+            false,
+            "assign y = a << 5'h04;\nassign z = b >> 5'h08;\nendmodule\n",
+        ),
+        (
+            12,
+            false,
+            "wire [63:0] p;\nassign p = {{32{a[31]}}, a} * {{32{b[31]}}, b};\n\
+            assign y = p[63:32];\nassign z = p[31:0];\nendmodule\n",
+        ),
     ]
 }
 
 /// Numbers of modules, the values of the inputs, and those of y, z and x.
-fn values() -> &'static [(usize, [u32; 5], (u32, u32, u32))] {
+pub(crate) fn values() -> &'static [(usize, [u32; 5], (u32, u32, u32))] {
     &[
         (0, [1, 2, 3, 0xffff_ffff, 2], (1, 0xffff_fffd, 0xffff_fffe)),
         (0, [0, 0, 0, 7, 9], (16, 0xffff_fffe, 63)),
@@ -114,6 +132,18 @@ fn values() -> &'static [(usize, [u32; 5], (u32, u32, u32))] {
         (8, [0x7fff_ffff, 4, 0, 0, 0], (0, 0x07ff_ffff, 0)),
         (9, [0x8000_0000, 1, 0, 0, 0], (0xffff_ffff, 1, 0)),
         (9, [1, 0x8000_0000, 0, 0, 0], (0, 0x8000_0000, 0)),
+        (10, [0x8000_0001, 0x8000_0003, 0, 0, 0], (0x8000_0000, 1, 0)),
+        (
+            11,
+            [0x1234_5678, 0x9abc_def0, 0, 0, 0],
+            (0x2345_6780, 0x009a_bcde, 0),
+        ),
+        (12, [0x8000_0000, 0x8000_0000, 0, 0, 0], (0x4000_0000, 0, 0)),
+        (
+            12,
+            [0xffff_ffff, 0x7fff_ffff, 0, 0, 0],
+            (0xffff_ffff, 0x8000_0001, 0),
+        ),
     ]
 }
 
@@ -129,18 +159,16 @@ fn have_values(
         let [a, b, c, d, e] = *inputs;
         assert!(rt; *number < modules.len());
         assert!(rt; *number < units.len());
-        assert_eq!(rt;
-            eval(&modules[*number], a, b, c, d, e),
-            *due,
+        assert!(rt;
+            eval(&modules[*number], a, b, c, d, e) == *due,
             "{number} {a:x}"
         );
-        assert_eq!(rt;
-            units[*number].results(a, b, c, d, e),
-            *due,
+        assert!(rt;
+            units[*number].results(a, b, c, d, e) == *due,
             "{number} {a:x}"
         );
-        assert_eq!(rt; units[*number].cycles(), 1);
-        assert_eq!(rt; units[*number].is_planned(), planned);
+        assert!(rt; units[*number].cycles() == 1);
+        assert!(rt; units[*number].is_planned() == planned);
     }
     drop(units);
     Ok(())
@@ -168,7 +196,7 @@ fn text_has_values(
 }
 
 /// The text of all modules of the table.
-fn all_bodies(rt: &impl AllocGlobal) -> Result<String, AllocError> {
+pub(crate) fn all_bodies(rt: &impl AllocGlobal) -> Result<String, AllocError> {
     let mut text = String::new(rt.alloc());
     for (number, wide, body) in bodies() {
         let head = head(rt, *number, *wide)?;
@@ -218,11 +246,14 @@ fn has_sums(
     outcome
 }
 
-// Beside the inputs and the 0 of x, a plan has room for 10 steps where it is small, and else for 58.
+// Beside the inputs and the 0 of x, a plan has room for 10 steps in the first 16 words, for 26 in the first 32, and for
+// 58 in all.
 #[test]
 fn modules_with_and_without_room(rt: HostRuntime) -> Result<(), AllocError> {
     has_sums(&rt, 10, true, 37)?;
     has_sums(&rt, 11, true, 40)?;
+    has_sums(&rt, 26, true, 85)?;
+    has_sums(&rt, 27, true, 88)?;
     has_sums(&rt, 58, true, 181)?;
     has_sums(&rt, 59, false, 184)
 }

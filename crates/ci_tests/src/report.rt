@@ -108,6 +108,6 @@ fn two_cuts(rt: HostRuntime) -> Result<(), Fail> {
     let bytes = file_of(&rt, alloc, calls(), &[1000], table())?;
     assert!(rt; bytes.len() <= 1000);
     let text = report_of(alloc, &bytes)?;
-    assert_eq!(rt; text.as_slice(), two_reported_cuts());
+    assert!(rt; text.as_slice() == two_reported_cuts());
     Ok(())
 }

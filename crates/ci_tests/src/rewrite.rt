@@ -46,9 +46,9 @@ fn check(
     };
     assert!(rt; fits(&graph, &limits, &cut));
     let new_block = fold(alloc, insns, &graph, &cut, 0)?;
-    assert_eq!(rt; new_block.len(), folded.len());
+    assert!(rt; new_block.len() == folded.len());
     for (k, insn) in new_block.iter().enumerate() {
-        assert_eq!(rt; encode(insn), folded[k], "word {k}");
+        assert!(rt; encode(insn) == folded[k], "word {k}");
     }
     Ok(())
 }

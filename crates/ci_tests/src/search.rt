@@ -115,8 +115,8 @@ fn check_log(
     let branches = log.items().len() / 2;
     let answer = check(graph, limits, best, &log);
     drop(log);
-    assert_eq!(rt; branches, region.used() as usize);
-    assert_eq!(rt; answer, Ok(()));
+    assert!(rt; branches == (region.used() as usize));
+    assert!(rt; answer == Ok(()));
     Ok(())
 }
 
@@ -141,7 +141,7 @@ fn told_in(
             Ok(Ok((None, region.used())))
         }
         Found::Spent { budget } => {
-            assert_eq!(rt; region.used(), 0);
+            assert!(rt; region.used() == 0);
             Ok(Err(budget))
         }
     }
@@ -170,7 +170,7 @@ fn expect(
 ) -> Result<(), AllocError> {
     for (capacity, due) in rows {
         let told = answer(rt, alloc, graph, &ONE_OUTPUT, *capacity)?;
-        assert_eq!(rt; told, *due, "{capacity}");
+        assert!(rt; told == *due, "{capacity}");
     }
     Ok(())
 }
@@ -236,17 +236,17 @@ fn expect_best(
     let best = best_in(rt, graph, limits);
     let need = match answer(rt, alloc, graph, limits, 1024)? {
         Ok((cut, need)) => {
-            assert_eq!(rt; cut, best);
+            assert!(rt; cut == best);
             need
         }
         Err(_) => panic!(rt; "spent"),
     };
     assert!(rt; !needs_more(graph, limits, need));
-    assert_eq!(rt; answer(rt, alloc, graph, limits, need)?, Ok((best, need)));
+    assert!(rt; answer(rt, alloc, graph, limits, need)? == Ok((best, need)));
     if need > 0 {
         let less = need - 1;
         assert!(rt; needs_more(graph, limits, less));
-        assert_eq!(rt; answer(rt, alloc, graph, limits, less)?, Err(less));
+        assert!(rt; answer(rt, alloc, graph, limits, less)? == Err(less));
     }
     Ok(())
 }
@@ -289,7 +289,7 @@ fn spent_beside(
     };
     let slot = region.take(held)?;
     let found = search(graph, &ONE_OUTPUT, &mut region);
-    assert_eq!(rt; *region.get(slot), held);
+    assert!(rt; *region.get(slot) == held);
     drop(region);
     Ok(budget_of(found))
 }
@@ -305,8 +305,8 @@ fn budget_of(found: Found) -> Option<u32> {
 #[test]
 fn slot_that_was_live(rt: HostRuntime) -> Result<(), Fail> {
     let pair = graph_of(&rt, rt.alloc(), two_sums())?;
-    assert_eq!(rt; spent_beside(&rt, rt.alloc(), &pair, 2)?, Some(1));
-    assert_eq!(rt; spent_beside(&rt, rt.alloc(), &pair, 3)?, None);
+    assert!(rt; spent_beside(&rt, rt.alloc(), &pair, 2)? == Some(1));
+    assert!(rt; spent_beside(&rt, rt.alloc(), &pair, 3)? == None);
     drop(pair);
     Ok(())
 }
@@ -334,7 +334,7 @@ fn rows_that_held_a_greater_graph(rt: HostRuntime) -> Result<(), AllocError> {
     for seed in 0..110u32 {
         let graph = generated(&rt, rt.alloc(), (10 - seed % 11) as u8, seed)?;
         let best = best_reusing(&rt, rt.alloc(), &graph, &mut rows)?;
-        assert_eq!(rt; best, best_in(&rt, &graph, &ONE_OUTPUT));
+        assert!(rt; best == best_in(&rt, &graph, &ONE_OUTPUT));
         drop(graph);
     }
     Ok(())

@@ -211,10 +211,10 @@ fn constant_of_two_instructions(rt: HostRuntime) -> Result<(), Fail> {
     ];
     let parts = [(&[][..], false), (&[Made(0)][..], true)];
     let words = words_of_use(&rt, rt.alloc(), &insns, &parts)?;
-    assert_eq!(rt; words, (None, 0x0000_028b, None, None));
+    assert!(rt; words == (None, 0x0000_028b, None, None));
     let unit = unit_of_all(&rt, rt.alloc(), &insns, &parts)?;
-    assert_eq!(rt; apply(&unit, 1, 2, 3, 4, 5), (0x1234_5678, 0, 0));
-    assert_eq!(rt; unit.cycles(), 2);
+    assert!(rt; apply(&unit, 1, 2, 3, 4, 5) == (0x1234_5678, 0, 0));
+    assert!(rt; unit.cycles() == 2);
     drop(unit);
     Ok(())
 }
@@ -228,7 +228,7 @@ fn sums(rt: &impl Abort, rd: u8, first: u8, second: u8, third: u8) -> [Insn; 2] 
 }
 
 /// The unit of two sums.
-fn unit_of_sums(
+pub(crate) fn unit_of_sums(
     rt: &impl Abort,
     alloc: Global,
     rd: u8,
@@ -268,14 +268,14 @@ fn unit_of_both(rt: &impl Abort, alloc: Global) -> Result<Unit, Fail> {
 /// Puts units into an empty table, and asserts their numbers and some of their values.
 fn expect_numbers(rt: &impl Abort, alloc: Global, table: &mut UnitTable) -> Result<(), Fail> {
     let unit = unit_of_sums(rt, alloc, 5, (10, 11, 12))?;
-    assert_eq!(rt; apply(&unit, 1, 20, 300, 4, 5), (321, 0, 0));
-    assert_eq!(rt; number(rt, table, unit)?, 0);
+    assert!(rt; apply(&unit, 1, 20, 300, 4, 5) == (321, 0, 0));
+    assert!(rt; number(rt, table, unit)? == 0);
     let unit = unit_of_both(rt, alloc)?;
-    assert_eq!(rt; apply(&unit, 9, 4, 0, 0, 0), (5, 4, 0));
-    assert_eq!(rt; number(rt, table, unit)?, 1);
+    assert!(rt; apply(&unit, 9, 4, 0, 0, 0) == (5, 4, 0));
+    assert!(rt; number(rt, table, unit)? == 1);
     let unit = unit_of_sums(rt, alloc, 8, (20, 21, 22))?;
-    assert_eq!(rt; number(rt, table, unit)?, 0);
-    assert_eq!(rt; table.len(), 2);
+    assert!(rt; number(rt, table, unit)? == 0);
+    assert!(rt; table.len() == 2);
     Ok(())
 }
 
@@ -301,7 +301,7 @@ fn unit_of_one(
 /// their numbers.
 fn expect_classes(rt: &impl Abort, alloc: Global, table: &mut UnitTable) -> Result<(), Fail> {
     let unit = unit_of_one(rt, alloc, alu(rt, Op::Sll, 5, 10, 0), &[Entry(10)])?;
-    assert_eq!(rt; number(rt, table, unit)?, 0);
+    assert!(rt; number(rt, table, unit)? == 0);
     let by_constant = Insn::AluImm {
         op: Op::Sll,
         rd: register(rt, 5),
@@ -309,15 +309,15 @@ fn expect_classes(rt: &impl Abort, alloc: Global, table: &mut UnitTable) -> Resu
         imm: 0,
     };
     let unit = unit_of_one(rt, alloc, by_constant, &[Entry(10)])?;
-    assert_eq!(rt; number(rt, table, unit)?, 1);
+    assert!(rt; number(rt, table, unit)? == 1);
     let zero = Insn::Lui {
         rd: register(rt, 5),
         upper: 0,
     };
     let unit = unit_of_one(rt, alloc, zero, &[])?;
-    assert_eq!(rt; number(rt, table, unit)?, 2);
+    assert!(rt; number(rt, table, unit)? == 2);
     let unit = unit_of_one(rt, alloc, alu(rt, Op::Add, 5, 0, 0), &[])?;
-    assert_eq!(rt; number(rt, table, unit)?, 3);
+    assert!(rt; number(rt, table, unit)? == 3);
     Ok(())
 }
 
@@ -333,9 +333,9 @@ fn units_of_other_classes_are_others(rt: HostRuntime) -> Result<(), Fail> {
 fn words_of_sums(rt: HostRuntime) -> Result<(), Fail> {
     let alloc = rt.alloc();
     let words = words_for_sums(&rt, alloc, 5, (10, 11, 12))?;
-    assert_eq!(rt; words, (None, 0x60b5_028b, None, None));
+    assert!(rt; words == (None, 0x60b5_028b, None, None));
     let words = words_for_sums(&rt, alloc, 8, (20, 21, 22))?;
-    assert_eq!(rt; words, (None, 0xb15a_040b, None, None));
+    assert!(rt; words == (None, 0xb15a_040b, None, None));
     Ok(())
 }
 
@@ -365,9 +365,9 @@ fn words_of_two_outputs(
 #[test]
 fn outputs_in_the_order_of_the_block(rt: HostRuntime) -> Result<(), Fail> {
     let words = words_of_two_outputs(&rt, rt.alloc(), 5, 6)?;
-    assert_eq!(rt; words, (None, 0x60b5_028b, Some(0x0000_032b), None));
+    assert!(rt; words == (None, 0x60b5_028b, Some(0x0000_032b), None));
     let words = words_of_two_outputs(&rt, rt.alloc(), 6, 5)?;
-    assert_eq!(rt; words, (None, 0x60b5_030b, Some(0x0000_02ab), None));
+    assert!(rt; words == (None, 0x60b5_030b, Some(0x0000_02ab), None));
     Ok(())
 }
 
@@ -391,9 +391,9 @@ fn five_inputs(rt: HostRuntime) -> Result<(), Fail> {
         (&[Made(2), Entry(14)][..], true),
     ];
     let words = words_of_use(&rt, rt.alloc(), &insns, &parts)?;
-    assert_eq!(rt; words, (Some(0x00e6_902b), 0x60b5_028b, None, None));
+    assert!(rt; words == (Some(0x00e6_902b), 0x60b5_028b, None, None));
     let unit = unit_of_all(&rt, rt.alloc(), &insns, &parts)?;
-    assert_eq!(rt; apply(&unit, 1, 20, 300, 4000, 50000), (54321, 0, 0));
+    assert!(rt; apply(&unit, 1, 20, 300, 4000, 50000) == (54321, 0, 0));
     drop(unit);
     Ok(())
 }
@@ -411,12 +411,9 @@ fn three_outputs(rt: HostRuntime) -> Result<(), Fail> {
         (&[Entry(10), Entry(11)][..], true),
     ];
     let words = words_of_use(&rt, rt.alloc(), &insns, &parts)?;
-    assert_eq!(rt;
-        words,
-        (None, 0x00a5_828b, Some(0x0000_032b), Some(0x0010_03ab))
-    );
+    assert!(rt; words == (None, 0x00a5_828b, Some(0x0000_032b), Some(0x0010_03ab)));
     let unit = unit_of_all(&rt, rt.alloc(), &insns, &parts)?;
-    assert_eq!(rt; apply(&unit, 9, 4, 0, 0, 0), (5, 4, 13));
+    assert!(rt; apply(&unit, 9, 4, 0, 0, 0) == (5, 4, 13));
     drop(unit);
     Ok(())
 }

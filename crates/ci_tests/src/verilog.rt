@@ -73,18 +73,18 @@ fn module(rt: &impl Abort, wires: Wires, y: Expr, z: Expr) -> Module {
         width: 32,
         value: 0,
     }));
-    assert_eq!(rt; wires.expr_width(&y), Some(32));
-    assert_eq!(rt; wires.expr_width(&z), Some(32));
-    assert_eq!(rt; wires.expr_width(&x), Some(32));
+    assert!(rt; wires.expr_width(&y) == Some(32));
+    assert!(rt; wires.expr_width(&z) == Some(32));
+    assert!(rt; wires.expr_width(&x) == Some(32));
     Module::new(0, 1, wires, y, z, x)
 }
 
 /// The wide module of these wires with y, z and x.
 fn wide_module(rt: &impl Abort, wires: Wires, y: Expr, z: Expr, x: Expr) -> Module {
     assert!(rt; wires.is_wide());
-    assert_eq!(rt; wires.expr_width(&y), Some(32));
-    assert_eq!(rt; wires.expr_width(&z), Some(32));
-    assert_eq!(rt; wires.expr_width(&x), Some(32));
+    assert!(rt; wires.expr_width(&y) == Some(32));
+    assert!(rt; wires.expr_width(&z) == Some(32));
+    assert!(rt; wires.expr_width(&x) == Some(32));
     Module::new(0, 1, wires, y, z, x)
 }
 
@@ -116,13 +116,13 @@ fn expect_width(
     width: Option<u8>,
 ) -> Result<(), AllocError> {
     let name = Name::new(name.to_vec(alloc)?);
-    assert_eq!(rt; wires.width_of(&name), width);
+    assert!(rt; wires.width_of(&name) == width);
     Ok(())
 }
 
 /// Asserts that an expression has no width.
 fn expect_no_width(rt: &impl Abort, wires: &Wires, expr: Expr) {
-    assert_eq!(rt; wires.expr_width(&expr), None);
+    assert!(rt; wires.expr_width(&expr) == None);
     drop(expr);
 }
 
@@ -199,7 +199,7 @@ fn mulhsu(rt: HostRuntime) -> Result<(), AllocError> {
         Ok(y) => {
             let module = module(&rt, wires, y, one(number(32, 0)));
             let values = value(module, 0x8000_0000, 0xffff_ffff, 0, 7, 9);
-            assert_eq!(rt; values, (0x8000_0000, 0, 0));
+            assert!(rt; values == (0x8000_0000, 0, 0));
             Ok(())
         }
         Err(e) => {
@@ -216,7 +216,7 @@ fn five_inputs_and_three_results(rt: HostRuntime) -> Result<(), AllocError> {
         Ok(y) => {
             let module = wide_module(&rt, wires, y, one(number(32, 3)), one(number(32, 5)));
             assert!(rt; module.is_wide());
-            assert_eq!(rt; value(module, 100, 200, 300, 10, 4), (6, 3, 5));
+            assert!(rt; value(module, 100, 200, 300, 10, 4) == (6, 3, 5));
             Ok(())
         }
         Err(e) => {
@@ -256,8 +256,11 @@ fn letters() -> &'static [(u8, bool, bool)] {
 #[test]
 fn words_of_a_wide_module_name_no_wire(rt: HostRuntime) -> Result<(), AllocError> {
     for (letter, narrow, wide) in letters() {
-        assert_eq!(rt; allows(rt.alloc(), false, &[*letter])?, *narrow, "{letter}");
-        assert_eq!(rt; allows(rt.alloc(), true, &[*letter])?, *wide, "{letter}");
+        assert!(rt;
+            allows(rt.alloc(), false, &[*letter])? == *narrow,
+            "{letter}"
+        );
+        assert!(rt; allows(rt.alloc(), true, &[*letter])? == *wide, "{letter}");
     }
     Ok(())
 }
@@ -283,9 +286,8 @@ fn corners() -> &'static [(Operator, u32, u32, u32)] {
 #[test]
 fn operators_at_corners(rt: HostRuntime) -> Result<(), AllocError> {
     for (operator, a, b, want) in corners() {
-        assert_eq!(rt;
-            on(&rt, rt.alloc(), *operator, *a, *b)?,
-            *want,
+        assert!(rt;
+            on(&rt, rt.alloc(), *operator, *a, *b)? == *want,
             "{operator:?} {a:x} {b:x}"
         );
     }

@@ -50,13 +50,13 @@ fn differences(
     let wires = Wires::new(false, alloc);
     match both_differences(alloc, &wires) {
         Ok((y, z)) => {
-            assert_eq!(rt; wires.expr_width(&y), Some(32));
+            assert!(rt; wires.expr_width(&y) == Some(32));
             let x = Expr::One(Term::Plain(Simple::Number {
                 width: 32,
                 value: 0,
             }));
-            assert_eq!(rt; wires.expr_width(&z), Some(32));
-            assert_eq!(rt; wires.expr_width(&x), Some(32));
+            assert!(rt; wires.expr_width(&z) == Some(32));
+            assert!(rt; wires.expr_width(&x) == Some(32));
             Ok(Module::new(number, cycles, wires, y, z, x))
         }
         Err(e) => {
@@ -101,7 +101,7 @@ fn expect_unit_and_load(
     drop(state);
     let profile = profile?;
     expect_counts(rt, &profile, Some(end), steps, cost);
-    assert_eq!(rt; profile.entries(0x10074), 1);
+    assert!(rt; profile.entries(0x10074) == 1);
     drop(profile);
     Ok(())
 }
@@ -138,7 +138,7 @@ const UNITS: [u32; 8] = [
 /// Asserts what registers hold.
 fn expect_values(rt: &impl Abort, state: &State, rows: &[(u8, u32)]) {
     for (number, due) in rows {
-        assert_eq!(rt; value(rt, state, *number), *due, "x{number}");
+        assert!(rt; value(rt, state, *number) == *due, "x{number}");
     }
 }
 
@@ -172,10 +172,10 @@ fn units_are_numbered_by_place(rt: HostRuntime) -> Result<(), Fail> {
 
 /// Makes a step without modules, and fails where it goes wrong, or the next one does not end behind the text.
 fn expect_one_step(rt: &impl Abort, state: &mut State) -> Result<(), AllocError> {
-    assert_eq!(rt; step_x(state, &[])?, Outcome::Next);
-    assert_eq!(rt; value(rt, state, 10), 0);
+    assert!(rt; step_x(state, &[])? == Outcome::Next);
+    assert!(rt; value(rt, state, 10) == 0);
     let end = Outcome::Ended(End::Fetch(0x10078));
-    assert_eq!(rt; step_x(state, &[])?, end);
+    assert!(rt; step_x(state, &[])? == end);
     Ok(())
 }
 
@@ -201,9 +201,9 @@ fn hidden_registers(state: &State) -> [u32; 4] {
 
 /// Makes a step without modules, and fails where it passes other operands than the stack pointer and 0.
 fn expect_operands(rt: &impl Abort, state: &mut State) -> Result<(), AllocError> {
-    assert_eq!(rt; hidden_registers(state), [0, 0, 0, 0]);
-    assert_eq!(rt; step_x(state, &[])?, Outcome::Next);
-    assert_eq!(rt; hidden_registers(state), [0x7fff_fff0, 0, 0, 0]);
+    assert!(rt; hidden_registers(state) == [0, 0, 0, 0]);
+    assert!(rt; step_x(state, &[])? == Outcome::Next);
+    assert!(rt; hidden_registers(state) == [0x7fff_fff0, 0, 0, 0]);
     Ok(())
 }
 
