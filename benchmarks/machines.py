@@ -25,7 +25,7 @@ from benchmarks.run import GUESTS
 from checks.common import read
 from checks.tools import compiled
 
-ROUNDS, LONG_ROUNDS, LIMIT, UNITS_LIMIT = 15, 3, 1.05, 1.5
+ROUNDS, LONG_ROUNDS, LIMIT, UNITS_LIMIT = 15, 7, 1.05, 1.5
 STEPS = ("--steps", "4294967296")
 INPUT = os.path.join(compiled.PROGRAMS, "count.c")
 END = re.compile(r"(.*)^end exit 00000000 steps (\d+) cost \d+\n", re.M | re.S)

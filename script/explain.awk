@@ -105,7 +105,7 @@ function explain_fault(status, call,    i, line, text, row, part, n, name, fits,
     for (i = 4; i < ARGC && call !~ / /; i++) if (ARGV[i] ~ /^--at(=|$)/) call = call " --at"
     while ((getline line < "-") > 0) text = text line "\n"
     if (!sub(/\n\.\n$/, "", text) || status <= 1) return
-    if (status == 3 && text ~ /fault 3 write -$/ && !(text ~ /^fault 3 write / && call ~ /^(asm|find|relog)$/))
+    if (status == 3 && text ~ /fault 3 write -$/ && !(text ~ /^fault 3 write / && call ~ /^(asm|find|gates|relog)$/))
         text = "fault 3 write -"
     if (index(text, "fault " status " ") != 1) return
     while ((getline row < (ENVIRON["TOP"] "/docs/faults.tsv")) > 0) {

@@ -4,6 +4,7 @@ import os
 import struct
 
 from checks.common import SAMPLES, explained, main
+from checks.generators.netlists import netlists, products
 
 
 def header(*fields):
@@ -21,7 +22,8 @@ def unit(body, head="module ci_0"):
 
 
 FILES = {
-    "long": bytes(1028), "odd": b"\x13\0\0\0\x13", "custom": struct.pack("<2I", 0x13, 0x50B), "jump": bytes(8),
+    "empty": b"", "long": bytes(1028), "odd": b"\x13\0\0\0\x13", "custom": struct.pack("<2I", 0x13, 0x50B),
+    "jump": bytes(8),
     "text": b"no executable\n" * 4, "wide": header((4, "B", 2)), "object": header((16, "H", 1)),
     "shared": header((16, "H", 3)), "host": header((18, "H", 62)), "compressed": header((36, "I", 5)),
     "bare": header(), "cut": header((28, "I", 52), (42, "H", 32), (44, "H", 1)), "short": b"\x7fELF",
@@ -36,6 +38,8 @@ FILES = {
     "8.v": unit("".join(f"wire [0:0] w{n}; assign w{n} = 1'h0;\n" for n in range(2048)) + "wire [0:0] w;"),
     "9.v": unit("", "module ci_1"), "packed": b"ci-log 2\nb\0", "cut.logs": b"ci-log 2",
     "ends": b"ci-log 2\nend none\n", "ended": b"ci-log 2\nend none\n\n",
+    "many.v": b"".join(products(number, 200).encode() for number in range(2)), "few": netlists(0, 2).encode(),
+    "cut.nets": b"netlist 0 gates 7\n", "late.nets": b"netlist 1",
 }
 # Calls, the fault lines that they end with, and these in words.
 ENDS = (
@@ -99,6 +103,20 @@ ENDS = (
     ("eval 8.v 0 0x0 0x0 0x0", "9 units 8 77770", "byte 77770: a wire past the 2,048th of the module"),
     ("eval 9.v 0 0x0 0x0 0x0", "9 units 9 19",
      "byte 19: another module name is due (ci_0, ci_1 and so on), or a 33rd module"),
+    ("gates big out", "4 too large big", "big has more than 4,194,304 bytes"),
+    ("gates 6.v out", "9 units 6 113",
+     "byte 113: a width, index, count or range out of bounds, or over 64 bits joined"),
+    ("gates units no/folder", "3 write no/folder", "no/folder can't be written"),
+    ("gates many.v out", "14 many 1 4992000",
+     "the modules up to number 1 have 4992000 gates, and 4,194,304 are the most"),
+    ("geval huge 0 0x0 0x0 0x0", "4 too large huge", "huge has more than 268,435,456 bytes"),
+    ("geval few 2 0x0 0x0 0x0", "7 unsupported 00000002 00000000",
+     "the file has no netlist 00000002 (hex): netlists count from 0"),
+    ("geval empty 0 0x0 0x0 0x0", "7 unsupported 00000000 00000000", "the file has no netlists"),
+    ("geval cut.nets 0 0x0 0x0 0x0", "15 nets 18",
+     "byte 18 of NETS: no netlist goes on so, or the text ends there too early"),
+    ("geval late.nets 31 0x0 0x0 0x0", "15 nets 8",
+     "byte 8 of NETS: no netlist goes on so, or the text ends there too early"),
     ("asm 1.s out", "13 asm 1 2 2", "line 2, column 2: a byte that begins no token"),
     ("asm latin.s out", "13 asm 1 1 1", "line 1, column 1: a byte that begins no token, or the text isn't UTF-8"),
     ("asm 2.s out", "13 asm 2 1 1", "line 1, column 1: a mnemonic is due here"),

@@ -9,11 +9,15 @@ from dataclasses import dataclass
 from checks.common import read
 from checks.generators.choice_rows import (CALLS, CALLS_BLOCKS, CALLS_REPORT, CALLS_UNITS, CONSTANTS, FOLDED, LOGS,
                                            PACKED_LOGS, SUMS, UNIT, VALUES, WRITTEN)
+from checks.oracles import netlists
 from readers import executable
 
 # What stands in each file that a call writes.
 BEFORE = b"before"
 ADD, ADDED = b"add x5, x10, x11\n", b"\xb3\x02\xb5\x00"
+# A netlist of or, and, and xor, each bit by bit.
+NETS = netlists.written([netlists.Netlist([(word, b"a%d" % bit, b"b%d" % bit) for word in (b"or", b"and", b"xor")
+                                           for bit in range(32)], [b"g%d" % place for place in range(96)])])
 PAIR = b"\xb3\x02\xb5\x00\xb3\x82\xc2\x00"
 # Causes of an end: that which the call has where nothing is refused, and the statuses of refusals.
 OWN, READ, WRITE, NO_MEMORY = "own", 2, 3, 12
@@ -50,6 +54,8 @@ COMMANDS = (
     Call("best calls --at 0x100c4", b"cut 0 1 2 gain 2\n", {}),
     Call("blocks calls", CALLS_BLOCKS.encode(), {}),
     Call("eval its-units 0 0x1 0x2 0x4", b"00000007 00000000\n", {}),
+    Call("gates its-units nets", b"modules 1 gates 320\n", {"nets": None}),
+    Call("geval its-nets 0 0x1 0x3 0x4", b"00000003 00000001 00000002\n", {}),
     Call("load 7", None, {}),
     Call("dis missing", b"fault 2 read missing\n", {}, READ),
 )
@@ -72,8 +78,8 @@ class Folder:
         self.program, self.path, self.beside = check.program, check.path("files"), check.path("beside")
         os.mkdir(self.path)
         self.held = {"old": executable.frame(SUMS), "its-new": executable.frame(FOLDED), "its-units": UNIT.encode(),
-                     "its-logs": LOGS.encode(), "text": CALLS.encode(), "words": ADDED, "pair": PAIR, "table": b"",
-                     "input": b"input", **{name: BEFORE for call in COMMANDS for name in call.writes}}
+                     "its-logs": LOGS.encode(), "its-nets": NETS, "text": CALLS.encode(), "words": ADDED, "pair": PAIR,
+                     "table": b"", "input": b"input", **{name: BEFORE for call in COMMANDS for name in call.writes}}
         self.restore({name: None for name in self.held})
         subprocess.run([self.program, "asm", "text", "words"], cwd=self.path, check=True)
         words = memoryview(self.content("words")).cast("I")

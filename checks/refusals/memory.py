@@ -25,7 +25,7 @@ from checks.oracles.outcomes import NO_MEMORY, OWN
 
 # How often a call that does nothing is made, to see whether a limit lets the program begin: where the stack lies
 # differs from run to run.
-TRIALS = 5
+TRIALS = 30
 COMPILER, LIBRARY = "cc", os.path.join(TOP, "checks", "refusals", "memory.c")
 # How many growths of a call are refused, and how many limits are tried.
 GROWTHS, LIMITS = 500, 150
@@ -110,9 +110,9 @@ class Checked:
         """Whether the program always gets under a limit as far as to its words: as many as the call has, which it then
         can't read."""
         call, self.call = self.call, dataclasses.replace(self.call, words=self.call.words.upper())
-        ends = [self.limited(size) for _ in range(TRIALS)]
+        begins = all(self.limited(size).status >= 0 for _ in range(TRIALS))
         self.call = call
-        return all(end.status >= 0 for end in ends)
+        return begins
 
     def place(self, size):
         """Where a signal ends the run under a limit, by gdb."""

@@ -19,15 +19,15 @@ LINES = {
     "1 usage": CALLS,
     "2 read NAME": READERS,
     "3 write -": CALLS,
-    "3 write NAME": ["asm", "find", "relog"],
+    "3 write NAME": ["asm", "find", "gates", "relog"],
     "4 too large NAME": READERS,
     **{f"5 elf {rule} A B": ["best --at", "blocks", "run", *CHOICES] for rule in range(1, 10)},
     **{f"6 table {rule}": ["best", "best --at", "run", *CHOICES] for rule in (1, 2)},
     **{f"6 table {rule} KEY": ["best", "best --at", "run", *CHOICES] for rule in (3, 4)},
     "7 unsupported POSITION WORD": ["best", "best --at", "blocks", *CHOICES],
-    "7 unsupported POSITION 00000000": ["eval"],
+    "7 unsupported POSITION 00000000": ["eval", "geval"],
     "8 text touched PC ADDR": CHOICES,
-    **{f"9 units {kind} OFFSET": ["eval", "run", "check"] for kind in range(1, 10)},
+    **{f"9 units {kind} OFFSET": ["eval", "gates", "run", "check"] for kind in range(1, 10)},
     **{f"10 log {kind} 0": ["check", "relog"] for kind in (1, 3)},
     **{f"10 log {kind} OFFSET": ["check", "relog"] for kind in (2, 4)},
     **{f"11 rejected ROUND LEADER ITEM {reason}": ["check"] for reason in range(1, 7)},
@@ -35,13 +35,15 @@ LINES = {
     **{f"11 rejected ROUND 00000000 0 {reason}": ["check"] for reason in range(10, 13)},
     "12 no memory": CALLS,
     **{f"13 asm {kind} LINE COLUMN": ["asm"] for kind in range(1, 8)},
+    "14 many MODULE GATES": ["gates"],
+    "15 nets OFFSET": ["geval"],
 }
 EXAMPLES = {
     "NAME": ["a file", "-x"], "A": ["0", "4", "5", "6", "16", "18", "20", "36", "42", "46", "84", "4294967295"],
     "B": ["0", "1", "2", "3", "62"], "KEY": ["read", "pad", "software", "hardware", "software.add", "hardware.mul"],
     "POSITION": ["00000000", "00010074"], "WORD": ["00000000", "0000050b", "464c457f"], "LINE": ["1", "2"],
     "PC": ["00010078"], "ADDR": ["00010074"], "ROUND": ["0", "2"], "LEADER": ["00010074"], "ITEM": ["0", "10"],
-    "COLUMN": ["1"], "OFFSET": ["0", "19"],
+    "COLUMN": ["1"], "OFFSET": ["0", "19"], "MODULE": ["0", "31"], "GATES": ["4194305"],
 }
 
 

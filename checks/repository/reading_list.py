@@ -58,10 +58,11 @@ CLAIMS = {
     "9": Claim(ENDS, ("Asm", "Dis"), (("crates/ci_asm/src/disassembler.rt", "show"),)),
     "10": Claim(ENDS, ("Eval",)),
     "11": Claim(ENDS, ("Relog",)),
-    "12": Claim(ENDS, READERS),
-    "13": Claim((*ENDS, "cause", "ends", "due", "statuses", "complete", "printed")),
-    "14": Claim(("no_write", "writes", "files_stay", "left")),
-    "15": Claim((*ENDS, "first_files", "ends", "complete", "left")),
+    "12": Claim(ENDS, ("Gates", "Geval")),
+    "13": Claim(ENDS, READERS),
+    "14": Claim((*ENDS, "cause", "ends", "due", "statuses", "complete", "printed")),
+    "15": Claim(("no_write", "writes", "files_stay", "left")),
+    "16": Claim((*ENDS, "first_files", "ends", "complete", "left")),
 }
 
 

@@ -4,11 +4,11 @@ PROGRAM is the program that `./rumtsafi` stands for in the examples.
 
 An example is a fenced block marked `console`. Its lines that begin with `$ ` are commands, which go on behind a line
 that ends with a backslash, and the lines after each are what it prints on standard output. Every command has to end
-with status 0, unless the next command is `echo $?`. A block marked `c NAME` or `verilog NAME` is a file that later
-examples use. The blocks of a document are run in turn, each by one shell, in a folder that holds a copy of samples/, a
-link to views/, and what earlier blocks left. A block that needs a tool which is not there is skipped, with a line that
-says so, and so is one that needs a file which a skipped block makes. Blocks in which GCC compiles take the version that
-the figures are of.
+with status 0, unless the next command is `echo $?`. A block marked `c NAME`, `text NAME` or `verilog NAME` is a file
+that later examples use. The blocks of a document are run in turn, each by one shell, in a folder that holds a copy of
+samples/, a link to views/, and what earlier blocks left. A block that needs a tool which is not there is skipped, with
+a line that says so, and so is one that needs a file which a skipped block makes. Blocks in which GCC compiles take the
+version that the figures are of.
 """
 import os
 import re
@@ -136,7 +136,7 @@ def examples(check, document):
     os.symlink(os.path.join(TOP, "views"), os.path.join(folder, "views"))
     for mark, lines, first in fences(document):
         kind, _, name = mark.partition(" ")
-        if kind in ("c", "verilog") and name:
+        if kind in ("c", "text", "verilog") and name:
             check.write(os.path.join(folder, name), "".join(lines))
         elif kind == "console":
             commands = commands_of(document, lines, first)

@@ -38,7 +38,8 @@ rumtsafi area OLD --limit N [--in N]
 """
 # The numbers of the lines on each of these commands.
 USAGE_LINES = {"eval": (0, 1, 9, 10), "area": (2, 3, 4, 6, 7, 8)}
-MISSING = f"{USAGE}rumtsafi: a command is missing; there are: find check relog best blocks run eval load asm dis\n"
+MISSING = (f"{USAGE}rumtsafi: a command is missing; there are: find check relog best blocks run eval gates geval load "
+           "asm dis\n")
 TOOLCHAIN = "kit of the tests"
 NO_PROGRAM = "there is no program that runs here: ./rumtsafi --build builds it"
 FOREIGN = "bin/rumtsafi doesn't run on this machine: ./rumtsafi --build builds one that does"
@@ -317,7 +318,10 @@ class Shipped(Repository):
                            (["relog", "a", "a"], "relog can't write 'a', which it names twice"),
                            (["relog", "a", "b", "--log"], "--log lacks its value"),
                            (["relog", "a", "b", "--log", "3"], "--log takes a number from 1 to 2, which '3' is not"),
-                           (["check", "--log", "2", *"abcd"], "check has no option '--log'")):
+                           (["check", "--log", "2", *"abcd"], "check has no option '--log'"),
+                           (["gates", "a", "a"], "gates can't write 'a', which it names twice"),
+                           (["geval", "a", "32", "0x1", "0x2", "0x3"], "K takes a number from 0 to 31, which '32' is"),
+                           (["geval", "a", "0", "0x1", "0x2"], "geval takes NETS K A B C, and C is missing")):
             status, _, told = self.use(*words)
             self.assertEqual(status, 1)
             self.assertTrue(told.splitlines()[-1].startswith(f"rumtsafi: {why}"), told)
@@ -550,6 +554,8 @@ class AtTerminal(Repository):
                  "a?fault 3 write - can't be written"),
                 (3, "fault 3 write a\nfault 3 write -\n", ["relog", "b", "a\nfault 3 write -"],
                  "a?fault 3 write - can't be written"),
+                (3, "fault 3 write a\nfault 3 write -\n", ["gates", "b", "a\nfault 3 write -"],
+                 "a?fault 3 write - can't be written"),
                 (3, "fault 3 write a\nfault 3 write -\n", ["run", "b"], "standard output didn't take the answer"),
                 (3, "cuts 1 fault 3 write -\n", ["find", *"abcde"], "standard output didn't take the answer"),
                 (2, "fault 3 write a\nfault 2 read b\n", ["dis", "b"], None), (2, "fault 2 read b", ["dis", "b"], None),
@@ -643,6 +649,8 @@ class Made(unittest.TestCase):
         self.assertEqual(self.complete("eval", "crc32.elf", "c"), "")
         self.assertEqual(self.complete("eval", "crc32.elf", "0", "-"), "--d --e")
         self.assertEqual(self.complete("eval", "crc32.elf", "0", "--d", ""), "")
+        self.assertEqual(self.complete("gates", "pair.bin", "crc32.e"), "crc32.elf")
+        self.assertEqual(self.complete("geval", "crc32.elf", "0", "-"), "--d --e")
 
     @unittest.skipUnless(shutil.which("groff"), "there is no groff")
     def test_the_man_page_has_no_fault(self):
