@@ -18,23 +18,9 @@ use Rattle.ci_check.specs.Rules.{Given, best_gain, IsGood, IsAfterBest, IsBefore
 use Rattle.ci_cut.specs.private.Reached.{Completes}
 use Rattle.ci_cut.proofs.PrefixLaws.{same_test, eligible_below, next_exists, decided_above, possible_parts, completes_none, completes_more, whole_choice}
 use Rattle.ci_cut.proofs.BoundLaws.{completion_bound, completion_bounded}
-use Rattle.ci_check.proofs.SetOrder.{compare_sets}
+use Rattle.ci_cut.proofs.FirstWrongLaws.{all_left, all_right}
+use Rattle.ci_cut.proofs.SetOrder.{compare_sets}
 use Rattle.ci_cut.proofs.NeedLaws.{compare_gains}
-
--- ---- facts on each element of a list
-
-module _ {X : Type 0} (P : X → Type 0) where
-  pub all_left : (xs ys : List X) → AllByRecursion P (xs ++ ys) → AllByRecursion P xs
-  all_left [] ys all = tt
-  all_left (x ∷ xs) ys all = (all.0, all_left xs ys all.1)
-
-  pub all_right : (xs ys : List X) → AllByRecursion P (xs ++ ys) → AllByRecursion P ys
-  all_right [] ys all = all
-  all_right (x ∷ xs) ys all = all_right xs ys all.1
-
-  pub all_both : (xs ys : List X) → AllByRecursion P xs → AllByRecursion P ys → AllByRecursion P (xs ++ ys)
-  all_both [] ys first second = second
-  all_both (x ∷ xs) ys first second = (first.0, all_both xs ys first.1 second)
 
 -- ---- integers
 

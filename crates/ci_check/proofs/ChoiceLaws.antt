@@ -6,7 +6,7 @@ use Rattle.ci_cut.specs.FlowGraph.{FlowGraph}
 use Rattle.ci_cut.specs.declared.prefix.PrefixTerms.{PrefixTerms}
 use Rattle.ci_cut.specs.Prefixes.{Prefix, is_eligible, IsBefore}
 use Rattle.ci_cut.specs.Representation.{Represents}
-use Rattle.ci_check.specs.Representation.{ComesBeforeFrom}
+use Rattle.ci_cut.specs.Best.{ComesBeforeFrom}
 use Rattle.ci_cut.proofs.PrefixLaws.{not_both}
 use Rattle.ci_cut.proofs.Represented.{decided_from_place, place_below}
 

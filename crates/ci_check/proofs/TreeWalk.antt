@@ -14,9 +14,10 @@ use Rattle.ci_check.specs.declared.checking.Wrong.{Wrong}
 use Rattle.ci_cut.specs.declared.prefix.PrefixTerms.{PrefixTerms}
 use Rattle.ci_cut.specs.Prefixes.{Prefix, is_eligible, eligible_nodes}
 use Rattle.ci_cut.specs.Representation.{Represents}
-use Rattle.ci_check.specs.Rules.{Given, IsRight, reason_of, Station, stations, IsRightAt, IsFirstWrongIn}
+use Rattle.ci_check.specs.Rules.{Given, IsRight, reason_of, Station, stations, reason_at, IsRightAt, IsFirstWrongIn}
 use Rattle.ci_check.specs.Representation.{IsTreeAt, IsJudged, IsBranchOn}
-use Rattle.ci_check.proofs.Acceptance.{all_right, all_both}
+use Rattle.ci_cut.proofs.FirstWrongLaws as first_wrong
+use Rattle.ci_cut.proofs.FirstWrongLaws.{all_both}
 
 -- ---- trees in a list of items
 
@@ -84,33 +85,21 @@ behind_first items rest start end {prefix = prefix} parts ends =
 
 module _ (graph : FlowGraph) (limits : Limits) (best : Given) where
   -- the first item is wrong
+  wrong_at : (prefix : Prefix) (item here : Item) (behind : List Station) → item ≡ here → ¬ IsRight graph limits best prefix item
+      → IsFirstWrongIn graph limits best (record { prefix = prefix; item = here } ∷ behind) 0 (reason_of item)
+  wrong_at prefix item here behind same wrong =
+      subst (λ (i : Item). IsFirstWrongIn graph limits best (record { prefix = prefix; item = i } ∷ behind) 0 (reason_of item)) same
+      (first_wrong.wrong_here (IsRightAt graph limits best) reason_at (record { prefix = prefix; item = item }) behind wrong)
+
   pub wrong_here : {one : List Item} (tree : IsTree one) (prefix : Prefix) (item : Item) (tail rest : List Item)
       → item ∷ tail ≡ one ++ rest → ¬ IsRight graph limits best prefix item
       → IsFirstWrongIn graph limits best (stations tree prefix) 0 (reason_of item)
   wrong_here (leaf {item = here} is) prefix item tail rest splits wrong =
       let same : item ≡ here = (cc) in
-      record {
-        before = [];
-        station = record { prefix = prefix; item = here };
-        behind = [];
-        is_split = refl;
-        right_before = tt;
-        not_right = subst (λ i. ¬ IsRight graph limits best prefix i) same wrong;
-        is_number = refl;
-        is_reason = ap reason_of same;
-      }
+      wrong_at prefix item here [] same wrong
   wrong_here (branch first second) prefix item tail rest splits wrong =
       let same : item ≡ B = (cc) in
-      record {
-        before = [];
-        station = record { prefix = prefix; item = B };
-        behind = stations first (true ∷ prefix) ++ stations second (false ∷ prefix);
-        is_split = refl;
-        right_before = tt;
-        not_right = subst (λ i. ¬ IsRight graph limits best prefix i) same wrong;
-        is_number = refl;
-        is_reason = ap reason_of same;
-      }
+      wrong_at prefix item B (stations first (true ∷ prefix) ++ stations second (false ∷ prefix)) same wrong
 
   -- the first item is right, and no branch
   pub right_alone : {one : List Item} (tree : IsTree one) (prefix : Prefix) (item : Item) (tail rest : List Item)
@@ -128,45 +117,18 @@ module _ (graph : FlowGraph) (limits : Limits) (best : Given) where
             subst (λ i. IsRight graph limits best prefix i) same right in omega (arith, whole none)
       ])
 
-  -- a wrong item in the first of two lists, and in the second
-  module _ (station : Station) (here : IsRightAt graph limits best station) (first second : List Station) (number reason : ℕ) where
-    pub wrong_in_first : IsFirstWrongIn graph limits best first number reason
-        → IsFirstWrongIn graph limits best (station ∷ (first ++ second)) (suc number) reason
-    wrong_in_first wrong = record {
-      before = station ∷ wrong.before;
-      station = wrong.station;
-      behind = wrong.behind ++ second;
-      is_split = ap (λ xs. station ∷ xs) (ap (λ xs. xs ++ second) wrong.is_split ∙ append_assoc wrong.before (wrong.station ∷ wrong.behind) second);
-      right_before = (here, wrong.right_before);
-      not_right = wrong.not_right;
-      is_number = ap suc wrong.is_number;
-      is_reason = wrong.is_reason;
-    }
-
-    pub wrong_in_second : AllByRecursion (IsRightAt graph limits best) first
-        → IsFirstWrongIn graph limits best second number reason
-        → IsFirstWrongIn graph limits best (station ∷ (first ++ second)) (suc (length first + number)) reason
-    wrong_in_second all wrong = record {
-      before = station ∷ (first ++ wrong.before);
-      station = wrong.station;
-      behind = wrong.behind;
-      is_split = ap (λ xs. station ∷ xs) (ap (λ xs. first ++ xs) wrong.is_split ∙ sym (append_assoc first wrong.before (wrong.station ∷ wrong.behind)));
-      right_before = (here, all_both (IsRightAt graph limits best) first wrong.before all wrong.right_before);
-      not_right = wrong.not_right;
-      is_number = ap suc (ap (λ n. length first + n) wrong.is_number ∙ sym (length-append first wrong.before));
-      is_reason = wrong.is_reason;
-    }
-
   module _ {one : List Item} (tree : IsTree one) (prefix : Prefix) (tail rest : List Item)
       (parts : SubTrees tree prefix tail rest) (right : IsRight graph limits best prefix B) (place : ℕ) where
     pub judged_by_first : (wrong : Wrong) → IsJudged graph limits best (stations parts.first_tree (true ∷ prefix))
         (place + 1) (Err wrong) → IsJudged graph limits best (stations tree prefix) place (Err wrong)
     judged_by_first wrong (number, is, item) =
+        let first = stations parts.first_tree (true ∷ prefix) in
+        let second = stations parts.second_tree (false ∷ prefix) in
         rw parts.are_stations (
           suc number,
-          wrong_in_first (record { prefix = prefix; item = B }) right
-              (stations parts.first_tree (true ∷ prefix))
-              (stations parts.second_tree (false ∷ prefix)) number wrong.reason is,
+          first_wrong.wrong_later (IsRightAt graph limits best) reason_at (record { prefix = prefix; item = B })
+              (first ++ second) number wrong.reason right
+              (first_wrong.wrong_left (IsRightAt graph limits best) reason_at first second number wrong.reason is),
           omega arith,
         )
 
@@ -183,16 +145,11 @@ module _ (graph : FlowGraph) (limits : Limits) (best : Given) where
         let second = stations parts.second_tree (false ∷ prefix) in
         rw parts.are_stations (
           suc (length first + number),
-          wrong_in_second (record { prefix = prefix; item = B }) right first second number wrong.reason all is,
+          first_wrong.wrong_later (IsRightAt graph limits best) reason_at (record { prefix = prefix; item = B })
+              (first ++ second) (length first + number) wrong.reason right
+              (first_wrong.wrong_right (IsRightAt graph limits best) reason_at first second number wrong.reason all is),
           omega arith,
         )
-
-  -- a list with a wrong item isn't right
-  pub not_all : (all : List Station) (number reason : ℕ) → IsFirstWrongIn graph limits best all number reason
-      → AllByRecursion (IsRightAt graph limits best) all → ⊥
-  not_all all number reason wrong right =
-      wrong.not_right (all_right (IsRightAt graph limits best) wrong.before (wrong.station ∷ wrong.behind)
-      (subst (AllByRecursion (IsRightAt graph limits best)) wrong.is_split right)).0
 
 -- the walk went on from the tree of a prefix to that of another, of which what is judged holds of the first
 pub record Goes (graph : FlowGraph) (limits : Limits) (best : Given) (items : List Item) (terms : PrefixTerms) (delays : List ℕ)

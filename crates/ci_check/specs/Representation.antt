@@ -1,11 +1,10 @@
 -- For the contracts of checker and search: what the code holds of the best cut and of a log.
-use Rattle.std.specs.Prelude.{◌≡◌, ℕ, ◌+◌, ◌≤◌, Bool, ◌⊎◌, List, ◌++◌, drop, length, Option, None}
+use Rattle.std.specs.Prelude.{◌≡◌, ℕ, ◌+◌, ◌⊎◌, List, ◌++◌, drop, length, Option, None}
 use Rattle.std.specs.Prelude.{Some, Result, Ok, Err}
 use Rattle.std.specs.List.{AllByRecursion}
 use Rattle.ci_word.specs.Numbers.{count_below}
 use Rattle.ci_cut.specs.FlowGraph.{FlowGraph}
 use Rattle.ci_cut.specs.declared.graph.Limits.{Limits}
-use Rattle.ci_cut.specs.Best.{ComesBefore}
 use Rattle.ci_log.specs.declared.log.Item.{Item}
 use Rattle.ci_log.specs.declared.log.Item.TheVariants.{B}
 use Rattle.ci_log.specs.Trees.{IsLeaf, IsTree}
@@ -14,10 +13,6 @@ use Rattle.ci_check.specs.declared.checking.Wrong.{Wrong}
 use Rattle.ci_check.specs.Rules.{Given, best_gain, IsGood, Station, IsRightAt, IsFirstWrongIn}
 use Rattle.ci_cut.specs.Prefixes.{is_eligible}
 use Rattle.ci_cut.specs.Representation.{IsNextBelow}
-
--- sets compared from the last number down to one: at the greatest number in which they differ, the first has it
-abbrev pub ComesBeforeFrom : ℕ → (ℕ → Bool) → (ℕ → Bool) → Type 0
-ComesBeforeFrom from first second = (before : ComesBefore first second) × (from ≤ before.place)
 
 -- ---- the best cut
 

@@ -10,6 +10,7 @@ use Rattle.ci_cut.specs.Walks.{IsConvex}
 use Rattle.ci_cut.specs.Ports.{outputs}
 use Rattle.ci_cut.specs.Gain.{Fits, gain}
 use Rattle.ci_cut.specs.Best.{ComesBefore}
+use Rattle.ci_cut.specs.FirstWrong as first_wrong
 use Rattle.ci_log.specs.declared.log.Item.{Item}
 use Rattle.ci_log.specs.declared.log.Item.TheVariants.{B, O, C, I, G, F}
 use Rattle.ci_log.specs.Trees.{IsTree, leaf, branch}
@@ -87,6 +88,9 @@ stations (leaf {item = item} is) prefix = record { prefix = prefix; item = item 
 stations (branch in_tree out_tree) prefix =
     record { prefix = prefix; item = B } ∷ (stations in_tree (true ∷ prefix) ++ stations out_tree (false ∷ prefix))
 
+abbrev pub reason_at : Station → ℕ
+reason_at station = reason_of station.item
+
 abbrev pub IsRightAt : FlowGraph → Limits → Given → Station → Type 0
 IsRightAt graph limits best station = IsRight graph limits best station.prefix station.item
 
@@ -97,16 +101,9 @@ pub record IsAccepted (graph : FlowGraph) (limits : Limits) (best : Given) (item
   pub right : AllByRecursion (IsRightAt graph limits best) (stations tree [])
 
 -- this station is the first that isn't right, behind so many that are
-pub record IsFirstWrongIn (graph : FlowGraph) (limits : Limits) (best : Given) (all : List Station)
-    (number reason : ℕ) : Type 0 where
-  pub before : List Station
-  pub station : Station
-  pub behind : List Station
-  pub is_split : all ≡ before ++ (station ∷ behind)
-  pub right_before : AllByRecursion (IsRightAt graph limits best) before
-  pub not_right : ¬ IsRightAt graph limits best station
-  pub is_number : number ≡ length before
-  pub is_reason : reason ≡ reason_of station.item
+abbrev pub IsFirstWrongIn : FlowGraph → Limits → Given → List Station → ℕ → ℕ → Type 0
+IsFirstWrongIn graph limits best all number reason =
+    first_wrong.IsFirstWrongIn (IsRightAt graph limits best) reason_at all number reason
 
 -- the first item that is wrong, and why: the first one for reason 7 where the best cut that is given isn't good
 abbrev pub IsFirstWrong : FlowGraph → Limits → Given → List Item → Wrong → Type 0

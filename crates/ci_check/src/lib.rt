@@ -20,5 +20,4 @@ pub use rules::{is_right, is_right_with};
 mod checking;
 mod laws;
 mod need;
-mod order;
 mod rules;

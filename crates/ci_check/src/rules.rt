@@ -1,7 +1,6 @@
 //! The rules of the items of a log.
 ghost use Rattle.std.specs.Prelude.{◌≡◌, ◌↔◌, ℕ, true, List, ◌∷◌, MatchOption, IsTrue};
 ghost use Rattle.std.specs.FinSet as set;
-ghost use Rattle.ci_cut.specs.GraphRules.{AreNodes};
 ghost use Rattle.ci_cut.specs.Prefixes.{Prefix, is_next};
 ghost use Rattle.ci_cut.specs.Representation.{AreRowsOf, Represents, RepresentsSome, RepresentsWhole};
 ghost use Rattle.ci_log.specs.Trees.{IsLeaf};
@@ -9,8 +8,9 @@ ghost use Rattle.ci_check.specs.Rules.{Given, IsGood, IsAfterBest, IsBeforeBest,
 ghost use Rattle.ci_check.specs.Rules.{reason_of};
 ghost use Rattle.ci_check.specs.Representation.{IsMeasured};
 
-use crate::order::comes_before;
-use ci_cut::{Graph, GraphRows, Incumbent, Limits, PrefixTerms, gain_above};
+use ci_cut::{
+    Graph, GraphRows, Incumbent, Limits, PrefixTerms, are_nodes, comes_before, gain_above,
+};
 use ci_log::Item;
 use ci_word::Row;
 
@@ -27,19 +27,6 @@ pub fn checked(graph: &Graph, limits: &Limits, cut: Option<Row>) -> Option<Incum
     }
     let gain = gain_above(graph, limits, &row, 0)?;
     Some(Incumbent { cut, gain })
-}
-
-/// Whether each number of the set is a node.
-fn are_nodes(graph: &Graph, cut: &Row) -> bool
-    ensures { IsTrue result ↔ AreNodes graph.now cut.now }
-{
-    cut.numbers_are_below_256();
-    for k in graph.nodes().len()..256 {
-        if cut.has(k as u8) {
-            return false;
-        }
-    }
-    true
 }
 
 /// Whether the set that is taken in is a better cut than the best.

@@ -7,6 +7,9 @@ pub mod MemberSums
 pub mod GraphLaws
 pub mod MaximumAt
 pub mod ListCountLaws
+pub mod FirstWrongLaws
+pub mod SetOrder
+pub mod GainTests
 pub mod LongestChains
 pub mod NeedLaws
 pub mod NodeLaws

@@ -1,5 +1,5 @@
 -- The best cut of a block, among all sets of its nodes.
-use Rattle.std.specs.Prelude.{◌≡◌, ℕ, ◌<◌, Bool, true, false, pos, ◌<ℤ◌, ◌≤ℤ◌, ◌⊎◌}
+use Rattle.std.specs.Prelude.{◌≡◌, ℕ, ◌<◌, ◌≤◌, Bool, true, false, pos, ◌<ℤ◌, ◌≤ℤ◌, ◌⊎◌}
 use Rattle.ci_cut.specs.declared.graph.Limits.{Limits}
 use Rattle.ci_cut.specs.FlowGraph.{FlowGraph}
 use Rattle.ci_cut.specs.Gain.{Fits, gain}
@@ -11,6 +11,10 @@ pub record ComesBefore (first second : ℕ → Bool) : Type 0 where
   pub in_first : first place ≡ true
   pub not_in_second : second place ≡ false
   pub same_above : (k : ℕ) → place < k → first k ≡ second k
+
+-- the same, where sets are compared down to a number alone
+abbrev pub ComesBeforeFrom : ℕ → (ℕ → Bool) → (ℕ → Bool) → Type 0
+ComesBeforeFrom from first second = (before : ComesBefore first second) × (from ≤ before.place)
 
 abbrev pub IsSameSet : (ℕ → Bool) → (ℕ → Bool) → Type 0
 IsSameSet s t = (k : ℕ) → s k ≡ t k

@@ -6,6 +6,7 @@ pub mod Hardware
 pub mod Gain
 pub mod Best
 pub mod ListCounts
+pub mod FirstWrong
 pub mod Prefixes
 pub mod Need
 pub mod Incumbents

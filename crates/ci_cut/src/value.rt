@@ -143,3 +143,16 @@ fn are_eligible(graph: &Graph, cut: &Row) -> bool
     }
     true
 }
+
+/// Whether each number of the set is a node.
+pub fn are_nodes(graph: &Graph, cut: &Row) -> bool
+    ensures { IsTrue result ↔ AreNodes graph.now cut.now }
+{
+    cut.numbers_are_below_256();
+    for k in graph.nodes().len()..256 {
+        if cut.has(k as u8) {
+            return false;
+        }
+    }
+    true
+}

@@ -23,7 +23,8 @@ use Rattle.ci_cut.proofs.PrefixLaws.{completes_earlier, taken_completes}
 use Rattle.ci_cut.proofs.BoundLaws.{before_more, before_in, before_out, before_by_next}
 use Rattle.ci_cut.proofs.NeedLaws.{compare_gains}
 use Rattle.ci_cut.proofs.NeedLaws.{open_by_bound, bound_of_open}
-use Rattle.ci_check.proofs.Acceptance.{all_both, before_completions}
+use Rattle.ci_cut.proofs.FirstWrongLaws.{all_both}
+use Rattle.ci_check.proofs.Acceptance.{before_completions}
 use Rattle.ci_cut.specs.Incumbents.{IsImproved}
 use Rattle.ci_search.specs.private.Searched.{Prunes, IsPruning, IsLater, IsPassed, IsLogged}
 

@@ -2,9 +2,9 @@ use Rattle.std.proofs.Common.{◌≡◌, ℕ, [], append-nil, refl, inr, sym, �
 use Rattle.std.specs.List.{AllByRecursion}
 use Rattle.std.proofs.lemmas.Result.{err_from_is_err_and}
 use Rattle.ci_log.specs.Trees.{IsTree}
-use Rattle.ci_check.specs.Rules.{Given, IsGood, stations, IsRightAt, IsAccepted, IsFirstWrongIn}
+use Rattle.ci_check.specs.Rules.{Given, IsGood, stations, reason_at, IsRightAt, IsAccepted, IsFirstWrongIn}
 use Rattle.ci_check.proofs.Acceptance.{accepted_is_best}
-use Rattle.ci_check.proofs.TreeWalk.{not_all}
+use Rattle.ci_cut.proofs.FirstWrongLaws.{not_all}
 use Rattle.ci_check.proofs.checking.check_reusing.Goals as goal
 
 pub check_tree-requires-clause-represents : goal.check_tree-requires-clause-represents
@@ -28,7 +28,7 @@ pub returns-in_err-check_tree-clause-accepted : goal.returns-in_err-check_tree-c
 returns-in_err-check_tree-clause-accepted c =
     let p = err_from_is_err_and c.from_residual.result c.from_residual.ensures.1 in (
       rw p.1 (λ e. absurd (cc)),
-      λ accepted. absurd (not_all c.args.graph.now c.args.limits.now c.args.best (stations accepted.tree []) _ _ (wrong_of c accepted.tree) accepted.right),
+      λ accepted. absurd (not_all (IsRightAt c.args.graph.now c.args.limits.now c.args.best) reason_at (stations accepted.tree []) _ _ (wrong_of c accepted.tree) accepted.right),
     )
 
 pub returns-in_err-check_tree-clause-wrong : goal.returns-in_err-check_tree-clause-wrong

@@ -2,7 +2,7 @@ use Rattle.std.proofs.Common.{inl, inr, refl, sym, subst, rules, w64, SFits, ari
 use Rattle.std.proofs.lemmas.Int.{ints, to_z-of_z}
 use Rattle.std.specs.FinSet as set
 use Rattle.ci_cut.specs.private.Reached.{IsReachedWith}
-use Rattle.ci_check.proofs.GainTests.{less_by_test, not_less_by_test}
+use Rattle.ci_cut.proofs.GainTests.{less_by_test, not_less_by_test}
 use Rattle.ci_check.proofs.need.reached_with.Goals as goal
 
 pub returns-then-gained-reached : goal.returns-then-gained-reached

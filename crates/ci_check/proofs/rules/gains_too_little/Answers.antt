@@ -2,7 +2,7 @@ use Rattle.std.proofs.Common.{sym, ◌∙◌, rules, w64, SFits}
 use Rattle.std.proofs.lemmas.Bool.{ne_eqb}
 use Rattle.ci_cut.specs.Prefixes.{bound}
 use Rattle.ci_check.specs.Rules.{best_gain, IsAfterBest}
-use Rattle.ci_check.proofs.GainTests.{of_z_same, less_by_test, above_by_tests, decides_less, decides_at_same, decides_above}
+use Rattle.ci_cut.proofs.GainTests.{of_z_same, less_by_test, above_by_tests, decides_less, decides_at_same, decides_above}
 use Rattle.ci_check.proofs.rules.gains_too_little.Goals as goal
 
 pub returns-then-bound-best : goal.returns-then-bound-best

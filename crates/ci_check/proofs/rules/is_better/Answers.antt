@@ -4,7 +4,7 @@ use Rattle.ci_cut.specs.declared.graph.Limits.{Limits}
 use Rattle.ci_cut.specs.FlowGraph.{FlowGraph}
 use Rattle.ci_cut.specs.Gain.{Fits, gain}
 use Rattle.ci_check.specs.Rules.{Given, best_gain, IsBeforeBest, IsBetter}
-use Rattle.ci_check.proofs.GainTests.{of_z_same, less_by_test, above_by_tests, decides_less, decides_at_same, decides_above}
+use Rattle.ci_cut.proofs.GainTests.{of_z_same, less_by_test, above_by_tests, decides_less, decides_at_same, decides_above}
 use Rattle.ci_check.proofs.rules.is_better.Goals as goal
 
 -- a set that fits is a better cut if its gain, or else the order, says so

@@ -2,9 +2,9 @@ use Rattle.std.proofs.Common.{◌≤◌, IsTrue, ℕ, refl, sym, ap, ◌∙◌, 
 use Rattle.std.specs.Ordering.{nat_cmp}
 use Rattle.std.specs.FinSet as set
 use Rattle.ci_cut.proofs.WayBack.{outside_parts, outside_from}
-use Rattle.ci_check.proofs.SetOrder.{none_before, too_low, before_if_below, below_if_before}
-use Rattle.ci_check.proofs.order.comes_before.Goals as goal
-use Rattle.ci_check.proofs.order.comes_before.Goals.{In-Some}
+use Rattle.ci_cut.proofs.SetOrder.{none_before, too_low, before_if_below, below_if_before}
+use Rattle.ci_cut.proofs.order.comes_before.Goals as goal
+use Rattle.ci_cut.proofs.order.comes_before.Goals.{In-Some}
 
 pub returns-in_default : goal.returns-in_default
 returns-in_default c = (

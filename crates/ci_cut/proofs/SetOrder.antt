@@ -1,8 +1,7 @@
 -- The order of sets of nodes.
 use Rattle.std.proofs.Common.{◌≡◌, ℕ, zero, suc, ◌<◌, ◌≤◌, Bool, true, false, ◌⊎◌, inl, inr, IsTrue, sym, ap, ◌∙◌, arith, true≢false}
 use Rattle.std.proofs.lemmas.Bool.{cases_eq, cases_order, cases_Bool, false_from_ne_true}
-use Rattle.ci_cut.specs.Best.{ComesBefore, IsSameSet}
-use Rattle.ci_check.specs.Representation.{ComesBeforeFrom}
+use Rattle.ci_cut.specs.Best.{ComesBefore, ComesBeforeFrom, IsSameSet}
 
 -- sets that are the same from some number on are one, or one of them comes before the other
 pub compare_sets : (n : ℕ) (s t : ℕ → Bool) → ((k : ℕ) → n ≤ k → s k ≡ t k) → IsSameSet s t ⊎ (ComesBefore s t ⊎ ComesBefore t s)

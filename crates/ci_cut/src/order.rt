@@ -1,7 +1,7 @@
 //! The order of sets of nodes.
 ghost use Rattle.std.specs.Prelude.{◌↔◌, IsTrue};
 ghost use Rattle.std.specs.FinSet as set;
-ghost use Rattle.ci_check.specs.Representation.{ComesBeforeFrom};
+ghost use Rattle.ci_cut.specs.Best.{ComesBeforeFrom};
 
 use ci_word::Row;
 
