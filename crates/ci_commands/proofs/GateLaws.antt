@@ -1,24 +1,16 @@
 -- The counts of modules, and the netlists of modules, one after the other.
-use Rattle.std.proofs.Common.{◌≡◌, ℕ, zero, suc, ◌+◌, ◌*◌, ◌<◌, ◌≤◌, List, [], ◌∷◌, ◌++◌, length, take, map, refl, sym}
+use Rattle.std.proofs.Common.{◌≡◌, ℕ, zero, suc, ◌+◌, ◌<◌, ◌≤◌, List, [], ◌∷◌, ◌++◌, length, take, map, refl, sym}
 use Rattle.std.proofs.Common.{ap, ◌∙◌, subst, arith}
 use Rattle.std.specs.Prelude.{sum}
 use Rattle.std.specs.List.{AllByRecursion, AllZip, slice_index_or}
-use Rattle.std.proofs.lemmas.List.{length-append, length-map, take_all, take_more}
+use Rattle.std.proofs.lemmas.List.{take_all, take_more}
 use Rattle.std.proofs.lemmas.List.Sums.{sum-map, sum_by-cons, sum_by_push, sum_by-take-le}
-use Rattle.std.proofs.lemmas.Nat.{mul-le}
-use Rattle.ci_verilog.specs.declared.expressions.Expr.{Expr}
-use Rattle.ci_verilog.specs.declared.expressions.Operator.{Operator}
-use Rattle.ci_verilog.specs.declared.expressions.Operator.TheVariants.{Plus, Minus, Times, And, Or, Xor, Left, Right}
-use Rattle.ci_verilog.specs.declared.expressions.Operator.TheVariants.{Less}
-use Rattle.ci_verilog.specs.declared.expressions.Wire.{Wire}
-use Rattle.ci_verilog.specs.Modules.{Known, Module, IsModule, known_by}
-use Rattle.ci_verilog.specs.Values.{results_of}
-use Rattle.ci_verilog.proofs.WireLaws.{narrow_names}
-use Rattle.ci_verilog.proofs.WidthLaws.{AllNarrow, narrow_term}
+use Rattle.ci_verilog.specs.Modules.{Module, IsModule}
 use Rattle.ci_vread.specs.Lexicon.{Token}
 use Rattle.ci_vread.specs.Spelling.{SpellsModules, no_modules, more_modules, Spell}
+use Rattle.ci_vread.proofs.OneSpelling.{all_modules}
 use Rattle.ci_netlist.specs.Netlists.{Netlist}
-use Rattle.ci_gates.specs.Counts.{operator_gates, HasGates, HaveGates, exprs_of, IsCountOf}
+use Rattle.ci_gates.specs.Counts.{IsCountOf}
 use Rattle.ci_gates.specs.Modules.{HasFewGates, IsNetlistOf}
 use Rattle.ci_gates.proofs.ModuleLaws.{count_is_one}
 use Rattle.ci_commands.specs.GatesCommand.{HaveTogether, gates_of}
@@ -31,63 +23,12 @@ few_modules : {k : ℕ} {tokens : List Token} {modules : List Module} → Spells
 few_modules no_modules few = omega (arith, few)
 few_modules (more_modules is_k below is spells later) few = let rest = few_modules later below in omega (arith, rest)
 
-are_modules : {k : ℕ} {tokens : List Token} {modules : List Module} → SpellsModules k tokens modules
-    → AllByRecursion IsModule modules
-are_modules no_modules = tt
-are_modules (more_modules is_k below is spells later) = (is, are_modules later)
-
 module _ (bytes : List ℕ) (modules : List Module) (spell : Spell bytes modules) where
   pub spelled_few : length modules ≤ 32
   spelled_few = let few = few_modules spell.spelled (omega arith) in omega (arith, few)
 
   pub spelled_modules : AllByRecursion IsModule modules
-  spelled_modules = are_modules spell.spelled
-
-pub module_at : (modules : List Module) (k : ℕ) (d : Module) → AllByRecursion IsModule modules → k < length modules
-    → IsModule (slice_index_or modules k d)
-module_at [] k d are below = absurd (omega (arith, below))
-module_at (m ∷ modules) zero d are below = are.0
-module_at (m ∷ modules) (suc k) d are below = module_at modules k d are.1 (omega (arith, below))
-
--- ---- a count fits its type
-
-products : (n k : ℕ) → n ≤ 64 → k ≤ 65 → 3 * n * k ≤ 12480
-products n k few narrow = mul-le (3 * n) k 192 65 (omega (arith, few)) narrow
-
-operator_most : (operator : Operator) (n k : ℕ) → n ≤ 64 → k ≤ 64 → operator_gates operator n k ≤ 12480
-operator_most And n k few narrow = omega (arith, few)
-operator_most Or n k few narrow = omega (arith, few)
-operator_most Xor n k few narrow = omega (arith, few)
-operator_most Plus n k few narrow = omega (arith, few)
-operator_most Minus n k few narrow = omega (arith, few)
-operator_most Less n k few narrow = omega (arith, few)
-operator_most Times n k few narrow = products n (n + 1) few (omega (arith, few))
-operator_most Left n k few narrow = products n k few (omega (arith, narrow))
-operator_most Right n k few narrow = products n k few (omega (arith, narrow))
-
-module _ (known : List Known) (narrow : AllNarrow known) where
-  expr_most : (e : Expr) (n : ℕ) → HasGates known e n → n ≤ 12480
-  expr_most _ _ HasGates.one = omega arith
-  expr_most _ _ (HasGates.two {operator = operator} {l = l} {r = r} {left = left} {right = right} is_l is_r) =
-      operator_most operator left right (narrow_term known narrow l left is_l) (narrow_term known narrow r right is_r)
-  expr_most _ _ (HasGates.choose {first = first} {width = width} is) =
-      let most = narrow_term known narrow first width is in omega (arith, most)
-
-  exprs_most : (es : List Expr) (n : ℕ) → HaveGates known es n → n ≤ 12480 * length es
-  exprs_most _ _ HaveGates.none = omega arith
-  exprs_most _ _ (HaveGates.more {expr = e} {exprs = es} {n = n} {others = others} has have) =
-      let first = expr_most e n has in
-      let rest = exprs_most es others have in
-      omega (arith, first, rest)
-
--- each of 2,048 wires and 3 results has a product of words of 64 bits at most
-pub count_most : (m : Module) → IsModule m → (n : ℕ) → IsCountOf m n → n ≤ 25596480
-count_most m is n count =
-    let most = exprs_most (known_by m.wires) (narrow_names m.wires is.are_wires) (exprs_of m) n count in
-    let wires = map (λ (wire : Wire). wire.value) m.wires.list in
-    let many : length (exprs_of m) ≡ length wires + 3 = length-append wires (results_of m) in
-    let few : length wires ≡ length m.wires.list = length-map m.wires.list (λ (wire : Wire). wire.value) in
-    omega (arith, most, many, few, is.few)
+  spelled_modules = all_modules spell.spelled
 
 -- ---- lists that go together, place by place
 

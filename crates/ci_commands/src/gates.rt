@@ -10,13 +10,13 @@ ghost use Rattle.ci_commands.specs.GatesCommand.{gates_inputs, gates_line, HaveT
 ghost use Rattle.ci_commands.specs.GatesCommand.{IsGatesMade, IsGatesRefused};
 
 use ci_calls::{Refusal, Success, Written, read_units};
-use ci_gates::{Netlist, count, of_module, write};
+use ci_gates::{GATES, Netlist, count, of_module, write};
 use ci_io::Shelf;
 use ci_verilog::Module;
 use std::alloc::{AllocError, Global};
 
 /// The most gates of all netlists together.
-const MOST: u64 = 4_194_304;
+const MOST: u64 = GATES as u64;
 
 /// Makes the text of the netlists of the modules that a file spells, and the line of how many netlists there are and
 /// how many gates they have.

@@ -59,6 +59,7 @@ fn expr_gates(wires: &Wires, expr: &Expr) -> u64
 /// takes no memory.
 pub fn count(module: &Module) -> u64
     ensures value { IsCountOf «module».now result }
+    ensures most { result ≤ 25596480 }
 {
     let wires = module.wires();
     let list = wires.as_slice();

@@ -39,7 +39,7 @@ pub built_is : (text : List ℕ) (items : List of_code.Token) (modules : List Mo
     → modules_of (map (token_of text) items) ≡ modules
 built_is text items modules built = ap modules_of (sym (placed_tokens text items)) ∙ read_off built.are_tokens built.spelled
 
-all_modules : {k : ℕ} {tokens : List Token} {modules : List Module} → SpellsModules k tokens modules → AllByRecursion IsModule modules
+pub all_modules : {k : ℕ} {tokens : List Token} {modules : List Module} → SpellsModules k tokens modules → AllByRecursion IsModule modules
 all_modules no_modules = tt
 all_modules (more_modules is_k below is spells later) = (is, all_modules later)
 

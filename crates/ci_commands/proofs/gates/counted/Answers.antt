@@ -1,18 +1,10 @@
 -- The count of one module more.
-use Rattle.std.proofs.Common.{sym, subst, arith}
-use Rattle.ci_verilog.specs.Modules.{IsModule}
-use Rattle.ci_commands.proofs.GateLaws.{count_most, module_at, one_together, spelled_few, spelled_modules}
+use Rattle.std.proofs.Common.{arith}
+use Rattle.ci_commands.proofs.GateLaws.{one_together, spelled_few}
 use Rattle.ci_commands.proofs.gates.counted.Goals as goal
 
 pub overflow_add-gates : goal.overflow_add-gates
-overflow_add-gates c =
-    let modules = c.args.modules.now in
-    let k = c.loop-number.number in
-    let m = c.index-modules-number.result in
-    let are = spelled_modules c.requires.0 modules c.requires.1 in
-    let is = subst IsModule (sym c.index-modules-number.is) (module_at modules k m are c.loop-number-test.true) in
-    let most = count_most m is c.count-gates.result c.count-gates.ensures.value in
-    omega (arith, most, c.loop-number.invariant.few)
+overflow_add-gates c = omega (arith, c.count-gates.ensures.most, c.loop-number.invariant.few)
 
 pub overflow_cast-result : goal.overflow_cast-result
 overflow_cast-result c =

@@ -56,4 +56,16 @@ returns c =
           (subst (λ ws. HasGates (known_by ws) c.z.result.now c.expr_gates-2.result) kind c.expr_gates-2.ensures.value))
           (subst (λ e. HasGates (known_by m.wires) e c.expr_gates-3.result) c.x.ensures
           (subst (λ ws. HasGates (known_by ws) c.x.result.now c.expr_gates-3.result) kind c.expr_gates-3.ensures.value));
+      most =
+          let few = c.wires-wires.ensures.kept.few in
+          let many = ap length same in
+          omega (
+            arith,
+            few,
+            many,
+            c.loop-wire.invariant.few,
+            c.expr_gates.ensures.most,
+            c.expr_gates-2.ensures.most,
+            c.expr_gates-3.ensures.most,
+          );
     }
