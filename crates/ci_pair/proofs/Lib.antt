@@ -1,0 +1,15 @@
+pub mod PrefixLaws
+pub mod BoundLaws
+pub mod Acceptance
+pub mod BoundSums
+pub mod Numbers
+pub mod SetTests
+pub mod OrderLaws
+pub mod ChoiceLaws
+pub mod TreeWalk
+pub mod NeedLaws
+pub mod RegionLaws
+pub mod LogLaws
+pub mod SearchLaws
+pub mod ClosedLaws
+pub mod AnswerLaws

@@ -1,0 +1,5 @@
+pub mod States
+pub mod Judged
+pub mod Reached
+pub mod Searched
+pub mod SearchTrees
