@@ -1,0 +1,9 @@
+pub mod AreaLaws
+pub mod PieceSums
+pub mod AreaOrder
+pub mod AreaRegionLaws
+pub mod DecidedLaws
+pub mod BoundTests
+pub mod AreaWalk
+pub mod GreedyLaws
+pub mod AreaSearchLaws

@@ -1,0 +1,10 @@
+pub mod Pieces
+pub mod AreaPrefixes
+pub mod Greedy
+pub mod AreaNeed
+pub mod AreaTrees
+pub mod AreaRules
+pub mod AreaRegionTrees
+pub mod AreaAnswered
+pub mod Representation
+pub mod private
