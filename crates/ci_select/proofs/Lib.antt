@@ -17,6 +17,12 @@ pub mod UnitLaws
 mod CandidateLaws
 pub mod SavingLaws
 pub mod TakenUnits
+mod SumLaws
+mod CandidateGains
+pub mod UnitSavings
+pub mod TakenSavings
+pub mod EntrySums
+pub mod SavingBounds
 mod DueLaws
 mod EnteredPlaces
 mod FirstRounds

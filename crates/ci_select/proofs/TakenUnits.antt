@@ -56,12 +56,12 @@ units_are_kept (entry ∷ later) history (new {units = us} {unit = u} are unit a
 -- ---- the unit of a take
 
 -- the unit of the cut of the block has the number
-abbrev HasUnit : Instance → History → ℕ → ℕ → List Unit → Type 0
+abbrev pub HasUnit : Instance → History → ℕ → ℕ → List Unit → Type 0
 HasUnit instance history leader number units =
     (unit : Unit) × IsUnitAt instance history leader unit × (slice_get units number ≡ Some unit)
 
 -- which is so behind its take
-unit_of_take :
+pub unit_of_take :
     {instance : Instance} {history : History} {leader number : ℕ} {units : List Unit} → AreInOrder instance.blocks
     → IsDue instance history (due.Take leader number) → AreUnits instance (Take leader number ∷ history) units
     → HasUnit instance history leader number units

@@ -15,10 +15,9 @@ use Rattle.ci_log.specs.declared.book.Entry.TheVariants.{Best, Without, Spent, T
 use Rattle.ci_log.specs.declared.log.Item.{Item}
 use Rattle.ci_log.specs.Books.{Book}
 use Rattle.ci_check.specs.declared.checking.Wrong.{Wrong}
-use Rattle.ci_check.specs.Rules.{Given, IsAccepted, IsFirstWrong, IsFirstWrongIn, IsRightAt, Station, reason_of, stations}
-use Rattle.ci_check.proofs.Acceptance.{all_right}
+use Rattle.ci_check.specs.Rules.{Given, IsAccepted, IsFirstWrong, IsFirstWrongIn, IsRightAt, Station, reason_at, stations}
 use Rattle.ci_check.proofs.OneTree.{one_reading}
-use Rattle.ci_check.proofs.TreeWalk.{not_all}
+use Rattle.ci_cut.proofs.FirstWrongLaws.{all_right, not_all}
 use Rattle.ci_verilog.specs.Modules.{Module}
 use Rattle.ci_select.specs.declared.acceptance.Verdict.{Verdict}
 use Rattle.ci_select.specs.declared.acceptance.Verdict.TheVariants.{Accepted, Rejected}
@@ -74,7 +73,7 @@ module _ (graph : FlowGraph) (limits : Limits) (best : Given) where
       elim (two_places left.before right.before left.behind right.behind (sym left.is_split ∙ right.is_split)) [
         | inl (same, here) ↦ (
           left.is_number ∙ ap length same ∙ sym right.is_number,
-          left.is_reason ∙ ap (λ (s : Station). reason_of s.item) here ∙ sym right.is_reason,
+          left.is_reason ∙ ap reason_at here ∙ sym right.is_reason,
         )
         | inr (inl (more, longer)) ↦ absurd (left.not_right (right_within left.station right.before left.before more longer right.right_before))
         | inr (inr (more, longer)) ↦ absurd (right.not_right (right_within right.station left.before right.before more longer left.right_before))
@@ -102,7 +101,7 @@ module _ (graph : FlowGraph) (limits : Limits) (best : Given) where
       → IsFirstWrong graph limits best items wrong → ⊥
   accepted_has_none accepted (inl (bad, is)) = bad accepted.good
   accepted_has_none {items = items} {wrong = wrong} accepted (inr (good, (tree, first))) =
-      not_all graph limits best (stations accepted.tree []) wrong.item wrong.reason
+      not_all (IsRightAt graph limits best) reason_at (stations accepted.tree []) wrong.item wrong.reason
       (subst (λ all. IsFirstWrongIn graph limits best all wrong.item wrong.reason) (one_reading items tree accepted.tree []) first)
       accepted.right
 

@@ -1,5 +1,6 @@
 -- What a choice of cuts is about: an instance of the selection problem.
 use Rattle.std.specs.Prelude.{ℕ, nat_lt, List, map, filter}
+use Rattle.std.specs.List.{sum_by}
 use Rattle.ci_lat.specs.Latencies.{Latencies}
 use Rattle.ci_elf.specs.Executables.{Executable, IsWellFormed}
 use Rattle.ci_block.specs.declared.blocks.Block.{Block}
@@ -28,6 +29,10 @@ instance_of profile blocks live table plan =
 abbrev pub entered : Instance → List ℕ
 entered instance =
     filter (λ leader. nat_lt 0 (instance.entries leader)) (map (λ block. block.leader) instance.blocks)
+
+-- how often the blocks were entered together
+abbrev pub entries_of : Instance → ℕ
+entries_of instance = sum_by (λ block. instance.entries block.leader) instance.blocks
 
 -- The blocks and the live sets are those of the file, for some targets of JALR and some addresses that the user names.
 abbrev pub AreBlocksOf : Executable → List Block → Sets → Type 0

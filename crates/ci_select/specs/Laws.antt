@@ -1,8 +1,9 @@
 -- What the definitions say of all books: laws, which the functions of `src/laws.rt` have as their contracts.
-use Rattle.std.specs.Prelude.{◌≡◌, ℕ, true, List, ◌∷◌, ◌++◌, reverse, slice_get, Some}
+use Rattle.std.specs.Prelude.{◌≡◌, ℕ, ◌^◌, ◌<◌, ◌≤◌, true, List, ◌∷◌, ◌++◌, length, reverse, slice_get, Some}
 use Rattle.std.specs.FinSet as finite
-use Rattle.std.specs.List.{AllByRecursion, Contains}
+use Rattle.std.specs.List.{AllByRecursion, Contains, sum_by}
 use Rattle.std.specs.Ordering.{nat_cmp}
+use Rattle.ci_word.specs.Numbers.{sum_below}
 use Rattle.ci_isa.specs.declared.instruction.Insn.{Insn}
 use Rattle.ci_lat.specs.TableRules.{IsLatencyTable}
 use Rattle.ci_elf.specs.Executables.{Executable, IsWellFormed}
@@ -12,17 +13,25 @@ use Rattle.ci_cut.specs.Best.{IsBest}
 use Rattle.ci_log.specs.declared.book.Entry.{Entry}
 use Rattle.ci_log.specs.declared.book.Entry.TheVariants.{Take}
 use Rattle.ci_log.specs.Books.{Book, IsBook}
+use Rattle.ci_live.specs.Sets.{Sets}
+use Rattle.ci_machine.specs.Programs.{State, loaded_program}
+use Rattle.ci_machine.specs.Runs.{Latencies}
+use Rattle.ci_machine.specs.Steps.{Meaning}
 use Rattle.ci_machine.specs.Words.{AreBytes}
+use Rattle.ci_emu.specs.declared.profile.Profile.{Profile}
+use Rattle.ci_emu.specs.Profiles.{IsProfileOf, entries_in}
 use Rattle.ci_unit.specs.Units.{Unit}
 use Rattle.ci_verilog.specs.Modules.{Module}
 use Rattle.ci_select.specs.declared.acceptance.Verdict.{Verdict}
 use Rattle.ci_select.specs.declared.rounds.Due.{Due}
+use Rattle.ci_select.specs.declared.taken.Taken.{Taken}
 use Rattle.ci_select.specs.Histories.{AreOneButLogs, History, is_search_of, leader_of}
-use Rattle.ci_select.specs.Instances.{Instance, AreBlocksOf, AreOfSomeFile, entered}
+use Rattle.ci_select.specs.Instances.{Instance, AreBlocksOf, AreOfSomeFile, entered, entries_of}
 use Rattle.ci_select.specs.AlikeInstances.{AreAlike}
 use Rattle.ci_select.specs.PresentBlocks.{HasPresentCut, IsPresent, graph_at}
 use Rattle.ci_select.specs.UnitNumbers.{AreUnits, IsUnitAt}
-use Rattle.ci_select.specs.Savings.{IsSaved}
+use Rattle.ci_select.specs.Savings.{IsSaved, IsSavedBy}
+use Rattle.ci_select.specs.Takes.{AreTaken, cycles_of}
 use Rattle.ci_select.specs.Dues.{IsDue}
 use Rattle.ci_select.specs.GivenUp.{GivesUpByNeed}
 use Rattle.ci_select.specs.LegalBooks.{HasShortLog, IsLegal, IsLegalHistory, IsTrueOf}
@@ -156,3 +165,51 @@ abbrev pub AcceptableAlike : Type 0
 AcceptableAlike =
     (left right : Instance) (file : Executable) (book : Book) (modules : List Module) (new : List ℕ)
     → AreAlike left right → IsAcceptable left file book modules new → IsAcceptable right file book modules new
+
+-- ---- what units save
+
+-- The units of a legal book save all that its cuts do,
+abbrev pub UnitsSaveAll : Type 0
+UnitsSaveAll =
+    (instance : Instance) (book : Book) (units : List Unit) (gains : ℕ → ℕ) (saved : ℕ)
+    → AreInOrder instance.blocks → IsLegal instance book → AreUnits instance (reverse book.entries) units
+    → ((unit : ℕ) → unit < length units → IsSavedBy instance unit (reverse book.entries) (gains unit))
+    → IsSaved instance (reverse book.entries) saved → sum_below (length units) (λ _. true) gains ≡ saved
+
+-- and each of them saves something.
+abbrev pub EachUnitSaves : Type 0
+EachUnitSaves =
+    (instance : Instance) (book : Book) (units : List Unit) (unit saved : ℕ)
+    → AreOfSomeFile instance.blocks instance.live → IsLegal instance book
+    → AreUnits instance (reverse book.entries) units → unit < length units
+    → IsSavedBy instance unit (reverse book.entries) saved → 1 ≤ saved
+
+-- A unit saves one number of cycles.
+abbrev pub SavedByIsOne : Type 0
+SavedByIsOne =
+    (instance : Instance) (unit : ℕ) (history : History) (left right : ℕ)
+    → AreInOrder instance.blocks → IsSavedBy instance unit history left → IsSavedBy instance unit history right
+    → left ≡ right
+
+-- The blocks are entered no more often than the profiled run has steps.
+abbrev pub EntriesAreSteps : Type 0
+EntriesAreSteps =
+    (file : Executable) (blocks : List Block) (live : Sets) (meaning : Meaning) (n : ℕ) (state : State)
+    (latencies : Latencies) (profile : Profile)
+    → AreBlocksOf file blocks live → IsProfileOf meaning (loaded_program file) n state latencies profile
+    → sum_by (λ block. entries_in profile block.leader) blocks ≤ n
+
+-- So a legal book saves less than 2 to the power 63 cycles,
+abbrev pub SavedIsFew : Type 0
+SavedIsFew =
+    (instance : Instance) (book : Book) (saved : ℕ)
+    → AreOfSomeFile instance.blocks instance.live → IsLatencyTable instance.table → IsLegal instance book
+    → entries_of instance ≤ 2 ^ 32 → IsSaved instance (reverse book.entries) saved → saved < 2 ^ 63
+
+-- and so do its takes.
+abbrev pub TakesSaveFew : Type 0
+TakesSaveFew =
+    (instance : Instance) (book : Book) (takes : List Taken)
+    → AreOfSomeFile instance.blocks instance.live → IsLatencyTable instance.table → IsLegal instance book
+    → entries_of instance ≤ 2 ^ 32 → AreTaken instance (reverse book.entries) (reverse takes)
+    → sum_by cycles_of takes < 2 ^ 63

@@ -1,5 +1,5 @@
 -- The cuts of a book that were taken, by what a choice tells of them.
-use Rattle.std.specs.Prelude.{◌≡◌, ℕ, false, pos, List, [], ◌∷◌}
+use Rattle.std.specs.Prelude.{◌≡◌, ℕ, ◌*◌, false, pos, List, [], ◌∷◌}
 use Rattle.std.specs.FinSet as finite
 use Rattle.ci_isa.specs.declared.instruction.Insn.{Insn}
 use Rattle.ci_isa.specs.Table.{IsWordOf}
@@ -11,6 +11,10 @@ use Rattle.ci_select.specs.declared.taken.Taken.{Taken}
 use Rattle.ci_select.specs.Histories.{History, is_take, round}
 use Rattle.ci_select.specs.Instances.{Instance}
 use Rattle.ci_select.specs.PresentBlocks.{HasPresentCut, graph_at}
+
+-- what a take saves over the profiled run, in cycles
+abbrev pub cycles_of : Taken → ℕ
+cycles_of taken = taken.gain * taken.entries
 
 module _ (instance : Instance) where
   -- This is the cut that the last search of the block found, taken as the unit of this number.

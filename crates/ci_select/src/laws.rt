@@ -2,7 +2,8 @@
 ghost use Rattle.ci_select.specs.Laws.{EntriesAreTrue, TakesAreBest, TakesNameTheirUnits, EachBlockIsPresent};
 ghost use Rattle.ci_select.specs.Laws.{EachEnteredBlockIsSearched, PresentIsOne, UnitsAreOne, SavedIsOne, DueIsOne};
 ghost use Rattle.ci_select.specs.Laws.{NewFileIsOne, ChoiceIsOne, VerdictIsOne, LegalBooksAreBooks, LogsDecideNothing};
-ghost use Rattle.ci_select.specs.Laws.{AcceptableAlike};
+ghost use Rattle.ci_select.specs.Laws.{AcceptableAlike, UnitsSaveAll, EachUnitSaves, SavedByIsOne, EntriesAreSteps};
+ghost use Rattle.ci_select.specs.Laws.{SavedIsFew, TakesSaveFew};
 
 /// The entries of a legal book tell what is best: a cut that no set that fits gains more than, that there is none, or
 /// that more than the budget is needed. And each take is of the best cut of its block.
@@ -50,4 +51,18 @@ pub fn legal_books_are_in_order()
 /// Instances that say the same have the same books: what is acceptable for one is so for the other.
 pub fn like_instances_have_the_same_books()
     ensures { AcceptableAlike }
+{}
+
+/// The units of a legal book save together what its cuts do, and each of them saves something.
+pub fn units_save_all()
+    ensures all { UnitsSaveAll }
+    ensures each { EachUnitSaves }
+    ensures one { SavedByIsOne }
+{}
+
+/// The blocks are entered no more often than the run has steps, so a legal book saves few cycles.
+pub fn book_saves_few()
+    ensures entries { EntriesAreSteps }
+    ensures saved { SavedIsFew }
+    ensures takes { TakesSaveFew }
 {}

@@ -10,10 +10,12 @@
 pub use acceptance::{Verdict, accept};
 pub use choosing::{Chosen, choose};
 pub use laws::{
-    book_is_judged_once, book_keeps_each_block, book_tells_the_best, choice_is_one,
+    book_is_judged_once, book_keeps_each_block, book_saves_few, book_tells_the_best, choice_is_one,
     legal_books_are_in_order, like_instances_have_the_same_books, takes_name_their_units,
+    units_save_all,
 };
 pub use plan::Plan;
+pub use savings::saved_by;
 pub use taken::Taken;
 
 mod acceptance;
@@ -22,4 +24,5 @@ mod laws;
 mod new_file;
 mod plan;
 mod rounds;
+mod savings;
 mod taken;
