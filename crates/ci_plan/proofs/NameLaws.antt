@@ -1,8 +1,9 @@
 -- Where inputs and wires stand.
-use Rattle.std.specs.Prelude.{◌≡◌, ℕ, zero, suc, ◌+◌, ◌<◌, ◌≤◌, List, [], ◌∷◌, length, map, take, slice_set}
+use Rattle.std.specs.Prelude.{◌≡◌, ℕ, zero, suc, ◌+◌, ◌<◌, ◌≤◌, List, [], ◌∷◌, length, map, take, slice_set, Option, None, Some, IfSome}
 use Rattle.std.specs.List.{Contains, slice_index_or}
 use Rattle.std.proofs.Common.{refl, sym, ap, ◌∙◌, subst, arith, inl, inr}
 use Rattle.std.proofs.lemmas.Bool.{cases_eq}
+use Rattle.std.proofs.lemmas.Option.{IfSome_then}
 use Rattle.std.proofs.lemmas.List.{length-map, length-set, length-take-le, get_or-take, get_or_read, get_or-set_same, get_or-set_other}
 use Rattle.std.proofs.lemmas.List.Elements.{Contains-append_right}
 use Rattle.ci_verilog.specs.declared.expressions.Wire.{Wire}
@@ -15,6 +16,12 @@ use Rattle.ci_plan.specs.private.Drafts.{Draft, IsDraft, Grows, Stands, StandsFo
 use Rattle.ci_plan.specs.private.Names.{AreHeld}
 use Rattle.ci_plan.proofs.StepLaws.{untouched}
 use Rattle.ci_plan.proofs.DraftLaws.{stands_as, stands_for_later}
+
+-- what is said in each draft of what there may be
+pub in_each : (o : Option Found) (P : Draft → Type 0) (Q : Draft → Found → Type 0) → ((draft : Draft) → P draft → IfSome o (Q draft))
+    → IfSome o (λ f. (draft : Draft) → P draft → Q draft f)
+in_each None P Q each = tt
+in_each (Some f) P Q each = each
 
 module _ (m : Module) where
   pub input_stands : (draft : Draft) (k : ℕ) (name : List ℕ) → k < 5 → IsInput m.wires.wide name k
@@ -38,10 +45,10 @@ module _ (m : Module) where
   some_wire = record { name = []; width = 0; value = nothing }
 
   -- the wire of this number, as the code finds it among the first ones
-  pub wire_found : (wires : List Found) (draft : Draft) (k : ℕ) (d : Found) (slice : List Wire) (name : List ℕ)
+  pub wire_found : (wires : List (Option Found)) (draft : Draft) (k : ℕ) (d : Option Found) (slice : List Wire) (name : List ℕ)
       → AreHeld m wires draft → k < length (take (length wires) slice) → slice ≡ m.wires.list
       → ((d : Wire) → (slice_index_or (take (length wires) slice) k d).name ≡ name)
-      → StandsFor m draft (slice_index_or wires k d).place (slice_index_or wires k d).width (λ names. names name)
+      → IfSome (slice_index_or wires k d) (λ f. StandsFor m draft f.place f.width (λ names. names name))
   wire_found wires draft k d slice name held among same named =
       let few : length wires ≤ length slice = subst (λ ws. length wires ≤ length ws) (sym same) held.few in
       let whole : length (take (length wires) slice) ≡ length wires = length-take-le (length wires) slice few in
@@ -49,7 +56,7 @@ module _ (m : Module) where
       let e : (slice_index_or m.wires.list k some_wire).name ≡ name =
       ap (λ ws. (slice_index_or ws k some_wire).name) (sym same)
       ∙ ap (λ w. w.name) (sym (get_or-take (length wires) slice k some_wire below)) ∙ named some_wire in
-      subst (λ n. StandsFor m draft (slice_index_or wires k d).place (slice_index_or wires k d).width (λ names. names n)) e
+      subst (λ n. IfSome (slice_index_or wires k d) (λ f. StandsFor m draft f.place f.width (λ names. names n))) e
       (held.stand k below d some_wire)
 
   read_mapped : (wires : List Wire) (k : ℕ) (d : Wire) → slice_index_or (map declared_by wires) k (declared_by d) ≡ declared_by (slice_index_or wires k d)
@@ -75,26 +82,26 @@ module _ (m : Module) where
         (declared_there m.wires.list wire there));
   }
 
-  pub held_later : (wires : List Found) (old new : Draft) → Grows old new → AreHeld m wires old → AreHeld m wires new
+  pub held_later : (wires : List (Option Found)) (old new : Draft) → Grows old new → AreHeld m wires old → AreHeld m wires new
   held_later wires old new grows held = record {
     is_draft = grows.is_draft;
     few = held.few;
     stand = λ k below d e.
-        stands_for_later m old new (slice_index_or wires k d).place (slice_index_or wires k d).width
-        (λ names. names (slice_index_or m.wires.list k e).name) grows (held.stand k below d e);
+        IfSome_then (slice_index_or wires k d) (held.stand k below d e)
+        (λ f. stands_for_later m old new f.place f.width (λ names. names (slice_index_or m.wires.list k e).name) grows);
   }
 
-  carried : (draft : Draft) (u v : Found) (w x : Wire) → u ≡ v → w ≡ x
-      → StandsFor m draft v.place v.width (λ names. names x.name)
-      → StandsFor m draft u.place u.width (λ names. names w.name)
+  carried : (draft : Draft) (u v : Option Found) (w x : Wire) → u ≡ v → w ≡ x
+      → IfSome v (λ f. StandsFor m draft f.place f.width (λ names. names x.name))
+      → IfSome u (λ f. StandsFor m draft f.place f.width (λ names. names w.name))
   carried draft u v w x e f stands =
-      subst (λ t. StandsFor m draft t.place t.width (λ names. names w.name)) (sym e)
-      (subst (λ y. StandsFor m draft v.place v.width (λ names. names y.name)) (sym f) stands)
+      subst (λ t. IfSome t (λ f. StandsFor m draft f.place f.width (λ names. names w.name))) (sym e)
+      (subst (λ y. IfSome v (λ f. StandsFor m draft f.place f.width (λ names. names y.name))) (sym f) stands)
 
   -- a wire more
-  pub held_more : (found : List Found) (k : ℕ) (next : Found) (wire : Wire) (draft : Draft) → AreHeld m (take k found) draft
+  pub held_more : (found : List (Option Found)) (k : ℕ) (next : Option Found) (wire : Wire) (draft : Draft) → AreHeld m (take k found) draft
       → k < length found → (k < length m.wires.list) × (wire ≡ slice_index_or m.wires.list k wire)
-      → StandsFor m draft next.place next.width (λ names. names wire.name)
+      → IfSome next (λ f. StandsFor m draft f.place f.width (λ names. names wire.name))
       → AreHeld m (take (k + 1) (slice_set found k next)) draft
   held_more found k next wire draft held room (below, is) stands =
       let now = slice_set found k next in
@@ -121,7 +128,7 @@ module _ (m : Module) where
       }
 
   -- no wires
-  pub none_held : (found : List Found) (draft : Draft) → IsDraft draft → AreHeld m (take 0 found) draft
+  pub none_held : (found : List (Option Found)) (draft : Draft) → IsDraft draft → AreHeld m (take 0 found) draft
   none_held found draft is = record {
     is_draft = is;
     few = omega arith;

@@ -1,6 +1,7 @@
 //! Plans that are being made: their steps and their numbers.
-ghost use Rattle.std.specs.Prelude.{◌≡◌, ◌≤◌, [], IfSome, IsTrue};
+ghost use Rattle.std.specs.Prelude.{◌≡◌, ◌≤◌, [], length, IfSome, IsTrue};
 ghost use Rattle.ci_plan.specs.private.Drafts.{Grows, HasNumber, IsAdded, IsDraft};
+ghost use Rattle.ci_plan.specs.private.Fusions.{IsReplaced};
 ghost use Rattle.ci_plan.specs.private.Steps.{IsStep};
 
 use crate::steps::Step;
@@ -132,5 +133,19 @@ impl Draft {
         } else {
             None
         }
+    }
+
+    /// Puts the step in place of the last ones, so many. The result is the place of its word.
+    pub(crate) fn replace(&mut self, many: u8, step: Step) -> u8
+        requires some { 1 ≤ many }
+        requires few { many ≤ length self.old.steps }
+        requires is_step { IsStep 64 step }
+        ensures draft { IsDraft self.new }
+        ensures replaced { IsReplaced self.old self.new many result step }
+    {
+        let count = self.count - many;
+        self.steps[usize::from(count)] = step;
+        self.count = count + 1;
+        INPUTS as u8 + count
     }
 }

@@ -6,6 +6,7 @@ pub use prepared::{Prepared, prepare};
 
 mod drafts;
 mod founds;
+mod fusions;
 mod makers;
 mod names;
 mod plans;

@@ -10,7 +10,7 @@ use ci_verilog::{Module, Name, input_named, wire_named};
 #[derive(Clone, Copy)]
 pub(crate) struct Scope<'a> {
     pub(crate) module: &'a Module,
-    pub(crate) wires: &'a [Found],
+    pub(crate) wires: &'a [Option<Found>],
 }
 
 impl Scope<'_> {
@@ -28,6 +28,6 @@ impl Scope<'_> {
         }
         let wires = self.module.wires().as_slice();
         let k = wire_named(&wires[..self.wires.len()], name)?;
-        Some(self.wires[k])
+        self.wires[k]
     }
 }

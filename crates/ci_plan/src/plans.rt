@@ -8,6 +8,7 @@ ghost use Rattle.ci_plan.specs.private.Steps.{IsStep, words_after};
 
 use crate::drafts::{Draft, INPUTS, WORDS};
 use crate::founds::Found;
+use crate::fusions::shorten;
 use crate::names::Scope;
 use crate::steps::{Step, low_bits};
 use ci_verilog::Module;
@@ -22,13 +23,16 @@ pub(crate) struct Plan {
     size: Size,
 }
 
-/// How many of a plan's words are enough for its runs: the first SMALL, the first MIDDLE, or all. A run copies no more.
+/// How many of a plan's words are enough for its runs: the first TINY, SMALL or MIDDLE ones, or all. A run copies no more.
 #[derive(Clone, Copy)]
 enum Size {
+    Tiny,
     Small,
     Middle,
     Whole,
 }
+
+const TINY: usize = 8;
 
 const SMALL: usize = 16;
 
@@ -38,7 +42,12 @@ const MIDDLE: usize = 32;
 const WIRES: usize = 256;
 
 /// Adds the steps of the module's wires, and puts down where these stand. None: there is no room.
-fn add_wires(module: &Module, draft: &mut Draft, found: &mut [Found]) -> Option<()>
+fn add_wires(
+    module: &Module,
+    draft: &mut Draft,
+    found: &mut [Option<Found>],
+    fuses: bool,
+) -> Option<()>
     requires { IsDraft draft.old }
     ensures held { IfSome result (λ _.
         AreHeld «module».now (take (length «module».now.wires.list) found.new) draft.new) }
@@ -55,7 +64,8 @@ fn add_wires(module: &Module, draft: &mut Draft, found: &mut [Found]) -> Option<
             wires: &found[..k],
         };
         let next = scope.wire(draft, &wires[k])?;
-        found[k] = next;
+        let place = shorten(draft, found, next, fuses);
+        found[k] = Some(place);
     }
     Some(())
 }
@@ -141,7 +151,9 @@ fn size_of(draft: &Draft, y: u8, z: u8, x: u8) -> Size
     requires x { x < 64 }
     ensures { FitsIn (words_of result) draft.now y z x }
 {
-    if fits_in(SMALL as u8, draft, y, z, x) {
+    if fits_in(TINY as u8, draft, y, z, x) {
+        Size::Tiny
+    } else if fits_in(SMALL as u8, draft, y, z, x) {
         Size::Small
     } else if fits_in(MIDDLE as u8, draft, y, z, x) {
         Size::Middle
@@ -151,28 +163,42 @@ fn size_of(draft: &Draft, y: u8, z: u8, x: u8) -> Size
 }
 
 impl Plan {
-    /// The plan of the module, of few words if these are enough. None: there is no room for its steps.
+    /// The plan of the module, with one step in place of several where no name needs what these made. None: there is no
+    /// room for its steps.
     pub(crate) fn of(module: &Module) -> Option<Plan>
         ensures { IfSome result (λ plan. IsPlanOf «module».now plan) }
     {
-        if let Some(plan) = Plan::within(module, SMALL as u8) {
+        match Plan::least(module, true) {
+            Some(plan) => Some(plan),
+            None => Plan::least(module, false),
+        }
+    }
+
+    /// The plan of the module, of few words if these are enough. None: there is no room for its steps.
+    fn least(module: &Module, fuses: bool) -> Option<Plan>
+        ensures { IfSome result (λ plan. IsPlanOf «module».now plan) }
+    {
+        if let Some(plan) = Plan::within(module, TINY as u8, fuses) {
             return Some(plan);
         }
-        if let Some(plan) = Plan::within(module, MIDDLE as u8) {
+        if let Some(plan) = Plan::within(module, SMALL as u8, fuses) {
             return Some(plan);
         }
-        Plan::within(module, WORDS as u8)
+        if let Some(plan) = Plan::within(module, MIDDLE as u8, fuses) {
+            return Some(plan);
+        }
+        Plan::within(module, WORDS as u8, fuses)
     }
 
     /// The plan of the module, whose words stand below the top. None: there is no room for its steps.
-    fn within(module: &Module, top: u8) -> Option<Plan>
+    fn within(module: &Module, top: u8, fuses: bool) -> Option<Plan>
         requires some { 5 ≤ top }
         requires few { top ≤ 64 }
         ensures { IfSome result (λ plan. IsPlanOf «module».now plan) }
     {
-        let mut found = [Found { width: 0, place: 0 }; WIRES];
+        let mut found = [None; WIRES];
         let mut draft = Draft::new(top);
-        add_wires(module, &mut draft, &mut found)?;
+        add_wires(module, &mut draft, &mut found, fuses)?;
         let scope = Scope {
             module,
             wires: &found[..module.wires().len()],
@@ -218,6 +244,7 @@ impl Plan {
         ensures { IsRun self.now arguments result }
     {
         match self.size {
+            Size::Tiny => self.run_on::<TINY>(arguments),
             Size::Small => self.run_on::<SMALL>(arguments),
             Size::Middle => self.run_on::<MIDDLE>(arguments),
             Size::Whole => self.run_on::<WORDS>(arguments),

@@ -30,6 +30,15 @@ pub(crate) enum Step {
     Signed(u8),
     /// The product of two words of 32 bits, each widened to 64 by its sign.
     SignedTimes(u8, u8),
+    /// The bits above the lowest 32 of the product.
+    High(u8, u8),
+    /// Those of the product of two words of 32 bits, each widened to 64 by its sign.
+    SignedHigh(u8, u8),
+    /// The lowest 32 bits of a word shifted to the left by a number, or those of another one shifted to the right by what
+    /// the number leaves of 32.
+    Turn(u8, u8, u8),
+    /// The lowest 32 bits of the sum of a product and a word.
+    TimesPlus(u8, u8, u8),
 }
 
 /// The lowest bits of a word.
@@ -96,8 +105,13 @@ impl Step {
             | Step::Xor(first, second)
             | Step::Right(first, second)
             | Step::Less(first, second)
-            | Step::SignedTimes(first, second) => first < top && second < top,
-            Step::Choose(test, first, second) => test < top && first < top && second < top,
+            | Step::SignedTimes(first, second)
+            | Step::High(first, second)
+            | Step::SignedHigh(first, second)
+            | Step::Turn(first, second, _) => first < top && second < top,
+            Step::Choose(test, first, second) | Step::TimesPlus(test, first, second) => test < top
+                && first < top
+                && second < top,
             Step::LeftBy(from, _, _)
             | Step::RightBy(from, _)
             | Step::Part(from, _, _)
@@ -149,6 +163,22 @@ impl Step {
             Step::Signed(from) => signed(word(words, from)),
             Step::SignedTimes(left, right) => {
                 signed(word(words, left)).wrapping_mul(signed(word(words, right)))
+            }
+            Step::High(left, right) => {
+                low_bits(word(words, left).wrapping_mul(word(words, right)) >> 32, 32)
+            }
+            Step::SignedHigh(left, right) => {
+                low_bits(
+                    signed(word(words, left)).wrapping_mul(signed(word(words, right))) >> 32,
+                    32,
+                )
+            }
+            Step::Turn(left, right, amount) => {
+                low_bits(word(words, left) << amount, 32) | word(words, right) >> (32 - amount)
+            }
+            Step::TimesPlus(left, right, more) => {
+                let product = low_bits(word(words, left).wrapping_mul(word(words, right)), 32);
+                low_bits(product.wrapping_add(word(words, more)), 32)
             }
         }
     }

@@ -4,7 +4,7 @@ use Rattle.ci_verilog.specs.Modules.{Module}
 use Rattle.ci_verilog.specs.Values.{expr_value}
 use Rattle.ci_plan.specs.declared.plans.Plan.{Plan}
 use Rattle.ci_plan.specs.declared.plans.Size.{Size}
-use Rattle.ci_plan.specs.declared.plans.Size.TheVariants.{Small, Middle, Whole}
+use Rattle.ci_plan.specs.declared.plans.Size.TheVariants.{Tiny, Small, Middle, Whole}
 use Rattle.ci_plan.specs.private.Drafts.{Draft, Opens, Stands}
 use Rattle.ci_plan.specs.private.Steps.{IsStep, words_after}
 
@@ -18,6 +18,7 @@ pub record FitsIn (n : ℕ) (draft : Draft) (y z x : ℕ) : Type 0 where
   pub x_below : x < n
 
 abbrev pub words_of : Size → ℕ
+words_of Tiny = 8
 words_of Small = 16
 words_of Middle = 32
 words_of Whole = 64

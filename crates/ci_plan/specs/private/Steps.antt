@@ -3,7 +3,7 @@ use Rattle.std.specs.Prelude.{ℕ, ◌+◌, ◌-◌, ◌*◌, ◌/◌, ◌%◌, 
 use Rattle.std.specs.Prelude.{bit_and, bit_or, bit_xor, slice_index, slice_set}
 use Rattle.ci_plan.specs.declared.steps.Step.{Step}
 use Rattle.ci_plan.specs.declared.steps.Step.TheVariants.{Plus, Minus, Times, And, Or, Xor, Left, Right, LeftBy, RightBy}
-use Rattle.ci_plan.specs.declared.steps.Step.TheVariants.{Less, Choose, Part, Above, Signed, SignedTimes}
+use Rattle.ci_plan.specs.declared.steps.Step.TheVariants.{Less, Choose, Part, Above, Signed, SignedTimes, High, SignedHigh, Turn, TimesPlus}
 
 -- its places are those of so many words, and its widths those of words
 abbrev pub IsStep : ℕ → Step → Type 0
@@ -23,6 +23,10 @@ IsStep n (Part from low width) = from < n
 IsStep n (Above high low width) = (high < n) × (low < n)
 IsStep n (Signed from) = from < n
 IsStep n (SignedTimes l r) = (l < n) × (r < n)
+IsStep n (High l r) = (l < n) × (r < n)
+IsStep n (SignedHigh l r) = (l < n) × (r < n)
+IsStep n (Turn l r amount) = (l < n) × (r < n) × (amount ≤ 32)
+IsStep n (TimesPlus l r more) = (l < n) × (r < n) × (more < n)
 
 -- a word of 32 bits, widened to 64 by its sign
 abbrev pub signed_word : ℕ → ℕ
@@ -49,6 +53,12 @@ module _ (words : List ℕ) where
       (slice_index words high * 2 ^ width % 2 ^ 64 + slice_index words low) % 2 ^ 64
   step_value (Signed from) = signed_word (slice_index words from)
   step_value (SignedTimes l r) = signed_word (slice_index words l) * signed_word (slice_index words r) % 2 ^ 64
+  step_value (High l r) = slice_index words l * slice_index words r % 2 ^ 64 / 2 ^ 32 % 2 ^ 32
+  step_value (SignedHigh l r) =
+      signed_word (slice_index words l) * signed_word (slice_index words r) % 2 ^ 64 / 2 ^ 32 % 2 ^ 32
+  step_value (Turn l r amount) = bit_or (slice_index words l * 2 ^ amount % 2 ^ 32) (slice_index words r / 2 ^ (32 - amount))
+  step_value (TimesPlus l r more) =
+      (slice_index words l * slice_index words r % 2 ^ 64 % 2 ^ 32 + slice_index words more) % 2 ^ 64 % 2 ^ 32
 
 -- the words after the steps, of which the first one puts its word at this place, and each other one behind
 abbrev pub words_after : List ℕ → ℕ → List Step → List ℕ

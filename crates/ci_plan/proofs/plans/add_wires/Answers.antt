@@ -1,4 +1,4 @@
-use Rattle.std.proofs.Common.{◌≡◌, ◌<◌, ◌≤◌, refl, arith, ap, sym, subst, ◌∙◌, length, take, slice_index_or}
+use Rattle.std.proofs.Common.{◌≡◌, ◌<◌, ◌≤◌, refl, arith, ap, sym, subst, ◌∙◌, length, take, slice_index_or, Some}
 use Rattle.std.proofs.lemmas.List.{length-set}
 use Rattle.std.specs.List.{Contains}
 use Rattle.ci_plan.specs.private.Names.{AreHeld}
@@ -29,12 +29,16 @@ loop-k-preserved c =
     let few : length m.wires.list ≤ length c.args.found.now = subst (λ ws. length ws ≤ length c.args.found.now) same (omega arith) in
     let wire = c.index-wires-k.result in
     let there = subst (λ ws. (l.k < length ws) × (wire ≡ slice_index_or ws l.k wire)) same (omega arith, c.index-wires-k.is) in
+    let now = c.shorten-place.new.found in
+    let whole = c.shorten-place.ensures.room in
     record {
-      room = length-set l.found l.k c.in_ok-next.next ∙ l.invariant.room;
+      room = length-set now l.k (Some c.shorten-place.result) ∙ whole ∙ l.invariant.room;
       held =
-          held_more m l.found l.k c.in_ok-next.next wire c.wire.new.draft
-          (held_later m (take l.k l.found) l.draft c.wire.new.draft c.in_ok-next.ensures.grows l.invariant.held)
-          (let e = l.invariant.room in let f = there.0 in omega (arith, e, f, few)) there c.in_ok-next.ensures.found;
+          held_more m now l.k (Some c.shorten-place.result) wire c.shorten-place.new.draft
+          (c.shorten-place.ensures.held m l.k
+          (held_later m (take l.k l.found) l.draft c.wire.new.draft c.in_ok-next.ensures.grows l.invariant.held))
+          (let e = l.invariant.room in let f = there.0 in omega (arith, e, f, few, whole)) there
+          (c.shorten-place.ensures.found m (λ names. names wire.name) c.in_ok-next.ensures.found);
     }
 
 pub returns-clause-held : goal.returns-clause-held
