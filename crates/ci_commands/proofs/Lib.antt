@@ -1,3 +1,4 @@
+mod SearchLaws
 mod Listed
 mod WordLaws
 mod ListedLaws

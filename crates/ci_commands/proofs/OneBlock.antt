@@ -19,6 +19,7 @@ use Rattle.ci_calls.specs.Files.{optional_bytes}
 use Rattle.ci_commands.specs.BestCommand.{HoldsBlock, HoldsNoBlock, IsBestMade, IsBestRefused}
 use Rattle.ci_commands.specs.BlocksCommand.{IsBlocksMade, IsBlocksRefused}
 use Rattle.ci_cut.specs.declared.graph.Limits.{Limits}
+use Rattle.ci_cut.specs.FlowGraph.{FlowGraph}
 use Rattle.ci_block.specs.CustomWords.{HasNoCustomWord, IsFirstCustomWord}
 use Rattle.ci_commands.specs.ListedBlocks.{IsListedBlock, IsNoListedBlock, custom_word, no_leader}
 use Rattle.ci_commands.specs.WordBlocks.{IsWordBlock, IsNoWordBlock, IsMisplaced}
@@ -78,9 +79,10 @@ module _ (at : Option ℕ) (named bytes : List ℕ) where
 -- ---- of what something is made is not refused
 
 module _ (read : List (List ℕ)) (success : Success) (refusal : Refusal) where
-  pub best_or_refused : (at : Option ℕ) (named : List ℕ) (limits : Limits) (budget : ℕ) (table : Option (List ℕ))
-      → IsBestMade at named limits budget table read success → IsBestRefused at named read refusal → ⊥
-  best_or_refused at named limits budget table made is = by_refusal refusal is.unsupported
+  pub best_or_refused : (at : Option ℕ) (named : List ℕ) (IsLineOf : FlowGraph → Limits → ℕ → List ℕ → Type 0)
+      (limits : Limits) (budget : ℕ) (table : Option (List ℕ))
+      → IsBestMade at named IsLineOf limits budget table read success → IsBestRefused at named read refusal → ⊥
+  best_or_refused at named IsLineOf limits budget table made is = by_refusal refusal is.unsupported
     where
       same : made.bytes ≡ is.bytes
       same =

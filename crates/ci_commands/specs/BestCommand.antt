@@ -1,5 +1,5 @@
 -- For every reader: the command `best`, the best cut of a block, which is that of a file of words, or one of an
--- executable file.
+-- executable file. `pair` is the same command with another line.
 use Rattle.std.specs.Prelude.{◌≡◌, ℕ, Bool, List, [], ◌∷◌, ◌++◌, codes, Option, Some, None}
 use Rattle.std.specs.Fmt.{decimal, signed_decimal}
 use Rattle.std.specs.FinSet as set
@@ -71,10 +71,11 @@ abbrev pub best_inputs : Option ℕ → List ℕ → Option (List ℕ) → List 
 best_inputs at file table = block_input at file ∷ optional_input table_input table
 
 module _ (at : Option ℕ) (named : List ℕ) where
-  -- it puts the line of the best cut of the block within the limits and the budget, by the latencies of the table
+  -- It puts the line that is due to the block within the limits and the budget, by the latencies of the table. Which line
+  -- is due tells the relation of a graph, the limits and the budget with a line.
   pub record IsBestMade
-      (limits : Limits) (budget : ℕ) (table_name : Option (List ℕ)) (read : List (List ℕ)) (success : Success) :
-      Type 0 where
+      (IsLineOf : FlowGraph → Limits → ℕ → List ℕ → Type 0) (limits : Limits) (budget : ℕ)
+      (table_name : Option (List ℕ)) (read : List (List ℕ)) (success : Success) : Type 0 where
     pub bytes : List ℕ
     pub table : Option (List ℕ)
     pub read_is : read ≡ bytes ∷ optional_bytes table
@@ -84,7 +85,7 @@ module _ (at : Option ℕ) (named : List ℕ) where
     pub latencies : Latencies
     pub block : HoldsBlock at named bytes insns live_out
     pub latencies_are : AreLatencies table latencies
-    pub line : IsBestLine (graph_of insns live_out latencies) limits budget success.text.items
+    pub line : IsLineOf (graph_of insns live_out latencies) limits budget success.text.items
     pub writes_none : success.writes.items ≡ []
 
   -- it refuses a file that holds no block

@@ -1,6 +1,7 @@
 pub mod WordBlocks
 pub mod ListedBlocks
 pub mod BestCommand
+pub mod PairCommand
 pub mod BlocksCommand
 pub mod AsmCommand
 pub mod DisCommand

@@ -1,4 +1,4 @@
-//! The command `best`: the best cut of a block.
+//! The commands `best` and `pair`: the best cut of a block, and the best pair of cuts.
 ghost use Rattle.std.specs.Prelude.{ℕ, List, Option, ◌≤◌, IfOk, IfErr, length};
 ghost use Rattle.std.specs.FinSet as set;
 ghost use Rattle.std.specs.Ordering.{nat_cmp};
@@ -11,10 +11,10 @@ ghost use Rattle.ci_calls.specs.Refused.{name_in};
 ghost use Rattle.ci_commands.specs.BestCommand.{best_inputs, IsBestMade, IsBestRefused, HoldsBlock, HoldsNoBlock};
 ghost use Rattle.ci_commands.specs.private.BlockFiles.{IsFileOf, IsWithinLimit};
 ghost use Rattle.ci_commands.specs.private.Causes.{IsCause};
-ghost use Rattle.ci_commands.specs.BestCommand.{IsBestLine};
+ghost use Rattle.ci_commands.specs.PairCommand.{IsLineOf};
 
 use ci_calls::{Refusal, Success, read_table};
-use ci_cut::Limits;
+use ci_cut::{Graph, Limits};
 use ci_dfg::graph;
 use ci_io::Shelf;
 use ci_isa::Insn;
@@ -23,13 +23,15 @@ use ci_word::Row;
 use cut::best_cut_line;
 use file::{BlockFile, read_block_file};
 use listed::listed_block;
-use std::alloc::Global;
+use pair::best_pair_line;
+use std::alloc::{AllocError, Global};
 use words::word_block;
 
 mod cut;
 mod file;
 mod line;
 mod listed;
+mod pair;
 mod words;
 
 /// The instructions of a block, and the registers that are live after it.
@@ -39,7 +41,16 @@ pub struct LiveBlock {
     pub live_out: Row,
 }
 
-/// Which block is meant, and how its best cut is searched for.
+/// What is searched for in a block.
+#[derive(Clone, Copy)]
+pub enum Sought {
+    /// The best cut.
+    Cut,
+    /// The best pair of cuts.
+    Pair,
+}
+
+/// Which block is meant, and how it is searched.
 #[derive(Clone, Copy)]
 pub struct BestSettings<'a, 'b> {
     /// The address of the block in an executable. Where there is none, the file is the words of the block.
@@ -48,13 +59,15 @@ pub struct BestSettings<'a, 'b> {
     pub leaders: &'b [u32],
     /// The greatest numbers of inputs and of outputs of a cut.
     pub limits: Limits,
+    /// What is searched for.
+    pub sought: Sought,
     /// The greatest number of branches of the log of the search, itself at most 4,194,304.
     pub budget: u32,
     /// The file with the latency table, which is the usual one where there is none.
     pub table: Option<&'a str>,
 }
 
-/// Makes the line of the best cut of the block in the file. The budget of the settings is at most 4,194,304.
+/// Makes the line of the best cut, or of the best pair, of the block in the file. The budget of the settings is at most 4,194,304.
 ///
 /// # Errors
 ///
@@ -78,7 +91,7 @@ pub fn evaluate<'a, F: Shelf>(
     requires { settings.now.budget ≤ 4194304 }
     ensures { IsAnswerOf F.read_may_fail F.write_may_fail (F.state shelf.old) (F.state shelf.new)
         (best_inputs settings.now.at file.now (name_in settings.now.table))
-        (IsBestMade settings.now.at settings.now.leaders.now
+        (IsBestMade settings.now.at settings.now.leaders.now (IsLineOf settings.now.sought)
         settings.now.limits settings.now.budget (name_in settings.now.table))
         (IsBestRefused settings.now.at settings.now.leaders.now) result }
 {
@@ -91,7 +104,7 @@ pub fn evaluate<'a, F: Shelf>(
     })
 }
 
-/// The line of the best cut of the block that the file holds.
+/// The line of what is searched for in the block that the file holds.
 fn best_line<'a>(
     alloc: Global,
     file: &BlockFile,
@@ -103,14 +116,30 @@ fn best_line<'a>(
     ensures done { IfOk result (λ line. (at : Option ℕ) (bytes : List ℕ) → IsFileOf at bytes file.now
         → (insns : List Instruction) × (live_out : set.FinSet nat_cmp)
         × HoldsBlock at settings.now.leaders.now bytes insns live_out
-        × IsBestLine (graph_of insns live_out table.now) settings.now.limits settings.now.budget (string_bytes line)) }
+        × IsLineOf settings.now.sought (graph_of insns live_out table.now) settings.now.limits settings.now.budget
+        (string_bytes line)) }
     ensures cause { IfErr result (λ error. (at : Option ℕ) (bytes : List ℕ) → IsFileOf at bytes file.now
         → IsCause (HoldsNoBlock at settings.now.leaders.now bytes) error) }
 {
     let block = block_in(alloc, file, settings.leaders)?;
     let graph = graph(alloc, block.insns.as_slice(), block.live_out, table)?;
-    let line = best_cut_line(alloc, &graph, &settings.limits, settings.budget)?;
-    Ok(line)
+    Ok(line_of(alloc, settings, &graph)?)
+}
+
+/// The line of what is searched for in the graph.
+fn line_of(
+    alloc: Global,
+    settings: &BestSettings<'_, '_>,
+    graph: &Graph,
+) -> Result<String, AllocError>
+    requires { settings.now.budget ≤ 4194304 }
+    ensures { IfOk result (λ line.
+        IsLineOf settings.now.sought graph.now settings.now.limits settings.now.budget (string_bytes line)) }
+{
+    match settings.sought {
+        Sought::Cut => best_cut_line(alloc, graph, &settings.limits, settings.budget),
+        Sought::Pair => best_pair_line(alloc, graph, &settings.limits, settings.budget),
+    }
 }
 
 /// The block that the file holds.

@@ -6,7 +6,7 @@ use Rattle.ci_cut.specs.FlowGraph.{FlowGraph}
 use Rattle.ci_dfg.specs.BlockGraph.{graph_of}
 use Rattle.ci_dfg.specs.Bundles.{AreBundled}
 use Rattle.ci_commands.specs.private.BlockFiles.{IsFileOf}
-use Rattle.ci_commands.specs.BestCommand.{IsBestLine}
+use Rattle.ci_commands.specs.PairCommand.{IsLineOf}
 use Rattle.ci_commands.proofs.best.best_line.Goals as goal
 
 pub returns-in_err-block-clause-cause : goal.returns-in_err-block-clause-cause
@@ -25,6 +25,6 @@ returns-clause-done c = λ (at : Option ℕ) (bytes : List ℕ) (file : IsFileOf
       block.insns.items,
       block.live_out,
       c.in_ok-block.ensures.held at bytes file,
-      subst (λ (graph : FlowGraph). IsBestLine graph c.args.settings.now.limits c.args.settings.now.budget
-          (string_bytes c.in_ok-line.line)) same c.in_ok-line.ensures,
+      subst (λ (graph : FlowGraph). IsLineOf c.args.settings.now.sought graph c.args.settings.now.limits c.args.settings.now.budget
+          (string_bytes c.in_ok-line_of.field-0)) same c.in_ok-line_of.ensures,
     )
