@@ -2,14 +2,14 @@
 use Rattle.std.specs.Prelude.{ℕ, Bool, true, false, List, [], ◌∷◌, ◌++◌, codes}
 use Rattle.ci_arguments.specs.declared.tables.Access.TheVariants.{Reads, Writes}
 use Rattle.ci_arguments.specs.declared.tables.CommandName.{CommandName}
-use Rattle.ci_arguments.specs.declared.tables.CommandName.TheVariants.{Best, Asm, Dis, Run, Blocks, Eval, Find, Check, Relog, Gates, Geval, Load}
+use Rattle.ci_arguments.specs.declared.tables.CommandName.TheVariants.{Best, Pair, Asm, Dis, Run, Blocks, Eval, Find, Check, Area, Relog, Gates, Geval, Load}
 use Rattle.ci_arguments.specs.declared.tables.DefaultValue.{DefaultValue}
 use Rattle.ci_arguments.specs.declared.tables.DefaultValue.TheVariants as default
 use Rattle.ci_arguments.specs.declared.tables.Kind.{Kind}
 use Rattle.ci_arguments.specs.declared.tables.Kind.TheVariants.{File, Number, Word}
 use Rattle.ci_arguments.specs.declared.tables.OptionName.{OptionName}
 use Rattle.ci_arguments.specs.declared.tables.OptionName.TheVariants.{Inputs, Outputs, Count, Budget, Steps, Units, Table}
-use Rattle.ci_arguments.specs.declared.tables.OptionName.TheVariants.{Input, Leader, At, ArgumentD, ArgumentE, LogVersion}
+use Rattle.ci_arguments.specs.declared.tables.OptionName.TheVariants.{Input, Leader, At, ArgumentD, ArgumentE, LogVersion, Limit}
 
 -- An option of a command: its name without hyphens, which one it is, the kind of its values, whether it may stand more
 -- than once, and what it is set to where it is not given.
@@ -80,11 +80,19 @@ choice =
     inputs ∷ outputs ∷ single (codes "count") Count (Number 1 32) (default.Number 32) ∷ budget ∷ steps ∷ table ∷ input
     ∷ leader ∷ []
 
+-- how many gates there is room for, which has to be said
+abbrev pub limit : OptionRow
+limit = single (codes "limit") Limit (Number 0 4294967295) default.MustStand
+
+-- what a search of a block is bounded by and made from
+abbrev pub search : List OptionRow
+search = inputs ∷ outputs ∷ budget ∷ table ∷ leader ∷ single (codes "at") At Word default.Nothing ∷ []
+
 -- the table of the program
 unfoldable pub commands : List CommandRow
 commands =
-    command_of (codes "best") Best (File Reads ∷ [])
-    (inputs ∷ outputs ∷ budget ∷ table ∷ leader ∷ single (codes "at") At Word default.Nothing ∷ [])
+    command_of (codes "best") Best (File Reads ∷ []) search
+    ∷ command_of (codes "pair") Pair (File Reads ∷ []) search
     ∷ command_of (codes "asm") Asm (File Reads ∷ File Writes ∷ []) []
     ∷ command_of (codes "dis") Dis (File Reads ∷ []) []
     ∷ command_of (codes "run") Run (File Reads ∷ [])
@@ -94,6 +102,7 @@ commands =
     ∷ command_of (codes "find") Find
     (File Reads ∷ File Writes ∷ File Writes ∷ File Writes ∷ File Writes ∷ []) (choice ++ log_version 1 ∷ [])
     ∷ command_of (codes "check") Check (File Reads ∷ File Reads ∷ File Reads ∷ File Reads ∷ []) choice
+    ∷ command_of (codes "area") Area (File Reads ∷ []) (choice ++ limit ∷ [])
     ∷ command_of (codes "relog") Relog (File Reads ∷ File Writes ∷ []) (log_version 2 ∷ [])
     ∷ command_of (codes "gates") Gates (File Reads ∷ File Writes ∷ []) []
     ∷ command_of (codes "geval") Geval evaluated others

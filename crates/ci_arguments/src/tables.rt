@@ -5,6 +5,8 @@
 pub enum CommandName {
     /// `best`
     Best,
+    /// `pair`
+    Pair,
     /// `asm`
     Asm,
     /// `dis`
@@ -19,6 +21,8 @@ pub enum CommandName {
     Find,
     /// `check`
     Check,
+    /// `area`
+    Area,
     /// `relog`
     Relog,
     /// `gates`
@@ -58,6 +62,8 @@ pub enum OptionName {
     ArgumentE,
     /// `--log`
     LogVersion,
+    /// `--limit`
+    Limit,
 }
 
 /// What a command does with a file.
@@ -298,6 +304,21 @@ const LOG: NamedOption<'static> = (
     },
 );
 
+const LIMIT: CommandOption<'static> = (
+    (
+        "limit",
+        OptionShape {
+            option: OptionName::Limit,
+            kind: Kind::Number {
+                minimum: 0,
+                maximum: 4_294_967_295,
+            },
+            repeatable: false,
+        },
+    ),
+    DefaultValue::MustStand,
+);
+
 /// What a choice of cuts is bounded by and made from.
 const CHOICE: &[CommandOption<'static>] = &[IN, OUT, COUNT, BUDGET, STEPS, TABLE, INPUT, LEADER];
 
@@ -314,6 +335,14 @@ const FIND: &[CommandOption<'static>] = &[
     (LOG, DefaultValue::Number(1)),
 ];
 
+/// What a choice is bounded by and made from, and how many gates there is room for.
+const AREA: &[CommandOption<'static>] = &[
+    IN, OUT, COUNT, BUDGET, STEPS, TABLE, INPUT, LEADER, LIMIT,
+];
+
+/// What a search of a block is bounded by and made from.
+const SEARCH: &[CommandOption<'static>] = &[IN, OUT, BUDGET, TABLE, LEADER, AT];
+
 /// A file with modules or netlists, the number of one of them, and the first three words at which its value is taken.
 const EVALUATED: &[Kind] = &[READ, PLACE, Kind::Word, Kind::Word, Kind::Word];
 
@@ -322,12 +351,8 @@ const OTHERS: &[CommandOption<'static>] = &[ARGUMENT_D, ARGUMENT_E];
 
 /// The table of the commands.
 pub const COMMANDS: &[CommandRow<'static>] = &[
-    (
-        "best",
-        CommandName::Best,
-        &[READ],
-        &[IN, OUT, BUDGET, TABLE, LEADER, AT],
-    ),
+    ("best", CommandName::Best, &[READ], SEARCH),
+    ("pair", CommandName::Pair, &[READ], SEARCH),
     ("asm", CommandName::Asm, &[READ, WRITTEN], &[]),
     ("dis", CommandName::Dis, &[READ], &[]),
     (
@@ -350,6 +375,7 @@ pub const COMMANDS: &[CommandRow<'static>] = &[
         &[READ, READ, READ, READ],
         CHOICE,
     ),
+    ("area", CommandName::Area, &[READ], AREA),
     (
         "relog",
         CommandName::Relog,

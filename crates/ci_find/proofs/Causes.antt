@@ -1,9 +1,8 @@
 -- A call that doesn't succeed has a cause, unless memory ran out.
-use Rattle.std.proofs.Common.{ℕ, inl, inr, List, [], ◌∷◌, ◌++◌, Contains, Err, refl, arith}
+use Rattle.std.proofs.Common.{ℕ, inl, inr, List, [], ◌∷◌, ◌++◌, Err, refl, arith}
 use Rattle.std.proofs.lemmas.List.Elements.{Contains-append_right}
 use Rattle.ci_io.specs.declared.shelves.ShelfErr.TheVariants as shelf
-use Rattle.ci_io.specs.declared.sinks.SinkErr.TheVariants as sink
-use Rattle.ci_io.specs.CallLists.{Call, write, put}
+use Rattle.ci_io.specs.CallLists.{Call, write}
 use Rattle.ci_calls.specs.Called.{FinishesBy, PutsText, all_written, put_failed, taken, write_failed, writes_of}
 use Rattle.ci_calls.specs.Called as called
 use Rattle.ci_calls.specs.declared.success.Success.{Success}

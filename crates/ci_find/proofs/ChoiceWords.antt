@@ -1,11 +1,11 @@
 -- The settings of a choice, as words say them: the numbers are in their ranges, and there is one plan of the limits.
-use Rattle.std.proofs.Common.{◌≡◌, ℕ, inl, inr, Bool, List, Result, Ok, Err, refl, subst}
+use Rattle.std.proofs.Common.{◌≡◌, ◌≤◌, ℕ, inl, inr, Bool, List, Result, Ok, Err, refl, subst}
 use Rattle.ci_io.specs.Outcomes.{ShelfState}
 use Rattle.ci_select.specs.declared.plan.Plan.{Plan}
 use Rattle.ci_arguments.specs.Ranges.{KeepsRanges}
 use Rattle.ci_arguments.specs.Tables.{commands}
-use Rattle.ci_arguments.specs.Words.{Reading, name_at}
-use Rattle.ci_arguments.specs.declared.tables.CommandName.TheVariants.{Find, Check}
+use Rattle.ci_arguments.specs.Words.{Reading, name_at, number_set}
+use Rattle.ci_arguments.specs.declared.tables.CommandName.TheVariants.{Find, Check, Area}
 use Rattle.ci_arguments.specs.declared.tables.OptionName.TheVariants as option
 use Rattle.ci_calls.specs.declared.refusals.Refusal.{Refusal}
 use Rattle.ci_calls.specs.declared.success.Success.{Success}
@@ -38,6 +38,21 @@ check_ranges reading keeps = record {
   count = keeps option.Count 1 32 refl;
   budget = keeps option.Budget 1 4194304 refl;
 }
+
+-- of `area`
+pub area_ranges : (reading : Reading) → KeepsRanges Area reading → KeepsChoiceRanges reading
+unfolding commands
+area_ranges reading keeps = record {
+  steps = (keeps option.Steps 1 4294967296 refl).1;
+  inputs = keeps option.Inputs 1 5 refl;
+  outputs = keeps option.Outputs 1 3 refl;
+  count = keeps option.Count 1 32 refl;
+  budget = keeps option.Budget 1 4194304 refl;
+}
+
+pub limit_range : (reading : Reading) → KeepsRanges Area reading → number_set reading option.Limit ≤ 4294967295
+unfolding commands
+limit_range reading keeps = (keeps option.Limit 0 4294967295 refl).1
 
 -- ---- the plan
 

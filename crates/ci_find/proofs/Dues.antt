@@ -2,9 +2,11 @@
 use Rattle.std.proofs.Common.{◌≡◌, ℕ, ◌⊎◌, inl, inr, List, length, Some, sym, subst, ◌∙◌}
 use Rattle.ci_io.specs.Outcomes.{Files}
 use Rattle.ci_select.specs.declared.plan.Plan.{Plan}
+use Rattle.ci_cut.specs.FlowGraph.{FlowGraph}
+use Rattle.ci_cut.specs.declared.graph.Limits.{Limits}
 use Rattle.ci_arguments.specs.Words.{Reading, ReadsAs, HasNoReading, name_at, number_at, name_set, number_set, word_set, words_set}
 use Rattle.ci_arguments.specs.declared.tables.CommandName.{CommandName}
-use Rattle.ci_arguments.specs.declared.tables.CommandName.TheVariants.{Best, Asm, Dis, Run, Blocks, Eval, Find, Check, Relog, Gates, Geval, Load}
+use Rattle.ci_arguments.specs.declared.tables.CommandName.TheVariants.{Best, Pair, Asm, Dis, Run, Blocks, Eval, Find, Check, Area, Relog, Gates, Geval, Load}
 use Rattle.ci_arguments.specs.declared.tables.OptionName.TheVariants as option
 use Rattle.ci_arguments.proofs.Readings.{one_reading}
 use Rattle.ci_calls.specs.declared.refusals.Refusal.{Refusal}
@@ -12,7 +14,8 @@ use Rattle.ci_calls.specs.declared.success.Success.{Success}
 use Rattle.ci_calls.specs.Inputs.{AreRead, IsFileRefusal}
 use Rattle.ci_calls.specs.Refusals.{status_of}
 use Rattle.ci_calls.proofs.OneRefusal.{read_once, read_or_refused, refusal_once}
-use Rattle.ci_commands.specs.BestCommand.{HoldsNoBlock}
+use Rattle.ci_commands.specs.BestCommand.{HoldsNoBlock, IsBestLine}
+use Rattle.ci_commands.specs.PairCommand.{IsPairLine}
 use Rattle.ci_block.specs.CustomWords.{IsFirstCustomWord}
 use Rattle.ci_commands.proofs.Causes.{many_gates_once, unsupported_once}
 use Rattle.ci_commands.specs.EvalCommand.{IsNoModule, IsPast}
@@ -21,10 +24,10 @@ use Rattle.ci_commands.proofs.OneBlock.{best_or_refused, blocks_or_refused}
 use Rattle.ci_commands.proofs.OneModule.{eval_or_refused, gates_or_refused, geval_or_refused}
 use Rattle.ci_find.specs.CheckCommand.{IsCheckRefused}
 use Rattle.ci_find.specs.ChoiceReading.{find_output, settings_of, IsPlanOf}
-use Rattle.ci_find.specs.Commands.{arguments_of, inputs_of, IsMade, IsRefusedOf, MakesBy, RefusesBy}
+use Rattle.ci_find.specs.Commands.{arguments_of, inputs_of, search_call, IsMade, IsRefusedOf, MakesBy, RefusesBy}
 use Rattle.ci_find.specs.Endings.{IsRefusal, usage, file, once_read, IsDue}
 use Rattle.ci_find.specs.FindCommand.{IsFindRefused}
-use Rattle.ci_find.proofs.OneChoice.{check_or_refused, check_refused_once, find_or_refused, find_refused_once, one_plan}
+use Rattle.ci_find.proofs.OneChoice.{area_or_refused, check_or_refused, check_refused_once, find_or_refused, find_refused_once, one_plan}
 
 -- ---- the commands
 
@@ -38,12 +41,31 @@ module _ (reading : Reading) (read : List (List ℕ)) (refusal : Refusal) (plan 
   checked_by (other, also, is) =
       subst (λ p. IsCheckRefused (settings_of reading p) read refusal) (one_plan reading other plan also is_plan) is
 
+-- a search of a block refuses nothing of what it makes a line, whatever is searched for
+module _
+    (IsLineOf : FlowGraph → Limits → ℕ → List ℕ → Type 0) (reading : Reading) (read : List (List ℕ)) where
+  searched_or_refused : (success : Success) (refusal : Refusal) → (search_call IsLineOf reading).Makes read success
+      → (search_call IsLineOf reading).Refuses read refusal → ⊥
+  searched_or_refused success refusal made is =
+      best_or_refused read success refusal (word_set reading option.At) (words_set reading option.Leader) IsLineOf made.0
+      (number_set reading option.Budget) (name_set reading option.Table) made.3 is
+
+  -- it is refused with one status
+  search_refused_once : (first second : Refusal) → (search_call IsLineOf reading).Refuses read first
+      → (search_call IsLineOf reading).Refuses read second → status_of first ≡ status_of second
+  search_refused_once first second a b =
+      let address = word_set reading option.At in
+      let named = words_set reading option.Leader in
+      unsupported_once (HoldsNoBlock address named a.bytes) (HoldsNoBlock address named b.bytes) first second
+      a.unsupported b.unsupported
+
 -- of what something is made is not refused
 made_or_refused : (command : CommandName) (reading : Reading) (read : List (List ℕ)) (success : Success) (refusal : Refusal)
     → MakesBy command reading read success → RefusesBy command reading read refusal → ⊥
 made_or_refused Best reading read success refusal made is =
-    best_or_refused read success refusal (word_set reading option.At) (words_set reading option.Leader) made.0
-    (number_set reading option.Budget) (name_set reading option.Table) made.3 is
+    searched_or_refused IsBestLine reading read success refusal made is
+made_or_refused Pair reading read success refusal made is =
+    searched_or_refused IsPairLine reading read success refusal made is
 made_or_refused Asm reading read success refusal made is = is
 made_or_refused Dis reading read success refusal made is = is
 made_or_refused Run reading read success refusal made is = is
@@ -57,6 +79,9 @@ made_or_refused Find reading read success refusal made is =
 made_or_refused Check reading read success refusal made is =
     check_or_refused (settings_of reading made.0) read success refusal made.2
     (checked_by reading read refusal made.0 made.1 is)
+made_or_refused Area reading read success refusal made is =
+    area_or_refused (settings_of reading made.0) (number_set reading option.Limit) read success refusal made.2
+    (found_by reading read refusal made.0 made.1 is)
 made_or_refused Relog reading read success refusal made is = is
 made_or_refused Gates reading read success refusal made is = gates_or_refused read success refusal (name_at reading 1) made is
 made_or_refused Geval reading read success refusal made is =
@@ -66,10 +91,8 @@ made_or_refused Load reading read success refusal made is = is
 -- it is refused with one status
 refused_once : (command : CommandName) (reading : Reading) (read : List (List ℕ)) (first second : Refusal)
     → RefusesBy command reading read first → RefusesBy command reading read second → status_of first ≡ status_of second
-refused_once Best reading read first second a b =
-    let address = word_set reading option.At in
-    let named = words_set reading option.Leader in
-    unsupported_once (HoldsNoBlock address named a.bytes) (HoldsNoBlock address named b.bytes) first second a.unsupported b.unsupported
+refused_once Best reading read first second a b = search_refused_once IsBestLine reading read first second a b
+refused_once Pair reading read first second a b = search_refused_once IsPairLine reading read first second a b
 refused_once Asm reading read first second a b = absurd a
 refused_once Dis reading read first second a b = absurd a
 refused_once Run reading read first second a b = absurd a
@@ -82,6 +105,8 @@ refused_once Find reading read first second a b =
     find_refused_once (settings_of reading a.0) read first second a.2 (found_by reading read second a.0 a.1 b)
 refused_once Check reading read first second a b =
     check_refused_once (settings_of reading a.0) read first second a.2 (checked_by reading read second a.0 a.1 b)
+refused_once Area reading read first second a b =
+    find_refused_once (settings_of reading a.0) read first second a.2 (found_by reading read second a.0 a.1 b)
 refused_once Relog reading read first second a b = absurd a
 refused_once Gates reading read first second a b =
     many_gates_once (IsFirstTooMany a.modules) (IsFirstTooMany b.modules) first second a.many b.many

@@ -12,6 +12,7 @@ mod WrittenCalls
 mod CallsOverFiles
 mod Kept
 mod ProfiledRuns
+mod AreaPieces
 mod Judgements
 mod WrittenNames
 mod LeftFiles

@@ -20,6 +20,7 @@ use Rattle.ci_calls.specs.Refusals.{status_of}
 use Rattle.ci_find.specs.ChoiceReading.{IsPlanOf}
 use Rattle.ci_find.specs.Profiled.{Profiled, Settings, instance_by}
 use Rattle.ci_find.specs.FindCommand.{FindOutput, IsFindMade, IsFindRefused}
+use Rattle.ci_find.specs.AreaCommand.{IsAreaMade}
 use Rattle.ci_find.specs.CheckCommand.{CheckFiles, IsCheckMade, IsCheckRefused, rejected, unprofiled}
 use Rattle.ci_find.proofs.OneProfile.{Unprofiled, profiled_alike, profiled_or_not, same_file, unprofiled_once}
 
@@ -71,6 +72,12 @@ find_moved {settings} {read} {refusal} {executable} {others} read_is is =
 pub find_or_refused : (output : FindOutput) (settings : Settings) (read : List (List ℕ)) (success : Success)
     (refusal : Refusal) → IsFindMade output settings read success → IsFindRefused settings read refusal → ⊥
 find_or_refused output settings read success refusal made is =
+    profiled_or_not made.profiled (find_moved made.read_is is)
+
+-- nor for files of whose units a set is chosen
+pub area_or_refused : (settings : Settings) (limit : ℕ) (read : List (List ℕ)) (success : Success) (refusal : Refusal)
+    → IsAreaMade settings limit read success → IsFindRefused settings read refusal → ⊥
+area_or_refused settings limit read success refusal made is =
     profiled_or_not made.profiled (find_moved made.read_is is)
 
 -- others are refused with one status

@@ -1,4 +1,4 @@
--- The run that a choice is made from, what the command `find` makes of it, and what it refuses.
+-- The run that a choice is made from, what the commands `find` and `area` make of it, and what they refuse.
 use Rattle.std.proofs.Common.{◌≡◌, ℕ, inl, inr, Bool, List, ◌∷◌, ◌++◌, Option, Some, refl, subst}
 use Rattle.ci_io.specs.Outcomes.{ShelfState}
 use Rattle.ci_elf.specs.Executables.{Executable, IsImageOf}
@@ -21,7 +21,8 @@ use Rattle.ci_calls.specs.Evaluations.{IsUnsupported}
 use Rattle.ci_calls.specs.Inputs.{Input}
 use Rattle.ci_calls.specs.Reads.{HaveRead, IsSuccessOf, IsRefusalOf}
 use Rattle.ci_calls.proofs.InputLaws.{read_without_memory}
-use Rattle.ci_find.specs.Profiled.{Settings, RunFiles, IsProfiled, IsUnprofiled, custom}
+use Rattle.ci_find.specs.AreaCommand.{IsAreaChoice, IsAreaMade}
+use Rattle.ci_find.specs.Profiled.{Settings, RunFiles, Profiled, IsProfiled, IsUnprofiled, custom}
 use Rattle.ci_find.specs.FindCommand.{FindOutput, IsChoice, IsFindMade, IsFindRefused}
 use Rattle.ci_find.specs.private.Unprofiled.{IsUnprofiledCause}
 
@@ -94,29 +95,51 @@ module _
   find_refused refusal (inr none) =
       rw none (inl (read_without_memory read_may_fail write_may_fail before after inputs (executable ∷ others) files))
 
-  -- a choice for it
-  pub find_made :
+  module _
       (profile : Profile) (blocks : List Block) (live : Sets)
-      → IsProfiled run.file run.latencies input settings.steps settings.named profile blocks live
-      → (output : FindOutput) (success : Success)
-      → IsChoice (instance_of profile blocks live run.latencies settings.plan) profile run.file output success
-      → IsSuccessOf read_may_fail write_may_fail before after inputs (IsFindMade output settings) success
-  find_made profile blocks live is output success choice = record {
-    answered = executable ∷ others;
-    read = files;
-    made = record {
-      executable = executable;
-      others = others;
-      read_is = refl;
-      profiled = record {
-        files = run;
-        profile = profile;
-        blocks = blocks;
-        live = live;
-        is_profiled =
-            subst (λ bytes. IsProfiled run.file run.latencies bytes settings.steps settings.named profile blocks live)
-            same is;
+      (is : IsProfiled run.file run.latencies input settings.steps settings.named profile blocks live) where
+    -- the files can be chosen from
+    abbrev profiled : Profiled settings executable others
+    profiled = record {
+      files = run;
+      profile = profile;
+      blocks = blocks;
+      live = live;
+      is_profiled =
+          subst (λ bytes. IsProfiled run.file run.latencies bytes settings.steps settings.named profile blocks live)
+          same is;
+    }
+
+    -- a choice for it
+    pub find_made :
+        (output : FindOutput) (success : Success)
+        → IsChoice (instance_of profile blocks live run.latencies settings.plan) profile run.file output success
+        → IsSuccessOf read_may_fail write_may_fail before after inputs (IsFindMade output settings) success
+    find_made output success choice = record {
+      answered = executable ∷ others;
+      read = files;
+      made = record {
+        executable = executable;
+        others = others;
+        read_is = refl;
+        profiled = profiled;
+        choice = choice;
       };
-      choice = choice;
-    };
-  }
+    }
+
+    -- the best of the units of a choice for it
+    pub area_made :
+        (limit : ℕ) (success : Success)
+        → IsAreaChoice (instance_of profile blocks live run.latencies settings.plan) limit success
+        → IsSuccessOf read_may_fail write_may_fail before after inputs (IsAreaMade settings limit) success
+    area_made limit success choice = record {
+      answered = executable ∷ others;
+      read = files;
+      made = record {
+        executable = executable;
+        others = others;
+        read_is = refl;
+        profiled = profiled;
+        choice = choice;
+      };
+    }

@@ -1,5 +1,5 @@
--- For every reader: the names and the settings of a choice, as the words of `find` or `check` have them, and the version
--- of a log book, as those of `find` or `relog` have it.
+-- For every reader: the names and the settings of a choice, as the words of `find`, `check` or `area` have them, and the
+-- version of a log book, as those of `find` or `relog` have it.
 use Rattle.std.specs.Prelude.{◌≡◌, ◌==◌, List, if◌then◌else◌}
 use Rattle.ci_arguments.specs.Words.{Reading, name_at, name_set, number_set, words_set}
 use Rattle.ci_arguments.specs.declared.tables.OptionName.TheVariants as option

@@ -3,16 +3,18 @@
 use Rattle.std.specs.Prelude.{◌≡◌, ℕ, Bool, List, [], ◌∷◌, Result, unwrap_or}
 use Rattle.ci_io.specs.Outcomes.{ShelfState}
 use Rattle.ci_cut.specs.declared.graph.Limits.{Limits}
+use Rattle.ci_cut.specs.FlowGraph.{FlowGraph}
 use Rattle.ci_arguments.specs.Words.{Reading, name_at, number_at, word_at, name_set, number_set, word_set, words_set}
 use Rattle.ci_arguments.specs.declared.tables.CommandName.{CommandName}
-use Rattle.ci_arguments.specs.declared.tables.CommandName.TheVariants.{Best, Asm, Dis, Run, Blocks, Eval, Find, Check, Relog, Gates, Geval, Load}
+use Rattle.ci_arguments.specs.declared.tables.CommandName.TheVariants.{Best, Pair, Asm, Dis, Run, Blocks, Eval, Find, Check, Area, Relog, Gates, Geval, Load}
 use Rattle.ci_arguments.specs.declared.tables.OptionName.TheVariants as option
 use Rattle.ci_calls.specs.declared.refusals.Refusal.{Refusal}
 use Rattle.ci_calls.specs.declared.success.Success.{Success}
 use Rattle.ci_calls.specs.Evaluations.{RefusesNothing}
 use Rattle.ci_calls.specs.Inputs.{Input}
 use Rattle.ci_calls.specs.Reads.{IsAnswerOf}
-use Rattle.ci_commands.specs.BestCommand.{best_inputs, IsBestMade, IsBestRefused}
+use Rattle.ci_commands.specs.BestCommand.{best_inputs, IsBestLine, IsBestMade, IsBestRefused}
+use Rattle.ci_commands.specs.PairCommand.{IsPairLine}
 use Rattle.ci_commands.specs.AsmCommand.{asm_inputs, IsAsmMade}
 use Rattle.ci_commands.specs.DisCommand.{dis_inputs, IsDisMade}
 use Rattle.ci_commands.specs.RunCommand.{run_inputs, IsRunMade}
@@ -26,6 +28,7 @@ use Rattle.ci_find.specs.ChoiceReading.{IsPlanOf, log_version, settings_of, find
 use Rattle.ci_find.specs.FindCommand.{IsFindMade, IsFindRefused}
 use Rattle.ci_find.specs.LoadCommand.{IsLoadMade}
 use Rattle.ci_find.specs.CheckCommand.{IsCheckMade, IsCheckRefused}
+use Rattle.ci_find.specs.AreaCommand.{IsAreaMade}
 
 -- what a call of a command is: the files that it reads, in order; what it makes of their bytes; and what it refuses of
 -- them, though each file alone is well formed
@@ -40,18 +43,23 @@ arguments_of reading =
     word_at reading 2 ∷ word_at reading 3 ∷ word_at reading 4 ∷ unwrap_or (word_set reading option.ArgumentD) 0
     ∷ unwrap_or (word_set reading option.ArgumentE) 0 ∷ []
 
--- ---- all commands
-
-abbrev pub call_by : CommandName → Reading → CommandCall
-call_by Best reading = record {
+-- a search of a block, by the relation of its graph, the limits and the budget with the line that is due
+abbrev pub search_call : (FlowGraph → Limits → ℕ → List ℕ → Type 0) → Reading → CommandCall
+search_call IsLineOf reading = record {
   inputs = best_inputs (word_set reading option.At) (name_at reading 0) (name_set reading option.Table);
   Makes = λ read success.
       (limits : Limits) × (limits.inputs ≡ number_set reading option.Inputs)
       × (limits.outputs ≡ number_set reading option.Outputs)
-      × IsBestMade (word_set reading option.At) (words_set reading option.Leader) limits
+      × IsBestMade (word_set reading option.At) (words_set reading option.Leader) IsLineOf limits
       (number_set reading option.Budget) (name_set reading option.Table) read success;
   Refuses = IsBestRefused (word_set reading option.At) (words_set reading option.Leader);
 }
+
+-- ---- all commands
+
+abbrev pub call_by : CommandName → Reading → CommandCall
+call_by Best reading = search_call IsBestLine reading
+call_by Pair reading = search_call IsPairLine reading
 call_by Asm reading = record {
   inputs = asm_inputs (name_at reading 0);
   Makes = IsAsmMade (name_at reading 1);
@@ -96,6 +104,14 @@ call_by Check reading = record {
   Refuses = λ read refusal.
       (plan : Plan) × IsPlanOf reading plan × IsCheckRefused (settings_of reading plan) read refusal;
 }
+call_by Area reading = record {
+  inputs = find_files reading;
+  Makes = λ read success.
+      (plan : Plan) × IsPlanOf reading plan
+      × IsAreaMade (settings_of reading plan) (number_set reading option.Limit) read success;
+  Refuses = λ read refusal.
+      (plan : Plan) × IsPlanOf reading plan × IsFindRefused (settings_of reading plan) read refusal;
+}
 call_by Relog reading = record {
   inputs = relog_inputs (name_at reading 0);
   Makes = IsRelogMade (name_at reading 1) (log_version reading);
@@ -126,12 +142,17 @@ MakesBy command reading = (call_by command reading).Makes
 abbrev pub RefusesBy : CommandName → Reading → List (List ℕ) → Refusal → Type 0
 RefusesBy command reading = (call_by command reading).Refuses
 
+-- the answer to a call, over a shelf
+abbrev pub IsAnswerTo :
+    (List ℕ → Bool) → (List ℕ → Bool) → ShelfState → ShelfState → CommandCall → Result Success Refusal → Type 0
+IsAnswerTo read_may_fail write_may_fail before after call =
+    IsAnswerOf read_may_fail write_may_fail before after call.inputs call.Makes call.Refuses
+
 -- the answer of a command, over a shelf, to a reading
 abbrev pub IsAnswerBy :
     (List ℕ → Bool) → (List ℕ → Bool) → ShelfState → ShelfState → CommandName → Reading → Result Success Refusal → Type 0
 IsAnswerBy read_may_fail write_may_fail before after command reading =
-    IsAnswerOf read_may_fail write_may_fail before after (inputs_by command reading) (MakesBy command reading)
-    (RefusesBy command reading)
+    IsAnswerTo read_may_fail write_may_fail before after (call_by command reading)
 
 -- ---- by the reading's own command
 

@@ -1,6 +1,7 @@
 pub mod SinceCalls
 pub mod Profiled
 pub mod FindCommand
+pub mod AreaCommand
 pub mod CheckCommand
 pub mod LoadCommand
 pub mod ChoiceReading

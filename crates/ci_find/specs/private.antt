@@ -1,3 +1,4 @@
 pub mod Unprofiled
 pub mod Chosen
 pub mod Judged
+pub mod Pieces

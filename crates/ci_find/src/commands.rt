@@ -6,8 +6,9 @@ ghost use Rattle.ci_arguments.specs.Read.{reading_of};
 ghost use Rattle.ci_arguments.specs.declared.tables.OptionName.TheVariants as option;
 ghost use Rattle.ci_arguments.specs.Words.{number_at, words_set};
 ghost use Rattle.ci_find.specs.ChoiceReading.{log_version, settings_of, IsPlanOf};
-ghost use Rattle.ci_find.specs.Commands.{arguments_of, IsAnswerBy};
-ghost use Rattle.ci_find.specs.private.Chosen.{settings_by, KeepsChoiceRanges};
+ghost use Rattle.ci_commands.specs.PairCommand.{IsLineOf};
+ghost use Rattle.ci_find.specs.Commands.{arguments_of, search_call, IsAnswerBy, IsAnswerTo};
+ghost use Rattle.ci_find.specs.private.Chosen.{settings_by, KeepsChoiceRanges, KeepsSearchRanges};
 ghost use Rattle.ci_find.specs.EndsBy.{IsDueBy, IsRefusalBy};
 ghost use Rattle.ci_io.specs.CallLists.{Call};
 ghost use Rattle.ci_io.specs.MadeCalls.{AreMade};
@@ -15,11 +16,11 @@ ghost use Rattle.ci_io.specs.Outcomes.{ShelfState};
 
 use crate::check::{self, CheckNames};
 use crate::find::{self, FindOutput};
-use crate::load;
 use crate::profiling::ChoiceSettings;
+use crate::{area, load};
 use ci_arguments::{CommandName, OptionName, Words, WordsErr, read_words};
 use ci_calls::{Refusal, Success};
-use ci_commands::best::BestSettings;
+use ci_commands::best::{BestSettings, Sought};
 use ci_commands::run::RunSettings;
 use ci_commands::{asm, best, blocks, dis, eval, gates, geval, relog, run};
 use ci_cut::Limits;
@@ -62,7 +63,8 @@ fn evaluate_command<'a, F: Shelf>(
 {
     let file = words.name_at(0);
     match command {
-        CommandName::Best => evaluate_best(alloc, words, shelf),
+        CommandName::Best => evaluate_search(alloc, Sought::Cut, words, shelf),
+        CommandName::Pair => evaluate_search(alloc, Sought::Pair, words, shelf),
         CommandName::Asm => asm::evaluate(alloc, file, words.name_at(1), shelf),
         CommandName::Dis => dis::evaluate(alloc, file, shelf),
         CommandName::Run => evaluate_run(alloc, words, shelf),
@@ -73,6 +75,7 @@ fn evaluate_command<'a, F: Shelf>(
         CommandName::Eval => evaluate_eval(alloc, words, shelf),
         CommandName::Find => evaluate_find(alloc, words, shelf),
         CommandName::Check => evaluate_check(alloc, words, shelf),
+        CommandName::Area => evaluate_area(alloc, words, shelf),
         CommandName::Relog => {
             relog::evaluate(alloc, file, words.name_at(1), log_version(words), shelf)
         }
@@ -82,15 +85,16 @@ fn evaluate_command<'a, F: Shelf>(
     }
 }
 
-/// What `best` makes of its files, by the settings that the words say.
-fn evaluate_best<'a, F: Shelf>(
+/// What `best` or `pair` makes of its files, by what is searched for and the settings that the words say.
+fn evaluate_search<'a, F: Shelf>(
     alloc: Global,
+    sought: Sought,
     words: &Words<'a>,
     shelf: &mut F,
 ) -> Result<Success<'a>, Refusal<'a>>
-    requires { KeepsRanges CommandName.Best (reading_of words.now) }
-    ensures { IsAnswerBy F.read_may_fail F.write_may_fail (F.state shelf.old) (F.state shelf.new)
-        CommandName.Best (reading_of words.now) result }
+    requires { KeepsSearchRanges (reading_of words.now) }
+    ensures { IsAnswerTo F.read_may_fail F.write_may_fail (F.state shelf.old) (F.state shelf.new)
+        (search_call (IsLineOf sought) (reading_of words.now)) result }
 {
     let leaders = words.words(alloc, OptionName::Leader)?;
     let settings = BestSettings {
@@ -100,6 +104,7 @@ fn evaluate_best<'a, F: Shelf>(
             inputs: words.number(OptionName::Inputs) as u8,
             outputs: words.number(OptionName::Outputs) as u8,
         },
+        sought,
         budget: words.number(OptionName::Budget) as u32,
         table: words.name(OptionName::Table),
     };
@@ -211,6 +216,22 @@ fn evaluate_check<'a, F: Shelf>(
     check::evaluate(alloc, words.name_at(0), &names, &settings, shelf)
 }
 
+/// What `area` makes of its files, by the limit and the settings that the words say.
+fn evaluate_area<'a, F: Shelf>(
+    alloc: Global,
+    words: &Words<'a>,
+    shelf: &mut F,
+) -> Result<Success<'a>, Refusal<'a>>
+    requires { KeepsRanges CommandName.Area (reading_of words.now) }
+    ensures { IsAnswerBy F.read_may_fail F.write_may_fail (F.state shelf.old) (F.state shelf.new)
+        CommandName.Area (reading_of words.now) result }
+{
+    let leaders = words.words(alloc, OptionName::Leader)?;
+    let limit = words.number(OptionName::Limit) as u32;
+    let settings = choice_settings(words, leaders.as_slice());
+    area::evaluate(alloc, words.name_at(0), limit, &settings, shelf)
+}
+
 /// What `load` makes of the seed that the words say.
 fn evaluate_load<'a>(alloc: Global, words: &Words<'a>) -> Result<Success<'a>, Refusal<'a>>
     requires { KeepsPlaces CommandName.Load (reading_of words.now) }
@@ -232,7 +253,7 @@ fn log_version(words: &Words) -> Version
     }
 }
 
-/// The settings of a choice that the words of `find` or `check` say.
+/// The settings of a choice that the words of `find`, `check` or `area` say.
 fn choice_settings<'a, 'b>(words: &Words<'a>, leaders: &'b [u32]) -> ChoiceSettings<'a, 'b>
     requires { KeepsChoiceRanges (reading_of words.now) }
     ensures plan { IsPlanOf (reading_of words.now) result.plan }

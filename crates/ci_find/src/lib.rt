@@ -20,6 +20,7 @@ use commands::evaluate;
 pub use laws::{check_accepts_choices, choices_tell_the_best, load_is_one, loads_save};
 use std::alloc::Global;
 
+mod area;
 mod check;
 mod commands;
 mod find;
@@ -35,6 +36,8 @@ mod profiling;
 ///   of the block whose words FILE holds, by the latencies of the table, or that it has none, or that a search for it
 ///   needs more branches than the budget. With `--at ADDR`, FILE is an executable, and the block is the one at this
 ///   leader. With `--leader ADDR`, as often as wanted, a block begins at that address too.
+/// - `pair FILE`, with the same options: puts the line of the best pair of cuts of the block, or that it has none, or
+///   that the budget was too small for a search for it.
 /// - `blocks FILE`, with `--leader ADDR`: puts a line for each basic block of the executable FILE, with its leader, its
 ///   length and the registers that are live at the leader.
 /// - `run FILE`, with the options `--steps N`, `--units UNITS`, `--input FILE` and `--table FILE`: runs the executable
@@ -52,6 +55,9 @@ mod profiling;
 ///   numbers.
 /// - `check OLD NEW UNITS LOGS`, with the same options except `--log`: puts `accepted` where NEW, UNITS and LOGS are
 ///   those of such a choice.
+/// - `area OLD`, with the same options and `--limit N`: puts a line with how many gates the best set of the units of
+///   such a choice needs, of those sets that need at most N, with what it saves and with the numbers of its units; or
+///   that the budget was too small for a search for it. `--limit` must stand.
 /// - `relog LOGS OUT`, with the option `--log N`: writes the book that LOGS spells to OUT, in version N, and then puts
 ///   a line with N and the length of OUT.
 /// - `gates UNITS OUT`: writes the netlists of all modules of UNITS to OUT, and then puts a line with the numbers of
@@ -80,8 +86,8 @@ mod profiling;
 ///   no multiple of four, and 0, or the offset of the first word of a custom opcode or of a terminator that isn't last,
 ///   and that word; of `eval` the number of the module, and of `geval` that of the netlist, where the file has none of
 ///   it, and 0.
-/// - 8, `fault 8 text touched PC ADDR`: the profiled run of `find` or `check` touches the text: the pc of the first
-///   step that does, and the first byte of the text that it moves.
+/// - 8, `fault 8 text touched PC ADDR`: the profiled run of `find`, `check` or `area` touches the text: the pc of the
+///   first step that does, and the first byte of the text that it moves.
 /// - 9, `fault 9 units KIND OFFSET`: the file spells no modules, by its first fault.
 /// - 10, `fault 10 log KIND OFFSET`: the file spells no log book, by its first fault.
 /// - 11, `fault 11 rejected ROUND LEADER ITEM REASON`: the files are those of no choice: their first wrong place.

@@ -39,10 +39,16 @@ check_names_of names = record { new = names.new.now; units = names.units.now; lo
 abbrev pub instance_from : Latencies → Run → Plan → Instance
 instance_from latencies run plan = instance_of run.profile run.analysis.blocks run.analysis.live latencies plan
 
--- the numbers of a reading are in the ranges of the options
+-- the numbers of a reading of `find`, `check` or `area` are in the ranges of the options
 pub record KeepsChoiceRanges (reading : Reading) : Type 0 where
   pub steps : number_set reading option.Steps ≤ 4294967296
   pub inputs : (1 ≤ number_set reading option.Inputs) × (number_set reading option.Inputs ≤ 5)
   pub outputs : (1 ≤ number_set reading option.Outputs) × (number_set reading option.Outputs ≤ 3)
   pub count : (1 ≤ number_set reading option.Count) × (number_set reading option.Count ≤ 32)
   pub budget : (1 ≤ number_set reading option.Budget) × (number_set reading option.Budget ≤ 4194304)
+
+-- the numbers of a reading of `best` or `pair` are, too
+pub record KeepsSearchRanges (reading : Reading) : Type 0 where
+  pub inputs : (1 ≤ number_set reading option.Inputs) × (number_set reading option.Inputs ≤ 5)
+  pub outputs : (1 ≤ number_set reading option.Outputs) × (number_set reading option.Outputs ≤ 3)
+  pub budget : number_set reading option.Budget ≤ 4194304

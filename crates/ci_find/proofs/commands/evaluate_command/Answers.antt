@@ -1,8 +1,23 @@
--- Memory runs out for the leaders of `blocks` before any file is read; `load` reads none.
-use Rattle.std.proofs.Common.{inl}
+-- The numbers of `best` and `pair` are in the ranges of their options. Memory runs out for the leaders of `blocks` before
+-- any file is read; `load` reads none.
+use Rattle.std.proofs.Common.{inl, refl}
 use Rattle.std.proofs.lemmas.Result.{err_from_is_err_and}
+use Rattle.ci_arguments.specs.Tables.{commands}
+use Rattle.ci_arguments.specs.declared.tables.OptionName.TheVariants.{Inputs, Outputs, Budget}
 use Rattle.ci_calls.proofs.InputLaws.{nothing_read}
 use Rattle.ci_find.proofs.commands.evaluate_command.Goals as goal
+
+pub evaluate_search-requires : goal.evaluate_search-requires
+unfolding commands
+evaluate_search-requires g c =
+    let keeps = rw c.in-Best.is at c.requires.ranges in
+    record { inputs = keeps Inputs 1 5 refl; outputs = keeps Outputs 1 3 refl; budget = (keeps Budget 1 4194304 refl).1 }
+
+pub evaluate_search-requires-in-Pair : goal.evaluate_search-requires-in-Pair
+unfolding commands
+evaluate_search-requires-in-Pair g c =
+    let keeps = rw c.in-Pair.is at c.requires.ranges in
+    record { inputs = keeps Inputs 1 5 refl; outputs = keeps Outputs 1 3 refl; budget = (keeps Budget 1 4194304 refl).1 }
 
 pub returns-in_err-leaders-in-Blocks : goal.returns-in_err-leaders-in-Blocks
 returns-in_err-leaders-in-Blocks g c =
