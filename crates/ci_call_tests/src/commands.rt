@@ -30,7 +30,7 @@ fn expect_block(
 }
 
 /// The same for each of these blocks, with a call and the line.
-fn expect_blocks(
+pub(crate) fn expect_blocks(
     rt: &(impl Abort + AllocGlobal),
     status: u8,
     rows: &[(&[u32], &str, &str)],
@@ -280,16 +280,17 @@ fn a_read_that_fails(rt: HostRuntime) -> Result<(), AllocError> {
 /// Asserts what a sink took, of which the first put fails and then another one.
 fn expect_puts(
     rt: &(impl Abort + AllocGlobal),
+    text: &str,
     second: u64,
     taken: &str,
 ) -> Result<(), AllocError> {
     let alloc = rt.alloc();
     let mut shelf = SureShelf::new(files_of(alloc, Some(&[]), None, None)?);
     let mut out = MemSink::new(alloc, vec![in alloc; 1u64, second]?);
-    let answer = answer(alloc, "best F", &mut shelf, &mut out);
+    let answer = answer(alloc, text, &mut shelf, &mut out);
     drop(shelf);
-    assert!(rt; answer.ok() == Some(3));
-    assert!(rt; out.taken() == taken.as_bytes());
+    assert!(rt; answer.ok() == Some(3), "the status of {text}");
+    assert!(rt; out.taken() == taken.as_bytes(), "what {text} put");
     drop(out);
     Ok(())
 }
@@ -297,8 +298,11 @@ fn expect_puts(
 // The put of the line of success fails, and then that of the fault line too.
 #[test]
 fn puts_that_fail(rt: HostRuntime) -> Result<(), AllocError> {
-    expect_puts(&rt, 3, "fault 3 write -\n")?;
-    expect_puts(&rt, 2, "")
+    for text in ["best F", "pair F"] {
+        expect_puts(&rt, text, 3, "fault 3 write -\n")?;
+        expect_puts(&rt, text, 2, "")?;
+    }
+    Ok(())
 }
 
 #[test]

@@ -7,6 +7,8 @@
 #[cfg(test)]
 mod analyses;
 #[cfg(test)]
+mod areas;
+#[cfg(test)]
 mod books;
 #[cfg(test)]
 mod choices;
@@ -26,6 +28,8 @@ mod limits;
 mod load;
 #[cfg(test)]
 mod netlists;
+#[cfg(test)]
+mod pairs;
 #[cfg(test)]
 mod plans;
 #[cfg(test)]

@@ -107,6 +107,7 @@ fn expect_limits(
 fn executables_with_blocks() -> &'static [(&'static str, &'static str, u8, &'static str)] {
     &[
         ("F", "best F --at 0x10074", 5, "fault 5 elf 2 0 0\n"),
+        ("F", "pair F --at 0x10074", 5, "fault 5 elf 2 0 0\n"),
         ("F", "blocks F", 5, "fault 5 elf 2 0 0\n"),
     ]
 }
@@ -154,6 +155,7 @@ fn inputs_of_choices() -> &'static [(&'static str, &'static str, u8, &'static st
 fn tables() -> &'static [(&'static str, &'static str, u8, &'static str)] {
     &[
         ("T", "best F --at 0x10074 --table T", 0, "no cut\n"),
+        ("T", "pair F --at 0x10074 --table T", 0, "no pair\n"),
         ("T", "run F --table T", 0, "end break steps 1 cost 1\n"),
         (
             "T",
@@ -230,7 +232,9 @@ fn blocks_at_their_limit(rt: HostRuntime) -> Result<(), AllocError> {
     expect_of_length(&rt, "F", 1023, "best F", 7, uneven)?;
     let no_block = b"fault 7 unsupported 00000000 0a0a0a0a\n";
     expect_of_length(&rt, "F", 1024, "best F", 7, no_block)?;
-    expect_too_large(&rt, "F", 1025, "best F")
+    expect_too_large(&rt, "F", 1025, "best F")?;
+    expect_of_length(&rt, "F", 1024, "pair F", 7, no_block)?;
+    expect_too_large(&rt, "F", 1025, "pair F")
 }
 
 /// Asserts what `dis` puts of so many newlines, of which each four are a word.

@@ -33,14 +33,14 @@ fn push_leaders(alloc: Global, text: &mut String, said: &Words) -> Result<(), Al
 /// The budget where none is given.
 const DEFAULT_BUDGET: u64 = 65_536;
 
-/// What `best` is asked, in short.
-fn best_shown(alloc: Global, said: &Words) -> Result<String, AllocError> {
+/// What `best` or `pair` is asked, in short.
+fn search_shown(alloc: Global, said: &Words, name: &str) -> Result<String, AllocError> {
     let (file, table) = (said.name_at(0), said.name(OptionName::Table).unwrap_or("-"));
     let (inputs, outputs) = (
         said.number(OptionName::Inputs),
         said.number(OptionName::Outputs),
     );
-    let mut text = format!(in alloc; "best {file} {inputs} {outputs} {table}")?;
+    let mut text = format!(in alloc; "{name} {file} {inputs} {outputs} {table}")?;
     if let Some(address) = said.word(OptionName::At) {
         push_word(alloc, &mut text, "at", address)?;
     }
@@ -82,8 +82,8 @@ fn eval_shown(alloc: Global, said: &Words, name: &str) -> Result<String, AllocEr
     Ok(text)
 }
 
-/// What `find` or `check` is asked, in short: its files, and then the numbers, the last of which is the version of the
-/// log book, 0 of `check`, and the other files.
+/// What `find`, `check` or `area` is asked, in short: its files, and then the numbers, the last of which is the version
+/// of the log book, 0 but of `find`, and the other files.
 fn choice_shown(
     alloc: Global,
     said: &Words,
@@ -117,7 +117,8 @@ fn choice_shown(
 /// What the program is asked, in short: the command, the names in it and what its options are set to.
 fn said_shown(alloc: Global, said: &Words) -> Result<String, AllocError> {
     match said.command() {
-        CommandName::Best => best_shown(alloc, said),
+        CommandName::Best => search_shown(alloc, said, "best"),
+        CommandName::Pair => search_shown(alloc, said, "pair"),
         CommandName::Asm => {
             let (text, out) = (said.name_at(0), said.name_at(1));
             format!(in alloc; "asm {text} {out}")
@@ -136,6 +137,12 @@ fn said_shown(alloc: Global, said: &Words) -> Result<String, AllocError> {
         CommandName::Eval => eval_shown(alloc, said, "eval"),
         CommandName::Find => choice_shown(alloc, said, "find", 5),
         CommandName::Check => choice_shown(alloc, said, "check", 4),
+        CommandName::Area => {
+            let mut text = choice_shown(alloc, said, "area", 1)?;
+            let limit = said.number(OptionName::Limit);
+            write!(text, " limit {limit}")?;
+            Ok(text)
+        }
         CommandName::Relog => {
             let (logs, out) = (said.name_at(0), said.name_at(1));
             let version = said.number(OptionName::LogVersion);
@@ -295,6 +302,57 @@ fn versions() -> &'static [Told] {
 #[test]
 fn versions_of_log_books(rt: HostRuntime) -> Result<(), AllocError> {
     expect(&rt, versions())
+}
+
+fn pairs() -> &'static [Told] {
+    &[
+        ("pair F", "pair F 3 2 -"),
+        ("pair --in 1 F --out=3 --table T", "pair F 1 3 T"),
+        (
+            "pair --leader 0xab --at 0x4 --budget 7 F --leader=0x8",
+            "pair F 3 2 - at 4 leader ab leader 8 budget 7",
+        ),
+        ("pair F --in 6", "none"),
+        ("pair F --out 4", "none"),
+        ("pair F --budget 0", "none"),
+        ("pair F --at 0x1 --at 0x1", "none"),
+        ("pair F --steps 3", "none"),
+        ("pair F --count 3", "none"),
+        ("pair F G", "none"),
+        ("pair", "none"),
+    ]
+}
+
+#[test]
+fn options_of_pair(rt: HostRuntime) -> Result<(), AllocError> {
+    expect(&rt, pairs())
+}
+
+fn areas() -> &'static [Told] {
+    &[
+        (
+            "area A --limit 0",
+            "area A 3 2 32 65536 16777216 0 - - limit 0",
+        ),
+        (
+            "area --limit=4294967295 A --in 5 --out 1 --count 4 --budget 7 --steps 9 --table T --input I --leader 0x10",
+            "area A 5 1 4 7 9 0 T I leader 10 limit 4294967295",
+        ),
+        // The limit must stand, once, and is below 2 to the power 32.
+        ("area A", "none"),
+        ("area A --limit 4294967296", "none"),
+        ("area A --limit 1 --limit 1", "none"),
+        ("area A --limit 0x10", "none"),
+        ("area --limit 1", "none"),
+        ("area A B --limit 1", "none"),
+        ("area A --limit 1 --log 1", "none"),
+        ("find A B C D E --limit 1", "none"),
+    ]
+}
+
+#[test]
+fn options_of_area(rt: HostRuntime) -> Result<(), AllocError> {
+    expect(&rt, areas())
 }
 
 fn unreadable() -> &'static [Told] {

@@ -109,6 +109,9 @@ fn netlists_of_modules(rt: HostRuntime) -> Result<(), AllocError> {
         1152 + 1152 + 1344,
         480 + 480,
         12_480,
+        12_480 + 12_480,
+        480 + 480 + 32 + 3168 + 160 + 480 + 160,
+        3168 + 160,
     ];
     let outcome = text_has_values(&rt, text.as_str(), &counts, values());
     drop(text);

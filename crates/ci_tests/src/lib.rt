@@ -4,6 +4,8 @@
 #![tactic(auto)]
 
 #[cfg(test)]
+mod area;
+#[cfg(test)]
 mod arguments;
 #[cfg(test)]
 mod asm;
@@ -40,6 +42,8 @@ mod log;
 #[cfg(test)]
 mod machine;
 #[cfg(test)]
+mod pairs;
+#[cfg(test)]
 mod plan;
 #[cfg(test)]
 mod reading;
@@ -51,6 +55,8 @@ mod report;
 mod rewrite;
 #[cfg(test)]
 mod search;
+#[cfg(test)]
+mod select;
 #[cfg(test)]
 mod unit;
 #[cfg(test)]

@@ -90,6 +90,27 @@ fn bodies() -> &'static [(u8, bool, &'static str)] {
             "wire [63:0] p;\nassign p = {{32{a[31]}}, a} * {{32{b[31]}}, b};\n\
             assign y = p[63:32];\nassign z = p[31:0];\nendmodule\n",
         ),
+        (
+            13,
+            false,
+            "wire [63:0] p;\nassign p = {{32{a[31]}}, a} * {{32{b[31]}}, b};\nwire [31:0] h;\n\
+            assign h = p[63:32];\nwire [63:0] q;\nassign q = {32'h0, a} * {32'h0, b};\nwire [31:0] k;\n\
+            assign k = q[63:32];\nassign y = h;\nassign z = k;\nendmodule\n",
+        ),
+        (
+            14,
+            false,
+            "wire [31:0] r;\nassign r = b >> 5'h18;\nwire [31:0] l;\nassign l = a << 5'h08;\nwire [31:0] o;\n\
+            assign o = l | r;\nwire [31:0] m;\nassign m = a * b;\nwire [31:0] s;\nassign s = c + m;\n\
+            wire [31:0] t;\nassign t = b << 5'h02;\nwire [31:0] u;\nassign u = t + s;\nassign y = o;\n\
+            assign z = u;\nendmodule\n",
+        ),
+        (
+            15,
+            false,
+            "wire [31:0] t;\nassign t = a * b;\nwire [31:0] s;\nassign s = t + c;\nassign y = s;\n\
+            assign z = t;\nendmodule\n",
+        ),
     ]
 }
 
@@ -143,6 +164,31 @@ pub(crate) fn values() -> &'static [(usize, [u32; 5], (u32, u32, u32))] {
             12,
             [0xffff_ffff, 0x7fff_ffff, 0, 0, 0],
             (0xffff_ffff, 0x8000_0001, 0),
+        ),
+        (
+            13,
+            [0x8000_0000, 0x8000_0003, 0, 0, 0],
+            (0x3fff_fffe, 0x4000_0001, 0),
+        ),
+        (
+            13,
+            [0xffff_ffff, 0x7fff_ffff, 0, 0, 0],
+            (0xffff_ffff, 0x7fff_fffe, 0),
+        ),
+        (
+            14,
+            [0x89ab_cdef, 0x1234_5678, 0x90ab_cdef, 0, 0],
+            (0xabcd_ef12, 0xbbbf_f9d7, 0),
+        ),
+        (
+            14,
+            [0x8000_0001, 0xc000_0000, 0xffff_ffff, 0, 0],
+            (0x0000_01c0, 0xbfff_ffff, 0),
+        ),
+        (
+            15,
+            [0xc000_0001, 0xffff_fffd, 0x1234_5678, 0, 0],
+            (0xd234_5675, 0xbfff_fffd, 0),
         ),
     ]
 }
@@ -246,10 +292,12 @@ fn has_sums(
     outcome
 }
 
-// Beside the inputs and the 0 of x, a plan has room for 10 steps in the first 16 words, for 26 in the first 32, and for
-// 58 in all.
+// Beside the inputs and the 0 of x, a plan has room for 2 steps in the first 8 words, for 10 in the first 16, for 26 in
+// the first 32, and for 58 in all.
 #[test]
 fn modules_with_and_without_room(rt: HostRuntime) -> Result<(), AllocError> {
+    has_sums(&rt, 2, true, 13)?;
+    has_sums(&rt, 3, true, 16)?;
     has_sums(&rt, 10, true, 37)?;
     has_sums(&rt, 11, true, 40)?;
     has_sums(&rt, 26, true, 85)?;
