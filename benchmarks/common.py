@@ -3,6 +3,7 @@ import functools
 import multiprocessing
 import os
 import signal
+import statistics
 import subprocess
 import sys
 import tempfile
@@ -63,16 +64,28 @@ def processor_time(*words):
 def least_times(rounds, *calls):
     """Makes some calls in turn, so many times over: what each prints, which has to be the same each time, and its least
     seconds of processor time."""
-    outputs, times = [set() for _ in calls], [float("inf")] * len(calls)
+    return times_by(min, rounds, *calls)
+
+
+def median_times(rounds, *calls):
+    """As least_times, but with the median of each one's seconds, which doesn't compare a call in a moment when the
+    processor is fast with another one in a moment when it isn't."""
+    return times_by(statistics.median, rounds, *calls)
+
+
+def times_by(choice, rounds, *calls):
+    """Makes some calls in turn, so many times over: what each prints, which has to be the same each time, and the choice
+    of its seconds of processor time."""
+    outputs, times = [set() for _ in calls], [[] for _ in calls]
     for _ in range(rounds):
         for place, words in enumerate(calls):
             output, seconds = processor_time(*words)
             outputs[place].add(output)
-            times[place] = min(times[place], seconds)
+            times[place].append(seconds)
     for words, found in zip(calls, outputs):
         if len(found) != 1:
             sys.exit(f"{' '.join(words)}: not the same each time")
-    return [(found.pop(), seconds) for found, seconds in zip(outputs, times)]
+    return [(found.pop(), choice(seconds)) for found, seconds in zip(outputs, times)]
 
 
 def faster(*words):

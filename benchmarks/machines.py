@@ -9,9 +9,9 @@ both print has to be the same. A line each has the seconds of the short programs
 extended machine may take LIMIT times those of the plain one.
 
 Then come the programs of run.py, in which `find` folds cuts. The program as it was and the new one with its units run
-in turn, LONG_ROUNDS times; the least processor time of each counts. Both have to print the same in as many steps. A
-line for each program has the millions of steps and of uses of units, the seconds of the old program and of the new one,
-and their ratio, which may be UNITS_LIMIT.
+in turn, UNITS_ROUNDS times; the median of the processor times of each counts. Both have to print the same in as many
+steps. A line for each program has the millions of steps and of uses of units, the seconds of the old program and of the
+new one, and their ratio, which may be UNITS_LIMIT.
 
 It ends with status 0 where all of that holds, and where the tools are missing, with a line that says so.
 """
@@ -20,12 +20,13 @@ import re
 import sys
 import tempfile
 
-from benchmarks.common import CROSS, bare_executable, least_times, measure, missing, processor_time, program
+from benchmarks.common import CROSS, bare_executable, measure, median_times, missing, processor_time, program
 from benchmarks.run import GUESTS
 from checks.common import read
 from checks.tools import compiled
 
-ROUNDS, LONG_ROUNDS, LIMIT, UNITS_LIMIT = 15, 7, 1.05, 1.5
+ROUNDS, LONG_ROUNDS, LIMIT = 15, 7, 1.05
+UNITS_ROUNDS, UNITS_LIMIT = 11, 1.5
 STEPS = ("--steps", "4294967296")
 INPUT = os.path.join(compiled.PROGRAMS, "count.c")
 END = re.compile(r"(.*)^end exit 00000000 steps (\d+) cost \d+\n", re.M | re.S)
@@ -59,8 +60,8 @@ def fold(name, folder):
     old, new, units, logs, report = (os.path.join(folder, part) for part in ("old", "new", "units", "logs", "report"))
     bare_executable(name, old, "-O2")
     processor_time(program(), "find", old, new, units, logs, report, *STEPS)
-    (before, plain), (after, extended) = least_times(
-        LONG_ROUNDS, (program(), "run", old, *STEPS), (program(), "run", new, "--units", units, *STEPS))
+    (before, plain), (after, extended) = median_times(
+        UNITS_ROUNDS, (program(), "run", old, *STEPS), (program(), "run", new, "--units", units, *STEPS))
     if outcome(name, before) != outcome(name, after):
         sys.exit(f"{name}: the new program prints something else, or makes other steps")
     uses = sum(map(int, CUT.findall(read(report).decode())))

@@ -6,144 +6,14 @@
    from one decision to the next, in rows of 256 bits. It searches ROUNDS times, with the log in an array, and checks
    the log as often. It prints the line of `best`; how many prefixes were opened, which is the need where the budget
    isn't spent, and the seconds of processor time for a search; and the number of the log's items and those for a check.
+   GRAPH is what graphs.py writes. */
+#include "cuts.h"
 
-   GRAPH is what graphs.py writes: the number of nodes, the read latency and the pad; then for each node whether it is
-   eligible, its latency, its delay, whether its value is live after the block, the number of its sources, the sources,
-   which are nodes or 256 and the number of a register at entry, the number of nodes from which a walk leads to it, and
-   those. It takes the graph as it is told: a wrong one may do anything here. */
-#include <setjmp.h>
-#include <stdbool.h>
-#include <stdint.h>
-#include <stdio.h>
-#include <stdlib.h>
-#include <string.h>
-#include <time.h>
-
-enum { WORDS = 4, NODES = 256, REGISTERS = 32, NOTHING = NODES + REGISTERS, PLACES, SOURCES = 2, CYCLE = 1000 };
-/* The operands of a unit's own word; more of them take a further word. */
-enum { OPERANDS = 3 };
-
-struct row {
-    uint64_t words[WORDS];
-};
-
-/* A node, with the nodes from which a walk leads to it, those to which one leads from it, and those that read it. A
-   source that it hasn't is NOTHING. A source that can't become a member any more, once a member reads it, settles. */
-struct node {
-    struct row above, below, readers;
-    int number, sources[SOURCES], settles[SOURCES], weight, delay;
-    bool eligible, live;
-};
-
-/* A set of members: the nodes outside it that lead to it, how many it has and how many of them are outputs, its cycles,
-   and what the formula of the gain takes off the members' weights by these. */
-struct set {
-    struct row members, between;
-    int size, outputs, cycles, charge;
-};
-
-/* All nodes; the eligible ones in the order in which they are decided, and the sum of their weights, each of which is
-   the latency without the pad. */
-static struct node nodes[NODES], levels[NODES];
-static int node_count, level_count, all_weights, read_latency, pad, most_inputs, most_outputs;
-
-/* For each node and register at entry, the longest delay from a member that reads it on; -1 where none reads it. */
-static int longest[PLACES];
-
-/* Rows. */
-
-static inline bool meets(const struct row *left, const struct row *right)
-{
-    uint64_t common = 0;
-    for (int i = 0; i < WORDS; i++)
-        common |= left->words[i] & right->words[i];
-    return common;
-}
-
-static inline bool is_within(const struct row *inner, const struct row *outer)
-{
-    uint64_t rest = 0;
-    for (int i = 0; i < WORDS; i++)
-        rest |= inner->words[i] & ~outer->words[i];
-    return !rest;
-}
-
-static inline bool has(const struct row *row, int number)
-{
-    return row->words[number / 64] >> number % 64 & 1;
-}
-
-static inline void insert(struct row *row, int number)
-{
-    row->words[number / 64] |= 1ull << number % 64;
-}
-
-/* Sets of members. */
-
-/* What the gain loses by the cycles and by the outputs after the first. The pad of each member is in its weight. */
-static inline int charge(int outputs, int cycles)
-{
-    return cycles - pad + (outputs > 1 ? outputs - 1 : 0) * (read_latency - pad);
-}
-
-/* What more it loses where there are more inputs than operands. */
-static inline int for_inputs(int settled)
-{
-    return settled > OPERANDS ? read_latency - pad : 0;
-}
-
-static inline int outputs_with(const struct set *set, const struct node *node)
-{
-    return set->outputs + (node->live || !is_within(&node->readers, &set->members));
-}
-
-/* The settled inputs once a node is taken in. */
-static inline int settled_with(const struct node *node, int settled)
-{
-    return settled + (longest[node->sources[0]] < 0 ? node->settles[0] : 0)
-        + (longest[node->sources[1]] < 0 ? node->settles[1] : 0);
-}
-
-/* The delay from a node that is taken in. */
-static inline int path_of(const struct node *node)
-{
-    int behind = longest[node->number];
-    return node->delay + (behind > 0 ? behind : 0);
-}
-
-static inline int cycles_with(const struct set *set, int path)
-{
-    return path > set->cycles * CYCLE ? (path + CYCLE - 1) / CYCLE : set->cycles;
-}
-
-/* A set with one more member, which lies before all of its members. */
-static inline void extend(struct set *next, const struct set *set, const struct node *node, int outputs, int cycles)
-{
-    next->members = set->members;
-    insert(&next->members, node->number);
-    for (int i = 0; i < WORDS; i++)
-        next->between.words[i] = set->between.words[i] | node->above.words[i];
-    next->between.words[node->number / 64] &= ~(1ull << node->number % 64);
-    next->size = set->size + 1;
-    next->outputs = outputs;
-    next->cycles = cycles;
-    next->charge = charge(outputs, cycles);
-}
-
-/* Whether a set with so many inputs keeps the limits of a cut that a prefix doesn't have to keep: it has an output, and
-   a member for each word. */
-static inline bool is_a_cut(const struct set *set, int inputs)
-{
-    return set->outputs >= 1 && set->size >= set->outputs + (inputs > OPERANDS);
-}
+static delays longest;
 
 /* The search. */
 
-static char *log_items, *log_end;
-static uint32_t opened, budget;
-static int reached;
 static struct row best;
-static jmp_buf spent;
 
 static void complete(const struct set *set, int inputs, int weight)
 {
@@ -159,15 +29,12 @@ static void visit(int number, const struct set *set, int settled, int weight)
 {
     for (;;) {
         const struct node *node = &levels[number];
-        if (opened == budget)
-            longjmp(spent, 1);
-        opened++;
-        *log_end++ = 'B';
+        open_prefix();
         if (meets(&node->below, &set->between)) {
             *log_end++ = 'C';
         } else {
-            int outputs = outputs_with(set, node), inputs = settled_with(node, settled);
-            int path = path_of(node), cycles = cycles_with(set, path);
+            int outputs = outputs_with(set, node), inputs = settled_with(longest, node, settled);
+            int path = path_of(longest, node), cycles = cycles_with(set, path);
             if (outputs > most_outputs) {
                 *log_end++ = 'O';
             } else if (inputs > most_inputs) {
@@ -205,19 +72,10 @@ static void visit(int number, const struct set *set, int settled, int weight)
     }
 }
 
-static const struct set *empty(void)
-{
-    static struct set set;
-    set.cycles = 1;
-    set.charge = charge(0, 1);
-    memset(longest, -1, sizeof longest);
-    return &set;
-}
-
 /* Whether the budget suffices. */
 static bool search(void)
 {
-    const struct set *set = empty();
+    const struct set *set = empty(longest);
     opened = 0, reached = 0, log_end = log_items;
     memset(&best, 0, sizeof best);
     if (setjmp(spent))
@@ -231,31 +89,12 @@ static bool search(void)
     return true;
 }
 
-/* The check. A prefix is the beginning of the best, or comes before or after it. */
-
-enum place { BEFORE = -1, SAME, AFTER };
-
-static const char *item;
-static int best_gain;
-static bool has_best;
-static jmp_buf refused;
-
-/* Refuses the item that was read last where a condition doesn't hold. */
-static inline void need(bool condition)
-{
-    if (!condition)
-        longjmp(refused, 1);
-}
+/* The check. */
 
 static inline enum place next_place(enum place place, const struct node *node, bool taken)
 {
     bool due = has(&best, node->number);
     return place != SAME || due == taken ? place : due ? AFTER : BEFORE;
-}
-
-static inline void bound(int value, enum place place)
-{
-    need(value < best_gain || (value == best_gain && place == AFTER));
 }
 
 static void choice(const struct set *set, bool convex, int settled, int weight, enum place place)
@@ -274,14 +113,14 @@ static void check_from(int number, const struct set *set, bool convex, int settl
         switch (*item++) {
         case 'C': need(!convex || meets(&node->below, &set->between)); break;
         case 'O': need(outputs_with(set, node) > most_outputs); break;
-        case 'I': need(settled_with(node, settled) > most_inputs); break;
+        case 'I': need(settled_with(longest, node, settled) > most_inputs); break;
         case 'G':
-            bound(weight - charge(outputs_with(set, node), cycles_with(set, path_of(node)))
-                  - for_inputs(settled_with(node, settled)), inside);
+            bound(weight - charge(outputs_with(set, node), cycles_with(set, path_of(longest, node)))
+                  - for_inputs(settled_with(longest, node, settled)), inside);
             break;
         default: {
             bool is_convex = convex && !meets(&node->below, &set->between);
-            int path = path_of(node), inputs = settled_with(node, settled);
+            int path = path_of(longest, node), inputs = settled_with(longest, node, settled);
             int first = longest[node->sources[0]], second = longest[node->sources[1]];
             struct set next;
             extend(&next, set, node, outputs_with(set, node), cycles_with(set, path));
@@ -315,7 +154,7 @@ static void check_from(int number, const struct set *set, bool convex, int settl
 /* Whether the log shows that a cut, or none, is the best. */
 static bool check(void)
 {
-    const struct set *set = empty();
+    const struct set *set = empty(longest);
     enum place place = has_best ? SAME : AFTER;
     item = log_items;
     if (setjmp(refused))
@@ -329,71 +168,15 @@ static bool check(void)
     return item == log_end;
 }
 
-/* The graph. */
-
-static int number_from(FILE *file)
+static void print(void)
 {
-    int number;
-    if (fscanf(file, "%d", &number) != 1) {
-        fprintf(stderr, "search: a number is missing\n");
-        exit(2);
-    }
-    return number;
-}
-
-static void read_graph(FILE *file)
-{
-    node_count = number_from(file), read_latency = number_from(file), pad = number_from(file);
-    for (int i = 0; i < node_count; i++) {
-        struct node *node = &nodes[i];
-        node->number = i, node->eligible = number_from(file), node->weight = number_from(file) - pad;
-        node->delay = number_from(file), node->live = number_from(file);
-        node->sources[0] = node->sources[1] = NOTHING;
-        for (int k = 0, count = number_from(file); k < count; k++) {
-            int source = number_from(file);
-            if (source < NODES)
-                insert(&nodes[source].readers, i);
-            if (k < SOURCES)
-                node->sources[k] = source, node->settles[k] = source >= NODES || !nodes[source].eligible;
-        }
-        for (int count = number_from(file); count > 0; count--) {
-            int before = number_from(file);
-            insert(&node->above, before), insert(&nodes[before].below, i);
-        }
-    }
-    for (int i = node_count; i-- > 0;)
-        if (nodes[i].eligible)
-            levels[level_count++] = nodes[i], all_weights += nodes[i].weight;
+    printf("cut");
+    show(&best);
+    printf(" gain %d\n", best_gain);
 }
 
 int main(int count, char **words)
 {
-    FILE *file = count == 6 ? fopen(words[1], "r") : NULL;
-    if (!file) {
-        fprintf(stderr, "use: search GRAPH INPUTS OUTPUTS BUDGET ROUNDS\n");
-        return 2;
-    }
-    read_graph(file);
-    most_inputs = atoi(words[2]), most_outputs = atoi(words[3]), budget = (uint32_t)atoll(words[4]);
-    int rounds = atoi(words[5]);
-    bool suffices = true, accepted = true;
-    log_items = malloc(2 * (size_t)budget + 1 + NODES);
-    clock_t begin = clock();
-    for (int i = 0; i < rounds; i++)
-        suffices &= search();
-    clock_t searched = clock();
-    has_best = reached > 0, best_gain = reached;
-    for (int i = 0; i < rounds && suffices; i++)
-        accepted &= check();
-    clock_t checked = clock();
-    printf(!suffices ? "skipped budget %u\n" : has_best ? "cut" : "no cut\n", budget);
-    for (int i = 0; i < node_count && suffices && has_best; i++)
-        if (has(&best, i))
-            printf(" %d", i);
-    if (suffices && has_best)
-        printf(" gain %d\n", best_gain);
-    printf("opened %u in %.9f\n", opened, (double)(searched - begin) / CLOCKS_PER_SEC / rounds);
-    if (suffices)
-        printf("items %td in %.9f\n", log_end - log_items, (double)(checked - searched) / CLOCKS_PER_SEC / rounds);
-    return accepted ? 0 : 1;
+    static const struct method method = { "search", "no cut", 2, search, check, print };
+    return timed(&method, count, words);
 }

@@ -56,25 +56,31 @@ def plain_search(searcher, graph, ports, rounds):
 
 
 class Comparison:
-    """Compares blocks, and keeps the sums of their numbers and times."""
+    """Compares blocks, and keeps the sums of their numbers and times. A command stands beside the search of a source in
+    C."""
 
-    def __init__(self, folder):
-        self.searcher, self.graph = os.path.join(folder, "search"), os.path.join(folder, "graph")
-        native("search.c", self.searcher)
+    def __init__(self, folder, command="best", source="search.c"):
+        self.command, self.searcher, self.graph = command, os.path.join(folder, "search"), os.path.join(folder, "graph")
+        native(source, self.searcher)
         self.sums = {ports: Figures(*[0.0] * len(Figures._fields)) for ports in PORTS}
 
-    def measured(self, words, live, ports, *call):
-        """The need of a block with the given words and live registers that a call of `best` searches, or None where it
-        is above the largest budget, and its figures."""
+    def plainly(self, words, live, ports, opened=0):
+        """What the search in C says of a block with the given words and live registers, so many times over that it
+        opens some prefixes."""
         with open(self.graph, "w", encoding="ascii") as file:
             file.write(text_of(Graph(words, live, Table())))
-        _, opened, *_ = plain_search(self.searcher, self.graph, ports, 1)
-        line, _, seconds, items, checking = plain_search(self.searcher, self.graph, ports, max(1, OPENED // opened))
+        told = plain_search(self.searcher, self.graph, ports, 1)
+        return plain_search(self.searcher, self.graph, ports, opened // told[1]) if 0 < told[1] < opened else told
+
+    def measured(self, words, live, ports, *call):
+        """The need of a block with the given words and live registers that a call of the command searches, or None
+        where it is above the largest budget, and its figures."""
+        line, opened, seconds, items, checking = self.plainly(words, live, ports, OPENED)
         if items:
             budgets, due = (1, opened - 1, opened), [f"skipped budget {opened - 1}\n", line]
         else:
             budgets, due = (1, MOST), [line]
-        calls = [(program(), "best", *call, *port_words(ports), "--budget", str(budget)) for budget in budgets]
+        calls = [(program(), self.command, *call, *port_words(ports), "--budget", str(budget)) for budget in budgets]
         answers, times = zip(*least_times(ROUNDS_OF_SHORT if opened < SHORT else ROUNDS, *calls))
         told = [answer.decode() for answer in answers[1:]]
         if told != due:
@@ -100,13 +106,18 @@ def rate(count, seconds):
     return f"{count / seconds / 1e6:.1f}" if seconds > 0 else "-"
 
 
-def show(name, need, figures):
-    """Prints a line."""
-    line = f"{name:25} {need:>8}"
+def figures_text(figures):
+    """The rates of both sides, and the ratios, as a line ends with them."""
+    told = ""
     for count, ours, plain in (figures[:3], figures[3:]):
         ratio = f"{plain / ours:.4f}" if ours > 0 else "-"
-        line += f" {rate(count, ours):>9} {rate(count, plain):>8} {ratio:>7}"
-    print(line, flush=True)
+        told += f" {rate(count, ours):>9} {rate(count, plain):>8} {ratio:>7}"
+    return told
+
+
+def show(name, need, figures):
+    """Prints a line."""
+    print(f"{name:25} {need:>8}{figures_text(figures)}", flush=True)
 
 
 def compare_all(folder):

@@ -9,26 +9,22 @@ has a text with a word of a custom opcode. Of two small blocks the lines are wor
 all of them have to be found to be the best cut, in half a second. Lines of all kinds have to be due.
 """
 import collections
-import random
 import resource
 import struct
 
-from checks.common import Check, main
-from checks.generators.blocks import LIMITS, some_registers, some_table, some_word
-from checks.generators.executables import executables
+from checks.common import main
+from checks.compare.lines import Lines
+from checks.generators.blocks import some_word
+from checks.generators.executables import executables, of_blocks
 from checks.oracles.blocks import Text, live_sets
 from checks.oracles.cuts import Graph, Search, Table
 from readers import executable
-from readers.instructions import with_offset
 from readers.latencies import may_join
 
-# How the lines begin that are to be compared.
-KINDS = "cut", "no cut", "skipped", "fault"
 # The most instructions of a block that may join; and how many blocks of each number of them are taken of an executable.
 JOINING, EACH = 11, 1
-# How many executables are made of dense blocks, of how many blocks, and where the text of each begins.
-DENSE, BLOCKS, BASE = 70, 8, 0x10000
-SYSTEM_CALL, BREAK, FENCE = 0x73, 0x00100073, 0x0FF0000F
+# How many executables are made of dense blocks, and of how many.
+DENSE, BLOCKS = 70, 8
 # A block of the greatest length whose words are all `xor x5, x5, x10`: as one cut of two inputs it takes 26 cycles.
 # What `best` prints of it by the greatest budget, and in less than how many seconds of a processor.
 CHAIN = struct.pack("<I", 0x00A2C2B3) * 256
@@ -46,34 +42,13 @@ ALL_REGISTERS = set(range(1, 32))
 
 
 def dense_block(source, registers):
-    """Words that don't end a block; up to 11 of them may join a cut."""
+    """Words of which up to 11 may join a cut, and often an end."""
     block, wanted = [], source.randrange(1, JOINING + 1)
     while sum(map(may_join, block)) < wanted or source.random() < 0.5:
         word = some_word(source, registers)
         if sum(map(may_join, block + [word])) <= JOINING:
             block.append(word)
-    return block
-
-
-def dense(source):
-    """An executable of dense blocks, of which each ends in some way or falls through to the next one. The symbols are
-    the leaders."""
-    registers = some_registers(source)
-    blocks = [dense_block(source, registers) + [None] * source.randrange(2) for _ in range(BLOCKS)]
-    starts = [BASE + 4 * sum(map(len, blocks[:number])) for number in range(BLOCKS)]
-    words = [word for block in blocks for word in block]
-    for place, word in enumerate(words):
-        if word is None:
-            way = source.choice(starts) - BASE - 4 * place
-            first, second = source.choice(registers), source.choice(registers)
-            words[place] = source.choice((
-                with_offset(first << 15 | second << 20 | 0x63, way), with_offset(0x6F, way), with_offset(0xEF, way),
-                first << 15 | 0x67, first << 7 | 0x17, SYSTEM_CALL, BREAK, FENCE, 0))
-    text, begin = struct.pack(f"<{len(words)}I", *words), 52 + 32 + 40 * 2
-    return (executable.header(BASE, (52, 1), (84, 2)) + executable.load(begin, BASE, len(text), len(text))
-            + executable.section(executable.PROGBITS, executable.ALLOC_AND_EXECUTE, BASE, begin, len(text))
-            + executable.section(executable.SYMBOLS, 0, 0, begin + len(text), 16 * BLOCKS, 16) + text
-            + b"".join(struct.pack("<4I", 0, start, 0, 0) for start in starts))
+    return block + [None] * source.randrange(2)
 
 
 def some_blocks(source, text, blocks):
@@ -91,31 +66,16 @@ def seconds_of_calls():
     return used.ru_utime + used.ru_stime
 
 
-class Comparison(Check):
+class Comparison(Lines):
     """What was compared, in counts."""
-
-    def __init__(self, given, folder):
-        super().__init__(given, folder)
-        self.source, self.counts = random.Random(1), collections.Counter()
-
-    def line(self, name, address, options, wanted, status=0):
-        """Compares what the program prints of the block at an address."""
-        words = [word for key, value in {"at": f"0x{address:x}", **options}.items()
-                 for word in self.source.choice(((f"--{key}={value}",), (f"--{key}", f"{value}")))]
-        self.counts[next(kind for kind in KINDS if wanted.startswith(kind))] += 1
-        self.best(name, words, wanted, status)
-
-    def best(self, name, words, wanted, status=0):
-        """Compares what the program prints of the words or the executable in hand, and its status."""
-        done = self.call("best", "file", *words, text=True, errors="replace")
-        self.same(f"{name}, {' '.join(words)}", (done.returncode, done.stdout), (status, wanted))
+    command, kinds = "best", ("cut", "no cut", "skipped", "fault")
 
     def rows(self):
         """Compares the lines of small blocks, by the program and by the naive reading, with worked ones."""
         for words, (inputs, outputs), wanted in ROWS:
             self.write("file", struct.pack(f"<{len(words)}I", *words))
             name, options = f"the block {words}", ("--in", f"{inputs}", "--out", f"{outputs}")
-            self.best(name, options, wanted)
+            self.same_line(name, options, wanted)
             naive = Search(Graph(words, ALL_REGISTERS, Table()), inputs, outputs).best()
             self.same(f"{name}, {' '.join(options)}, by the naive reading", naive, wanted)
 
@@ -123,19 +83,15 @@ class Comparison(Check):
         """Compares the line of a block of the greatest length, and the time that it takes."""
         self.write("file", CHAIN)
         before = seconds_of_calls()
-        self.best("the chain", OPTIONS, WHOLE)
+        self.same_line("the chain", OPTIONS, WHOLE)
         taken = seconds_of_calls() - before
         self.need(taken < SOON, f"the chain takes {taken:.1f} seconds")
 
     def block(self, name, address, words, live):
         """Compares the best line of a block, by the budget that the search takes and by one less."""
-        table, (inputs, outputs) = some_table(self.source), self.source.choice(LIMITS)
+        table, inputs, outputs, options = self.some_settings()
         search = Search(Graph(words, live, table), inputs, outputs)
-        need, options = search.need(), {"in": inputs, "out": outputs}
-        if (inputs, outputs) == (3, 2) and self.source.random() < 0.5:
-            options = {}
-        if not table.is_usual():
-            options["table"] = self.write("table", table.text())
+        need = search.need()
         self.counts["blocks"] += 1
         self.line(name, address, {**options, "budget": max(need, 1)}, search.best())
         if need > 1:
@@ -163,13 +119,13 @@ def look(comparison):
     found, missing = executables(comparison.folder, comparison.source)
     if missing:
         print(missing)
-    found += [(f"dense, number {number}", dense(comparison.source)) for number in range(DENSE)]
+    found += [(f"dense, number {number}", of_blocks(comparison.source, BLOCKS, dense_block)) for number in range(DENSE)]
     for name, data in found:
         comparison.executable(name, data)
     comparison.rows()
     comparison.chain()
     counts = comparison.counts
-    comparison.least({f"lines that begin with {kind}": counts[kind] for kind in KINDS}, 1)
+    comparison.least_lines(1)
     return (f"{counts['blocks']} blocks of {len(found)} executables compared: {counts['cut']} with a cut, "
             f"{counts['no cut']} without one, {counts['skipped']} skipped by a budget of one less, and "
             f"{counts['fault']} addresses refused")

@@ -4,6 +4,7 @@ import struct
 import sys
 
 from checks.common import read
+from checks.generators.blocks import some_registers
 from checks.oracles.blocks import CUSTOM_OPCODES
 from checks.tools import compiled
 from readers import executable
@@ -11,6 +12,9 @@ from readers.instructions import with_offset
 
 # How many executables are made up.
 MADE = 150
+# Where the text of an executable of blocks begins.
+BASE = 0x10000
+SYSTEM_CALL, BREAK, FENCE = 0x73, 0x00100073, 0x0FF0000F
 
 
 def instruction(source, address, around):
@@ -76,6 +80,31 @@ def made(source):
             + executable.load(begin + loaded, past + 0x1000 + source.randrange(4), 40, 44)
             + b"".join(rows) + memory[:loaded] + pointers
             + b"".join(struct.pack("<4I", 0, value, 0, 0) for value in symbols))
+
+
+def some_end(source, registers, way):
+    """Some word that ends a block; a jump or branch goes this way."""
+    first, second = source.choice(registers), source.choice(registers)
+    return source.choice((
+        with_offset(first << 15 | second << 20 | 0x63, way), with_offset(0x6F, way), with_offset(0xEF, way),
+        first << 15 | 0x67, first << 7 | 0x17, SYSTEM_CALL, BREAK, FENCE, 0))
+
+
+def of_blocks(source, count, some_block):
+    """An executable of so many blocks, each of some words over some registers; None stands for a word that ends it in
+    some way. Else it falls through to the next one. The symbols are the leaders."""
+    registers = some_registers(source)
+    blocks = [some_block(source, registers) for _ in range(count)]
+    starts = [BASE + 4 * sum(map(len, blocks[:number])) for number in range(count)]
+    words = [word for block in blocks for word in block]
+    for place, word in enumerate(words):
+        if word is None:
+            words[place] = some_end(source, registers, source.choice(starts) - BASE - 4 * place)
+    text, begin = struct.pack(f"<{len(words)}I", *words), 52 + 32 + 40 * 2
+    return (executable.header(BASE, (52, 1), (84, 2)) + executable.load(begin, BASE, len(text), len(text))
+            + executable.section(executable.PROGBITS, executable.ALLOC_AND_EXECUTE, BASE, begin, len(text))
+            + executable.section(executable.SYMBOLS, 0, 0, begin + len(text), 16 * count, 16) + text
+            + b"".join(struct.pack("<4I", 0, start, 0, 0) for start in starts))
 
 
 def executables(folder, source):

@@ -10,8 +10,9 @@ import re
 from checks.common import end, words
 from checks.repository import usage
 
-CHOICES = ["find", "check"]
-CALLS = ["best --at", *(command.name for command in usage.usage()[0])]
+CHOICES = ["find", "check", "area"]
+SEARCHES = ["best", "best --at", "pair", "pair --at"]
+CALLS = ["best --at", "pair --at", *(command.name for command in usage.usage()[0])]
 # Those that read files.
 READERS = [call for call in CALLS if call != "load"]
 # What is printed behind `fault`, of which calls, with an example for each name that varies.
@@ -21,10 +22,10 @@ LINES = {
     "3 write -": CALLS,
     "3 write NAME": ["asm", "find", "gates", "relog"],
     "4 too large NAME": READERS,
-    **{f"5 elf {rule} A B": ["best --at", "blocks", "run", *CHOICES] for rule in range(1, 10)},
-    **{f"6 table {rule}": ["best", "best --at", "run", *CHOICES] for rule in (1, 2)},
-    **{f"6 table {rule} KEY": ["best", "best --at", "run", *CHOICES] for rule in (3, 4)},
-    "7 unsupported POSITION WORD": ["best", "best --at", "blocks", *CHOICES],
+    **{f"5 elf {rule} A B": ["best --at", "pair --at", "blocks", "run", *CHOICES] for rule in range(1, 10)},
+    **{f"6 table {rule}": [*SEARCHES, "run", *CHOICES] for rule in (1, 2)},
+    **{f"6 table {rule} KEY": [*SEARCHES, "run", *CHOICES] for rule in (3, 4)},
+    "7 unsupported POSITION WORD": [*SEARCHES, "blocks", *CHOICES],
     "7 unsupported POSITION 00000000": ["eval", "geval"],
     "8 text touched PC ADDR": CHOICES,
     **{f"9 units {kind} OFFSET": ["eval", "gates", "run", "check"] for kind in range(1, 10)},

@@ -29,7 +29,7 @@ PRIVATE = "/specs/private/"
 TOLD_PRIVATE = "For private contracts: "
 CHOICES = "Find", "Check"
 LAWS = "crates/ci_find/src/laws.rt"
-READERS = "Best", "Blocks", "Run", *CHOICES
+READERS = "Best", "Pair", "Blocks", "Run", *CHOICES, "Area"
 
 
 @dataclasses.dataclass
@@ -50,15 +50,15 @@ CLAIMS = {
     "1": Claim(ENDS, ("Find",)),
     "2": Claim(ENDS, CHOICES, ((LAWS, "check_accepts_choices"),)),
     "3": Claim(("headline", "headline_over_files")),
-    "4": Claim(ENDS, ("Best",)),
-    "5": Claim(ENDS, ("Best", "Find")),
-    "6": Claim(ENDS, ("Best",)),
+    "4": Claim(ENDS, ("Best", "Pair")),
+    "5": Claim(ENDS, ("Best", "Pair", "Find", "Area")),
+    "6": Claim(ENDS, ("Best", "Pair")),
     "7": Claim(ENDS, ("Blocks",)),
     "8": Claim(ENDS, ("Run",)),
     "9": Claim(ENDS, ("Asm", "Dis"), (("crates/ci_asm/src/disassembler.rt", "show"),)),
     "10": Claim(ENDS, ("Eval",)),
     "11": Claim(ENDS, ("Relog",)),
-    "12": Claim(ENDS, ("Gates", "Geval")),
+    "12": Claim(ENDS, ("Gates", "Geval", "Area")),
     "13": Claim(ENDS, READERS),
     "14": Claim((*ENDS, "cause", "ends", "due", "statuses", "complete", "printed")),
     "15": Claim(("no_write", "writes", "files_stay", "left")),

@@ -38,8 +38,8 @@ rumtsafi area OLD --limit N [--in N]
 """
 # The numbers of the lines on each of these commands.
 USAGE_LINES = {"eval": (0, 1, 9, 10), "area": (2, 3, 4, 6, 7, 8)}
-MISSING = (f"{USAGE}rumtsafi: a command is missing; there are: find check relog best blocks run eval gates geval load "
-           "asm dis\n")
+MISSING = (f"{USAGE}rumtsafi: a command is missing; there are: find check area relog best pair blocks run eval gates "
+           "geval load asm dis\n")
 TOOLCHAIN = "kit of the tests"
 NO_PROGRAM = "there is no program that runs here: ./rumtsafi --build builds it"
 FOREIGN = "bin/rumtsafi doesn't run on this machine: ./rumtsafi --build builds one that does"
@@ -535,6 +535,8 @@ class AtTerminal(Repository):
                 ("fault 2 read a  & *", ["dis", "a  & *"], "a  & * isn't there, or can't be read"),
                 ("fault 7 unsupported 00010074 00000000", ["best", "a", "--at=0x10074"],
                  "no block begins at 00010074: blocks lists where they do"),
+                ("fault 7 unsupported 00010074 00000000", ["pair", "--at", "0x10074", "a"],
+                 "no block begins at 00010074: blocks lists where they do"),
                 ("fault 13 asm 5 2 14", ["asm", "a", "b"], "line 2, column 14: a label that isn't defined")):
             status, told, said = int(line.split()[1]), f"{line}\n", f"rumtsafi: {said}\n"
             self.ship(f"echo '{line}'; exit {status}")
@@ -644,6 +646,7 @@ class Made(unittest.TestCase):
         self.assertEqual(self.complete("best", "crc32.e"), "crc32.elf")
         self.assertEqual(self.complete("best", "--table", "crc32.e"), "crc32.elf")
         self.assertEqual(self.complete("best", "--in", ""), "")
+        self.assertEqual(self.complete("pair", "crc32.elf", "--"), "--at --leader --in --out --budget --table")
         self.assertEqual(self.complete("eval", "crc32.e"), "crc32.elf")
         self.assertEqual(self.complete("relog", "crc32.elf", "--"), "--log")
         self.assertEqual(self.complete("eval", "crc32.elf", "c"), "")
