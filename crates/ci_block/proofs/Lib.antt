@@ -8,6 +8,9 @@ pub mod LoadingLaws
 pub mod LeaderLaws
 pub mod OneListing
 pub mod BlockLaws
+pub mod BlockSums
+pub mod BlockWords
+pub mod PatchLaws
 pub mod OneBlock
 pub mod WayLaws
 mod Rows

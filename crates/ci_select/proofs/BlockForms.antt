@@ -2,44 +2,27 @@
 use Rattle.std.proofs.Common.{◌≡◌, ℕ, ◌+◌, ◌-◌, ◌*◌, ◌<◌, true, false, List, length, sym, subst, inl, inr, arith}
 use Rattle.std.proofs.lemmas.Bool.{cases_Bool, cases_lt}
 use Rattle.ci_isa.specs.declared.instruction.Insn.{Insn}
-use Rattle.ci_isa.specs.declared.instruction.Insn.TheVariants.{Unit, Cread, Cput, Illegal, Ebreak}
+use Rattle.ci_isa.specs.declared.instruction.Insn.TheVariants.{Ebreak}
 use Rattle.ci_isa.specs.Effects.{ends_block}
 use Rattle.ci_isa.specs.Sequences.{nth_insn}
-use Rattle.ci_isa.specs.Table.{IsInsnAt, IsWordOf, IsWellFormed}
+use Rattle.ci_isa.specs.Table.{IsInsnAt, IsWellFormed}
 use Rattle.ci_isa.proofs.WellFormed.{fields_fit, well_formed}
-use Rattle.ci_elf.specs.Executables.{Executable, place_of, text_word}
-use Rattle.ci_elf.proofs.FieldLaws.{field_fits}
+use Rattle.ci_elf.specs.Executables.{Executable, text_word}
 use Rattle.ci_machine.specs.Words.{AreBytes}
 use Rattle.ci_block.specs.declared.blocks.Block.{Block}
 use Rattle.ci_block.specs.Blocks.{IsBlockAt, size_of}
+use Rattle.ci_block.proofs.BlockWords.{block_is_spelt}
 use Rattle.ci_rewrite.specs.Blocks.{AllFieldsFit, AreActionsOf, IsBlock}
 use Rattle.ci_dfg.proofs.PlainLists.{plain_are_bundled}
-
--- what stands at a word is spelt by it
-pub word_of_insn : (word : ℕ) (insn : Insn) → word < 4294967296 → IsInsnAt word insn → IsWordOf word insn
-word_of_insn word (Illegal w) small is = (small, sym is.0)
-word_of_insn word (Unit number rd rs1 rs2 rs3) small is = absurd is.1
-word_of_insn word (Cread rd index) small is = absurd is.1
-word_of_insn word (Cput rs1 rs2) small is = absurd is.1
-word_of_insn word insn small is = is
 
 -- instructions whose fields fit have words
 pub words_of : (insns : List Insn) → AllFieldsFit insns → (k : ℕ) → k < length insns → IsWellFormed (nth_insn insns k)
 words_of insns fit k below = well_formed (nth_insn insns k) (fit k below)
 
--- a word of a file of bytes is below 2 ^ 32
-text_word_small : (image : Executable) (address : ℕ) → AreBytes image.bytes → text_word image address < 4294967296
-text_word_small image address bytes = field_fits 4 (place_of image.segments address) image.bytes bytes
-
 module _ {image : Executable} {leaders : List ℕ} {block : Block} (bytes : AreBytes image.bytes) (is : IsBlockAt image leaders block) where
   pub fields_of_block : AllFieldsFit block.insns.items
   fields_of_block k below =
-      let address = block.leader + 4 * k in
-      fields_fit (nth_insn block.insns.items k) (
-        text_word image address,
-        word_of_insn (text_word image address) (nth_insn block.insns.items k) (text_word_small image address bytes)
-            (is.insns k Ebreak below).reads,
-      )
+      fields_fit (nth_insn block.insns.items k) (text_word image (block.leader + 4 * k), block_is_spelt bytes is k below)
 
   -- its actions are all of its instructions but a terminator
   actions_of : (n : ℕ) × AreActionsOf block.insns.items n

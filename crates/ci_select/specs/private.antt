@@ -1,3 +1,2 @@
 pub mod Followed
-pub mod Patched
 pub mod Judged

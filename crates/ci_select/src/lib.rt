@@ -21,7 +21,6 @@ pub use taken::Taken;
 mod acceptance;
 mod choosing;
 mod laws;
-mod new_file;
 mod plan;
 mod rounds;
 mod savings;

@@ -18,10 +18,9 @@ ghost use Rattle.ci_select.specs.NewFiles.{IsNewFile, with_bytes};
 ghost use Rattle.ci_select.specs.private.Followed.{Follows, FollowsSome, HasDueSearch, IsDueGraph, IsNumberFor};
 ghost use Rattle.ci_select.specs.private.Followed.{IsFirst, entered_from, instance_in, steps_left};
 
-use crate::new_file::patch_block;
 use crate::plan::Plan;
 use crate::taken::Taken;
-use ci_block::{Block, Blocks};
+use ci_block::{Block, Blocks, patch_block};
 use ci_cut::{Graph, gain};
 use ci_dfg::graph;
 use ci_elf::Image;

@@ -2,9 +2,10 @@ use Rattle.std.proofs.Common.{◌≡◌, rules, length, get_or, sym, ◌∙◌, 
 use Rattle.std.proofs.lemmas.Slice.Zip.{zip_end, zip_turn}
 use Rattle.ci_elf.specs.Executables.{Executable}
 use Rattle.ci_block.specs.declared.blocks.Block.{Block}
-use Rattle.ci_select.specs.private.Patched.{PatchesBlock}
+use Rattle.ci_block.specs.Patches.{PatchesBlock}
+use Rattle.ci_block.proofs.PatchLaws.{read_with}
 use Rattle.ci_select.proofs.NewImageLaws.{CanBePatched, blocks_of, can_be_patched, insns_of, new_file_of, same_size}
-use Rattle.ci_select.proofs.PatchLaws.{PatchesBlocks, no_blocks_patched, one_more_block_patched, read_with}
+use Rattle.ci_select.proofs.PatchLaws.{PatchesBlocks, no_blocks_patched, one_more_block_patched}
 use Rattle.ci_select.proofs.rounds.Rounds.new_image.Goals as goal
 
 pub loop-block-init : goal.loop-block-init

@@ -1,11 +1,10 @@
--- For private contracts: words of blocks that were written into a file.
+-- Words of a block that are written into a file.
 use Rattle.std.specs.Prelude.{◌≡◌, ℕ, ◌+◌, ◌*◌, ◌<◌, List, length}
 use Rattle.ci_isa.specs.declared.instruction.Insn.{Insn}
 use Rattle.ci_isa.specs.Sequences.{nth_insn}
 use Rattle.ci_isa.specs.Table.{IsWordOf}
 use Rattle.ci_elf.specs.Executables.{Executable, IsTextWord, text_word}
 use Rattle.ci_elf.specs.TextChanges.{ChangeText}
-use Rattle.ci_select.specs.NewFiles.{with_bytes}
 
 -- the address is one of a word of so many from an address on
 abbrev pub IsWordFrom : ℕ → ℕ → ℕ → Type 0
@@ -13,7 +12,7 @@ IsWordFrom start count address = (k : ℕ) × (k < count) × (address ≡ start 
 
 -- The words of so many of the instructions stand in the file from the leader on, and nothing else is changed.
 pub record PatchesWords (before after : Executable) (leader : ℕ) (insns : List Insn) (count : ℕ) : Type 0 where
-  pub same_else : after ≡ with_bytes before after.bytes
+  pub same_else : after ≡ record before { bytes = after.bytes }
   pub text_alone : ChangeText before after.bytes
   pub words : (k : ℕ) → k < count → IsWordOf (text_word after (leader + 4 * k)) (nth_insn insns k)
   pub others :

@@ -3,16 +3,16 @@ use Rattle.std.proofs.lemmas.List.{get_or_default}
 use Rattle.ci_isa.specs.declared.instruction.Insn.TheVariants.{Ebreak}
 use Rattle.ci_isa.specs.Table.{IsWellFormed, IsWordOf}
 use Rattle.ci_elf.specs.Executables.{Executable, IsTextWord}
-use Rattle.ci_select.specs.private.Patched.{PatchesWords}
-use Rattle.ci_select.proofs.PatchLaws.{none_patched, one_more_patched, text_below_top}
-use Rattle.ci_select.proofs.new_file.patch_block.Goals as goal
+use Rattle.ci_block.specs.Patches.{PatchesWords}
+use Rattle.ci_block.proofs.PatchLaws.{none_patched, one_more_patched, text_word_below_top}
+use Rattle.ci_block.proofs.patching.patch_block.Goals as goal
 
 pub loop-k-init : goal.loop-k-init
 loop-k-init c = none_patched c.args.image.now c.requires.read c.args.leader c.args.insns.now
 
 pub overflow_add-leader : goal.overflow_add-leader
 overflow_add-leader c =
-    let below = text_below_top c.args.image.now c.requires.read (c.args.leader + 4 * c.loop-k.k) (c.requires.text c.loop-k.k c.loop-k-test.true) in
+    let below = text_word_below_top c.args.image.now c.requires.read (c.args.leader + 4 * c.loop-k.k) (c.requires.text c.loop-k.k c.loop-k-test.true) in
     omega (arith, below)
 
 pub encode-requires : goal.encode-requires

@@ -4,7 +4,7 @@ ghost use Rattle.ci_isa.specs.Sequences.{nth_insn};
 ghost use Rattle.ci_isa.specs.Table.{IsWellFormed};
 ghost use Rattle.ci_elf.specs.Executables.{IsTextWord};
 ghost use Rattle.ci_elf.specs.Rules.{IsReadAs};
-ghost use Rattle.ci_select.specs.private.Patched.{PatchesBlock};
+ghost use Rattle.ci_block.specs.Patches.{PatchesBlock};
 
 use ci_elf::Image;
 use ci_isa::{Insn, encode};
