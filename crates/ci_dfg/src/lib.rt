@@ -16,8 +16,8 @@
 
 pub use bundled::are_bundled;
 pub use laws::{arcs_are_these, bundles_move_together, graph_has_these_arcs, hazards_are_joined};
-pub use nodes::graph;
-pub use operand_sources::sources;
+pub use nodes::{graph, is_live};
+pub use operand_sources::{latest_writer, sources};
 
 mod arcs;
 mod bundled;

@@ -63,7 +63,7 @@ fn node(
 
 /// Whether the value of node `k` is live after the block, after which these registers are live: its register is one
 /// of them, and no later node writes it.
-fn is_live(insns: &[Insn], k: usize, live_out: Row) -> bool
+pub fn is_live(insns: &[Insn], k: usize, live_out: Row) -> bool
     requires { k < length insns.now }
     ensures { result ≡ terms.is_live insns.now live_out k }
 {

@@ -48,9 +48,9 @@ fn push_source(
     sources.push(source)
 }
 
-/// The latest node before `k` that writes the register.
+/// The latest node before `k` that writes the register, in a block of at most 256 instructions.
 #[tactic(auto, using(crate::proofs::WritersByPlace::writers))]
-pub(crate) fn latest_writer(insns: &[Insn], register: u8, k: usize) -> Option<u8>
+pub fn latest_writer(insns: &[Insn], register: u8, k: usize) -> Option<u8>
     requires few { length insns.now ≤ 256 }
     requires there { k ≤ length insns.now }
     ensures { result ≡ sequences.latest_writer insns.now register k }
