@@ -19,7 +19,8 @@ use Rattle.ci_machine.proofs.TestLaws.{by_test, both_first, both_second, no_end}
 use Rattle.ci_rewrite.specs.Costs.{cost_of}
 use Rattle.ci_runs.specs.WholeRuns.{Saving, saved}
 use Rattle.ci_runs.specs.FoldedFiles.{saved_at}
-use Rattle.ci_runs.specs.Crossings.{TwoRuns, is_word, Crossing, old, new, Meet, AtLeader, Through, GoBy, block, fetch}
+use Rattle.ci_runs.specs.Crossings.{Crossing, Meet, AtLeader, Through, GoBy, block, fetch}
+use Rattle.ci_runs.specs.Places.{TwoRuns, is_word, old, new}
 use Rattle.ci_runs.proofs.BlockRuns.{costs_of_block}
 
 -- ---- whole numbers

@@ -1,10 +1,10 @@
 -- A folded file: what holds of both files, of their listed leaders, and of a block and what is folded of it.
-use Rattle.std.specs.Prelude.{◌≡◌, ℕ, ◌+◌, ◌-◌, ◌*◌, ◌^◌, ◌<◌, ◌%◌, ◌==◌, ◌&&◌, ◌⊎◌, true, false, pos, ◌+ℤ◌, List, length, Ok}
+use Rattle.std.specs.Prelude.{◌≡◌, ℕ, ◌+◌, ◌-◌, ◌*◌, ◌^◌, ◌<◌, ◌&&◌, ◌⊎◌, true, false, pos, ◌+ℤ◌, List, length}
 use Rattle.std.specs.List.{Contains}
 use Rattle.std.specs.FinSet as finite
 use Rattle.std.specs.Ordering.{nat_cmp}
 use Rattle.std.proofs.Common.{refl, sym, ap, ◌∙◌, subst, arith, inl, inr}
-use Rattle.std.proofs.lemmas.Bool.{and_from, cases_Bool, cases_lt, eq-eqb}
+use Rattle.std.proofs.lemmas.Bool.{cases_Bool, cases_lt}
 use Rattle.std.proofs.lemmas.List.{get_or_default}
 use Rattle.ci_isa.specs.declared.instruction.Insn.{Insn}
 use Rattle.ci_isa.specs.declared.instruction.Insn.TheVariants.{Ebreak, Illegal}
@@ -14,28 +14,18 @@ use Rattle.ci_isa.specs.Sequences.{nth_insn, ReadFirst, Write}
 use Rattle.ci_isa.specs.Table.{IsInsnAt, IsWordOf}
 use Rattle.ci_isa.proofs.RowCompleteness.{plain_well_formed}
 use Rattle.ci_isa.proofs.WellFormed.{fields_fit}
-use Rattle.ci_elf.specs.Executables.{Executable, IsTextWord, IsWellFormed, text_word}
-use Rattle.ci_elf.specs.Rules.{IsReadAs}
-use Rattle.ci_elf.proofs.TextChangeLaws.{text_may_change}
-use Rattle.ci_elf.proofs.TextPlaceLaws.{formed}
+use Rattle.ci_elf.specs.Executables.{text_word}
 use Rattle.ci_lat.specs.Latencies.{Latencies as Table}
 use Rattle.ci_block.specs.declared.blocks.Block.{Block}
-use Rattle.ci_block.specs.Blocks.{AreInOrder, IsBlockAt, size_of}
-use Rattle.ci_block.proofs.BlockLaws.{blocks_in_order}
+use Rattle.ci_block.specs.Blocks.{IsBlockAt, size_of}
 use Rattle.ci_live.specs.Sets.{after_block, at_leader}
-use Rattle.ci_live.proofs.NeededLaws.{has_sets, live_is_needed}
-use Rattle.ci_live.proofs.OneAnalysis.{block_with}
 use Rattle.ci_live.proofs.RegisterLaws.{live_are_registers}
-use Rattle.ci_machine.specs.Agreement.{AgreeOutside}
 use Rattle.ci_machine.specs.Blocks.{StandAt}
 use Rattle.ci_machine.specs.Extended.{IsExtended, IsInsnWith, latencies_with}
 use Rattle.ci_machine.specs.Programs.{Program, in_text, loaded_program, opening}
 use Rattle.ci_machine.specs.Runs.{Latencies}
 use Rattle.ci_machine.specs.Steps.{Meaning}
-use Rattle.ci_machine.specs.Texts.{AreFileInsns}
 use Rattle.ci_machine.proofs.ExtendedMeaning.{one_stands}
-use Rattle.ci_machine.proofs.OpeningLaws.{insns_stand}
-use Rattle.ci_machine.proofs.TextChanges.{opens_alike}
 use Rattle.ci_rewrite.specs.Blocks.{AllFieldsFit, AreActionsOf, AreNamed, Covers, IsBlock}
 use Rattle.ci_rewrite.specs.Costs.{cost_of}
 use Rattle.ci_rewrite.specs.RunLatencies.{AreOfTable}
@@ -45,18 +35,12 @@ use Rattle.ci_rewrite.proofs.BareWordLaws.{of_bare}
 use Rattle.ci_rewrite.proofs.ModuleUnits.{modules_serve}
 use Rattle.ci_dfg.proofs.PlainLists.{plain_are_bundled}
 use Rattle.ci_rewrite.proofs.PlainBlocks.{plain_numbers}
-use Rattle.ci_runs.specs.WholeRuns.{Rewriting, Saving, is_among, text}
+use Rattle.ci_runs.specs.WholeRuns.{Rewriting, Saving, is_among}
 use Rattle.ci_runs.specs.FoldedFiles.{IsFoldedBlock, IsFoldedFile, saved_at}
-use Rattle.ci_runs.specs.Crossings.{is_word}
+use Rattle.ci_runs.specs.ChangedFiles.{IsChangedFile}
 use Rattle.ci_runs.proofs.FoldChains.{AreKept, folds_keep, folds_save, others_stay}
-use Rattle.ci_runs.proofs.ListedLeaders.{is_listed}
+use Rattle.ci_runs.proofs.ChangedFiles as files
 use Rattle.ci_runs.proofs.StandingWords.{CanStand, can_stand, has_module, plain_stands, spelt_stands}
-
--- ---- words
-
--- the test of a word of the text
-pub word_tested : (file : Executable) (address : ℕ) → IsTextWord file.ranges address → is_word (loaded_program file) address ≡ true
-word_tested file address (aligned, held) = and_from (address % 4 == 0) (in_text (loaded_program file) address) (eq-eqb (address % 4) 0 aligned) held
 
 -- ---- fields
 
@@ -71,47 +55,18 @@ module _ (rewriting : Rewriting) (table : Table) (savings : List Saving) (is : I
   abbrev program : Program
   program = loaded_program rewriting.old
 
-  -- both are well-formed,
-  pub old_formed : IsWellFormed rewriting.old
-  old_formed = formed is.old_bytes is.old_is.0 rewriting.old is.old_is.1
-
-  -- since the new file is read, too
-  read_anew : IsReadAs rewriting.new.bytes (Ok rewriting.new)
-  read_anew =
-      subst (λ file. IsReadAs rewriting.new.bytes (Ok file)) (sym is.new_is)
-      (text_may_change is.old_bytes rewriting.new.bytes rewriting.old is.old_is is.text_alone)
-
-  pub new_formed : IsWellFormed rewriting.new
-  new_formed = formed rewriting.new.bytes read_anew.0 rewriting.new read_anew.1
-
-  -- they are one program, and open alike outside the text
-  pub same_program : loaded_program rewriting.new ≡ loaded_program rewriting.old
-  same_program = ap loaded_program is.new_is
-
-  pub outside : (input : List ℕ) → AgreeOutside (text rewriting) (opening rewriting.old input).core (opening rewriting.new input).core
-  outside input =
-      subst (λ file. AgreeOutside (text rewriting) (opening rewriting.old input).core (opening file input).core) (sym is.new_is)
-      (opens_alike is.old_bytes rewriting.new.bytes rewriting.old input is.old_is is.text_alone)
-
-  -- ---- the listed leaders
-
-  -- the leaders of the blocks have live sets
-  pub same_leaders : is.analysis.leaders ≡ rewriting.live.leaders
-  same_leaders = sym is.analysis.blocks_are.by_leader ∙ is.analysis.live.leaders
-
-  -- they are words of the text,
-  pub leader_is_word : (leader : ℕ) → Contains rewriting.live.leaders leader → IsTextWord rewriting.old.ranges leader
-  leader_is_word leader there =
-      ((is.analysis.listing.listed leader).0 (subst (λ (leaders : List ℕ). Contains leaders leader) (sym same_leaders) there)).0
-
-  -- and each has a block
-  pub block_there : (leader : ℕ) → Contains rewriting.live.leaders leader → (block : Block) × Contains is.blocks block × (block.leader ≡ leader)
-  block_there leader there =
-      block_with is.blocks leader (subst (λ (leaders : List ℕ). Contains leaders leader) (sym is.analysis.live.leaders) there)
-
-  -- the blocks stand in the order of these
-  in_order : AreInOrder is.blocks
-  in_order = blocks_in_order is.analysis.leaders is.blocks is.analysis.blocks_are.by_leader is.analysis.listing.ascending
+  -- the new file differs from the original in the text alone
+  abbrev pub changed : IsChangedFile rewriting.old rewriting.new rewriting.live
+  changed = record {
+    targets = is.targets;
+    named = is.named;
+    blocks = is.blocks;
+    old_bytes = is.old_bytes;
+    old_is = is.old_is;
+    analysis = is.analysis;
+    new_is = is.new_is;
+    text_alone = is.text_alone;
+  }
 
   -- ---- a block
 
@@ -124,15 +79,11 @@ module _ (rewriting : Rewriting) (table : Table) (savings : List Saving) (is : I
 
     -- it is that of its leader,
     pub at_leader_of : IsBlockAt rewriting.old is.analysis.leaders block
-    at_leader_of = is.analysis.blocks_are.each block there
+    at_leader_of = files.at_leader_of rewriting.old rewriting.new rewriting.live changed block there
 
     -- is folded,
     pub fold : IsFoldedBlock rewriting table savings is.limits block
     fold = is.each block there
-
-    -- and has a listed leader
-    pub leader_listed : Contains rewriting.live.leaders block.leader
-    leader_listed = has_sets is.blocks rewriting.live is.analysis.live block there
 
     -- the word of instruction k
     abbrev word : ℕ → ℕ
@@ -140,7 +91,7 @@ module _ (rewriting : Rewriting) (table : Table) (savings : List Saving) (is : I
 
     -- it reads as the instruction in the plain table
     reads : (k : ℕ) → k < length insns → IsInsnAt (word k) (nth_insn insns k)
-    reads k below = (at_leader_of.insns k Ebreak below).reads
+    reads = files.reads rewriting.old rewriting.new rewriting.live changed block there
 
     -- a bare word stands in the new file too, so it has 32 bits
     bare_small : (k : ℕ) → k < length insns → (bare : ℕ) → nth_insn insns k ≡ Illegal bare → bare < 2 ^ 32
@@ -200,7 +151,8 @@ module _ (rewriting : Rewriting) (table : Table) (savings : List Saving) (is : I
     -- programs can name what is live behind it,
     pub named : AreNamed live_out
     named r live =
-        live_are_registers rewriting.old is.targets is.named is.blocks rewriting.live block.leader r is.analysis leader_listed (inr live)
+        live_are_registers rewriting.old is.targets is.named is.blocks rewriting.live block.leader r is.analysis
+        (files.leader_listed rewriting.old rewriting.new rewriting.live changed block there) (inr live)
 
     -- and what is live at its leader covers it
     pub covers : Covers (λ r. is_among rewriting.live.leaders block.leader && finite.contains (at_leader rewriting.live block.leader) r) insns live_out
@@ -211,10 +163,7 @@ module _ (rewriting : Rewriting) (table : Table) (savings : List Saving) (is : I
       where
         at : (r : ℕ) → ReadFirst insns r ⊎ ((finite.contains live_out r ≡ true) × ¬ Write insns r)
             → (is_among rewriting.live.leaders block.leader && finite.contains (at_leader rewriting.live block.leader) r) ≡ true
-        at r needed =
-            and_from (is_among rewriting.live.leaders block.leader) (finite.contains (at_leader rewriting.live block.leader) r)
-            (is_listed rewriting.live.leaders block.leader leader_listed)
-            ((live_is_needed is.blocks rewriting.live block r in_order is.analysis.live there).1 needed)
+        at = files.needs rewriting.old rewriting.new rewriting.live changed block there
 
     -- ---- on the machine with the modules
 
@@ -253,34 +202,15 @@ module _ (rewriting : Rewriting) (table : Table) (savings : List Saving) (is : I
       -- the instructions stand where the original opens,
       pub old_stands : (input : List ℕ) → StandAt meaning program (opening rewriting.old input).core.memory block.leader insns
       old_stands input =
-          insns_stand rewriting.old old_formed meaning input 0 (λ i below made. absurd (omega arith)) insns block.leader each
-        where
-          each : AreFileInsns meaning rewriting.old block.leader insns
-          each k d below = record {
-            text = (at_leader_of.insns k d below).text;
-            reads =
-                one_stands rewriting.modules (word k) (meaning.insn (word k)) (nth_insn insns k) (extended.reads (word k)) (old_stands_at k below)
-                ∙ get_or_default insns k Ebreak d below;
-          }
+          files.old_stands rewriting.old rewriting.new rewriting.live changed block there meaning input
+          (λ k below.
+          one_stands rewriting.modules (word k) (meaning.insn (word k)) (nth_insn insns k) (extended.reads (word k)) (old_stands_at k below))
 
       -- and those that are folded where the new file opens
       pub new_stands : (input : List ℕ) → StandAt meaning program (opening rewriting.new input).core.memory block.leader fold.insns
       new_stands input =
-          subst (λ p. StandAt meaning p (opening rewriting.new input).core.memory block.leader fold.insns) same_program
-          (insns_stand rewriting.new new_formed meaning input 0 (λ i below made. absurd (omega arith)) fold.insns block.leader each)
-        where
-          same_ranges : rewriting.new.ranges ≡ rewriting.old.ranges
-          same_ranges = ap (λ (file : Executable). file.ranges) is.new_is
-
-          each : AreFileInsns meaning rewriting.new block.leader fold.insns
-          each k d below =
-              let written = text_word rewriting.new (block.leader + 4 * k) in
-              record {
-                text =
-                    subst (λ ranges. IsTextWord ranges (block.leader + 4 * k)) (sym same_ranges)
-                    (at_leader_of.insns k Ebreak (omega (arith, kept.keeps.shape.same_length))).text;
-                reads =
-                    one_stands rewriting.modules written (meaning.insn written) (nth_insn fold.insns k) (extended.reads written)
-                    (spelt_stands rewriting.modules written (nth_insn fold.insns k) (kept.can_stand k below) (fold.words k below))
-                    ∙ get_or_default fold.insns k Ebreak d below;
-              }
+          files.new_stands rewriting.old rewriting.new rewriting.live changed block there meaning input fold.insns kept.keeps.shape.same_length
+          (λ k below.
+          let written = text_word rewriting.new (block.leader + 4 * k) in
+          one_stands rewriting.modules written (meaning.insn written) (nth_insn fold.insns k) (extended.reads written)
+          (spelt_stands rewriting.modules written (nth_insn fold.insns k) (kept.can_stand k below) (fold.words k below)))

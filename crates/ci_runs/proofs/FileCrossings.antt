@@ -15,10 +15,13 @@ use Rattle.ci_rewrite.specs.RunLatencies.{AreOfTable}
 use Rattle.ci_runs.specs.WholeRuns.{Rewriting, Saving, is_among}
 use Rattle.ci_runs.specs.FoldedFiles.{IsFoldedFile, saved_at}
 use Rattle.ci_runs.specs.CrossedFiles.{AreCrossed, SaveAtLeaders, two_runs}
-use Rattle.ci_runs.specs.Crossings.{Crossing, at_leader}
-use Rattle.ci_runs.proofs.BlockWays.{alone, on_from, onto}
+use Rattle.ci_runs.specs.Crossings.{Crossing}
+use Rattle.ci_runs.specs.Places.{at_leader}
+use Rattle.ci_runs.proofs.BlockWays.{on_from, onto}
+use Rattle.ci_runs.proofs.ChangedFiles as files
 use Rattle.ci_runs.proofs.FileBlocks as blocks
 use Rattle.ci_runs.proofs.ListedLeaders.{is_listed, listed_there}
+use Rattle.ci_runs.proofs.Ways.{alone}
 
 module _ (rewriting : Rewriting) (table : Table) (savings : List Saving) (is : IsFoldedFile rewriting table savings) (meaning : Meaning)
     (extended : IsExtended rewriting.modules meaning) (input : List ℕ) where
@@ -40,7 +43,7 @@ module _ (rewriting : Rewriting) (table : Table) (savings : List Saving) (is : I
         covers = blocks.covers rewriting table savings is block there;
         old_stands = blocks.old_stands rewriting table savings is block there meaning extended input;
         new_stands = blocks.new_stands rewriting table savings is block there meaning extended input;
-        one_leader = alone rewriting table savings is meaning input block there;
+        one_leader = alone rewriting.old rewriting.new rewriting.live (blocks.changed rewriting table savings is) meaning input block there;
         onto = onto rewriting table savings is meaning input block there (blocks.n rewriting table savings is block there) block_is;
         on_from = on_from rewriting table savings is meaning input block there (blocks.n rewriting table savings is block there) block_is;
       }
@@ -48,19 +51,19 @@ module _ (rewriting : Rewriting) (table : Table) (savings : List Saving) (is : I
   -- so each listed leader is crossed,
   crossing : (leader : ℕ) → is_among rewriting.live.leaders leader ≡ true → Crossing (two_runs rewriting meaning input) leader
   crossing leader listed =
-      let found = blocks.block_there rewriting table savings is leader (listed_there rewriting.live.leaders leader listed) in
+      let found = files.block_there rewriting.old rewriting.new rewriting.live (blocks.changed rewriting table savings is) leader (listed_there rewriting.live.leaders leader listed) in
       subst (Crossing (two_runs rewriting meaning input)) found.2 (block_crossed found.0 found.1)
 
   -- and the files are
   pub are_crossed : AreCrossed rewriting meaning input
   are_crossed = record {
-    old_formed = blocks.old_formed rewriting table savings is;
-    new_formed = blocks.new_formed rewriting table savings is;
+    old_formed = files.old_formed rewriting.old rewriting.new rewriting.live (blocks.changed rewriting table savings is);
+    new_formed = files.new_formed rewriting.old rewriting.new rewriting.live (blocks.changed rewriting table savings is);
     plain = is.plain;
     modules_are = is.modules_are;
-    same_program = blocks.same_program rewriting table savings is;
+    same_program = files.same_program rewriting.old rewriting.new rewriting.live (blocks.changed rewriting table savings is);
     same_entry = sym (ap (λ file. file.entry) is.new_is);
-    outside = blocks.outside rewriting table savings is input;
+    outside = files.outside rewriting.old rewriting.new rewriting.live (blocks.changed rewriting table savings is) input;
     old_of_bytes = is.old_of_bytes;
     new_of_bytes = is.new_of_bytes;
     entry = at_leader (is_listed rewriting.live.leaders rewriting.old.entry entry_listed);
@@ -69,9 +72,9 @@ module _ (rewriting : Rewriting) (table : Table) (savings : List Saving) (is : I
     where
       entry_listed : Contains rewriting.live.leaders rewriting.old.entry
       entry_listed =
-          subst (λ (leaders : List ℕ). Contains leaders rewriting.old.entry) (blocks.same_leaders rewriting table savings is)
+          subst (λ (leaders : List ℕ). Contains leaders rewriting.old.entry) (files.same_leaders rewriting.old rewriting.new rewriting.live (blocks.changed rewriting table savings is))
           ((is.analysis.listing.listed rewriting.old.entry).1
-          ((blocks.old_formed rewriting table savings is).entry, inl (entry (λ i. rewriting.old.entry))))
+          ((files.old_formed rewriting.old rewriting.new rewriting.live (blocks.changed rewriting table savings is)).entry, inl (entry (λ i. rewriting.old.entry))))
 
   -- ---- the accounts
 
@@ -96,7 +99,7 @@ module _ (rewriting : Rewriting) (table : Table) (savings : List Saving) (is : I
     saves_at_leaders = record {
       listed = is.listed;
       saves = λ leader listed.
-          let found = blocks.block_there rewriting table savings is leader (listed_there rewriting.live.leaders leader listed) in
+          let found = files.block_there rewriting.old rewriting.new rewriting.live (blocks.changed rewriting table savings is) leader (listed_there rewriting.live.leaders leader listed) in
           carried found.0.leader leader found.2 (block_crossed found.0 found.1)
           (blocks.block_saves rewriting table savings is found.0 found.1 meaning extended latencies of_table);
     }

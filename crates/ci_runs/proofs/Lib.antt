@@ -1,6 +1,8 @@
 pub mod ListedLeaders
 pub mod StandingWords
 pub mod FoldChains
+pub mod ChangedFiles
+pub mod Ways
 pub mod FileBlocks
 pub mod BlockWays
 pub mod FileCrossings
@@ -15,4 +17,12 @@ pub mod UnitModules
 pub mod TakenFolds
 pub mod ChosenFileLaws
 pub mod ProfiledRunLaws
+pub mod Jumps
+pub mod RunsInStep
+pub mod RenamedWords
+pub mod RenamedFileLaws
+pub mod AlikeTexts
+pub mod AlikeNeeds
+pub mod RenamedAnalyses
+pub mod RenamedChoiceLaws
 mod Rows

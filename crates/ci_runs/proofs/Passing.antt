@@ -28,7 +28,8 @@ use Rattle.ci_rewrite.specs.Blocks.{live_behind}
 use Rattle.ci_rewrite.specs.SameSteps.{PassAlike, EndAlike}
 use Rattle.ci_rewrite.proofs.EndSteps.{passed_blocks_end_alike}
 use Rattle.ci_rewrite.proofs.Steps.{folding_keeps_steps, last_is_fetched}
-use Rattle.ci_runs.specs.Crossings.{TwoRuns, is_word, IsPlace, at_leader, no_text, LeadsTo, Crossing, old, new, Meet, AtLeader, GoBy, block, fetch}
+use Rattle.ci_runs.specs.Crossings.{Crossing, Meet, AtLeader, GoBy, block, fetch}
+use Rattle.ci_runs.specs.Places.{TwoRuns, is_word, IsPlace, at_leader, no_text, LeadsTo, old, new}
 use Rattle.ci_runs.specs.Fronts.{Passage, onward, together, inside, AreQuiet}
 use Rattle.ci_runs.proofs.BlockRuns.{stands_later, output_stays, output_ended, leads_behind}
 

@@ -22,7 +22,8 @@ use Rattle.ci_machine.proofs.TestLaws.{no_end}
 use Rattle.ci_machine.proofs.WordLaws.{opening_words}
 use Rattle.ci_machine.specs.Outcomes.{is_access_fault}
 use Rattle.ci_runs.specs.WholeRuns.{Rewriting, Saving, AreAlikeAt, AreAtFront, AreMachines, IsTameFor, is_among, new_run, old_run, saved, text}
-use Rattle.ci_runs.specs.Crossings.{TwoRuns, old, new, Meet, AtLeader, GoBy}
+use Rattle.ci_runs.specs.Crossings.{Meet, AtLeader, GoBy}
+use Rattle.ci_runs.specs.Places.{TwoRuns, old, new}
 use Rattle.ci_runs.specs.CrossedFiles.{AreCrossed, SaveAtLeaders, two_runs}
 use Rattle.ci_runs.specs.Fronts.{Passage}
 use Rattle.ci_runs.proofs.Accounts.{Balance, balance_grows, balance_stays, opening_balance}

@@ -1,10 +1,8 @@
 -- For private laws: a rewritten file all of whose listed leaders have crossings, on one input.
-use Rattle.std.specs.Prelude.{◌≡◌, ℕ, ◌&&◌, ◌+ℤ◌, true, pos, List, All}
-use Rattle.std.specs.FinSet as finite
+use Rattle.std.specs.Prelude.{◌≡◌, ℕ, ◌+ℤ◌, true, pos, List, All}
 use Rattle.std.specs.List.{Contains}
 use Rattle.ci_elf.specs.Executables.{IsWellFormed}
 use Rattle.ci_block.specs.CustomWords.{HasNoCustomWord}
-use Rattle.ci_live.specs.Sets.{at_leader}
 use Rattle.ci_verilog.specs.Modules.{IsModule}
 use Rattle.ci_machine.specs.Agreement.{AgreeOutside}
 use Rattle.ci_machine.specs.Extended.{latencies_with}
@@ -15,18 +13,12 @@ use Rattle.ci_machine.specs.Words.{AreBytes}
 use Rattle.ci_rewrite.specs.Costs.{cost_of}
 use Rattle.ci_runs.specs.WholeRuns.{Rewriting, Saving, is_among, text}
 use Rattle.ci_runs.specs.FoldedFiles.{saved_at}
-use Rattle.ci_runs.specs.Crossings.{TwoRuns, IsPlace, Crossing}
+use Rattle.ci_runs.specs.Crossings.{Crossing}
+use Rattle.ci_runs.specs.Places.{TwoRuns, IsPlace, runs_of}
 
 -- both runs by the extended meaning, the listed leaders, and the registers that are live at them: elsewhere none are
 abbrev pub two_runs : Rewriting → Meaning → List ℕ → TwoRuns
-two_runs rewriting extended input = record {
-  meaning = extended;
-  program = loaded_program rewriting.old;
-  old_opens = opening rewriting.old input;
-  new_opens = opening rewriting.new input;
-  is_listed = is_among rewriting.live.leaders;
-  live = λ address r. is_among rewriting.live.leaders address && finite.contains (at_leader rewriting.live address) r;
-}
+two_runs rewriting extended input = runs_of rewriting.old rewriting.new rewriting.live extended input
 
 module _ (rewriting : Rewriting) (extended : Meaning) (input : List ℕ) where
   -- Both files are one program but for the words of the text, and open alike outside it. Their entry is a place, and

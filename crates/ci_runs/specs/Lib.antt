@@ -2,7 +2,13 @@ pub mod WholeRuns
 pub mod FoldedFiles
 pub mod Laws
 pub mod Fronts
+pub mod Places
+pub mod ChangedFiles
 pub mod Crossings
 pub mod CrossedFiles
 pub mod ChosenFiles
 pub mod ProfiledRuns
+pub mod RunsInStep
+pub mod RenamedRuns
+pub mod RenamedAnalyses
+pub mod RenamedChoices
