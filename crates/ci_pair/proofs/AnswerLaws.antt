@@ -1,5 +1,5 @@
 -- What a search for pairs answers once it has passed all pairs.
-use Rattle.std.proofs.Common.{◌≡◌, ℕ, zero, suc, ◌+◌, ◌*◌, ◌-◌, ◌≤◌, ◌^◌, inl, List, [], ◌∷◌, ◌++◌, length, length-append, Option, Some, None, MatchOption, refl, sym, ap, subst, arith, pos}
+use Rattle.std.proofs.Common.{◌≡◌, ℕ, zero, suc, ◌+◌, ◌*◌, ◌≤◌, ◌^◌, inl, List, [], ◌∷◌, ◌++◌, length, length-append, Option, Some, None, MatchOption, refl, sym, ap, subst, arith, pos}
 use Rattle.std.specs.FinMap as map
 use Rattle.ci_region.specs.BoundedMap.{BoundedMap}
 use Rattle.ci_region.proofs.TreeLaws.{rest_is_kept}
@@ -16,7 +16,7 @@ use Rattle.ci_pair.specs.declared.rules.PairIncumbent.{PairIncumbent}
 use Rattle.ci_pair.specs.Answered.{free, HasLog, IsAnswer, IsSpent, IsOptimal}
 use Rattle.ci_pair.specs.Pairs.{IsBestPair, HasNoPair, First, Second, Out}
 use Rattle.ci_pair.specs.Prefixes.{PairPrefix, IsOpen, NeedExceeds, continuations}
-use Rattle.ci_pair.specs.PairSets.{sets, given}
+use Rattle.ci_pair.specs.PairSets.{given}
 use Rattle.ci_pair.specs.private.SearchTrees.{left, IsSearched, IsGivenUp, found_at, answer_of}
 use Rattle.ci_pair.proofs.Acceptance.{accepted_is_best}
 

@@ -1,17 +1,22 @@
 -- What one set shows of a pair.
-use Rattle.std.proofs.Common.{◌≡◌, ℕ, IsTrue, [], ◌∷◌, inl, inr, false, sym, ◌∙◌, true≢false, arith}
+use Rattle.std.proofs.Common.{◌≡◌, ℕ, ◌<◌, ◌⊎◌, IsTrue, [], ◌∷◌, inl, inr, false, sym, ◌∙◌, true≢false, arith}
 use Rattle.ci_cut.specs.declared.graph.Limits.{Limits}
 use Rattle.ci_cut.specs.FlowGraph.{FlowGraph}
 use Rattle.ci_cut.specs.Prefixes as cuts
 use Rattle.ci_cut.proofs.PrefixLaws.{decided_newest, decided_cases, decided_earlier, next_below, is_decided-none}
 use Rattle.ci_pair.specs.declared.log.PairItem.{PairItem}
 use Rattle.ci_pair.specs.declared.log.PairItem.TheVariants.{B, O, C, I, X, M, G, F}
-use Rattle.ci_pair.specs.Pairs.{Label, First, Second}
+use Rattle.ci_cut.specs.Walks.{IsConvex}
+use Rattle.ci_cut.specs.Ports.{outputs}
+use Rattle.ci_cut.proofs.Decisions.{taken_out}
+use Rattle.ci_pair.specs.Pairs.{Label, First, Second, Out, Cross}
 use Rattle.ci_pair.specs.Prefixes.{PairPrefix, choices, labelled, is_label, IsMirrored}
 use Rattle.ci_pair.specs.Trees.{IsLeaf}
 use Rattle.ci_pair.specs.private.Judged.{IsClosedBy}
 use Rattle.ci_pair.specs.Rules.{Given, IsRight}
 use Rattle.ci_pair.proofs.PrefixLaws.{same_next}
+use Rattle.ci_pair.specs.private.Searched.{IsUnclosed}
+use Rattle.ci_pair.proofs.SetTests.{both_as}
 use Rattle.ci_pair.proofs.NeedLaws.{own_label}
 
 module _ (graph : FlowGraph) (limits : Limits) (best : Given) (prefix : PairPrefix) where
@@ -75,3 +80,16 @@ module _ (graph : FlowGraph) (prefix : PairPrefix) (before : ¬ IsMirrored graph
 -- no node is labelled
 pub not_mirrored_none : (graph : FlowGraph) → ¬ IsMirrored graph []
 not_mirrored_none graph (k, in_, above) = absurd (true≢false (sym in_ ∙ is_decided-none graph (λ b. b) k))
+
+-- a node left out closes nothing by outputs, ways back or crossing walks
+pub unclosed_out : (graph : FlowGraph) (limits : Limits) (prefix : PairPrefix) (node : ℕ) → IsTrue (cuts.is_next graph (choices First prefix) node)
+    → IsUnclosed graph limits prefix → IsUnclosed graph limits (Out ∷ prefix)
+unclosed_out graph limits prefix node next unclosed =
+    let first : labelled graph First prefix ≡ labelled graph First (Out ∷ prefix) = sym (taken_out graph (choices First prefix) node next) in
+    let second : labelled graph Second prefix ≡ labelled graph Second (Out ∷ prefix) =
+    sym (taken_out graph (choices Second prefix) node (same_next graph First Second prefix node next)) in
+    record {
+      outputs = both_as (λ s t. ¬ ((limits.outputs < outputs graph s) ⊎ (limits.outputs < outputs graph t))) first second unclosed.outputs;
+      convex = both_as (λ s t. ¬ (¬ (IsConvex graph s × IsConvex graph t))) first second unclosed.convex;
+      one_way = both_as (λ s t. ¬ Cross graph s t) first second unclosed.one_way;
+    }

@@ -13,3 +13,4 @@ pub mod LogLaws
 pub mod SearchLaws
 pub mod ClosedLaws
 pub mod AnswerLaws
+pub mod FallLaws

@@ -31,7 +31,7 @@ use Rattle.ci_pair.specs.RegionTrees.{IsTreeIn, LiesIn}
 use Rattle.ci_pair.specs.Rules.{IsAfterBest, IsRight}
 use Rattle.ci_pair.proofs.PrefixLaws.{whole_pair, chosen_completes}
 use Rattle.ci_pair.proofs.NeedLaws.{reached_closed, reached_first, reached_second, reached_out, reached_behind}
-use Rattle.ci_pair.proofs.ClosedLaws.{not_mirrored_by, not_mirrored_none}
+use Rattle.ci_pair.proofs.ClosedLaws.{not_mirrored_none}
 use Rattle.ci_pair.proofs.RegionLaws.{at_leaf, moved}
 use Rattle.ci_pair.proofs.LogLaws.{bar_closes, logged_bar, bar_is_leaf, logged_whole, logged_branch, after_first, after_second, after_out}
 
@@ -182,11 +182,12 @@ module _ (graph : FlowGraph) (limits : Limits) (prefix : PairPrefix) (terms : Pa
 
     module _ (two : BoundedMap PairNode) (second_best : PairIncumbent) (second_root : PairChild)
         (second : IsSearched graph limits (Second ∷ prefix) first_best second_best one two second_root) where
-      pub ready_out : (here : PairTerms) (later : PairDelays) → Represents graph (Out ∷ prefix) here later
-          → IsReady graph limits here later second_best (Out ∷ prefix)
-      ready_out here later represents = record {
+      pub ready_out : (later : PairDelays) → Represents graph prefix terms later
+          → IsReadyFor graph limits Out terms later second_best node prefix
+      ready_out later represents = record {
         represents = represents;
-        not_mirrored = not_mirrored_by graph prefix ready.not_mirrored Out refl;
+        not_mirrored = ready.not_mirrored;
+        next = next;
         after_best = after_out graph flows limits prefix node next (given second_best.pair) second.logged.measured.good second.logged.passed;
         reached = reached_out graph flows limits prefix second_best.gain node next second.reached;
       }

@@ -39,6 +39,8 @@ pub struct PairWrong {
 }
 
 /// Whether the log shows that the pair is the best one, or that there is none; or the first item that shows nothing.
+///
+/// It takes no memory.
 pub fn check_pair(
     graph: &Graph,
     limits: &Limits,
@@ -148,10 +150,11 @@ fn check_first(
     ensures judged { IsJudgedWith graph.now limits.now best.now First terms.now delays.old node items.now place
         result }
 {
-    if is_right_first(graph, rows, limits, terms, node, items[place]) {
+    if is_right_first(graph, rows, limits, best, terms, node, items[place]) {
         return Ok(place + 1);
     }
-    let mut with_node = terms.in_first(graph, rows, delays, node);
+    let mut with_node = *terms;
+    with_node.put_in_first(graph, rows, delays, node);
     check_tree(
         graph,
         rows,
@@ -188,10 +191,11 @@ fn check_second(
     ensures judged { IsJudgedWith graph.now limits.now best.now Second terms.now delays.old node items.now place
         result }
 {
-    if is_right_second(graph, rows, limits, terms, node, items[place]) {
+    if is_right_second(graph, rows, limits, best, terms, node, items[place]) {
         return Ok(place + 1);
     }
-    let mut with_node = terms.in_second(graph, rows, delays, node);
+    let mut with_node = *terms;
+    with_node.put_in_second(graph, rows, delays, node);
     check_tree(
         graph,
         rows,

@@ -1,7 +1,6 @@
 //! Pairs of sets of nodes.
 ghost use Rattle.std.specs.Prelude.{◌≡◌, ◌↔◌, ℕ, IsTrue};
 ghost use Rattle.std.specs.FinSet as set;
-ghost use Rattle.std.specs.FinSet as set;
 ghost use Rattle.ci_cut.specs.GraphRules.{AreNodes};
 ghost use Rattle.ci_cut.specs.Representation.{AreRowsOf};
 ghost use Rattle.ci_pair.specs.Pairs.{HasGreatest, Leads, FitTogether, label, rank};
@@ -20,7 +19,7 @@ pub struct Pair {
 /// Whether both sets may become instructions beside each other: each fits under the limits, no node is in both, the
 /// first has the greatest node, and walks lead one way at most.
 ///
-/// The numbers of both sets have to be nodes.
+/// The numbers of both sets have to be nodes. It takes no memory.
 pub fn fits_together(graph: &Graph, limits: &Limits, pair: &Pair) -> bool
     requires first { AreNodes graph.now pair.now.first }
     requires second { AreNodes graph.now pair.now.second }

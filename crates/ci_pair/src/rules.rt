@@ -1,7 +1,8 @@
 //! The rules of the items of a log of pairs.
-ghost use Rattle.std.specs.Prelude.{◌≡◌, ◌↔◌, ℕ, true, List, ◌∷◌, MatchOption, IsTrue, Some};
+ghost use Rattle.std.specs.Prelude.{◌≡◌, ◌↔◌, ℕ, true, List, ◌∷◌, MatchOption, IsTrue, Some, pos, ◌-ℤ◌, ◌≤ℤ◌};
 ghost use Rattle.std.specs.FinSet as set;
 ghost use Rattle.ci_cut.specs.GraphRules.{AreNodes};
+ghost use Rattle.ci_cut.specs.Prefixes as cuts;
 ghost use Rattle.ci_cut.specs.Prefixes.{Prefix, is_next};
 ghost use Rattle.ci_cut.specs.Representation as cut;
 ghost use Rattle.ci_cut.specs.Representation.{AreRowsOf};
@@ -11,8 +12,8 @@ ghost use Rattle.ci_pair.specs.Prefixes.{PairPrefix, choices, chosen};
 ghost use Rattle.ci_pair.specs.Trees.{IsLeaf};
 ghost use Rattle.ci_pair.specs.PairSets.{sets, given};
 ghost use Rattle.ci_pair.specs.private.States.{Represents, RepresentsSome, RepresentsWhole};
-ghost use Rattle.ci_pair.specs.private.Judged.{IsMeasured, IsClosedBy};
-ghost use Rattle.ci_pair.specs.Rules.{Given, IsGood, IsAfterBest, IsBeforeBest, IsBetter, IsRight, GainsTooLittle};
+ghost use Rattle.ci_pair.specs.private.Judged.{IsMeasured, IsClosedBy, IsTooLittle};
+ghost use Rattle.ci_pair.specs.Rules.{IsGood, IsAfterBest, IsBeforeBest, IsBetter, IsRight, GainsTooLittle};
 ghost use Rattle.ci_pair.specs.Rules.{reason_of};
 
 use crate::log::PairItem;
@@ -137,14 +138,29 @@ fn is_after_best(graph: &Graph, limits: &Limits, best: &PairIncumbent, terms: &P
     }
 }
 
-/// Whether the bound is too small for a better pair.
+/// Whether the bound of the prefix is too small for a better pair.
 fn gains_too_little(graph: &Graph, limits: &Limits, best: &PairIncumbent, terms: &PairTerms) -> bool
     requires represents { RepresentsSome graph.now terms.now }
     requires measured { IsMeasured graph.now limits.now best.now }
     ensures { (prefix : PairPrefix) (delays : PairDelays) → Represents graph.now prefix terms.now delays
         → IsTrue result ↔ GainsTooLittle graph.now (given best.now.pair) prefix }
 {
-    let bound = terms.bound(graph);
+    is_too_little(graph, limits, best, terms, terms.bound(graph))
+}
+
+/// Whether the bound is too small for a better pair, where it bounds the pairs that go on from the prefix.
+fn is_too_little(
+    graph: &Graph,
+    limits: &Limits,
+    best: &PairIncumbent,
+    terms: &PairTerms,
+    bound: i64,
+) -> bool
+    requires represents { RepresentsSome graph.now terms.now }
+    requires measured { IsMeasured graph.now limits.now best.now }
+    ensures { (prefix : PairPrefix) (delays : PairDelays) → Represents graph.now prefix terms.now delays
+        → IsTrue result ↔ IsTooLittle graph.now (given best.now.pair) prefix bound }
+{
     bound < best.gain || bound == best.gain && is_after_best(graph, limits, best, terms)
 }
 
@@ -177,11 +193,13 @@ pub fn is_right(
     }
 }
 
-/// Whether the outputs or the way back show at once that the item is right where the next node is in the first set.
+/// Whether the outputs, the way back or a cost of the bound show at once that the item is right where the next node is
+/// in the first set.
 pub fn is_right_first(
     graph: &Graph,
     rows: &GraphRows,
     limits: &Limits,
+    best: &PairIncumbent,
     terms: &PairTerms,
     node: u8,
     item: PairItem,
@@ -189,11 +207,25 @@ pub fn is_right_first(
     requires rows { AreRowsOf graph.now rows.now }
     requires next { (prefix : PairPrefix) × (delays : PairDelays) × Represents graph.now prefix terms.now delays
         × IsTrue (is_next graph.now (choices First prefix) node) }
-    ensures { (best : Given) (prefix : PairPrefix) (delays : PairDelays) → Represents graph.now prefix terms.now delays
+    requires measured { IsMeasured graph.now limits.now best.now }
+    ensures { (prefix : PairPrefix) (delays : PairDelays) → Represents graph.now prefix terms.now delays
         → IsTrue (is_next graph.now (choices First prefix) node) → IsTrue result
-        → IsLeaf item × IsRight graph.now limits.now best (First ∷ prefix) item }
+        → IsLeaf item × IsRight graph.now limits.now (given best.now.pair) (First ∷ prefix) item }
 {
-    is_right_with(graph, rows, limits, &terms.first, node, item)
+    match item {
+        PairItem::G => {
+            let cost = cost_with(graph, rows, &terms.first, node);
+            let bound = terms.bound_less(graph, cost);
+            is_too_little(graph, limits, best, terms, bound)
+        }
+        PairItem::B
+        | PairItem::O
+        | PairItem::C
+        | PairItem::I
+        | PairItem::X
+        | PairItem::M
+        | PairItem::F => is_right_with(graph, rows, limits, &terms.first, node, item),
+    }
 }
 
 /// The same where the next node is in the second set, or that the second set has the greatest node then.
@@ -201,6 +233,7 @@ pub fn is_right_second(
     graph: &Graph,
     rows: &GraphRows,
     limits: &Limits,
+    best: &PairIncumbent,
     terms: &PairTerms,
     node: u8,
     item: PairItem,
@@ -208,19 +241,20 @@ pub fn is_right_second(
     requires rows { AreRowsOf graph.now rows.now }
     requires next { (prefix : PairPrefix) × (delays : PairDelays) × Represents graph.now prefix terms.now delays
         × IsTrue (is_next graph.now (choices First prefix) node) }
-    ensures { (best : Given) (prefix : PairPrefix) (delays : PairDelays) → Represents graph.now prefix terms.now delays
+    requires measured { IsMeasured graph.now limits.now best.now }
+    ensures { (prefix : PairPrefix) (delays : PairDelays) → Represents graph.now prefix terms.now delays
         → IsTrue (is_next graph.now (choices First prefix) node) → IsTrue result
-        → IsLeaf item × IsRight graph.now limits.now best (Second ∷ prefix) item }
+        → IsLeaf item × IsRight graph.now limits.now (given best.now.pair) (Second ∷ prefix) item }
 {
     match item {
         PairItem::M => is_empty(&terms.first.taken),
-        PairItem::B
-        | PairItem::O
-        | PairItem::C
-        | PairItem::I
-        | PairItem::X
-        | PairItem::G
-        | PairItem::F => is_right_with(graph, rows, limits, &terms.second, node, item),
+        PairItem::G => {
+            let cost = cost_with(graph, rows, &terms.second, node);
+            let bound = terms.bound_less(graph, cost);
+            is_too_little(graph, limits, best, terms, bound)
+        }
+        PairItem::B | PairItem::O | PairItem::C | PairItem::I | PairItem::X | PairItem::F =>
+            is_right_with(graph, rows, limits, &terms.second, node, item),
     }
 }
 
@@ -254,6 +288,25 @@ fn is_right_with(
         PairItem::O => terms.outputs_with(graph, rows, node) > u32::from(limits.outputs),
         PairItem::C => !terms.convex_with(rows, node),
         PairItem::B | PairItem::I | PairItem::X | PairItem::M | PairItem::G | PairItem::F => false,
+    }
+}
+
+/// What the bound of a set falls by at least where the next node is in it: where it is one more output beside others, a
+/// read less a no-op.
+pub fn cost_with(graph: &Graph, rows: &GraphRows, terms: &PrefixTerms, node: u8) -> u32
+    requires rows { AreRowsOf graph.now rows.now }
+    requires next { (prefix : Prefix) × (delays : List ℕ) × cut.Represents graph.now prefix terms.now delays
+        × IsTrue (is_next graph.now prefix node) }
+    ensures { (prefix : Prefix) (delays : List ℕ) → cut.Represents graph.now prefix terms.now delays
+        → IsTrue (is_next graph.now prefix node)
+        → cuts.bound graph.now (true ∷ prefix) ≤ℤ (cuts.bound graph.now prefix -ℤ pos result) }
+{
+    // Its contract tells that a no-op costs no more than a read.
+    let _nodes = graph.nodes();
+    if terms.outputs > 0 && terms.outputs_with(graph, rows, node) > terms.outputs {
+        graph.read() - graph.pad()
+    } else {
+        0
     }
 }
 

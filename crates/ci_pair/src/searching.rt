@@ -1,17 +1,21 @@
 //! The search for pairs.
-ghost use Rattle.std.specs.Prelude.{◌≡◌, suc, ◌≤◌, [], pos, MatchOption, None};
+ghost use Rattle.std.specs.Prelude.{◌≡◌, suc, ◌≤◌, [], ◌∷◌, pos, MatchOption, None};
 ghost use Rattle.ci_region.specs.BoundedMap.{used};
 ghost use Rattle.ci_cut.specs.Representation.{AreRowsOf};
 ghost use Rattle.ci_pair.specs.Answered.{IsPairSearchBy};
-ghost use Rattle.ci_pair.specs.Pairs.{First, Second};
-ghost use Rattle.ci_pair.specs.Prefixes.{PairPrefix};
+ghost use Rattle.ci_pair.specs.Pairs.{First, Second, Out};
+ghost use Rattle.ci_pair.specs.Prefixes.{PairPrefix, IsMirrored};
 ghost use Rattle.ci_pair.specs.private.States.{AreKeptFrom};
 ghost use Rattle.ci_pair.specs.private.Judged.{IsMeasured};
+ghost use Rattle.ci_pair.specs.PairSets.{given};
+ghost use Rattle.ci_pair.specs.private.Searched.{IsPruning, IsUnclosed};
 ghost use Rattle.ci_pair.specs.private.SearchTrees.{IsReady, IsReadyFor, IsSearched, IsSearchOf, IsSearchWith};
 ghost use Rattle.ci_pair.specs.private.SearchTrees.{IsGivenUp, answer_of};
 
 use crate::flattening::{PairChild, PairNode};
-use crate::leaves::{improved, pruning_first, pruning_item, pruning_second};
+use crate::leaves::{
+    improved, pruning_first, pruning_item, pruning_left, pruning_out, pruning_second,
+};
 use crate::log::PairItem;
 use crate::pair::Pair;
 use crate::rules::PairIncumbent;
@@ -45,7 +49,8 @@ pub enum PairFound {
 /// Searches for the best pair, and writes a log into the region.
 ///
 /// Slots that were live hold what they held, and the others that are live then are those of the tree. After `Spent`
-/// there are none of these. As many free slots as a graph has ways to label its eligible nodes are always enough.
+/// there are none of these. As many free slots as a graph has ways to label its eligible nodes are always enough. It
+/// takes no memory.
 pub fn search_pair(graph: &Graph, limits: &Limits, region: &mut Region<PairNode>) -> PairFound
     ensures { IsPairSearchBy graph.now limits.now region.old region.new result }
 {
@@ -116,28 +121,49 @@ fn search_from(
     ensures searched { (prefix : PairPrefix) → IsReady graph.now limits.now terms.old delays.old best.old prefix
         → IsSearchOf graph.now limits.now prefix best.old best.new region.old region.new result }
 {
+    if let Some(item) = pruning_item(graph, rows, limits, best, terms) {
+        return Some(PairChild::Leaf(item));
+    }
+    search_unpruned(graph, rows, limits, region, terms, delays, best)
+}
+
+/// The same where no item prunes the prefix.
+#[cycle(search)]
+fn search_unpruned(
+    graph: &Graph,
+    rows: &GraphRows,
+    limits: &Limits,
+    region: &mut Region<PairNode>,
+    terms: &mut PairTerms,
+    delays: &mut PairDelays,
+    best: &mut PairIncumbent,
+) -> Option<PairChild>
+    requires rows { AreRowsOf graph.now rows.now }
+    requires measured { IsMeasured graph.now limits.now best.old }
+    requires ready { (prefix : PairPrefix) × IsReady graph.now limits.now terms.old delays.old best.old prefix
+        × IsPruning graph.now limits.now (given best.old.pair) prefix None }
+    requires within { used region.old ≤ region.old.capacity }
+    ensures kept { AreKeptFrom terms.old.first.place delays.old delays.new }
+    ensures searched { (prefix : PairPrefix) → IsReady graph.now limits.now terms.old delays.old best.old prefix
+        → IsPruning graph.now limits.now (given best.old.pair) prefix None
+        → IsSearchOf graph.now limits.now prefix best.old best.new region.old region.new result }
+{
     let Some(node) = terms.next(graph, rows) else {
         let better = improved(graph, limits, best, terms);
         *best = better;
         return Some(PairChild::Leaf(PairItem::F));
     };
-    if let Some(item) = pruning_item(graph, rows, limits, best, terms) {
-        return Some(PairChild::Leaf(item));
-    }
     let first = search_first(graph, rows, limits, region, terms, delays, best, node)?;
     let later = search_second(graph, rows, limits, region, terms, delays, best, node);
     let second = beside(region, &first, later)?;
-    terms.leave_out(graph, node);
-    let last = search_from(graph, rows, limits, region, terms, delays, best);
+    let last = search_out(graph, rows, limits, region, terms, delays, best, node);
     let behind = beside(region, &second, last);
     let out = beside(region, &first, behind)?;
     branch(region, first, second, out)
 }
 
 /// Searches among the pairs that go on from where the next node is in the first set.
-// A frame of its own holds its terms.
 #[cycle(search)]
-#[inline(never)]
 fn search_first(
     graph: &Graph,
     rows: &GraphRows,
@@ -157,16 +183,42 @@ fn search_first(
     ensures searched { IsSearchWith graph.now limits.now First terms.now delays.old node best.old best.new
         region.old region.new result }
 {
-    if let Some(item) = pruning_first(graph, rows, limits, terms, node) {
+    if let Some(item) = pruning_first(graph, rows, limits, best, terms, node) {
         return Some(PairChild::Leaf(item));
     }
-    let mut with_node = terms.in_first(graph, rows, delays, node);
+    search_with_first(graph, rows, limits, region, terms, delays, best, node)
+}
+
+/// The same with the terms of the prefix that has the node there.
+// A frame of its own holds them, since few prefixes need them.
+#[cycle(search)]
+#[inline(never)]
+fn search_with_first(
+    graph: &Graph,
+    rows: &GraphRows,
+    limits: &Limits,
+    region: &mut Region<PairNode>,
+    terms: &PairTerms,
+    delays: &mut PairDelays,
+    best: &mut PairIncumbent,
+    node: u8,
+) -> Option<PairChild>
+    requires rows { AreRowsOf graph.now rows.now }
+    requires measured { IsMeasured graph.now limits.now best.old }
+    requires ready { (prefix : PairPrefix)
+        × IsReadyFor graph.now limits.now First terms.now delays.old best.old node prefix }
+    requires within { used region.old ≤ region.old.capacity }
+    ensures kept { AreKeptFrom (suc node) delays.old delays.new }
+    ensures searched { IsSearchWith graph.now limits.now First terms.now delays.old node best.old best.new
+        region.old region.new result }
+{
+    let mut with_node = *terms;
+    with_node.put_in_first(graph, rows, delays, node);
     search_from(graph, rows, limits, region, &mut with_node, delays, best)
 }
 
 /// Searches among the pairs that go on from where the next node is in the second set.
 #[cycle(search)]
-#[inline(never)]
 fn search_second(
     graph: &Graph,
     rows: &GraphRows,
@@ -186,9 +238,72 @@ fn search_second(
     ensures searched { IsSearchWith graph.now limits.now Second terms.now delays.old node best.old best.new
         region.old region.new result }
 {
-    if let Some(item) = pruning_second(graph, rows, limits, terms, node) {
+    if let Some(item) = pruning_second(graph, rows, limits, best, terms, node) {
         return Some(PairChild::Leaf(item));
     }
-    let mut with_node = terms.in_second(graph, rows, delays, node);
+    search_with_second(graph, rows, limits, region, terms, delays, best, node)
+}
+
+/// The same with the terms of the prefix that has the node there.
+#[cycle(search)]
+#[inline(never)]
+fn search_with_second(
+    graph: &Graph,
+    rows: &GraphRows,
+    limits: &Limits,
+    region: &mut Region<PairNode>,
+    terms: &PairTerms,
+    delays: &mut PairDelays,
+    best: &mut PairIncumbent,
+    node: u8,
+) -> Option<PairChild>
+    requires rows { AreRowsOf graph.now rows.now }
+    requires measured { IsMeasured graph.now limits.now best.old }
+    requires ready { (prefix : PairPrefix)
+        × IsReadyFor graph.now limits.now Second terms.now delays.old best.old node prefix
+        × (¬ IsMirrored graph.now (Second ∷ prefix)) }
+    requires within { used region.old ≤ region.old.capacity }
+    ensures kept { AreKeptFrom (suc node) delays.old delays.new }
+    ensures searched { (prefix : PairPrefix)
+        → IsReadyFor graph.now limits.now Second terms.now delays.old best.old node prefix
+        → ¬ IsMirrored graph.now (Second ∷ prefix)
+        → IsSearchOf graph.now limits.now (Second ∷ prefix) best.old best.new region.old region.new result }
+{
+    let mut with_node = *terms;
+    with_node.put_in_second(graph, rows, delays, node);
     search_from(graph, rows, limits, region, &mut with_node, delays, best)
+}
+
+/// Searches among the pairs that go on from where the next node is in none.
+#[cycle(search)]
+fn search_out(
+    graph: &Graph,
+    rows: &GraphRows,
+    limits: &Limits,
+    region: &mut Region<PairNode>,
+    terms: &mut PairTerms,
+    delays: &mut PairDelays,
+    best: &mut PairIncumbent,
+    node: u8,
+) -> Option<PairChild>
+    requires rows { AreRowsOf graph.now rows.now }
+    requires measured { IsMeasured graph.now limits.now best.old }
+    requires ready { (prefix : PairPrefix)
+        × IsReadyFor graph.now limits.now Out terms.old delays.old best.old node prefix
+        × IsUnclosed graph.now limits.now prefix }
+    requires within { used region.old ≤ region.old.capacity }
+    ensures kept { AreKeptFrom (suc node) delays.old delays.new }
+    ensures searched { (prefix : PairPrefix)
+        → IsReadyFor graph.now limits.now Out terms.old delays.old best.old node prefix
+        → IsUnclosed graph.now limits.now prefix
+        → IsSearchOf graph.now limits.now (Out ∷ prefix) best.old best.new region.old region.new result }
+{
+    if let Some(item) = pruning_out(graph, limits, best, terms, node) {
+        return Some(PairChild::Leaf(item));
+    }
+    terms.leave_out(graph, node);
+    if let Some(item) = pruning_left(graph, rows, limits, best, terms) {
+        return Some(PairChild::Leaf(item));
+    }
+    search_unpruned(graph, rows, limits, region, terms, delays, best)
 }

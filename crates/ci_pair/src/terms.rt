@@ -60,15 +60,30 @@ impl PairTerms {
         self.first.bound(graph) + self.second.bound(graph) - self.shared
     }
 
+    /// What a pair that goes on from the prefix gains at most, less a cost.
+    pub fn bound_less(&self, graph: &Graph, cost: u32) -> i64
+        requires { RepresentsSome graph.now self.now }
+        ensures { (prefix : PairPrefix) (delays : PairDelays) → Represents graph.now prefix self.now delays
+            → result ≡ bound graph.now prefix -ℤ pos cost }
+    {
+        // These tell how great the numbers of the bound may be.
+        let _read = graph.read();
+        let _pad = graph.pad();
+        let _first = self.first.longest;
+        let _second = self.second.longest;
+        self.bound(graph) - i64::from(cost)
+    }
+
     /// Whether walks lead both ways between the sets.
     pub fn is_crossing(&self) -> bool
         ensures { (graph : FlowGraph) (prefix : PairPrefix) (delays : PairDelays)
             → Represents graph prefix self.now delays
             → IsTrue result ↔ IsCrossing graph prefix }
     {
-        let there = self.first.taken.meets(&self.second.reaching);
-        let back = self.second.taken.meets(&self.first.reaching);
-        there & back
+        if !self.first.taken.meets(&self.second.reaching) {
+            return false;
+        }
+        self.second.taken.meets(&self.first.reaching)
     }
 
     /// Whether the second set has the greatest node of both.
@@ -102,59 +117,47 @@ impl PairTerms {
     }
 
     /// The next node is in the first set.
-    pub fn in_first(
-        &self,
+    pub fn put_in_first(
+        &mut self,
         graph: &Graph,
         rows: &GraphRows,
         delays: &mut PairDelays,
         node: u8,
-    ) -> PairTerms
+    )
         requires rows { AreRowsOf graph.now rows.now }
-        requires next { (prefix : PairPrefix) × Represents graph.now prefix self.now delays.old
+        requires next { (prefix : PairPrefix) × Represents graph.now prefix self.old delays.old
             × IsTrue (cuts.is_next graph.now (choices First prefix) node) }
-        ensures place { result.first.place ≡ node }
-        ensures represents { (prefix : PairPrefix) → Represents graph.now prefix self.now delays.old
+        ensures place { self.new.first.place ≡ node }
+        ensures represents { (prefix : PairPrefix) → Represents graph.now prefix self.old delays.old
             → IsTrue (cuts.is_next graph.now (choices First prefix) node)
-            → Represents graph.now (First ∷ prefix) result delays.new }
+            → Represents graph.now (First ∷ prefix) self.new delays.new }
         ensures kept { AreKeptFrom (suc node) delays.old delays.new }
     {
-        let shared = self.shared_without(graph, node);
-        let first = self.first.take_in(graph, rows, &mut delays.first, node);
-        let mut second = self.second;
-        second.leave_out(graph, node);
-        PairTerms {
-            first,
-            second,
-            shared,
-        }
+        self.shared = self.shared_without(graph, node);
+        self.first = self.first.take_in(graph, rows, &mut delays.first, node);
+        self.second.leave_out(graph, node);
     }
 
     /// The next node is in the second set.
-    pub fn in_second(
-        &self,
+    pub fn put_in_second(
+        &mut self,
         graph: &Graph,
         rows: &GraphRows,
         delays: &mut PairDelays,
         node: u8,
-    ) -> PairTerms
+    )
         requires rows { AreRowsOf graph.now rows.now }
-        requires next { (prefix : PairPrefix) × Represents graph.now prefix self.now delays.old
+        requires next { (prefix : PairPrefix) × Represents graph.now prefix self.old delays.old
             × IsTrue (cuts.is_next graph.now (choices First prefix) node) }
-        ensures place { result.first.place ≡ node }
-        ensures represents { (prefix : PairPrefix) → Represents graph.now prefix self.now delays.old
+        ensures place { self.new.first.place ≡ node }
+        ensures represents { (prefix : PairPrefix) → Represents graph.now prefix self.old delays.old
             → IsTrue (cuts.is_next graph.now (choices First prefix) node)
-            → Represents graph.now (Second ∷ prefix) result delays.new }
+            → Represents graph.now (Second ∷ prefix) self.new delays.new }
         ensures kept { AreKeptFrom (suc node) delays.old delays.new }
     {
-        let shared = self.shared_without(graph, node);
-        let mut first = self.first;
-        first.leave_out(graph, node);
-        let second = self.second.take_in(graph, rows, &mut delays.second, node);
-        PairTerms {
-            first,
-            second,
-            shared,
-        }
+        self.shared = self.shared_without(graph, node);
+        self.second = self.second.take_in(graph, rows, &mut delays.second, node);
+        self.first.leave_out(graph, node);
     }
 
     /// The next node is in none.

@@ -1,4 +1,5 @@
 -- For private contracts: what the code holds of the best pair and of a log.
+use Rattle.std.specs.Prelude.{ℤ, ◌<ℤ◌}
 use Rattle.std.specs.Prelude.{◌≡◌, ℕ, ◌+◌, ◌<◌, ◌⊎◌, List, ◌∷◌, ◌++◌, drop, length, Option, None, Some, Result, Ok, Err}
 use Rattle.std.specs.Prelude.{IsTrue}
 use Rattle.std.specs.List.{AllByRecursion}
@@ -20,7 +21,7 @@ use Rattle.ci_pair.specs.Pairs.{Label, First}
 use Rattle.ci_pair.specs.Prefixes.{PairPrefix, choices}
 use Rattle.ci_pair.specs.private.States.{Represents}
 use Rattle.ci_pair.specs.PairSets.{given}
-use Rattle.ci_pair.specs.Rules.{Given, best_gain, IsGood, Station, stations, IsRightAt, IsFirstWrongIn}
+use Rattle.ci_pair.specs.Rules.{Given, best_gain, IsAfterBest, IsGood, Station, stations, IsRightAt, IsFirstWrongIn}
 
 -- a good best pair, or none, with its gain
 pub record IsMeasured (graph : FlowGraph) (limits : Limits) (best : PairIncumbent) : Type 0 where
@@ -48,6 +49,11 @@ IsJudgedWith graph limits best label terms delays node items place result =
     (prefix : PairPrefix) (one rest : List PairItem) (tree : IsTree one) → Represents graph prefix terms delays
     → IsTrue (is_next graph (choices First prefix) node) → drop place items ≡ one ++ rest
     → IsJudged graph limits (given best.pair) (stations tree (label ∷ prefix)) place result
+
+-- a bound of the pairs that go on from a prefix is too small for a better pair
+abbrev pub IsTooLittle : FlowGraph → Given → PairPrefix → ℤ → Type 0
+IsTooLittle graph best prefix bound =
+    (bound <ℤ best_gain graph best) ⊎ ((bound ≡ best_gain graph best) × IsAfterBest graph best prefix)
 
 -- one set alone shows that the item is right, where these are its choices
 abbrev pub IsClosedBy : FlowGraph → Limits → Prefix → PairItem → Type 0

@@ -31,6 +31,12 @@ abbrev pub IsPruning : FlowGraph → Limits → Given → PairPrefix → Option 
 IsPruning graph limits best prefix None = (item : PairItem) → Prunes item → ¬ IsRight graph limits best prefix item
 IsPruning graph limits best prefix (Some item) = Prunes item × IsRight graph limits best prefix item
 
+-- what is labelled so is within the outputs and convex in each set, and walks lead one way at most
+pub record IsUnclosed (graph : FlowGraph) (limits : Limits) (prefix : PairPrefix) : Type 0 where
+  pub outputs : ¬ IsRight graph limits None prefix O
+  pub convex : ¬ IsRight graph limits None prefix C
+  pub one_way : ¬ IsRight graph limits None prefix X
+
 -- this is the best pair so far, or a later one that gains more
 abbrev pub IsLater : FlowGraph → PairIncumbent → Given → Type 0
 IsLater graph best later = (later ≡ given best.pair) ⊎ (best.gain <ℤ best_gain graph later)

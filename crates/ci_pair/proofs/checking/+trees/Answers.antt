@@ -10,7 +10,7 @@ use Rattle.ci_pair.specs.Prefixes.{PairPrefix, choices}
 use Rattle.ci_pair.specs.Trees.{IsTree}
 use Rattle.ci_pair.specs.PairSets.{given}
 use Rattle.ci_pair.specs.private.States.{Represents, AreKeptFrom}
-use Rattle.ci_pair.specs.private.Judged.{IsTreeAt, IsJudged}
+use Rattle.ci_pair.specs.private.Judged.{IsJudged}
 use Rattle.ci_pair.specs.Rules.{IsRight, stations}
 use Rattle.ci_pair.proofs.PrefixLaws.{length-choices}
 use Rattle.ci_pair.proofs.TreeWalk.{kept_on, kept_above, pairs_kept, tree_within, first_item, wrong_here, right_alone, SubTrees, sub_trees, behind_tree}
@@ -30,7 +30,7 @@ pub check_first-returns-then-is_right_first-clause-judged : goal.check_first-ret
 check_first-returns-then-is_right_first-clause-judged t c prefix one rest tree represents next splits =
     let items = c.args.items.now in
     let best = given c.args.best.now.pair in
-    let right = c.is_right_first.ensures best prefix c.args.delays.now represents next c.if-is_right_first.true in
+    let right = c.is_right_first.ensures prefix c.args.delays.now represents next c.if-is_right_first.true in
     let judged = right_alone c.args.graph.now c.args.limits.now best tree (First ∷ prefix)
     (get_or items c.args.place B) (drop (c.args.place + 1) items) rest (length c.args.graph.now.nodes)
     (first_item items one rest c.args.place (tree_within items c.args.place c.requires.tree) splits) right.1 (inl right.0) (λ none. omega (arith, none)) in
@@ -39,16 +39,16 @@ check_first-returns-then-is_right_first-clause-judged t c prefix one rest tree r
 pub check_first-check_tree-requires : goal.check_first-check_tree-requires
 check_first-check_tree-requires t c =
     let next = c.requires.next in (
-      omega (arith, c.in_first-with_node.ensures.place),
+      omega (arith, c.put_in_first.ensures.place),
       (
         c.requires.rows,
-        ((First ∷ next.0, c.in_first-with_node.ensures.represents next.0 next.1 next.2), (c.requires.measured, (c.requires.few, c.requires.tree))),
+        ((First ∷ next.0, c.put_in_first.ensures.represents next.0 next.1 next.2), (c.requires.measured, (c.requires.few, c.requires.tree))),
       ),
     )
 
 pub check_first-returns-clause-judged : goal.check_first-returns-clause-judged
 check_first-returns-clause-judged t c prefix one rest tree represents next =
-    c.check_tree.ensures.judged (First ∷ prefix) one rest tree (c.in_first-with_node.ensures.represents prefix represents next)
+    c.check_tree.ensures.judged (First ∷ prefix) one rest tree (c.put_in_first.ensures.represents prefix represents next)
 
 -- ---- in the second
 
@@ -62,7 +62,7 @@ pub check_second-returns-then-is_right_second-clause-judged : goal.check_second-
 check_second-returns-then-is_right_second-clause-judged t c prefix one rest tree represents next splits =
     let items = c.args.items.now in
     let best = given c.args.best.now.pair in
-    let right = c.is_right_second.ensures best prefix c.args.delays.now represents next c.if-is_right_second.true in
+    let right = c.is_right_second.ensures prefix c.args.delays.now represents next c.if-is_right_second.true in
     let judged = right_alone c.args.graph.now c.args.limits.now best tree (Second ∷ prefix)
     (get_or items c.args.place B) (drop (c.args.place + 1) items) rest (length c.args.graph.now.nodes)
     (first_item items one rest c.args.place (tree_within items c.args.place c.requires.tree) splits) right.1 (inl right.0) (λ none. omega (arith, none)) in
@@ -71,16 +71,16 @@ check_second-returns-then-is_right_second-clause-judged t c prefix one rest tree
 pub check_second-check_tree-requires : goal.check_second-check_tree-requires
 check_second-check_tree-requires t c =
     let next = c.requires.next in (
-      omega (arith, c.in_second-with_node.ensures.place),
+      omega (arith, c.put_in_second.ensures.place),
       (
         c.requires.rows,
-        ((Second ∷ next.0, c.in_second-with_node.ensures.represents next.0 next.1 next.2), (c.requires.measured, (c.requires.few, c.requires.tree))),
+        ((Second ∷ next.0, c.put_in_second.ensures.represents next.0 next.1 next.2), (c.requires.measured, (c.requires.few, c.requires.tree))),
       ),
     )
 
 pub check_second-returns-clause-judged : goal.check_second-returns-clause-judged
 check_second-returns-clause-judged t c prefix one rest tree represents next =
-    c.check_tree.ensures.judged (Second ∷ prefix) one rest tree (c.in_second-with_node.ensures.represents prefix represents next)
+    c.check_tree.ensures.judged (Second ∷ prefix) one rest tree (c.put_in_second.ensures.represents prefix represents next)
 
 -- ---- an item
 

@@ -4,7 +4,7 @@ use Rattle.std.specs.FinSet as set
 use Rattle.ci_cut.proofs.SetLaws.{fewer_left}
 use Rattle.ci_pair.specs.Pairs.{label, rank}
 use Rattle.ci_pair.specs.PairSets.{sets}
-use Rattle.ci_pair.proofs.OrderLaws.{none_before, one_more, before_here, here_before, same_but}
+use Rattle.ci_pair.proofs.OrderLaws.{none_before, before_here, here_before, same_but}
 use Rattle.ci_pair.proofs.pair.comes_before.Goals as goal
 use Rattle.ci_pair.proofs.pair.comes_before.Goals.{In-Some}
 

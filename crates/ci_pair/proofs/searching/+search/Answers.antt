@@ -1,4 +1,4 @@
-use Rattle.std.proofs.Common.{◌≡◌, ℕ, suc, ◌<◌, ◌∷◌, length, IsTrue, Option, MatchOption, None, refl, sym, ◌∙◌, subst, arith}
+use Rattle.std.proofs.Common.{ℕ, suc, ◌<◌, ◌∷◌, length, IsTrue, Option, MatchOption, None, refl, sym, ◌∙◌, subst, arith}
 use Rattle.ci_region.specs.BoundedMap.{BoundedMap}
 use Rattle.ci_cut.specs.Prefixes as cuts
 use Rattle.ci_cut.proofs.Represented.{next_from_below, all_decided, some_undecided}
@@ -9,28 +9,30 @@ use Rattle.ci_pair.specs.Prefixes.{PairPrefix, choices, IsOpen}
 use Rattle.ci_pair.specs.PairSets.{given}
 use Rattle.ci_pair.specs.RegionTrees.{LiesIn}
 use Rattle.ci_pair.specs.private.States.{Represents, AreKeptFrom}
+use Rattle.ci_pair.specs.declared.log.PairItem.TheVariants.{O, C, X}
+use Rattle.ci_pair.specs.private.Searched.{IsPruning, IsUnclosed}
 use Rattle.ci_pair.specs.private.SearchTrees.{IsReady, IsReadyFor, IsSearched, IsSearchOf}
 use Rattle.ci_pair.proofs.PrefixLaws.{length-choices}
 use Rattle.ci_pair.proofs.TreeWalk.{kept_on, kept_above, pairs_kept}
-use Rattle.ci_pair.proofs.ClosedLaws.{not_mirrored_by}
+use Rattle.ci_pair.proofs.ClosedLaws.{not_mirrored_by, unclosed_out}
 use Rattle.ci_pair.proofs.LogLaws.{open_unless_pruned}
 use Rattle.ci_pair.proofs.SearchLaws.{searched_whole, searched_bar, ready_first, ready_second, ready_out, spent_first, found_second, found_out, found_here, searched_branch, still_lies, given_back_before, if_none, if_some, match_as, match_both}
 use Rattle.ci_pair.proofs.searching.+search.Goals as goal
-use Rattle.ci_pair.proofs.searching.+search.Goals.{search_from-In-Some, search_from-In_ok-first, search_from-In_ok-second, search_from-In_ok-out, search_from-After-search_from-last}
+use Rattle.ci_pair.proofs.searching.+search.Goals.{search_unpruned-In-Some, search_unpruned-In_ok-first, search_unpruned-In_ok-second, search_unpruned-In_ok-out, search_unpruned-After-search_out-last}
 
 -- ---- a label for the next node
 
 pub search_first-returns-in-Some-clause-searched : goal.search_first-returns-in-Some-clause-searched
 search_first-returns-in-Some-clause-searched t c prefix ready =
-    let found = c.in-Some.ensures (given c.args.best.now.pair) prefix c.args.delays.now ready.represents ready.next in
+    let found = c.in-Some.ensures prefix c.args.delays.now ready.represents ready.next ready.after_best in
     searched_bar c.args.graph.now ready.represents.first.kept c.args.limits.now (First ∷ prefix) c.args.best.now c.requires.measured
     ready.after_best ready.reached c.args.region.now c.requires.within c.in-Some.item found.0 found.1
 
-pub search_first-search_from-requires : goal.search_first-search_from-requires
-search_first-search_from-requires t c =
+pub search_with_first-search_from-requires : goal.search_with_first-search_from-requires
+search_with_first-search_from-requires t c =
     let prefix = c.requires.ready.0 in
     let ready = c.requires.ready.1 in (
-      omega (arith, c.in_first-with_node.ensures.place),
+      omega (arith, c.put_in_first.ensures.place),
       (
         c.requires.rows,
         (
@@ -39,7 +41,7 @@ search_first-search_from-requires t c =
             (
               First ∷ prefix,
               record {
-                represents = c.in_first-with_node.ensures.represents prefix ready.represents ready.next;
+                represents = c.put_in_first.ensures.represents prefix ready.represents ready.next;
                 not_mirrored = not_mirrored_by c.args.graph.now prefix ready.not_mirrored First refl;
                 after_best = ready.after_best;
                 reached = ready.reached;
@@ -51,10 +53,10 @@ search_first-search_from-requires t c =
       ),
     )
 
-pub search_first-returns-clause-searched : goal.search_first-returns-clause-searched
-search_first-returns-clause-searched t c prefix ready =
+pub search_with_first-returns-clause-searched : goal.search_with_first-returns-clause-searched
+search_with_first-returns-clause-searched t c prefix ready =
     c.search_from.ensures.searched (First ∷ prefix) (record {
-      represents = c.in_first-with_node.ensures.represents prefix ready.represents ready.next;
+      represents = c.put_in_first.ensures.represents prefix ready.represents ready.next;
       not_mirrored = not_mirrored_by c.args.graph.now prefix ready.not_mirrored First refl;
       after_best = ready.after_best;
       reached = ready.reached;
@@ -62,15 +64,41 @@ search_first-returns-clause-searched t c prefix ready =
 
 pub search_second-returns-in-Some-clause-searched : goal.search_second-returns-in-Some-clause-searched
 search_second-returns-in-Some-clause-searched t c prefix ready =
-    let found = c.in-Some.ensures (given c.args.best.now.pair) prefix c.args.delays.now ready.represents ready.next ready.not_mirrored in
+    let found = c.in-Some.ensures prefix c.args.delays.now ready.represents ready.next ready.not_mirrored ready.after_best in
     searched_bar c.args.graph.now ready.represents.first.kept c.args.limits.now (Second ∷ prefix) c.args.best.now c.requires.measured
     ready.after_best ready.reached c.args.region.now c.requires.within c.in-Some.item found.0 found.1
 
-pub search_second-search_from-requires : goal.search_second-search_from-requires
-search_second-search_from-requires t c =
+pub search_second-search_with_second-requires : goal.search_second-search_with_second-requires
+search_second-search_with_second-requires t c =
     let prefix = c.requires.ready.0 in
     let ready = c.requires.ready.1 in (
-      omega (arith, c.in_second-with_node.ensures.place),
+      omega arith,
+      (
+        c.requires.rows,
+        (
+          c.requires.measured,
+          (
+            (
+              prefix,
+              ready,
+              c.in_default.ensures prefix c.args.delays.now ready.represents ready.next ready.not_mirrored ready.after_best,
+            ),
+            c.requires.within,
+          ),
+        ),
+      ),
+    )
+
+pub search_second-returns-clause-searched : goal.search_second-returns-clause-searched
+search_second-returns-clause-searched t c prefix ready =
+    c.search_with_second.ensures.searched prefix ready
+    (c.in_default.ensures prefix c.args.delays.now ready.represents ready.next ready.not_mirrored ready.after_best)
+
+pub search_with_second-search_from-requires : goal.search_with_second-search_from-requires
+search_with_second-search_from-requires t c =
+    let prefix = c.requires.ready.0 in
+    let ready = c.requires.ready.1 in (
+      omega (arith, c.put_in_second.ensures.place),
       (
         c.requires.rows,
         (
@@ -79,8 +107,8 @@ search_second-search_from-requires t c =
             (
               Second ∷ prefix,
               record {
-                represents = c.in_second-with_node.ensures.represents prefix ready.represents ready.next;
-                not_mirrored = c.in_default.ensures (given c.args.best.now.pair) prefix c.args.delays.now ready.represents ready.next ready.not_mirrored;
+                represents = c.put_in_second.ensures.represents prefix ready.represents ready.next;
+                not_mirrored = c.requires.ready.2;
                 after_best = ready.after_best;
                 reached = ready.reached;
               },
@@ -91,58 +119,140 @@ search_second-search_from-requires t c =
       ),
     )
 
-pub search_second-returns-clause-searched : goal.search_second-returns-clause-searched
-search_second-returns-clause-searched t c prefix ready =
+pub search_with_second-returns-clause-searched : goal.search_with_second-returns-clause-searched
+search_with_second-returns-clause-searched t c prefix ready not_mirrored =
     c.search_from.ensures.searched (Second ∷ prefix) (record {
-      represents = c.in_second-with_node.ensures.represents prefix ready.represents ready.next;
-      not_mirrored = c.in_default.ensures (given c.args.best.now.pair) prefix c.args.delays.now ready.represents ready.next ready.not_mirrored;
+      represents = c.put_in_second.ensures.represents prefix ready.represents ready.next;
+      not_mirrored = not_mirrored;
       after_best = ready.after_best;
       reached = ready.reached;
     })
 
--- ---- leaves
+pub search_out-returns-in-Some-clause-searched : goal.search_out-returns-in-Some-clause-searched
+search_out-returns-in-Some-clause-searched t c prefix ready unclosed =
+    let found = c.in-Some.ensures prefix c.args.delays.now ready.represents ready.next ready.after_best in
+    searched_bar c.args.graph.now ready.represents.first.kept c.args.limits.now (Out ∷ prefix) c.args.best.now c.requires.measured
+    ready.after_best ready.reached c.args.region.now c.requires.within c.in-Some.item found.0 found.1
 
-pub search_from-returns-in_default-clause-searched : goal.search_from-returns-in_default-clause-searched
-search_from-returns-in_default-clause-searched t c prefix ready =
+pub search_out-pruning_left-requires : goal.search_out-pruning_left-requires
+search_out-pruning_left-requires t c =
+    let prefix = c.requires.ready.0 in
+    let ready = c.requires.ready.1 in
+    record {
+      rows = c.requires.rows;
+      represents = (Out ∷ prefix, c.args.delays.now, c.leave_out.ensures.represents prefix c.args.delays.now ready.represents ready.next);
+      measured = c.requires.measured;
+    }
+
+pub search_out-returns-in-Some-pruning_left-clause-searched : goal.search_out-returns-in-Some-pruning_left-clause-searched
+search_out-returns-in-Some-pruning_left-clause-searched t c prefix ready unclosed =
+    let found = c.in-Some-pruning_left.ensures (Out ∷ prefix) c.args.delays.now
+    (c.leave_out.ensures.represents prefix c.args.delays.now ready.represents ready.next)
+    (not_mirrored_by c.args.graph.now prefix ready.not_mirrored Out refl) ready.after_best
+    (unclosed_out c.args.graph.now c.args.limits.now prefix c.args.node ready.next unclosed) in
+    searched_bar c.args.graph.now ready.represents.first.kept c.args.limits.now (Out ∷ prefix) c.args.best.now c.requires.measured
+    ready.after_best ready.reached c.args.region.now c.requires.within c.in-Some-pruning_left.item found.0 found.1
+
+pub search_out-search_unpruned-requires : goal.search_out-search_unpruned-requires
+search_out-search_unpruned-requires t c =
+    let prefix = c.requires.ready.0 in
+    let ready = c.requires.ready.1 in
+    let represents = c.leave_out.ensures.represents prefix c.args.delays.now ready.represents ready.next in
+    let not_mirrored = not_mirrored_by c.args.graph.now prefix ready.not_mirrored Out refl in (
+      omega (arith, c.leave_out.ensures.place),
+      (
+        c.requires.rows,
+        (
+          c.requires.measured,
+          (
+            (
+              Out ∷ prefix,
+              record { represents = represents; not_mirrored = not_mirrored; after_best = ready.after_best; reached = ready.reached },
+              c.in_default-pruning_left.ensures (Out ∷ prefix) c.args.delays.now represents not_mirrored ready.after_best
+                  (unclosed_out c.args.graph.now c.args.limits.now prefix c.args.node ready.next c.requires.ready.2),
+            ),
+            c.requires.within,
+          ),
+        ),
+      ),
+    )
+
+pub search_out-returns-clause-searched : goal.search_out-returns-clause-searched
+search_out-returns-clause-searched t c prefix ready unclosed =
+    let represents = c.leave_out.ensures.represents prefix c.args.delays.now ready.represents ready.next in
+    let not_mirrored = not_mirrored_by c.args.graph.now prefix ready.not_mirrored Out refl in
+    c.search_unpruned.ensures.searched (Out ∷ prefix)
+    (record { represents = represents; not_mirrored = not_mirrored; after_best = ready.after_best; reached = ready.reached })
+    (c.in_default-pruning_left.ensures (Out ∷ prefix) c.args.delays.now represents not_mirrored ready.after_best
+    (unclosed_out c.args.graph.now c.args.limits.now prefix c.args.node ready.next unclosed))
+
+-- ---- a prefix that may be pruned
+
+pub search_from-returns-in-Some-clause-searched : goal.search_from-returns-in-Some-clause-searched
+search_from-returns-in-Some-clause-searched t c prefix ready =
+    let found = c.in-Some.ensures prefix c.args.delays.now ready.represents ready.not_mirrored ready.after_best in
+    searched_bar c.args.graph.now ready.represents.first.kept c.args.limits.now prefix c.args.best.now c.requires.measured ready.after_best ready.reached c.args.region.now c.requires.within
+    c.in-Some.item found.0 found.1
+
+pub search_from-search_unpruned-requires : goal.search_from-search_unpruned-requires
+search_from-search_unpruned-requires t c =
+    let prefix = c.requires.ready.0 in
+    let ready = c.requires.ready.1 in (
+      omega arith,
+      (
+        c.requires.rows,
+        (
+          c.requires.measured,
+          (
+            (prefix, ready, c.in_default.ensures prefix c.args.delays.now ready.represents ready.not_mirrored ready.after_best),
+            c.requires.within,
+          ),
+        ),
+      ),
+    )
+
+pub search_from-returns-clause-searched : goal.search_from-returns-clause-searched
+search_from-returns-clause-searched t c prefix ready =
+    c.search_unpruned.ensures.searched prefix ready
+    (c.in_default.ensures prefix c.args.delays.now ready.represents ready.not_mirrored ready.after_best)
+
+-- ---- a prefix that nothing prunes
+
+pub search_unpruned-returns-in_default-clause-searched : goal.search_unpruned-returns-in_default-clause-searched
+search_unpruned-returns-in_default-clause-searched t c prefix ready unpruned =
     let whole = all_decided c.args.graph.now (choices First prefix) c.args.terms.now.first c.args.delays.now.first ready.represents.first c.in_default.ensures in
     let better = c.improved-better.ensures prefix c.args.delays.now ready.represents in
     searched_whole c.args.graph.now ready.represents.first.kept c.args.limits.now prefix c.args.best.now c.requires.measured ready.after_best ready.reached c.args.region.now c.requires.within
     (omega (arith, whole, length-choices First prefix)) better.0 better.1 c.improved-better.result better.2
 
-pub search_from-returns-in-Some-pruning_item-clause-searched : goal.search_from-returns-in-Some-pruning_item-clause-searched
-search_from-returns-in-Some-pruning_item-clause-searched t c prefix ready =
-    let found = c.in-Some-pruning_item.ensures prefix c.args.delays.now ready.represents ready.not_mirrored ready.after_best in
-    searched_bar c.args.graph.now ready.represents.first.kept c.args.limits.now prefix c.args.best.now c.requires.measured ready.after_best ready.reached c.args.region.now c.requires.within
-    c.in-Some-pruning_item.item found.0 found.1
-
 -- ---- the next node is in the first set
 
-abbrev At : (t : ℕ) → search_from-In-Some t → PairPrefix → Type 0
+abbrev At : (t : ℕ) → search_unpruned-In-Some t → PairPrefix → Type 0
 At t c prefix = IsReady c.args.graph.now c.args.limits.now c.args.terms.now c.args.delays.now c.args.best.now prefix
 
-next_at : (t : ℕ) (c : search_from-In-Some t) (prefix : PairPrefix) → At t c prefix → IsTrue (cuts.is_next c.args.graph.now (choices First prefix) c.in-Some.node)
+next_at : (t : ℕ) (c : search_unpruned-In-Some t) (prefix : PairPrefix) → At t c prefix → IsTrue (cuts.is_next c.args.graph.now (choices First prefix) c.in-Some.node)
 next_at t c prefix ready = next_from_below c.args.graph.now (choices First prefix) c.args.terms.now.first c.args.delays.now.first ready.represents.first c.in-Some.node c.in-Some.ensures
 
-some_at : (t : ℕ) (c : search_from-In-Some t) (prefix : PairPrefix) → At t c prefix → length prefix < cuts.eligible_nodes c.args.graph.now
+some_at : (t : ℕ) (c : search_unpruned-In-Some t) (prefix : PairPrefix) → At t c prefix → length prefix < cuts.eligible_nodes c.args.graph.now
 some_at t c prefix ready =
     omega (arith, some_undecided c.args.graph.now (choices First prefix) c.args.terms.now.first c.args.delays.now.first ready.represents.first c.in-Some.node c.in-Some.ensures, length-choices First prefix)
 
-for_first : (t : ℕ) (c : search_from-In-Some t) (prefix : PairPrefix) → At t c prefix
+for_first : (t : ℕ) (c : search_unpruned-In-Some t) (prefix : PairPrefix) → At t c prefix
     → IsReadyFor c.args.graph.now c.args.limits.now First c.args.terms.now c.args.delays.now c.args.best.now c.in-Some.node prefix
 for_first t c prefix ready =
     ready_first c.args.graph.now c.args.limits.now prefix c.args.terms.now c.args.delays.now c.args.best.now ready c.requires.measured c.args.region.now
     c.in-Some.node (next_at t c prefix ready) (some_at t c prefix ready)
 
-pub search_from-search_first-requires : goal.search_from-search_first-requires
-search_from-search_first-requires t c =
-    let s = (goal.at.search_from-search_first-requires t c).In-Some in (
+pub search_unpruned-search_first-requires : goal.search_unpruned-search_first-requires
+search_unpruned-search_first-requires t c =
+    let s = (goal.at.search_unpruned-search_first-requires t c).In-Some in (
       omega (arith, c.in-Some.ensures.below),
       (c.requires.rows, (c.requires.measured, ((c.requires.ready.0, for_first t s c.requires.ready.0 c.requires.ready.1), c.requires.within))),
     )
 
-pub search_from-returns-in_err-first-clause-searched : goal.search_from-returns-in_err-first-clause-searched
-search_from-returns-in_err-first-clause-searched t c prefix ready =
-    let s = (goal.at.search_from-returns-in_err-first-clause-searched t c).In-Some in
+pub search_unpruned-returns-in_err-first-clause-searched : goal.search_unpruned-returns-in_err-first-clause-searched
+search_unpruned-returns-in_err-first-clause-searched t c prefix ready unpruned =
+    let s = (goal.at.search_unpruned-returns-in_err-first-clause-searched t c).In-Some in
     rw c.from_residual.ensures
     (spent_first c.args.graph.now c.args.limits.now prefix c.args.terms.now c.args.delays.now c.args.best.now ready c.requires.measured c.args.region.now
     c.in-Some.node (next_at t s prefix ready) (some_at t s prefix ready) c.search_first.new.region
@@ -150,19 +260,21 @@ search_from-returns-in_err-first-clause-searched t c prefix ready =
 
 -- ---- behind the first set
 
-kept_first : (t : ℕ) (c : search_from-In_ok-first t) → AreKeptFrom c.args.terms.now.first.place c.args.delays.now c.search_first.new.delays
+kept_first : (t : ℕ) (c : search_unpruned-In_ok-first t) → AreKeptFrom c.args.terms.now.first.place c.args.delays.now c.search_first.new.delays
 kept_first t c = kept_above c.args.terms.now.first.place (suc c.in-Some.node) _ _ (omega (arith, c.in-Some.ensures.below)) c.in_ok-first.ensures.kept
 
 -- what is known there: the next node, the first tree, the same prefix with the delays of now, and that it is ready
-record One (t : ℕ) (c : search_from-In_ok-first t) (prefix : PairPrefix) (ready : IsReady c.args.graph.now c.args.limits.now c.args.terms.now c.args.delays.now c.args.best.now prefix) : Type 0 where
+record One (t : ℕ) (c : search_unpruned-In_ok-first t) (prefix : PairPrefix) (ready : IsReady c.args.graph.now c.args.limits.now c.args.terms.now c.args.delays.now c.args.best.now prefix) : Type 0 where
   next : IsTrue (cuts.is_next c.args.graph.now (choices First prefix) c.in-Some.node)
   some : length prefix < cuts.eligible_nodes c.args.graph.now
   opens : IsOpen c.args.graph.now c.args.limits.now prefix
+  unclosed : IsUnclosed c.args.graph.now c.args.limits.now prefix
   first : IsSearched c.args.graph.now c.args.limits.now (First ∷ prefix) c.args.best.now c.search_first.new.best c.args.region.now c.search_first.new.region c.in_ok-first.first
   for_second : IsReadyFor c.args.graph.now c.args.limits.now Second c.args.terms.now c.search_first.new.delays c.search_first.new.best c.in-Some.node prefix
 
-one_at : (t : ℕ) (c : search_from-In_ok-first t) (prefix : PairPrefix) (ready : IsReady c.args.graph.now c.args.limits.now c.args.terms.now c.args.delays.now c.args.best.now prefix) → One t c prefix ready
-one_at t c prefix ready =
+one_at : (t : ℕ) (c : search_unpruned-In_ok-first t) (prefix : PairPrefix) (ready : IsReady c.args.graph.now c.args.limits.now c.args.terms.now c.args.delays.now c.args.best.now prefix)
+    → IsPruning c.args.graph.now c.args.limits.now (given c.args.best.now.pair) prefix None → One t c prefix ready
+one_at t c prefix ready unpruned =
     let next = next_from_below c.args.graph.now (choices First prefix) c.args.terms.now.first c.args.delays.now.first ready.represents.first c.in-Some.node c.in-Some.ensures in
     let some : length prefix < cuts.eligible_nodes c.args.graph.now =
     omega (arith, some_undecided c.args.graph.now (choices First prefix) c.args.terms.now.first c.args.delays.now.first ready.represents.first c.in-Some.node c.in-Some.ensures, length-choices First prefix) in
@@ -172,29 +284,30 @@ one_at t c prefix ready =
       next = next;
       some = some;
       opens = open_unless_pruned c.args.graph.now ready.represents.first.kept c.args.limits.now c.args.best.now c.requires.measured prefix ready.reached ready.after_best
-          (c.in_default-pruning_item.ensures prefix c.args.delays.now ready.represents ready.not_mirrored ready.after_best);
+          unpruned;
+      unclosed = record { outputs = unpruned O tt; convex = unpruned C tt; one_way = unpruned X tt };
       first = first;
       for_second = ready_second c.args.graph.now c.args.limits.now prefix c.args.terms.now c.args.delays.now c.args.best.now ready c.requires.measured c.args.region.now
           c.in-Some.node next some c.search_first.new.region c.search_first.new.best c.in_ok-first.first first c.search_first.new.delays
           (pairs_kept c.args.graph.now prefix c.args.terms.now c.args.delays.now c.search_first.new.delays ready.represents (kept_first t c));
     }
 
-pub search_from-search_second-later-requires : goal.search_from-search_second-later-requires
-search_from-search_second-later-requires t c =
-    let o = one_at t (goal.at.search_from-search_second-later-requires t c).In_ok-first c.requires.ready.0 c.requires.ready.1 in (
+pub search_unpruned-search_second-later-requires : goal.search_unpruned-search_second-later-requires
+search_unpruned-search_second-later-requires t c =
+    let o = one_at t (goal.at.search_unpruned-search_second-later-requires t c).In_ok-first c.requires.ready.0 c.requires.ready.1 c.requires.ready.2 in (
       omega (arith, c.in-Some.ensures.below),
       (c.requires.rows, (o.first.logged.measured, ((c.requires.ready.0, o.for_second), o.first.within))),
     )
 
-pub search_from-beside-requires : goal.search_from-beside-requires
-search_from-beside-requires t c =
-    let o = one_at t (goal.at.search_from-beside-requires t c).In_ok-first c.requires.ready.0 c.requires.ready.1 in
+pub search_unpruned-beside-requires : goal.search_unpruned-beside-requires
+search_unpruned-beside-requires t c =
+    let o = one_at t (goal.at.search_unpruned-beside-requires t c).In_ok-first c.requires.ready.0 c.requires.ready.1 c.requires.ready.2 in
     match_as c.search_second-later.result (λ spent. still_lies o.first c.search_second-later.new.region spent.0) (λ _ _. tt)
     (c.search_second-later.ensures.searched c.requires.ready.0 o.for_second)
 
-pub search_from-returns-in_err-second-clause-searched : goal.search_from-returns-in_err-second-clause-searched
-search_from-returns-in_err-second-clause-searched t c prefix ready =
-    let o = one_at t (goal.at.search_from-returns-in_err-second-clause-searched t c).In_ok-first prefix ready in
+pub search_unpruned-returns-in_err-second-clause-searched : goal.search_unpruned-returns-in_err-second-clause-searched
+search_unpruned-returns-in_err-second-clause-searched t c prefix ready unpruned =
+    let o = one_at t (goal.at.search_unpruned-returns-in_err-second-clause-searched t c).In_ok-first prefix ready unpruned in
     let none = sym c.in_err-second.ensures.same in
     let spent = if_none c.search_second-later.result _ _ none (c.search_second-later.ensures.searched prefix o.for_second) in
     rw c.from_residual-in_err-second.ensures (
@@ -206,17 +319,17 @@ search_from-returns-in_err-second-clause-searched t c prefix ready =
 
 -- ---- behind the second set
 
-kept_second : (t : ℕ) (c : search_from-In_ok-second t) → AreKeptFrom c.args.terms.now.first.place c.args.delays.now c.search_second-later.new.delays
+kept_second : (t : ℕ) (c : search_unpruned-In_ok-second t) → AreKeptFrom c.args.terms.now.first.place c.args.delays.now c.search_second-later.new.delays
 kept_second t c =
     kept_on c.args.terms.now.first.place (suc c.in-Some.node) (suc c.in-Some.node) _ _ _
     (omega (arith, c.in-Some.ensures.below)) (omega (arith, c.in-Some.ensures.below))
     c.in_ok-first.ensures.kept c.search_second-later.ensures.kept
 
-record Two (t : ℕ) (c : search_from-In_ok-second t) (prefix : PairPrefix) : Type 0 where
+record Two (t : ℕ) (c : search_unpruned-In_ok-second t) (prefix : PairPrefix) : Type 0 where
   second : IsSearched c.args.graph.now c.args.limits.now (Second ∷ prefix) c.search_first.new.best c.search_second-later.new.best c.search_first.new.region c.beside.new.region c.in_ok-second.second
   represents : Represents c.args.graph.now prefix c.args.terms.now c.search_second-later.new.delays
 
-two_at : (t : ℕ) (c : search_from-In_ok-second t) (prefix : PairPrefix)
+two_at : (t : ℕ) (c : search_unpruned-In_ok-second t) (prefix : PairPrefix)
     → Represents c.args.graph.now prefix c.args.terms.now c.args.delays.now
     → IsReadyFor c.args.graph.now c.args.limits.now Second c.args.terms.now c.search_first.new.delays c.search_first.new.best c.in-Some.node prefix
     → Two t c prefix
@@ -230,31 +343,24 @@ two_at t c prefix represents for_second =
       represents = pairs_kept c.args.graph.now prefix c.args.terms.now c.args.delays.now c.search_second-later.new.delays represents (kept_second t c);
     }
 
-pub search_from-leave_out-requires : goal.search_from-leave_out-requires
-search_from-leave_out-requires t c =
+pub search_unpruned-search_out-last-requires : goal.search_unpruned-search_out-last-requires
+search_unpruned-search_out-last-requires t c =
     let prefix = c.requires.ready.0 in
     let ready = c.requires.ready.1 in
-    let o = one_at t (goal.at.search_from-leave_out-requires t c).In_ok-first prefix ready in
-    record { next = (prefix, c.args.delays.now, ready.represents, o.next) }
-
-pub search_from-search_from-last-requires : goal.search_from-search_from-last-requires
-search_from-search_from-last-requires t c =
-    let prefix = c.requires.ready.0 in
-    let ready = c.requires.ready.1 in
-    let o = one_at t (goal.at.search_from-search_from-last-requires t c).In_ok-first prefix ready in
-    let w = two_at t (goal.at.search_from-search_from-last-requires t c).In_ok-second prefix ready.represents o.for_second in (
-      omega (arith, c.in-Some.ensures.below, c.leave_out.ensures.place),
+    let o = one_at t (goal.at.search_unpruned-search_out-last-requires t c).In_ok-first prefix ready c.requires.ready.2 in
+    let w = two_at t (goal.at.search_unpruned-search_out-last-requires t c).In_ok-second prefix ready.represents o.for_second in (
+      omega (arith, c.in-Some.ensures.below),
       (
         c.requires.rows,
         (
           w.second.logged.measured,
           (
             (
-              Out ∷ prefix,
+              prefix,
               ready_out c.args.graph.now c.args.limits.now prefix c.args.terms.now c.args.delays.now c.args.best.now ready c.requires.measured c.args.region.now c.in-Some.node o.next o.some c.search_first.new.region
                   c.search_first.new.best c.in_ok-first.first o.first c.beside.new.region c.search_second-later.new.best c.in_ok-second.second w.second
-                  c.leave_out.new.self c.search_second-later.new.delays
-                  (c.leave_out.ensures.represents prefix c.search_second-later.new.delays w.represents o.next),
+                  c.search_second-later.new.delays w.represents,
+              o.unclosed,
             ),
             w.second.within,
           ),
@@ -265,68 +371,68 @@ search_from-search_from-last-requires t c =
 -- ---- behind all labels
 
 -- what is known of the last tree
-abbrev Last : (t : ℕ) → search_from-After-search_from-last t → PairPrefix → Type 0
-Last t c prefix = IsSearchOf c.args.graph.now c.args.limits.now (Out ∷ prefix) c.search_second-later.new.best c.search_from-last.new.best
-    c.beside.new.region c.search_from-last.new.region c.search_from-last.result
+abbrev Last : (t : ℕ) → search_unpruned-After-search_out-last t → PairPrefix → Type 0
+Last t c prefix = IsSearchOf c.args.graph.now c.args.limits.now (Out ∷ prefix) c.search_second-later.new.best c.search_out-last.new.best
+    c.beside.new.region c.search_out-last.new.region c.search_out-last.result
 
-last_at : (t : ℕ) (c : search_from-After-search_from-last t) (prefix : PairPrefix)
+last_at : (t : ℕ) (c : search_unpruned-After-search_out-last t) (prefix : PairPrefix)
     (ready : IsReady c.args.graph.now c.args.limits.now c.args.terms.now c.args.delays.now c.args.best.now prefix)
     (next : IsTrue (cuts.is_next c.args.graph.now (choices First prefix) c.in-Some.node)) (some : length prefix < cuts.eligible_nodes c.args.graph.now)
+    (unclosed : IsUnclosed c.args.graph.now c.args.limits.now prefix)
     (first : IsSearched c.args.graph.now c.args.limits.now (First ∷ prefix) c.args.best.now c.search_first.new.best c.args.region.now c.search_first.new.region c.in_ok-first.first)
     (second : IsSearched c.args.graph.now c.args.limits.now (Second ∷ prefix) c.search_first.new.best c.search_second-later.new.best c.search_first.new.region c.beside.new.region c.in_ok-second.second)
     → Represents c.args.graph.now prefix c.args.terms.now c.search_second-later.new.delays → Last t c prefix
-last_at t c prefix ready next some first second represents =
-    c.search_from-last.ensures.searched (Out ∷ prefix)
+last_at t c prefix ready next some unclosed first second represents =
+    c.search_out-last.ensures.searched prefix
     (ready_out c.args.graph.now c.args.limits.now prefix c.args.terms.now c.args.delays.now c.args.best.now ready c.requires.measured c.args.region.now c.in-Some.node next some c.search_first.new.region
     c.search_first.new.best c.in_ok-first.first first c.beside.new.region c.search_second-later.new.best c.in_ok-second.second second
-    c.leave_out.new.self c.search_second-later.new.delays
-    (c.leave_out.ensures.represents prefix c.search_second-later.new.delays represents next))
+    c.search_second-later.new.delays represents) unclosed
 
-pub search_from-beside-behind-requires : goal.search_from-beside-behind-requires
-search_from-beside-behind-requires t c =
-    let here = goal.at.search_from-beside-behind-requires t c in
+pub search_unpruned-beside-behind-requires : goal.search_unpruned-beside-behind-requires
+search_unpruned-beside-behind-requires t c =
+    let here = goal.at.search_unpruned-beside-behind-requires t c in
     let prefix = c.requires.ready.0 in
     let ready = c.requires.ready.1 in
-    let o = one_at t here.In_ok-first prefix ready in
+    let o = one_at t here.In_ok-first prefix ready c.requires.ready.2 in
     let w = two_at t here.In_ok-second prefix ready.represents o.for_second in
-    match_as c.search_from-last.result (λ spent. still_lies w.second c.search_from-last.new.region spent.0) (λ _ _. tt)
-    (last_at t here.After-search_from-last prefix ready o.next o.some o.first w.second w.represents)
+    match_as c.search_out-last.result (λ spent. still_lies w.second c.search_out-last.new.region spent.0) (λ _ _. tt)
+    (last_at t here.After-search_out-last prefix ready o.next o.some o.unclosed o.first w.second w.represents)
 
-pub search_from-beside-requires-2 : goal.search_from-beside-requires-2
-search_from-beside-requires-2 t c =
-    let here = goal.at.search_from-beside-requires-2 t c in
+pub search_unpruned-beside-requires-2 : goal.search_unpruned-beside-requires-2
+search_unpruned-beside-requires-2 t c =
+    let here = goal.at.search_unpruned-beside-requires-2 t c in
     let prefix = c.requires.ready.0 in
     let ready = c.requires.ready.1 in
-    let o = one_at t here.In_ok-first prefix ready in
+    let o = one_at t here.In_ok-first prefix ready c.requires.ready.2 in
     let w = two_at t here.In_ok-second prefix ready.represents o.for_second in
-    let last = last_at t here.After-search_from-last prefix ready o.next o.some o.first w.second w.represents in
+    let last = last_at t here.After-search_out-last prefix ready o.next o.some o.unclosed o.first w.second w.represents in
     subst (λ (found : Option PairChild). MatchOption found (LiesIn c.beside-behind.new.region c.in_ok-first.first) (λ _. Unit {0})) (sym c.beside-behind.ensures.same)
-    (match_as c.search_from-last.result
-    (λ both. still_lies o.first c.beside-behind.new.region (given_back_before w.second c.search_from-last.new.region both.0.0 c.beside-behind.new.region both.1))
+    (match_as c.search_out-last.result
+    (λ both. still_lies o.first c.beside-behind.new.region (given_back_before w.second c.search_out-last.new.region both.0.0 c.beside-behind.new.region both.1))
     (λ _ _. tt)
-    (match_both c.search_from-last.result _ _ _ _ last c.beside-behind.ensures.region))
+    (match_both c.search_out-last.result _ _ _ _ last c.beside-behind.ensures.region))
 
-kept_last : (t : ℕ) (c : search_from-After-search_from-last t) → AreKeptFrom c.args.terms.now.first.place c.args.delays.now c.search_second-later.new.delays
-    → AreKeptFrom c.args.terms.now.first.place c.args.delays.now c.search_from-last.new.delays
+kept_last : (t : ℕ) (c : search_unpruned-After-search_out-last t) → AreKeptFrom c.args.terms.now.first.place c.args.delays.now c.search_second-later.new.delays
+    → AreKeptFrom c.args.terms.now.first.place c.args.delays.now c.search_out-last.new.delays
 kept_last t c second =
-    kept_on c.args.terms.now.first.place c.args.terms.now.first.place c.leave_out.new.self.first.place _ _ _ (omega arith)
-    (omega (arith, c.in-Some.ensures.below, c.leave_out.ensures.place)) second c.search_from-last.ensures.kept
+    kept_on c.args.terms.now.first.place c.args.terms.now.first.place (suc c.in-Some.node) _ _ _ (omega arith)
+    (omega (arith, c.in-Some.ensures.below)) second c.search_out-last.ensures.kept
 
-pub search_from-returns-in_err-out-clause-kept : goal.search_from-returns-in_err-out-clause-kept
-search_from-returns-in_err-out-clause-kept t c =
-    let here = goal.at.search_from-returns-in_err-out-clause-kept t c in
-    kept_last t here.After-search_from-last (kept_second t here.In_ok-second)
+pub search_unpruned-returns-in_err-out-clause-kept : goal.search_unpruned-returns-in_err-out-clause-kept
+search_unpruned-returns-in_err-out-clause-kept t c =
+    let here = goal.at.search_unpruned-returns-in_err-out-clause-kept t c in
+    kept_last t here.After-search_out-last (kept_second t here.In_ok-second)
 
-pub search_from-returns-in_err-out-clause-searched : goal.search_from-returns-in_err-out-clause-searched
-search_from-returns-in_err-out-clause-searched t c prefix ready =
-    let here = goal.at.search_from-returns-in_err-out-clause-searched t c in
-    let o = one_at t here.In_ok-first prefix ready in
+pub search_unpruned-returns-in_err-out-clause-searched : goal.search_unpruned-returns-in_err-out-clause-searched
+search_unpruned-returns-in_err-out-clause-searched t c prefix ready unpruned =
+    let here = goal.at.search_unpruned-returns-in_err-out-clause-searched t c in
+    let o = one_at t here.In_ok-first prefix ready unpruned in
     let w = two_at t here.In_ok-second prefix ready.represents o.for_second in
     let none = sym c.in_err-out.ensures.same in
     let none_last = sym c.beside-behind.ensures.same ∙ none in
-    let spent = if_none c.search_from-last.result _ _ none_last (last_at t here.After-search_from-last prefix ready o.next o.some o.first w.second w.represents) in
-    let again = given_back_before w.second c.search_from-last.new.region spent.0 c.beside-behind.new.region
-    (if_none c.search_from-last.result _ _ none_last c.beside-behind.ensures.region) in
+    let spent = if_none c.search_out-last.result _ _ none_last (last_at t here.After-search_out-last prefix ready o.next o.some o.unclosed o.first w.second w.represents) in
+    let again = given_back_before w.second c.search_out-last.new.region spent.0 c.beside-behind.new.region
+    (if_none c.search_out-last.result _ _ none_last c.beside-behind.ensures.region) in
     rw c.from_residual-in_err-out.ensures (
       given_back_before o.first c.beside-behind.new.region again c.beside-2.new.region (if_none c.beside-behind.result _ _ none c.in_err-out.ensures.region),
       found_out c.args.graph.now c.args.limits.now prefix c.args.terms.now c.args.delays.now c.args.best.now ready c.requires.measured c.args.region.now c.in-Some.node o.next o.some c.search_first.new.region
@@ -334,31 +440,31 @@ search_from-returns-in_err-out-clause-searched t c prefix ready =
     )
 
 -- the last tree, in the region as it is where its branch is made
-record Three (t : ℕ) (c : search_from-In_ok-out t) (prefix : PairPrefix) : Type 0 where
-  out : IsSearched c.args.graph.now c.args.limits.now (Out ∷ prefix) c.search_second-later.new.best c.search_from-last.new.best c.beside.new.region c.beside-2.new.region c.in_ok-out.out
+record Three (t : ℕ) (c : search_unpruned-In_ok-out t) (prefix : PairPrefix) : Type 0 where
+  out : IsSearched c.args.graph.now c.args.limits.now (Out ∷ prefix) c.search_second-later.new.best c.search_out-last.new.best c.beside.new.region c.beside-2.new.region c.in_ok-out.out
 
-three_at : (t : ℕ) (c : search_from-In_ok-out t) (prefix : PairPrefix)
-    → IsSearchOf c.args.graph.now c.args.limits.now (Out ∷ prefix) c.search_second-later.new.best c.search_from-last.new.best
-    c.beside.new.region c.search_from-last.new.region c.search_from-last.result → Three t c prefix
+three_at : (t : ℕ) (c : search_unpruned-In_ok-out t) (prefix : PairPrefix)
+    → IsSearchOf c.args.graph.now c.args.limits.now (Out ∷ prefix) c.search_second-later.new.best c.search_out-last.new.best
+    c.beside.new.region c.search_out-last.new.region c.search_out-last.result → Three t c prefix
 three_at t c prefix last =
     let some = sym c.in_ok-out.ensures.same in
     let some_last = sym c.beside-behind.ensures.same ∙ some in
     record {
       out = subst (λ (m : BoundedMap PairNode). IsSearched c.args.graph.now c.args.limits.now (Out ∷ prefix) c.search_second-later.new.best
-          c.search_from-last.new.best c.beside.new.region m c.in_ok-out.out)
-          (sym (if_some c.search_from-last.result c.in_ok-out.out _ _ some_last c.beside-behind.ensures.region)
+          c.search_out-last.new.best c.beside.new.region m c.in_ok-out.out)
+          (sym (if_some c.search_out-last.result c.in_ok-out.out _ _ some_last c.beside-behind.ensures.region)
           ∙ sym (if_some c.beside-behind.result c.in_ok-out.out _ _ some c.in_ok-out.ensures.region))
-          (if_some c.search_from-last.result c.in_ok-out.out _ _ some_last last);
+          (if_some c.search_out-last.result c.in_ok-out.out _ _ some_last last);
     }
 
-pub search_from-branch-region-requires : goal.search_from-branch-region-requires
-search_from-branch-region-requires t c =
-    let here = goal.at.search_from-branch-region-requires t c in
+pub search_unpruned-branch-region-requires : goal.search_unpruned-branch-region-requires
+search_unpruned-branch-region-requires t c =
+    let here = goal.at.search_unpruned-branch-region-requires t c in
     let prefix = c.requires.ready.0 in
     let ready = c.requires.ready.1 in
-    let o = one_at t here.In_ok-first prefix ready in
+    let o = one_at t here.In_ok-first prefix ready c.requires.ready.2 in
     let w = two_at t here.In_ok-second prefix ready.represents o.for_second in
-    let h = three_at t here.In_ok-out prefix (last_at t here.After-search_from-last prefix ready o.next o.some o.first w.second w.represents) in (
+    let h = three_at t here.In_ok-out prefix (last_at t here.After-search_out-last prefix ready o.next o.some o.unclosed o.first w.second w.represents) in (
       o.first.items,
       w.second.items,
       h.out.items,
@@ -372,17 +478,17 @@ search_from-branch-region-requires t c =
       },
     )
 
-pub search_from-returns-clause-kept : goal.search_from-returns-clause-kept
-search_from-returns-clause-kept t c =
-    let here = goal.at.search_from-returns-clause-kept t c in
-    kept_last t here.After-search_from-last (kept_second t here.In_ok-second)
+pub search_unpruned-returns-clause-kept : goal.search_unpruned-returns-clause-kept
+search_unpruned-returns-clause-kept t c =
+    let here = goal.at.search_unpruned-returns-clause-kept t c in
+    kept_last t here.After-search_out-last (kept_second t here.In_ok-second)
 
-pub search_from-returns-clause-searched : goal.search_from-returns-clause-searched
-search_from-returns-clause-searched t c prefix ready =
-    let here = goal.at.search_from-returns-clause-searched t c in
-    let o = one_at t here.In_ok-first prefix ready in
+pub search_unpruned-returns-clause-searched : goal.search_unpruned-returns-clause-searched
+search_unpruned-returns-clause-searched t c prefix ready unpruned =
+    let here = goal.at.search_unpruned-returns-clause-searched t c in
+    let o = one_at t here.In_ok-first prefix ready unpruned in
     let w = two_at t here.In_ok-second prefix ready.represents o.for_second in
-    let h = three_at t here.In_ok-out prefix (last_at t here.After-search_from-last prefix ready o.next o.some o.first w.second w.represents) in
+    let h = three_at t here.In_ok-out prefix (last_at t here.After-search_out-last prefix ready o.next o.some o.unclosed o.first w.second w.represents) in
     match_as c.branch-region.result
     (λ (full, back). (
       back o.first.items w.second.items h.out.items c.args.region.now.values (record {
@@ -394,9 +500,9 @@ search_from-returns-clause-searched t c prefix ready =
       }) ∙ (λ i. record { values = c.args.region.now.values; capacity = (h.out.same_capacity ∙ w.second.same_capacity ∙ o.first.same_capacity) i }),
       found_here c.args.graph.now c.args.limits.now prefix c.args.terms.now c.args.delays.now c.args.best.now ready c.requires.measured c.args.region.now c.in-Some.node o.next o.some c.search_first.new.region
           c.search_first.new.best c.in_ok-first.first o.first c.beside.new.region c.search_second-later.new.best c.in_ok-second.second w.second
-          c.beside-2.new.region c.search_from-last.new.best c.in_ok-out.out h.out o.opens full,
+          c.beside-2.new.region c.search_out-last.new.best c.in_ok-out.out h.out o.opens full,
     ))
     (λ root joined. searched_branch c.args.graph.now c.args.limits.now prefix c.args.terms.now c.args.delays.now c.args.best.now ready c.requires.measured c.args.region.now c.in-Some.node o.next o.some c.search_first.new.region
     c.search_first.new.best c.in_ok-first.first o.first c.beside.new.region c.search_second-later.new.best c.in_ok-second.second w.second
-    c.beside-2.new.region c.search_from-last.new.best c.in_ok-out.out h.out o.opens c.branch-region.new.region root joined)
+    c.beside-2.new.region c.search_out-last.new.best c.in_ok-out.out h.out o.opens c.branch-region.new.region root joined)
     c.branch-region.ensures

@@ -1,6 +1,5 @@
-use Rattle.std.proofs.Common.{◌≡◌, [], refl, sym, subst}
+use Rattle.std.proofs.Common.{[], refl, sym, subst}
 use Rattle.ci_pair.specs.declared.rules.PairIncumbent.{PairIncumbent}
-use Rattle.ci_pair.specs.declared.terms.PairDelays.{PairDelays}
 use Rattle.ci_pair.specs.private.Judged.{IsMeasured}
 use Rattle.ci_pair.specs.private.SearchTrees.{IsReady}
 use Rattle.ci_pair.proofs.SearchLaws.{none_ready, match_as}
