@@ -2,7 +2,6 @@
 use Rattle.std.proofs.Common.{◌≡◌, ℕ, suc, ◌+◌, ◌^◌, ◌<◌, ◌≤◌, Bool, true, false, inl, inr, List, [], ◌∷◌, ◌++◌, length, Option, Some, None}
 use Rattle.std.proofs.Common.{refl, sym, ap, ◌∙◌, subst, arith}
 use Rattle.std.proofs.lemmas.Bool.{cases_order}
-use Rattle.std.specs.List.{AllByRecursion}
 use Rattle.std.specs.FinMap as map
 use Rattle.std.specs.FinSet as set
 use Rattle.ci_region.specs.BoundedMap.{BoundedMap, used}
@@ -20,12 +19,12 @@ use Rattle.ci_area.specs.declared.rules.Incumbent.{Incumbent}
 use Rattle.ci_area.specs.AreaAnswered.{free, HasLog}
 use Rattle.ci_area.specs.AreaNeed.{ReachesGreedy, IsOpen, continuations}
 use Rattle.ci_area.specs.AreaPrefixes.{Prefix, undecided, taken, bound, IsRate, no_price, of_piece}
-use Rattle.ci_area.specs.AreaRegionTrees.{Slots, IsTreeIn, LiesIn}
-use Rattle.ci_area.specs.AreaRules.{IsBetter, IsRight, GainsTooLittle, stations, IsRightAt, IsAccepted}
-use Rattle.ci_area.specs.AreaTrees.{IsLeaf, IsTree, leaf, branch}
-use Rattle.ci_area.specs.Pieces.{ArePieces, area, gain, area_at, gain_at}
+use Rattle.ci_area.specs.AreaRegionTrees.{IsTreeIn}
+use Rattle.ci_area.specs.AreaRules.{IsBetter, IsRight, GainsTooLittle, stations, IsRightAt}
+use Rattle.ci_area.specs.AreaTrees.{IsLeaf, leaf, branch}
+use Rattle.ci_area.specs.Pieces.{ArePieces, area, area_at, gain_at}
 use Rattle.ci_area.specs.Representation.{IsMeasured}
-use Rattle.ci_area.specs.private.Searched.{Prunes, IsPruning, IsNoWorse, IsLogged, IsSearched, IsSpentAt, IsSearchOf, IsBranch, IsGivenBack, CanBeJoined, IsJoined, IsImproved}
+use Rattle.ci_area.specs.private.Searched.{Prunes, IsPruning, IsNoWorse, IsSearched, IsSpentAt, IsSearchOf, IsBranch, IsGivenBack, CanBeJoined, IsJoined, IsImproved}
 use Rattle.ci_area.proofs.AreaOrder.{no_worse_itself, no_worse_through, no_less_gain, better_through, too_little_later}
 use Rattle.ci_area.proofs.AreaRegionLaws.{at_leaf}
 use Rattle.ci_area.proofs.PieceSums.{gain_fits, area_fits}

@@ -1,10 +1,9 @@
 -- Decisions, one more.
 use Rattle.std.proofs.Common.{◌≡◌, ℕ, ◌+◌, ◌<◌, ◌≤◌, Bool, true, false, ◌&&◌, ◌||◌, nat_eq, List, ◌∷◌, length, IsTrue, [], refl, sym, ap, ◌∙◌, arith, true≢false, inl, inr}
-use Rattle.std.proofs.lemmas.Bool.{false_from_ne_true}
 use Rattle.std.specs.FinSet as set
 use Rattle.std.specs.Ordering.{nat_cmp}
 use Rattle.ci_word.proofs.NumberLaws.{contains-insert_nat}
-use Rattle.ci_cut.specs.Best.{ComesBefore, ComesBeforeFrom}
+use Rattle.ci_cut.specs.Best.{ComesBeforeFrom}
 use Rattle.ci_area.specs.declared.decided.Decided.{Decided}
 use Rattle.ci_area.specs.declared.piece.Piece.{Piece}
 use Rattle.ci_area.specs.AreaPrefixes.{Prefix, undecided, taken, IsBefore}

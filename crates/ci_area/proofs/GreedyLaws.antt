@@ -1,12 +1,12 @@
 -- The greedy set, piece by piece.
-use Rattle.std.proofs.Common.{◌≡◌, ◌≢◌, ℕ, zero, suc, ◌+◌, ◌-◌, ◌*◌, ◌<◌, ◌≤◌, Bool, true, false, ◌&&◌, ◌||◌, nat_eq, nat_lt, cond, ◌⊎◌, ◌↔◌, inl, inr, IsTrue}
+use Rattle.std.proofs.Common.{◌≡◌, ◌≢◌, ℕ, zero, suc, ◌+◌, ◌-◌, ◌*◌, ◌<◌, ◌≤◌, Bool, true, false, ◌&&◌, ◌||◌, nat_eq, cond, ◌⊎◌, ◌↔◌, inl, inr, IsTrue}
 use Rattle.std.proofs.Common.{List, length, Option, Some, None, refl, sym, ap, ◌∙◌, subst, arith, true≢false, eqb-true, eq-eqb, ltb-true, lt-ltb, mul_left_comm, le_refl, le_antisymm}
-use Rattle.std.proofs.lemmas.Bool.{cases_Bool, cases_eq, cases_order, and_parts, and_from, or_cases, or_left, or_right, false_from_ne_true}
+use Rattle.std.proofs.lemmas.Bool.{cases_eq, cases_order, and_parts, and_from, or_cases, or_left, or_right, false_from_ne_true}
 use Rattle.std.proofs.lemmas.Nat.{mul-le}
 use Rattle.std.specs.FinSet as set
 use Rattle.std.specs.Ordering.{nat_cmp}
 use Rattle.std.specs.Cmp.{nat_cmp_total}
-use Rattle.ci_word.specs.Numbers.{count_below, sum_below}
+use Rattle.ci_word.specs.Numbers.{count_below}
 use Rattle.ci_word.proofs.NumberLaws.{sum_below-same, sum_below-none, contains-insert_nat, len-count_below, count_below-le, count_below-mono}
 use Rattle.ci_cut.specs.Best.{IsSameSet}
 use Rattle.ci_cut.proofs.OneMore.{count_one_more}

@@ -7,3 +7,4 @@ pub mod BoundTests
 pub mod AreaWalk
 pub mod GreedyLaws
 pub mod AreaSearchLaws
+pub mod AreaNeedLaws

@@ -1,5 +1,5 @@
 -- What a choice under a limit answers.
-use Rattle.std.specs.Prelude.{◌≡◌, ℕ, ◌-◌, Bool, List, Some}
+use Rattle.std.specs.Prelude.{◌≡◌, ℕ, ◌-◌, ◌^◌, ◌≤◌, Bool, List, length, Some}
 use Rattle.std.specs.FinMap as map
 use Rattle.std.specs.FinSet as set
 use Rattle.ci_region.specs.BoundedMap.{BoundedMap, used}
@@ -33,9 +33,15 @@ IsAnswer pieces limit before after (Best chosen root) =
 IsAnswer pieces limit before after (Spent budget) =
     (budget ≡ free before) × (after ≡ before) × NeedExceeds pieces limit (free before)
 
+abbrev pub IsSpent : AreaFound → Type 0
+IsSpent (Best chosen root) = ⊥
+IsSpent (Spent budget) = Unit {0}
+
 pub record IsChoice (pieces : List Piece) (limit : ℕ) (before after : BoundedMap AreaNode) (found : AreaFound)
     : Type 0 where
   pub answer : IsAnswer pieces limit before after found
+  -- as many free slots as there are sets of pieces are enough
+  pub enough : 2 ^ length pieces ≤ free before → ¬ IsSpent found
   -- slots that were live hold what they held
   pub kept : (slot : ℕ) (node : AreaNode) → map.get before.values slot ≡ Some node
       → map.get after.values slot ≡ Some node

@@ -1,5 +1,5 @@
 -- For the contracts of checker and search: what the code holds of a prefix, of the best set and of a log.
-use Rattle.std.specs.Prelude.{◌≡◌, ℕ, ◌≤◌, Bool, List, ◌++◌, drop, length}
+use Rattle.std.specs.Prelude.{◌≡◌, ℕ, ◌≤◌, List, ◌++◌, drop, length}
 use Rattle.std.specs.FinSet as set
 use Rattle.ci_area.specs.declared.decided.Decided.{Decided}
 use Rattle.ci_area.specs.declared.log.AreaItem.{AreaItem}

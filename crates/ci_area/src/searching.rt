@@ -39,7 +39,7 @@ pub enum AreaFound {
 /// Finds the best set of pieces whose areas together are at most the limit, and writes a log into the region.
 ///
 /// Slots that were live hold what they held, and the others that are live then are those of the tree. After `Spent`
-/// there are none of these. It takes no memory.
+/// there are none of these. As many free slots as there are sets of pieces are always enough. It takes no memory.
 ///
 /// There have to be at most 32 pieces, each gaining at least 1. The sum of all gains, and that of all areas, have to be
 /// below 2 to the power 63.

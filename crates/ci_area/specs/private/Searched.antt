@@ -1,12 +1,11 @@
 -- For private contracts: what a search has found at a prefix.
-use Rattle.std.specs.Prelude.{◌≡◌, ℕ, suc, ◌+◌, ◌-◌, ◌<◌, ◌≤◌, Bool, ◌⊎◌, List, ◌∷◌, ◌++◌, Option, Some, None}
+use Rattle.std.specs.Prelude.{◌≡◌, ℕ, suc, ◌+◌, ◌<◌, ◌≤◌, Bool, ◌⊎◌, List, ◌∷◌, ◌++◌, Option, Some, None}
 use Rattle.std.specs.Prelude.{MatchOption}
 use Rattle.std.specs.List.{AllByRecursion}
 use Rattle.std.specs.FinSet as set
 use Rattle.ci_region.specs.BoundedMap.{BoundedMap, used}
 use Rattle.ci_cut.specs.Best.{ComesBefore, IsSameSet}
 use Rattle.ci_cut.specs.ListCounts.{AtLeast}
-use Rattle.ci_area.specs.declared.decided.Decided.{Decided}
 use Rattle.ci_area.specs.declared.flattening.AreaChild.{AreaChild}
 use Rattle.ci_area.specs.declared.flattening.AreaNode.{AreaNode}
 use Rattle.ci_area.specs.declared.log.AreaItem.{AreaItem}

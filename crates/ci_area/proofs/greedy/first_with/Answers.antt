@@ -1,4 +1,4 @@
-use Rattle.std.proofs.Common.{◌≤◌, ℕ, true≢false, sym, ◌∙◌, subst, arith}
+use Rattle.std.proofs.Common.{true≢false, sym, ◌∙◌, subst, arith}
 use Rattle.std.specs.FinSet as set
 use Rattle.ci_area.specs.private.Tried.{IsFirstUntried}
 use Rattle.ci_area.proofs.GreedyLaws.{first_instead}

@@ -1,5 +1,5 @@
 use Rattle.std.proofs.Common.{refl}
-use Rattle.ci_area.proofs.GreedyLaws.{nothing_tried, fewer_untried, greedy_at_end, within_at_end}
+use Rattle.ci_area.proofs.GreedyLaws.{nothing_tried, fewer_untried}
 use Rattle.ci_area.proofs.greedy.greedy.Goals as goal
 
 pub loop-next-init : goal.loop-next-init

@@ -1,6 +1,6 @@
 use Rattle.std.proofs.Common.{ap, ◌∙◌, arith, lt-ltb}
 use Rattle.ci_area.specs.Pieces.{area}
-use Rattle.ci_area.proofs.BoundTests.{is_less, is_same, is_before, is_far}
+use Rattle.ci_area.proofs.BoundTests.{is_less, is_same, is_before}
 use Rattle.ci_area.proofs.DecidedLaws.{same_taken, before_prefix, before_taken}
 use Rattle.std.specs.FinSet as set
 use Rattle.ci_area.proofs.rules.gains_too_little.Goals as goal
