@@ -2,7 +2,7 @@
 use Rattle.std.specs.Prelude.{ℕ, Bool, true, false, List, [], ◌∷◌, ◌++◌, codes}
 use Rattle.ci_arguments.specs.declared.tables.Access.TheVariants.{Reads, Writes}
 use Rattle.ci_arguments.specs.declared.tables.CommandName.{CommandName}
-use Rattle.ci_arguments.specs.declared.tables.CommandName.TheVariants.{Best, Pair, Asm, Dis, Run, Blocks, Eval, Find, Check, Area, Relog, Gates, Geval, Load}
+use Rattle.ci_arguments.specs.declared.tables.CommandName.TheVariants.{Best, Pair, Asm, Dis, Run, Blocks, Eval, Find, Check, Area, Rename, Relog, Gates, Geval, Load}
 use Rattle.ci_arguments.specs.declared.tables.DefaultValue.{DefaultValue}
 use Rattle.ci_arguments.specs.declared.tables.DefaultValue.TheVariants as default
 use Rattle.ci_arguments.specs.declared.tables.Kind.{Kind}
@@ -103,6 +103,7 @@ commands =
     (File Reads ∷ File Writes ∷ File Writes ∷ File Writes ∷ File Writes ∷ []) (choice ++ log_version 1 ∷ [])
     ∷ command_of (codes "check") Check (File Reads ∷ File Reads ∷ File Reads ∷ File Reads ∷ []) choice
     ∷ command_of (codes "area") Area (File Reads ∷ []) (choice ++ limit ∷ [])
+    ∷ command_of (codes "rename") Rename (File Reads ∷ File Writes ∷ []) (steps ∷ input ∷ leader ∷ [])
     ∷ command_of (codes "relog") Relog (File Reads ∷ File Writes ∷ []) (log_version 2 ∷ [])
     ∷ command_of (codes "gates") Gates (File Reads ∷ File Writes ∷ []) []
     ∷ command_of (codes "geval") Geval evaluated others

@@ -23,6 +23,8 @@ pub enum CommandName {
     Check,
     /// `area`
     Area,
+    /// `rename`
+    Rename,
     /// `relog`
     Relog,
     /// `gates`
@@ -376,6 +378,12 @@ pub const COMMANDS: &[CommandRow<'static>] = &[
         CHOICE,
     ),
     ("area", CommandName::Area, &[READ], AREA),
+    (
+        "rename",
+        CommandName::Rename,
+        &[READ, WRITTEN],
+        &[STEPS, INPUT, LEADER],
+    ),
     (
         "relog",
         CommandName::Relog,

@@ -22,6 +22,7 @@ use ci_lat::Table;
 use ci_word::Row;
 use cut::best_cut_line;
 use file::{BlockFile, read_block_file};
+pub use line::skipped_text;
 use listed::listed_block;
 use pair::best_pair_line;
 use std::alloc::{AllocError, Global};
@@ -67,7 +68,8 @@ pub struct BestSettings<'a, 'b> {
     pub table: Option<&'a str>,
 }
 
-/// Makes the line of the best cut, or of the best pair, of the block in the file. The budget of the settings is at most 4,194,304.
+/// Makes the line of the best cut, or of the best pair, of the block in the file. The budget of the settings is at most
+/// 4,194,304.
 ///
 /// # Errors
 ///

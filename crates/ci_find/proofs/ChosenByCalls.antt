@@ -51,7 +51,7 @@ never_refused : (refusal : Refusal) (puts : List Call) (status : ℕ) → PutsRe
 never_refused refusal puts status (inl (is, line)) zero = never_zero refusal (sym is ∙ zero)
 never_refused refusal puts status (inr (is, line)) zero = omega (arith, is, zero)
 
-succeeded : (words : List (List ℕ)) (calls puts : List Call) (status : ℕ) → EndsBy words calls puts status → status ≡ 0
+pub succeeded : (words : List (List ℕ)) (calls puts : List Call) (status : ℕ) → EndsBy words calls puts status → status ≡ 0
     → HasSucceeded words calls puts
 succeeded words calls puts status (finished reads writes puts' status' success due finishes) zero =
     finished_well words reads writes puts' status' success due finishes zero
@@ -65,7 +65,7 @@ has_text : (entries : List Entry) (units : List Unit) (saved : ℕ) → summary_
 has_text entries units saved same = absurd cc
 
 -- what was put, where it is not empty
-one_put : (text : List ℕ) (puts : List Call) → text ≢ [] → IsTextTaken text puts → puts ≡ put text (Ok tt) ∷ []
+pub one_put : (text : List ℕ) (puts : List Call) → text ≢ [] → IsTextTaken text puts → puts ≡ put text (Ok tt) ∷ []
 one_put text puts has (inl (none, no_put)) = absurd (has none)
 one_put text puts has (inr (some, is)) = is
 

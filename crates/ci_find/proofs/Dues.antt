@@ -6,7 +6,7 @@ use Rattle.ci_cut.specs.FlowGraph.{FlowGraph}
 use Rattle.ci_cut.specs.declared.graph.Limits.{Limits}
 use Rattle.ci_arguments.specs.Words.{Reading, ReadsAs, HasNoReading, name_at, number_at, name_set, number_set, word_set, words_set}
 use Rattle.ci_arguments.specs.declared.tables.CommandName.{CommandName}
-use Rattle.ci_arguments.specs.declared.tables.CommandName.TheVariants.{Best, Pair, Asm, Dis, Run, Blocks, Eval, Find, Check, Area, Relog, Gates, Geval, Load}
+use Rattle.ci_arguments.specs.declared.tables.CommandName.TheVariants.{Best, Pair, Asm, Dis, Run, Blocks, Eval, Find, Check, Area, Rename, Relog, Gates, Geval, Load}
 use Rattle.ci_arguments.specs.declared.tables.OptionName.TheVariants as option
 use Rattle.ci_arguments.proofs.Readings.{one_reading}
 use Rattle.ci_calls.specs.declared.refusals.Refusal.{Refusal}
@@ -23,11 +23,12 @@ use Rattle.ci_commands.specs.GatesCommand.{IsFirstTooMany}
 use Rattle.ci_commands.proofs.OneBlock.{best_or_refused, blocks_or_refused}
 use Rattle.ci_commands.proofs.OneModule.{eval_or_refused, gates_or_refused, geval_or_refused}
 use Rattle.ci_find.specs.CheckCommand.{IsCheckRefused}
-use Rattle.ci_find.specs.ChoiceReading.{find_output, settings_of, IsPlanOf}
+use Rattle.ci_find.specs.ChoiceReading.{find_output, rename_settings, settings_of, IsPlanOf}
 use Rattle.ci_find.specs.Commands.{arguments_of, inputs_of, search_call, IsMade, IsRefusedOf, MakesBy, RefusesBy}
 use Rattle.ci_find.specs.Endings.{IsRefusal, usage, file, once_read, IsDue}
 use Rattle.ci_find.specs.FindCommand.{IsFindRefused}
 use Rattle.ci_find.proofs.OneChoice.{area_or_refused, check_or_refused, check_refused_once, find_or_refused, find_refused_once, one_plan}
+use Rattle.ci_find.proofs.Renames.{rename_or_refused, rename_refused_once}
 
 -- ---- the commands
 
@@ -82,6 +83,8 @@ made_or_refused Check reading read success refusal made is =
 made_or_refused Area reading read success refusal made is =
     area_or_refused (settings_of reading made.0) (number_set reading option.Limit) read success refusal made.2
     (found_by reading read refusal made.0 made.1 is)
+made_or_refused Rename reading read success refusal made is =
+    rename_or_refused (name_at reading 1) (rename_settings reading) read success refusal made is
 made_or_refused Relog reading read success refusal made is = is
 made_or_refused Gates reading read success refusal made is = gates_or_refused read success refusal (name_at reading 1) made is
 made_or_refused Geval reading read success refusal made is =
@@ -107,6 +110,8 @@ refused_once Check reading read first second a b =
     check_refused_once (settings_of reading a.0) read first second a.2 (checked_by reading read second a.0 a.1 b)
 refused_once Area reading read first second a b =
     find_refused_once (settings_of reading a.0) read first second a.2 (found_by reading read second a.0 a.1 b)
+refused_once Rename reading read first second a b =
+    rename_refused_once (rename_settings reading) read first second a b
 refused_once Relog reading read first second a b = absurd a
 refused_once Gates reading read first second a b =
     many_gates_once (IsFirstTooMany a.modules) (IsFirstTooMany b.modules) first second a.many b.many

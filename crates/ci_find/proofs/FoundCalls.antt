@@ -24,11 +24,12 @@ pub record IsMadeBy (command : CommandName) (reading : Reading) (reads : List Ca
   pub reads_are : reads ≡ reads_of (inputs_by command reading) answered
   pub made : MakesBy command reading answered success
 
--- what is due to words that read as `find` is what `find` makes
-found_by : (words : List (List ℕ)) (reads : List Call) (success : Success) → IsDueBy words reads success
-    → (reading : Reading) → ReadsAs words reading → reading.command ≡ Find → IsMadeBy Find reading reads success
-found_by words reads success due reading reads_as finds =
-    subst (λ c. IsMadeBy c reading reads success) finds
+-- what is due to words that read as a command is what the command makes
+pub made_by : (words : List (List ℕ)) (reads : List Call) (success : Success) → IsDueBy words reads success
+    → (reading : Reading) → ReadsAs words reading → (command : CommandName) → reading.command ≡ command
+    → IsMadeBy command reading reads success
+made_by words reads success due reading reads_as command is =
+    subst (λ c. IsMadeBy c reading reads success) is
     (subst (λ (r : Reading). IsMadeBy r.command r reads success) (one_reading words due.reading reading due.reads_as reads_as)
     (record { answered = due.answered; fit = due.fit; reads_are = due.reads_are; made = due.made }))
 
@@ -61,7 +62,7 @@ is_found reading reads success by =
 pub found : (words : List (List ℕ)) (reads : List Call) (success : Success) → IsDueBy words reads success
     → (reading : Reading) → ReadsAs words reading → reading.command ≡ Find → IsFound reading reads success
 found words reads success due reading reads_as finds =
-    is_found reading reads success (found_by words reads success due reading reads_as finds)
+    is_found reading reads success (made_by words reads success due reading reads_as Find finds)
 
 -- ---- whole writes
 

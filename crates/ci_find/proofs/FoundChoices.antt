@@ -2,6 +2,7 @@
 use Rattle.std.proofs.Common.{◌≡◌, ℕ, inl, inr, List, Option, Some, None, refl, subst, lit<}
 use Rattle.ci_io.specs.Outcomes.{Files}
 use Rattle.ci_arguments.specs.Words.{Reading, ReadsAs, name_at, name_set}
+use Rattle.ci_arguments.specs.declared.tables.CommandName.{CommandName}
 use Rattle.ci_arguments.specs.declared.tables.CommandName.TheVariants.{Find}
 use Rattle.ci_arguments.specs.declared.tables.OptionName.{OptionName}
 use Rattle.ci_arguments.specs.declared.tables.OptionName.TheVariants as option
@@ -25,14 +26,20 @@ else_optional output None (Some y) of_table of_input = (of_input y refl, tt)
 else_optional output (Some x) None of_table of_input = (of_table x refl, tt)
 else_optional output (Some x) (Some y) of_table of_input = (of_table x refl, (of_input y refl, tt))
 
+-- what is due is what the command makes
+pub evaluated_by : (words : List (List ℕ)) (reading : Reading) → ReadsAs words reading → (command : CommandName)
+    → reading.command ≡ command → (told : Option Files) (success : Success) → IsDone told words success
+    → Evaluates told (inputs_by command reading) (MakesBy command reading) success
+evaluated_by words reading reads command is told success done =
+    subst (λ c. Evaluates told (inputs_by c reading) (MakesBy c reading) success) is
+    (subst (λ (r : Reading). Evaluates told (inputs_by r.command r) (MakesBy r.command r) success)
+    (one_reading words done.reading reading done.reads reads) done.made)
+
 module _ (words : List (List ℕ)) (reading : Reading) (reads : ReadsAs words reading) (finds : reading.command ≡ Find) where
   -- what is due is what `find` makes
   pub found : (told : Option Files) (success : Success) → IsDone told words success
       → Evaluates told (inputs_by Find reading) (MakesBy Find reading) success
-  found told success done =
-      subst (λ c. Evaluates told (inputs_by c reading) (MakesBy c reading) success) finds
-      (subst (λ (r : Reading). Evaluates told (inputs_by r.command r) (MakesBy r.command r) success)
-      (one_reading words done.reading reading done.reads reads) done.made)
+  found told success done = evaluated_by words reading reads Find finds told success done
 
   -- the names of the files that it writes differ
   pub names_differ : NamesDiffer (find_output reading)

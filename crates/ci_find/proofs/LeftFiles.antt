@@ -15,13 +15,13 @@ use Rattle.ci_find.specs.FindCommand.{FindOutput, written}
 -- ---- files that are put on a shelf
 
 -- a name has what was put there
-put_here : (name bytes : List ℕ) (files : Files) → finite.get (with_file name (Some bytes) files) name ≡ Some bytes
+pub put_here : (name bytes : List ℕ) (files : Files) → finite.get (with_file name (Some bytes) files) name ≡ Some bytes
 put_here name bytes files =
     get-insert nat_list_cmp_total files name bytes name
     ∙ ap (λ b. cond b (Some bytes) (finite.get files name)) ((eq_by_cmp_equiv nat_list_cmp_total).refl name)
 
 -- another name has what it had
-put_elsewhere : (name bytes : List ℕ) (files : Files) (other : List ℕ) → other ≢ name
+pub put_elsewhere : (name bytes : List ℕ) (files : Files) (other : List ℕ) → other ≢ name
     → finite.get (with_file name (Some bytes) files) other ≡ finite.get files other
 put_elsewhere name bytes files other apart =
     elim (with_file-get name (Some bytes) files other) [
@@ -30,12 +30,12 @@ put_elsewhere name bytes files other apart =
     ]
 
 -- files by names and bytes are put there, one after the other
-abbrev with_pairs : List (List ℕ × List ℕ) → Files → Files
+abbrev pub with_pairs : List (List ℕ × List ℕ) → Files → Files
 with_pairs [] files = files
 with_pairs (pair ∷ pairs) files = with_pairs pairs (with_file pair.0 (Some pair.1) files)
 
 -- so are those of a success
-by_pairs : (writes : List Written) (files : Files) → with_files writes files ≡ with_pairs (map written writes) files
+pub by_pairs : (writes : List Written) (files : Files) → with_files writes files ≡ with_pairs (map written writes) files
 by_pairs [] files = refl
 by_pairs (w ∷ writes) files = by_pairs writes (with_file w.name.now (Some w.bytes.items) files)
 

@@ -13,6 +13,7 @@ mod CallsOverFiles
 mod Kept
 mod ProfiledRuns
 mod AreaPieces
+mod Renames
 mod Judgements
 mod WrittenNames
 mod LeftFiles
@@ -23,6 +24,8 @@ mod FoundBytes
 mod ChosenFiles
 mod FoundCalls
 mod ChosenByCalls
+mod RenamedByCalls
+mod RenamedOverFiles
 mod FirstCalls
 mod SameFiles
 mod CheckedFiles

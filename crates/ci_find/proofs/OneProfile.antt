@@ -41,7 +41,7 @@ use Rattle.ci_find.specs.Profiled.{IsProfiled, IsUnprofiled, Profiled, RunFiles,
 -- ---- the table and the input
 
 -- a file that is given is one
-one_given : (left right : Option (List ℕ)) → is_some left ≡ is_some right → optional_bytes left ≡ optional_bytes right
+pub one_given : (left right : Option (List ℕ)) → is_some left ≡ is_some right → optional_bytes left ≡ optional_bytes right
     → left ≡ right
 one_given None None given same = refl
 one_given None (Some y) given same = absurd (cc)
@@ -200,7 +200,7 @@ module _ (file : Executable) (input : List ℕ) (steps : ℕ) (named : List ℕ)
       subst (IsTouch is.meaning (loaded_program file) steps (opening file input)) is.leaves_text is.profile_is.touched
 
   -- a file that is profiled is not refused
-  run_or_refused : {latencies : Latencies} {profile : Profile} {blocks : List Block} {live : Sets} {refusal : Refusal}
+  pub run_or_refused : {latencies : Latencies} {profile : Profile} {blocks : List Block} {live : Sets} {refusal : Refusal}
       → IsProfiled file latencies input steps named profile blocks live → IsUnprofiled file input steps refusal → ⊥
   run_or_refused is (custom {position = position} first) = (rw first.there at (is.no_custom position first.text)) first.custom
   run_or_refused is (touches {meaning = meaning} {address = address} no_custom plain first) =
@@ -211,7 +211,7 @@ module _ (file : Executable) (input : List ℕ) (steps : ℕ) (named : List ℕ)
       let both : None ≡ Some address = sym clear ∙ first.touches in absurd cc
 
   -- it is refused with one status
-  refused_once : {first second : Refusal} → IsUnprofiled file input steps first → IsUnprofiled file input steps second
+  pub refused_once : {first second : Refusal} → IsUnprofiled file input steps first → IsUnprofiled file input steps second
       → status_of first ≡ status_of second
   refused_once (custom one) (custom other) = refl
   refused_once (custom {position = position} one) (touches no_custom plain other) =

@@ -1,5 +1,5 @@
--- For every reader: the names and the settings of a choice, as the words of `find`, `check` or `area` have them, and the
--- version of a log book, as those of `find` or `relog` have it.
+-- For every reader: the names and the settings of a choice, as the words of `find`, `check` or `area` have them, those
+-- of a renaming, as the words of `rename` do, and the version of a log book, as those of `find` or `relog` have it.
 use Rattle.std.specs.Prelude.{◌≡◌, ◌==◌, List, if◌then◌else◌}
 use Rattle.ci_arguments.specs.Words.{Reading, name_at, name_set, number_set, words_set}
 use Rattle.ci_arguments.specs.declared.tables.OptionName.TheVariants as option
@@ -9,6 +9,7 @@ use Rattle.ci_log.specs.declared.book.Version.TheVariants.{One, Two}
 use Rattle.ci_select.specs.declared.plan.Plan.{Plan}
 use Rattle.ci_find.specs.CheckCommand.{CheckNames, check_inputs}
 use Rattle.ci_find.specs.FindCommand.{FindOutput, find_inputs}
+use Rattle.ci_find.specs.RenameCommand.{RenameSettings, rename_inputs}
 use Rattle.ci_find.specs.Profiled.{Settings}
 
 -- the limits are those of the reading
@@ -56,3 +57,16 @@ abbrev pub check_files : Reading → List Input
 check_files reading =
     check_inputs (name_at reading 0) (check_names reading) (name_set reading option.Table)
     (name_set reading option.Input)
+
+-- ---- a renaming
+
+abbrev pub rename_settings : Reading → RenameSettings
+rename_settings reading = record {
+  steps = number_set reading option.Steps;
+  named = words_set reading option.Leader;
+  input = name_set reading option.Input;
+}
+
+-- OLD and the input
+abbrev pub rename_files : Reading → List Input
+rename_files reading = rename_inputs (name_at reading 0) (name_set reading option.Input)

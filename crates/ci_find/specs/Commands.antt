@@ -6,7 +6,7 @@ use Rattle.ci_cut.specs.declared.graph.Limits.{Limits}
 use Rattle.ci_cut.specs.FlowGraph.{FlowGraph}
 use Rattle.ci_arguments.specs.Words.{Reading, name_at, number_at, word_at, name_set, number_set, word_set, words_set}
 use Rattle.ci_arguments.specs.declared.tables.CommandName.{CommandName}
-use Rattle.ci_arguments.specs.declared.tables.CommandName.TheVariants.{Best, Pair, Asm, Dis, Run, Blocks, Eval, Find, Check, Area, Relog, Gates, Geval, Load}
+use Rattle.ci_arguments.specs.declared.tables.CommandName.TheVariants.{Best, Pair, Asm, Dis, Run, Blocks, Eval, Find, Check, Area, Rename, Relog, Gates, Geval, Load}
 use Rattle.ci_arguments.specs.declared.tables.OptionName.TheVariants as option
 use Rattle.ci_calls.specs.declared.refusals.Refusal.{Refusal}
 use Rattle.ci_calls.specs.declared.success.Success.{Success}
@@ -25,10 +25,12 @@ use Rattle.ci_commands.specs.GatesCommand.{gates_inputs, IsGatesMade, IsGatesRef
 use Rattle.ci_commands.specs.GevalCommand.{geval_inputs, IsGevalMade, IsGevalRefused}
 use Rattle.ci_select.specs.declared.plan.Plan.{Plan}
 use Rattle.ci_find.specs.ChoiceReading.{IsPlanOf, log_version, settings_of, find_output, find_files, check_files}
+use Rattle.ci_find.specs.ChoiceReading.{rename_files, rename_settings}
 use Rattle.ci_find.specs.FindCommand.{IsFindMade, IsFindRefused}
 use Rattle.ci_find.specs.LoadCommand.{IsLoadMade}
 use Rattle.ci_find.specs.CheckCommand.{IsCheckMade, IsCheckRefused}
 use Rattle.ci_find.specs.AreaCommand.{IsAreaMade}
+use Rattle.ci_find.specs.RenameCommand.{IsRenameMade, IsRenameRefused}
 
 -- what a call of a command is: the files that it reads, in order; what it makes of their bytes; and what it refuses of
 -- them, though each file alone is well formed
@@ -111,6 +113,11 @@ call_by Area reading = record {
       × IsAreaMade (settings_of reading plan) (number_set reading option.Limit) read success;
   Refuses = λ read refusal.
       (plan : Plan) × IsPlanOf reading plan × IsFindRefused (settings_of reading plan) read refusal;
+}
+call_by Rename reading = record {
+  inputs = rename_files reading;
+  Makes = IsRenameMade (name_at reading 1) (rename_settings reading);
+  Refuses = IsRenameRefused (rename_settings reading);
 }
 call_by Relog reading = record {
   inputs = relog_inputs (name_at reading 0);

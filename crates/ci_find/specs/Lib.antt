@@ -2,6 +2,7 @@ pub mod SinceCalls
 pub mod Profiled
 pub mod FindCommand
 pub mod AreaCommand
+pub mod RenameCommand
 pub mod CheckCommand
 pub mod LoadCommand
 pub mod ChoiceReading
@@ -10,6 +11,7 @@ pub mod EndsBy
 pub mod Endings
 pub mod Headline
 pub mod HeadlineOverFiles
+pub mod RenameHeadline
 pub mod FirstFiles
 pub mod Laws
 pub mod private

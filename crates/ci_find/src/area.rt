@@ -10,7 +10,6 @@ ghost use Rattle.ci_region.specs.BoundedMap.{BoundedMap};
 ghost use Rattle.ci_elf.specs.Rules.{IsReadAs};
 ghost use Rattle.ci_calls.specs.Reads.{IsAnswerOf};
 ghost use Rattle.ci_calls.specs.Refused.{name_in};
-ghost use Rattle.ci_commands.specs.BestCommand.{skipped_line};
 ghost use Rattle.ci_select.specs.Takes.{cycles_of};
 ghost use Rattle.ci_vemit.specs.Templates.{modules_of};
 ghost use Rattle.ci_find.specs.Profiled.{IsProfiled};
@@ -24,6 +23,7 @@ use ci_area::{
     AreaChild, AreaFound, AreaNode, Piece, check_choice, choose_within, flatten_area, together,
 };
 use ci_calls::{Refusal, Success, read_image};
+use ci_commands::best::skipped_text;
 use ci_elf::Image;
 use ci_gates::count;
 use ci_io::Shelf;
@@ -179,11 +179,4 @@ fn area_text(alloc: Global, pieces: &[Piece], chosen: &Row) -> Result<String, Al
     push_members(&mut text, chosen)?;
     text.push('\n')?;
     Ok(text)
-}
-
-/// That the budget of the search was too small.
-fn skipped_text(alloc: Global, budget: u32) -> Result<String, AllocError>
-    ensures { IfOk result (λ text. string_bytes text ≡ skipped_line budget) }
-{
-    format!(in alloc; "skipped budget {budget}\n")
 }

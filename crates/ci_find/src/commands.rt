@@ -17,6 +17,7 @@ ghost use Rattle.ci_io.specs.Outcomes.{ShelfState};
 use crate::check::{self, CheckNames};
 use crate::find::{self, FindOutput};
 use crate::profiling::ChoiceSettings;
+use crate::rename::{self, RenameSettings};
 use crate::{area, load};
 use ci_arguments::{CommandName, OptionName, Words, WordsErr, read_words};
 use ci_calls::{Refusal, Success};
@@ -76,6 +77,7 @@ fn evaluate_command<'a, F: Shelf>(
         CommandName::Find => evaluate_find(alloc, words, shelf),
         CommandName::Check => evaluate_check(alloc, words, shelf),
         CommandName::Area => evaluate_area(alloc, words, shelf),
+        CommandName::Rename => evaluate_rename(alloc, words, shelf),
         CommandName::Relog => {
             relog::evaluate(alloc, file, words.name_at(1), log_version(words), shelf)
         }
@@ -230,6 +232,25 @@ fn evaluate_area<'a, F: Shelf>(
     let limit = words.number(OptionName::Limit) as u32;
     let settings = choice_settings(words, leaders.as_slice());
     area::evaluate(alloc, words.name_at(0), limit, &settings, shelf)
+}
+
+/// What `rename` makes of its files, by the settings that the words say.
+fn evaluate_rename<'a, F: Shelf>(
+    alloc: Global,
+    words: &Words<'a>,
+    shelf: &mut F,
+) -> Result<Success<'a>, Refusal<'a>>
+    requires { KeepsRanges CommandName.Rename (reading_of words.now) }
+    ensures { IsAnswerBy F.read_may_fail F.write_may_fail (F.state shelf.old) (F.state shelf.new)
+        CommandName.Rename (reading_of words.now) result }
+{
+    let leaders = words.words(alloc, OptionName::Leader)?;
+    let settings = RenameSettings {
+        steps: words.number(OptionName::Steps),
+        leaders: leaders.as_slice(),
+        input: words.name(OptionName::Input),
+    };
+    rename::evaluate(alloc, words.name_at(0), words.name_at(1), &settings, shelf)
 }
 
 /// What `load` makes of the seed that the words say.

@@ -12,6 +12,7 @@ ghost use Rattle.ci_find.specs.Endings.{HasNoRefusal, HasNoFault, AreLeft, HasPr
 ghost use Rattle.ci_find.specs.FirstFiles.{FirstFilesAreWhole};
 ghost use Rattle.ci_find.specs.Headline.{AreChosenBy};
 ghost use Rattle.ci_find.specs.HeadlineOverFiles.{AreChosenOver};
+ghost use Rattle.ci_find.specs.RenameHeadline.{AreRenamedBy, AreRenamedOver};
 ghost use Rattle.ci_find.specs.SinceCalls.{since};
 
 use ci_calls::{finish, refuse};
@@ -27,6 +28,7 @@ mod find;
 mod laws;
 mod load;
 mod profiling;
+mod rename;
 
 /// Runs the command that the words name, over the files of a shelf, and answers the program's status.
 ///
@@ -58,6 +60,10 @@ mod profiling;
 /// - `area OLD`, with the same options and `--limit N`: puts a line with how many gates the best set of the units of
 ///   such a choice needs, of those sets that need at most N, with what it saves and with the numbers of its units; or
 ///   that the budget was too small for a search for it. `--limit` must stand.
+/// - `rename OLD NEW`, with the options `--steps N`, `--input FILE` and `--leader ADDR`: renames the values of the
+///   basic blocks of the executable OLD, by the leaders that a run of it shows. A value that lives inside one block
+///   takes the least register that the block doesn't use, where its own is used more than once. It writes the
+///   executable to NEW, and then puts a line with how many values were renamed, and in how many blocks.
 /// - `relog LOGS OUT`, with the option `--log N`: writes the book that LOGS spells to OUT, in version N, and then puts
 ///   a line with N and the length of OUT.
 /// - `gates UNITS OUT`: writes the netlists of all modules of UNITS to OUT, and then puts a line with the numbers of
@@ -86,8 +92,8 @@ mod profiling;
 ///   no multiple of four, and 0, or the offset of the first word of a custom opcode or of a terminator that isn't last,
 ///   and that word; of `eval` the number of the module, and of `geval` that of the netlist, where the file has none of
 ///   it, and 0.
-/// - 8, `fault 8 text touched PC ADDR`: the profiled run of `find`, `check` or `area` touches the text: the pc of the
-///   first step that does, and the first byte of the text that it moves.
+/// - 8, `fault 8 text touched PC ADDR`: the profiled run of `find`, `check`, `area` or `rename` touches the text: the
+///   pc of the first step that does, and the first byte of the text that it moves.
 /// - 9, `fault 9 units KIND OFFSET`: the file spells no modules, by its first fault.
 /// - 10, `fault 10 log KIND OFFSET`: the file spells no log book, by its first fault.
 /// - 11, `fault 11 rejected ROUND LEADER ITEM REASON`: the files are those of no choice: their first wrong place.
@@ -126,6 +132,11 @@ pub fn run<F: Shelf, O: Sink>(alloc: Global, words: &Vec<String>, shelf: &mut F,
     ensures headline { result ≡ 0 → AreChosenBy (map string_bytes words.now.items)
         (since (F.state shelf.old).calls (F.state shelf.new).calls)
         (since (O.state out.old).calls (O.state out.new).calls) }
+    // Where `rename` succeeds, it wrote the executable with all blocks renamed, which runs in step with the old one and
+    // whose blocks keep all cuts, and put its numbers.
+    ensures renamed { result ≡ 0 → AreRenamedBy (map string_bytes words.now.items)
+        (since (F.state shelf.old).calls (F.state shelf.new).calls)
+        (since (O.state out.old).calls (O.state out.new).calls) }
     // Where `find` stops at a write or at its put, or for want of memory, the files that it wrote before are the first
     // of the four of a choice, each whole.
     ensures first_files { FirstFilesAreWhole (map string_bytes words.now.items)
@@ -156,6 +167,10 @@ pub fn run<F: Shelf, O: Sink>(alloc: Global, words: &Vec<String>, shelf: &mut F,
     // The headline of what the files held, and of what they hold.
     ensures headline_over_files { result ≡ 0
         → AreChosenOver (map string_bytes words.now.items) (F.state shelf.old).files (F.state shelf.new).files
+        (O.state out.old) (O.state out.new) }
+    // Where `rename` succeeds, of what the files held, and of what they hold.
+    ensures renamed_over_files { result ≡ 0
+        → AreRenamedOver (map string_bytes words.now.items) (F.state shelf.old).files (F.state shelf.new).files
         (O.state out.old) (O.state out.new) }
     // Where nothing is refused and nothing fails, the call succeeds, or memory runs out.
     ensures complete { HasNoRefusal (F.state shelf.old).files (map string_bytes words.now.items)

@@ -6,6 +6,8 @@ use Rattle.ci_find.proofs.ChosenFiles.{Ends-chosen}
 use Rattle.ci_find.proofs.FirstCalls.{EndsBy-first}
 use Rattle.ci_find.proofs.Kept.{Ends-files_stay, Ends-left, Ends-complete, Ends-printed}
 use Rattle.ci_find.proofs.NoWrites.{EndsBy-stays}
+use Rattle.ci_find.proofs.RenamedByCalls.{EndsBy-renamed}
+use Rattle.ci_find.proofs.RenamedOverFiles.{Ends-renamed}
 use Rattle.ci_find.proofs.Runs.{Ends-status, Answers-due}
 use Rattle.ci_find.proofs.SinceCalls.{made_since, put_since, ends_since}
 use Rattle.ci_find.proofs.WrittenCalls.{EndsBy-left}
@@ -57,6 +59,13 @@ returns-clause-headline g c =
     (g.F.Shelf.state c.answer.new.shelf) (g.O.Sink.state c.args.out.now) (g.O.Sink.state c.answer.new.out) _ _
     c.answer.ensures.called)
 
+pub returns-clause-renamed : goal.returns-clause-renamed
+returns-clause-renamed g c =
+    EndsBy-renamed _ _ _ _
+    (ends_since g.F.Shelf.read_may_fail g.F.Shelf.write_may_fail (g.F.Shelf.state c.args.shelf.now)
+    (g.F.Shelf.state c.answer.new.shelf) (g.O.Sink.state c.args.out.now) (g.O.Sink.state c.answer.new.out) _ _
+    c.answer.ensures.called)
+
 pub returns-clause-first_files : goal.returns-clause-first_files
 returns-clause-first_files g c =
     EndsBy-first _ _ _ _
@@ -78,6 +87,9 @@ returns-clause-left g c = Ends-left _ _ _ c.answer.ensures.ends
 
 pub returns-clause-headline_over_files : goal.returns-clause-headline_over_files
 returns-clause-headline_over_files g c = Ends-chosen _ _ _ c.answer.ensures.ends
+
+pub returns-clause-renamed_over_files : goal.returns-clause-renamed_over_files
+returns-clause-renamed_over_files g c = Ends-renamed _ _ _ c.answer.ensures.ends
 
 pub returns-clause-complete : goal.returns-clause-complete
 returns-clause-complete g c = Ends-complete _ _ _ c.answer.ensures.ends
