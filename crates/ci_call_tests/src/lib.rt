@@ -33,6 +33,8 @@ mod pairs;
 #[cfg(test)]
 mod plans;
 #[cfg(test)]
+mod renames;
+#[cfg(test)]
 mod runs;
 #[cfg(test)]
 mod steps;

@@ -73,7 +73,7 @@ fn told_in(
 }
 
 /// What a choice tells in a region of this capacity.
-fn told(
+pub(crate) fn told(
     rt: &impl Abort,
     alloc: Global,
     pieces: &[Piece],
@@ -168,7 +168,7 @@ fn the_last_of_equals(rt: HostRuntime) -> Result<(), AllocError> {
 }
 
 /// A number that is drawn from another.
-fn drawn(seed: u32) -> u32 {
+pub(crate) fn drawn(seed: u32) -> u32 {
     seed.wrapping_mul(1_664_525).wrapping_add(1_013_904_223) >> 3
 }
 
@@ -206,10 +206,10 @@ fn together(pieces: &[Piece], mask: u32) -> Option<Piece> {
 }
 
 /// The numbers of the ones among the bits of the mask.
-fn set_of_mask(mask: u32) -> Row {
+pub(crate) fn set_of_mask(mask: u32) -> Row {
     let mut set = Row::empty();
     let mut left = mask;
-    for number in 0..9 {
+    for number in 0..32 {
         if left % 2 == 1 {
             set.insert(number);
         }
@@ -218,11 +218,20 @@ fn set_of_mask(mask: u32) -> Row {
     set
 }
 
-/// The best set by trying all sets of at most nine pieces: of equal ones the mask is the greatest.
-fn best_of_all(pieces: &[Piece], limit: u32) -> Row {
+/// The number of sets of so many pieces, at most 14.
+fn sets_of(count: usize) -> u32 {
+    let mut sets = 1u32;
+    for _ in 0..count.min(14) {
+        sets = sets.wrapping_mul(2);
+    }
+    sets
+}
+
+/// The best set by trying all sets of at most 14 pieces: of equal ones the mask is the greatest.
+pub(crate) fn best_of_all(pieces: &[Piece], limit: u32) -> Row {
     let mut best = 0;
     let mut reached = 0;
-    for mask in 0..512 {
+    for mask in 0..sets_of(pieces.len()) {
         if let Some(all) = together(pieces, mask) {
             if all.area <= u64::from(limit) && all.gain >= reached {
                 best = mask;

@@ -82,8 +82,8 @@ fn eval_shown(alloc: Global, said: &Words, name: &str) -> Result<String, AllocEr
     Ok(text)
 }
 
-/// What `find`, `check` or `area` is asked, in short: its files, and then the numbers, the last of which is the version
-/// of the log book, 0 but of `find`, and the other files.
+/// What `find`, `check`, `area` or `rename` is asked, in short: its files, and then the numbers, 0 where the command has
+/// no such option, the last of which is the version of the log book, and the other files.
 fn choice_shown(
     alloc: Global,
     said: &Words,
@@ -143,6 +143,7 @@ fn said_shown(alloc: Global, said: &Words) -> Result<String, AllocError> {
             write!(text, " limit {limit}")?;
             Ok(text)
         }
+        CommandName::Rename => choice_shown(alloc, said, "rename", 2),
         CommandName::Relog => {
             let (logs, out) = (said.name_at(0), said.name_at(1));
             let version = said.number(OptionName::LogVersion);
@@ -353,6 +354,28 @@ fn areas() -> &'static [Told] {
 #[test]
 fn options_of_area(rt: HostRuntime) -> Result<(), AllocError> {
     expect(&rt, areas())
+}
+
+fn renames() -> &'static [Told] {
+    &[
+        ("rename A B", "rename A B 0 0 0 0 16777216 0 - -"),
+        (
+            "rename --steps 9 A --input I --leader 0x10 B",
+            "rename A B 0 0 0 0 9 0 - I leader 10",
+        ),
+        ("rename A", "none"),
+        ("rename A A", "none"),
+        ("rename A B C", "none"),
+        ("rename A B --input B", "none"),
+        ("rename A B --table T", "none"),
+        ("rename A B --in 3", "none"),
+        ("rename A B --steps 4294967297", "none"),
+    ]
+}
+
+#[test]
+fn options_of_rename(rt: HostRuntime) -> Result<(), AllocError> {
+    expect(&rt, renames())
 }
 
 fn unreadable() -> &'static [Told] {

@@ -6,6 +6,8 @@
 #[cfg(test)]
 mod area;
 #[cfg(test)]
+mod area_trials;
+#[cfg(test)]
 mod arguments;
 #[cfg(test)]
 mod asm;
@@ -17,6 +19,8 @@ mod check;
 mod common;
 #[cfg(test)]
 mod cut;
+#[cfg(test)]
+mod damaged_pairs;
 #[cfg(test)]
 mod dfg;
 #[cfg(test)]
@@ -42,6 +46,8 @@ mod log;
 #[cfg(test)]
 mod machine;
 #[cfg(test)]
+mod pair_readings;
+#[cfg(test)]
 mod pairs;
 #[cfg(test)]
 mod plan;
@@ -49,6 +55,8 @@ mod plan;
 mod reading;
 #[cfg(test)]
 mod region;
+#[cfg(test)]
+mod rename;
 #[cfg(test)]
 mod report;
 #[cfg(test)]

@@ -243,7 +243,7 @@ fn pairs_that_fit(rt: HostRuntime) -> Result<(), AllocError> {
 // ---- logs
 
 /// The log of one item that is no branch.
-fn leaf(rt: &impl Abort, alloc: Global, item: PairItem) -> Result<PairLog, AllocError>
+pub(crate) fn leaf(rt: &impl Abort, alloc: Global, item: PairItem) -> Result<PairLog, AllocError>
     requires { IsLeaf item }
 {
     let mut items = Vec::new(alloc);
@@ -252,7 +252,7 @@ fn leaf(rt: &impl Abort, alloc: Global, item: PairItem) -> Result<PairLog, Alloc
 }
 
 /// The log of a branch with these logs below it, in which the next node is in the first set, in the second, and in none.
-fn joined(
+pub(crate) fn joined(
     rt: &impl Abort,
     alloc: Global,
     first: &PairLog,
