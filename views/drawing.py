@@ -29,7 +29,8 @@ def style():
                          f".{kind} text{{fill:{ink}}}")
         return "".join(parts)
     halo = ".edge text{paint-order:stroke;stroke-width:4px;stroke-linejoin:round}"
-    return f"svg text{{font-family:sans-serif}}{halo}{rules(0)}@media (prefers-color-scheme:dark){{{rules(1)}}}"
+    always = "svg text{font-family:sans-serif;text-anchor:middle}.edge path{fill:none}.cluster path{fill:transparent}"
+    return f"{always}{halo}{rules(0)}@media (prefers-color-scheme:dark){{{rules(1)}}}"
 
 
 def label(text):
@@ -111,13 +112,26 @@ class Drawing:
         return svg(self.dot(), about, f"<style>{style()}</style>\n" if is_alone else "")
 
 
+def short(text):
+    """A picture in fewer bytes: without what `style` says of all pictures, and with whole numbers in its lines."""
+    text = re.sub(r' (fill|stroke|font-family|text-anchor)="[^"]*"', "", text)
+    text = re.sub(r' (d|points)="([^"]*)"', lambda part: f' {part[1]}="{whole(part[2])}"', text)
+    text = re.sub(r'(font-size="\d+)\.00"', r'\1"', text)
+    return text.replace('<g class="graph" transform="scale(1 1) rotate(0) ', '<g class="graph" transform="')
+
+
+def whole(numbers):
+    """Places in whole points."""
+    return re.sub(r"-?\d+\.\d+", lambda number: str(round(float(number[0]))), numbers)
+
+
 def svg(dot, about, colours):
     """The picture of a graph, with words for those who don't see it."""
     done = subprocess.run([tool("dot", "graphviz"), "-Tsvg"], input=dot, stdout=subprocess.PIPE, text=True, check=True)
     text = done.stdout[done.stdout.index("<svg"):]
     text = re.sub(r"<!--.*?-->\n?", "", text, flags=re.S)
     text = re.sub(r"<title>[^<]*</title>\n?", "", text)
-    text = re.sub(r' id="\w+"', "", text)
+    text = short(re.sub(r' id="\w+"', "", text))
     width, height, box = re.search(r'<svg width="(\d+)pt" height="(\d+)pt"\s+viewBox="([^"]+)"', text).groups()
     x, y = box.split()[:2]
     head = (f'<svg xmlns="http://www.w3.org/2000/svg" role="img" aria-label="{about}" width="{width}" '

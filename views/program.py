@@ -1,7 +1,8 @@
 """Calls of the program, and what the views have in common: options, messages, and the tools that they need."""
 import argparse
 import functools
-import importlib
+import importlib.util
+import json
 import os
 import re
 import shutil
@@ -13,6 +14,8 @@ import textwrap
 TOP = os.path.dirname(os.path.dirname(os.path.realpath(__file__)))
 FIND_OPTIONS = "in", "out", "count", "budget", "steps", "input", "table", "leader"
 COLUMNS = 80
+# The status of a call whose latency table is refused.
+BAD_TABLE = 6
 # The values of the options that are no numbers and no files.
 ADDRESS = re.compile("0x[0-9A-Fa-f]{1,8}")
 
@@ -47,11 +50,17 @@ def call(*words):
         fail(f"{program()} can't be run: {error.strerror}")
     if done.returncode == 0:
         return done.stdout
-    said = subprocess.run(["awk", "-f", os.path.join(TOP, "script", "explain.awk"), "--", "fault", str(done.returncode),
+    line = done.stdout.decode(errors="replace").rstrip()
+    said = [explained(what, done, words) for what in ("fault", *(["hint"] if done.returncode == BAD_TABLE else []))]
+    raise Refused(line or f"status {done.returncode}", ": ".join(filter(None, said)))
+
+
+def explained(what, done, words):
+    """What the script says in words of a call that is refused: of its fault, or what helps further."""
+    said = subprocess.run(["awk", "-f", os.path.join(TOP, "script", "explain.awk"), "--", what, str(done.returncode),
                            *words], env={**os.environ, "TOP": TOP, "LC_ALL": "C"}, stdout=subprocess.PIPE,
                           input=done.stdout.replace(b"\0", b"") + b".\n", check=False).stdout.decode(errors="replace")
-    line = done.stdout.decode(errors="replace").rstrip()
-    raise Refused(line or f"status {done.returncode}", said.partition(": ")[2].rstrip())
+    return said.partition(": ")[2].rstrip()
 
 
 def told(*words):
@@ -76,6 +85,17 @@ def disassembled(words):
     return {word: line.split(" ", 1)[1] for word, line in zip(words, lines, strict=True)}
 
 
+def as_json(value):
+    """Prints what a view found as JSON; named tuples are objects by their fields."""
+    def plain(part):
+        if hasattr(part, "_asdict"):
+            part = part._asdict()
+        if isinstance(part, dict):
+            return {str(name): plain(inner) for name, inner in part.items()}
+        return [plain(inner) for inner in part] if isinstance(part, (list, tuple)) else part
+    print(json.dumps(plain(value), indent=1, ensure_ascii=False))
+
+
 def fail(message):
     """Ends the view by one line, with status 1."""
     print(f"{os.path.basename(sys.argv[0])}: {message}", file=sys.stderr)
@@ -88,6 +108,11 @@ def library(name, package):
         return importlib.import_module(name)
     except ImportError:
         return fail(f"Python's library {name} is missing for {sys.executable}: apt-get install {package}")
+
+
+def has_library(name):
+    """Whether a library for Python is there."""
+    return importlib.util.find_spec(name) is not None
 
 
 def tool(name, package=None):
@@ -114,6 +139,14 @@ class Parser(argparse.ArgumentParser):
                 self.add_argument(f"--{name}", metavar=word, help=about, action=again, type=value_of(word, about))
                 self.shared.append(name)
 
+    def take_json(self):
+        """Takes the option by which a view prints JSON."""
+        self.add_argument("--json", action="store_true", help="prints what was found as JSON")
+
+    def take_jobs(self):
+        """Takes the option that says how many calls run at a time."""
+        self.add_argument("--jobs", metavar="N", type=jobs_of, default=1, help="how many calls run at a time (1)")
+
     def words(self, given, leave_out=()):
         """The options of the program that were given, as its words."""
         found = []
@@ -136,6 +169,13 @@ def value_of(word, about):
             raise argparse.ArgumentTypeError(f"'{text}' is not 0x and one to eight hex digits")
         return text
     return read
+
+
+def jobs_of(text):
+    """How many calls run at a time."""
+    if not (text.isdecimal() and 1 <= int(text) <= 4096):
+        raise argparse.ArgumentTypeError(f"'{text}' is no number from 1 to 4096")
+    return int(text)
 
 
 def main(view):

@@ -10,6 +10,8 @@ from readers.folds import is_cput, is_cread, is_unit
 from readers.instructions import mnemonic, ways
 from program import fail, told
 
+# The files of a choice in a folder, in the order in which `find` has them.
+NAMES = "old.elf", "new.elf", "units.v", "logs.txt", "report.txt"
 # The type of a symbol that is a function.
 FUNCTION = 2
 NUMBERS = r"((?: \d+)*)"
@@ -87,18 +89,21 @@ class Executable:
         return folds.Block(words or self.words(leader), self.blocks[leader].after)
 
 
-def functions(data):
-    """The functions of an executable: their addresses, ascending, each with its name."""
+def symbols(data, kinds=None):
+    """The symbols of an executable: addresses with names, those of these types where they are given."""
     _, _, sections = executable.read_header(data)
     rows = [struct.unpack_from("<10I", data, sections[0] + 40 * number) for number in range(sections[1])]
-    found = {}
     for _, kind, _, _, offset, size, link, _, _, _ in rows:
         for at in range(offset, offset + size, 16) if kind == executable.SYMBOLS else ():
-            name, value, _, info = struct.unpack_from("<IIIB", data, at)
+            name, value, _, info, _, section = struct.unpack_from("<IIIBBH", data, at)
             start = rows[link][4] + name
-            if info & 15 == FUNCTION:
-                found[value] = data[start:data.index(b"\0", start)].decode(errors="replace")
-    return sorted(found.items())
+            if info & 15 in kinds if kinds else info & 15 <= FUNCTION and 0 < section < 0xFF00:
+                yield value, data[start:data.index(b"\0", start)].decode(errors="replace")
+
+
+def functions(data):
+    """The functions of an executable: their addresses, ascending, each with its name."""
+    return sorted(dict(symbols(data, (FUNCTION,))).items())
 
 
 def words_at(image, addresses):
@@ -175,6 +180,15 @@ class Choice:
                 fail(f"NEW's block at {leader:08x} isn't OLD's with the cuts of REPORT folded")
         if len(self.modules) != len(self.report.units):
             fail("UNITS and REPORT have different numbers of units")
+
+    def instructions(self):
+        """The instructions of the run's blocks: the address, the entries, and the cycles of all before and after."""
+        cycles = [unit.cycles for unit in self.report.units]
+        for leader, (_, entries) in self.report.blocks.items():
+            for address, old, new in zip(self.old.blocks[leader].addresses, self.old.words(leader), self.words[leader],
+                                         strict=True):
+                yield (address, entries, entries * cost(old, self.latencies, cycles),
+                       entries * cost(new, self.latencies, cycles))
 
     def cycles(self, leader, words):
         """The cycles of one run of a block of these words."""

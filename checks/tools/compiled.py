@@ -35,12 +35,13 @@ def samples():
     return [(name, os.path.join(SAMPLES, name)) for name in sorted(os.listdir(SAMPLES)) if name.endswith(".elf")]
 
 
-def executables(folder):
-    """Each executable with a name: those of samples/, and those of checks/programs, which are built here."""
+def executables(folder, chosen=None):
+    """Each executable with a name: those of samples/, and those of checks/programs, which are built here, or of them
+    those that are chosen by their names."""
     found = samples()
     for name in sorted(os.listdir(PROGRAMS)):
         for level in LEVELS:
-            if name.endswith(".c"):
+            if name.endswith(".c") and (chosen is None or name[:-2] in chosen):
                 program = os.path.join(folder, name[:-2] + level)
                 subprocess.run([GCC, *TARGET, level, os.path.join(PROGRAMS, name), SUPPORT, "-o", program], check=True)
                 found.append((f"{name} {level}", program))

@@ -13,27 +13,9 @@ from checks.views import viewing
 from readers.templates import WIDE_HEADER
 
 SAMPLE = os.path.join(SAMPLES, "sha256.elf")
-CELLS = (("INV", 1, "A", "!A"), ("BUF", 2, "A", "A"), ("NAND2", 2, "AB", "!(A*B)"), ("NOR2", 2, "AB", "!(A+B)"))
-AXES = 'index_1 ("0.01, 1"); index_2 ("0.01, 1");'
-TABLES = " ".join(f'{name} (delays) {{ {AXES} values ("0.02, 0.1", "0.1, 0.2"); }}'
-                  for name in ("cell_rise", "cell_fall", "rise_transition", "fall_transition"))
 UNIT = 3
 # What stands behind the header of a wide unit.
 WIDE_REST = "assign y = a ^ d;\nassign z = e - b;\nassign x = c;\nendmodule\n"
-
-
-def library():
-    """A small library of cells."""
-    lines = ['library (small) { time_unit : "1ns"; capacitive_load_unit (1, pf); delay_model : table_lookup;',
-             "lu_table_template (delays) { variable_1 : input_net_transition;",
-             f"variable_2 : total_output_net_capacitance; {AXES} }}"]
-    for name, area, pins, function in CELLS:
-        sense = "positive_unate" if name == "BUF" else "negative_unate"
-        inputs = " ".join(f"pin ({pin}) {{ direction : input; capacitance : 0.01; }}" for pin in pins)
-        timing = " ".join(f'timing () {{ related_pin : "{pin}"; timing_sense : {sense}; {TABLES} }}' for pin in pins)
-        lines.append(f'cell ({name}) {{ area : {area}; {inputs} pin (Y) {{ direction : output; '
-                     f'function : "{function}"; max_capacitance : 1; {timing} }} }}')
-    return "\n".join([*lines, "}", ""])
 
 
 def shell(views, line):
@@ -48,7 +30,7 @@ def look(views):
     views.told("find", SAMPLE, "new", "units.v", "logs", "report")
     text = views.read("units.v").decode()
     wide = text + WIDE_HEADER.format(cycles=1, number=text.count("endmodule")) + WIDE_REST
-    for name, part in (("CELLS.lib", library()), ("changed.v", text.replace(" t3 = p3 | q3;", " t3 = p3 & q3;")),
+    for name, part in (("CELLS.lib", viewing.library()), ("changed.v", text.replace(" t3 = p3 | q3;", " t3 = p3 & q3;")),
                        ("none.v", ""), ("fault.v", "module"),
                        ("wide.v", wide), ("third.v", wide.replace("assign x = c;", "assign x = d;"))):
         views.write(name, part)

@@ -6,6 +6,7 @@ has to be right, no line may have more than 80 columns, and the graph has to be 
 its cluster. One is shown in tmux, in a window of 80 columns. The picture in docs/ has to be the one that the view
 makes. Wrong calls end with the usage and status 2.
 """
+import json
 import os
 import re
 import subprocess
@@ -16,6 +17,8 @@ from checks.common import TOP, text_of
 from checks.views import viewing
 
 COLUMNS, BLOCKS = 80, 2
+# Where the sample starts, by its symbol `_start`.
+START = 0x10414
 SHOWN = "samples/sha256.elf", "0x102b0", "--svg", "--near"
 GRAPHVIZ = "2.43.0"
 SUM = re.compile(r"^gain +(\d+) = (\d+) software - (\d+) hardware \([\d.]+\) - (\d+) read - (\d+) pad$", re.M)
@@ -81,6 +84,15 @@ def look(views):
     views.refuses("block", os.path.join(TOP, "README.md"), SHOWN[1])
     views.refuses("block", sample, "0x10")
     views.refuses("block", sample, SHOWN[1], "--table", sample)
+    views.write("wrong.toml", "[software]\nadd = 2\nmil = 3\n")
+    views.refuses("block", sample, SHOWN[1], "--table", "wrong.toml")
+    views.need(" has the key mil; " in views.look("block", sample, SHOWN[1], "--table", "wrong.toml")[2], "no key")
+    views.same("a block by its function's name", views.works("block", sample, "_start"),
+               views.works("block", sample, f"0x{START:x}"))
+    status, _, said = views.look("block", sample, "no_such")
+    views.need(status == 1 and said.count("\n") == 1 and "no function no_such" in said, f"no function: {said}")
+    told = json.loads(views.works("block", sample, SHOWN[1], "--json"))
+    views.need(told["gain"]["total"] == 17 and sum(row["member"] for row in told["instructions"]) == 19, f"{told}")
     views.wrong("block", (), (sample,), (sample, "102b0"), (sample, SHOWN[1], "--in", "6"), (sample, SHOWN[1], "--no"))
 
 

@@ -6,6 +6,7 @@ steps. A refused file has its fault in words. A suite that is stopped by a signa
 with the usage and status 2.
 """
 import csv
+import json
 import os
 import pathlib
 import re
@@ -54,6 +55,30 @@ def compare_short(views, path):
     views.need(row["end"] == "limit" and " limit " in shown, f"a run of {SHORT} steps: {row} {shown}")
 
 
+def compare_list(views, programs):
+    """A list gives each program its own input, the same program several ones, and a wrong list is refused."""
+    paths = [path for path, _ in list(programs.values())[:2]]
+    inputs = [views.write("first.in", b"a few bytes"), views.write("second.in", bytes(range(200)))]
+    pairs = [(paths[0], inputs[0]), (paths[0], inputs[1]), (paths[1], None)]
+    views.write("list.toml", "".join(f'[[program]]\nfile = "{path}"\n' + (f'input = "{name}"\n' if name else "")
+                                     for path, name in pairs))
+    for count in range(2):
+        views.works("suite", "--list", "list.toml", "--rows", "list.csv")
+        with open(views.path("list.csv"), encoding="utf-8", newline="") as file:
+            rows = list(csv.DictReader(file))
+        views.need(len(rows) == len(pairs), f"{len(rows)} rows of a list after call {count}")
+    for path, name in pairs:
+        end = views.told("run", path, *(["--input", name] if name else [])).splitlines()[-1].split()
+        views.need(any((row["file"], row["steps"], row["before"]) == (path, end[-3], end[-1]) for row in rows),
+                   f"no row of {path} with {name}: {rows}")
+    told = json.loads(views.works("suite", "--list", "list.toml", "--rows", "list.csv", "--json"))
+    views.same("the rows as JSON", sorted(map(str, told)), sorted(map(str, rows)))
+    for text in ("[[program", '[[program]]\ninput = "a"\n', '[program]\nfile = "a"\n', "[[program]]\nfile = 3\n"):
+        views.write("wrong.toml", text)
+        status, _, said = views.look("suite", "--list", "wrong.toml", "--rows", "wrong.csv")
+        views.need(status == 1 and said.count("\n") == 1, f"{text}: {status} {said}")
+
+
 def compare_stop(views, files, given):
     """Stops a suite once it has a row, and lets it go on."""
     words, view = [*files, "--input", given, "--rows", "stopped.csv", "--jobs", "1"], views.view("suite")
@@ -93,6 +118,7 @@ def look(views):
     compare_short(views, files[0])
     views.need(all(os.path.basename(path) in shown for path in rows) and "refused: " in shown, f"shown is {shown}")
     views.need(views.hashes(*before) == before, "an input was changed")
+    compare_list(views, programs)
     compare_stop(views, files, given)
     status, _, said = views.look("suite", refused[1])
     views.need(status == 1 and said.count("\n") == 1, f"a missing file: {status} {said}")

@@ -16,6 +16,26 @@ FILES = "old.elf", "new.elf", "units.v", "logs.txt", "report.txt"
 # The greatest limits on inputs and outputs, as options.
 GREATEST = "--in", "5", "--out", "3"
 
+# A small library of cells: name, area, inputs and function; and the points of its tables.
+CELLS = (("INV", 1, "A", "!A"), ("BUF", 2, "A", "A"), ("NAND2", 2, "AB", "!(A*B)"), ("NOR2", 2, "AB", "!(A+B)"))
+AXES = 'index_1 ("0.01, 1"); index_2 ("0.01, 1");'
+TABLES = " ".join(f'{name} (delays) {{ {AXES} values ("0.02, 0.1", "0.1, 0.2"); }}'
+                  for name in ("cell_rise", "cell_fall", "rise_transition", "fall_transition"))
+
+
+def library():
+    """A small library of cells."""
+    lines = ['library (small) { time_unit : "1ns"; capacitive_load_unit (1, pf); delay_model : table_lookup;',
+             "lu_table_template (delays) { variable_1 : input_net_transition;",
+             f"variable_2 : total_output_net_capacitance; {AXES} }}"]
+    for name, area, pins, function in CELLS:
+        sense = "positive_unate" if name == "BUF" else "negative_unate"
+        inputs = " ".join(f"pin ({pin}) {{ direction : input; capacitance : 0.01; }}" for pin in pins)
+        timing = " ".join(f'timing () {{ related_pin : "{pin}"; timing_sense : {sense}; {TABLES} }}' for pin in pins)
+        lines.append(f'cell ({name}) {{ area : {area}; {inputs} pin (Y) {{ direction : output; '
+                     f'function : "{function}"; max_capacitance : 1; {timing} }} }}')
+    return "\n".join([*lines, "}", ""])
+
 
 def missing(tools, libraries=()):
     """A line that says what is not there, or None: tools, each with the Debian package that has it, and libraries for
