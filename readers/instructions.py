@@ -1,5 +1,6 @@
 """The instructions of RV32IM by the tables of the standard (RISC-V Unprivileged ISA 20191213, chapter 24): their names,
 registers and offsets. It shares nothing with the program, so that the checks can compare the two."""
+import functools
 
 BRANCHES = {0: "beq", 1: "bne", 4: "blt", 5: "bge", 6: "bltu", 7: "bgeu"}
 LOADS = {0: "lb", 1: "lh", 2: "lw", 4: "lbu", 5: "lhu"}
@@ -16,6 +17,7 @@ TWO_OPERANDS = {"sub", "sra", *BRANCHES.values(), *STORES.values(), *OPERATIONS[
 ENDS = {None, "jal", "jalr", "ecall", "ebreak", "fence", "auipc", *BRANCHES.values()}
 
 
+@functools.lru_cache(maxsize=65536)
 def mnemonic(word):
     """The name of an instruction of RV32IM, by the tables of the standard's chapter 24; None for another word."""
     opcode, funct3, funct7 = word & 0x7F, word >> 12 & 7, word >> 25

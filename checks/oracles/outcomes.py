@@ -46,6 +46,7 @@ COMMANDS = (
     Call(f"find calls new units logs report {OPTIONS}", b"cuts 2 units 2 skipped 0 gain 8\n", FOUND_IN_CALLS),
     Call("check old its-new its-units its-logs --out 1", b"accepted\n", {}),
     Call(f"area calls --limit 672 {OPTIONS}", b"area 672 gain 4 units 1\n", {}),
+    Call("rename calls new --input input", b"renamed 4 blocks 3\n", {"new": None}),
     Call("relog its-logs packed", b"relog version 2 bytes 92\n", {"packed": PACKED_LOGS}),
     Call(f"run calls {OPTIONS}", WRITTEN + b"end exit 00000000 steps 61 cost 75\n", {}),
     Call("run its-new --units its-units", b"end access 00000000 4 steps 3 cost 3\n", {}),

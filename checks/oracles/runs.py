@@ -1,6 +1,7 @@
 """Two runs beside each other, step by step: that of an executable, and that of a new one with units in the place of
-cuts. What is compared stands in docs/GUARANTEES.md, and holds where the first run is tame for some steps more: none of
-these touches its text, and each `jalr` to the text leads to a listed leader."""
+cuts, or with other registers in its blocks. What is compared stands in docs/GUARANTEES.md, and holds where the first
+run is tame, with units for some steps more: none of these touches its text, and each `jalr` to the text leads to a
+listed leader."""
 
 # No block is longer; so many steps more a run may take to its end, and has to be tame.
 LONGEST = 256
@@ -57,15 +58,23 @@ class Both:
         old, new, leader = self.old, self.new, self.old.pc
         if new.pc != leader:
             return f"the new run stands at {new.pc:08x}, the old one at {leader:08x}"
-        for register in self.live[leader]:
-            if old.x[register] != new.x[register]:
-                return f"x{register} is {new.x[register]:08x} and not {old.x[register]:08x} at {leader:08x}"
+        what = self.difference_in_registers()
+        if what:
+            return what
         if old.cost - new.cost != self.saved:
             return f"{old.cost - new.cost} cycles saved and not {self.saved} at {leader:08x}"
         self.leader = leader
-        self.fronts += 1
         self.saved += self.gains.get(leader, 0)
         return self.difference_outside()
+
+    def difference_in_registers(self):
+        """In the registers that are live where both stand at a listed leader."""
+        old, new, leader = self.old, self.new, self.old.pc
+        self.fronts += 1
+        for register in self.live[leader]:
+            if old.x[register] != new.x[register]:
+                return f"x{register} is {new.x[register]:08x} and not {old.x[register]:08x} at {leader:08x}"
+        return None
 
     def difference_outside(self):
         """In memory outside the text, heap end or input left; bytes that no run has written since were equal before."""
@@ -95,3 +104,29 @@ class Both:
         if self.old.end is None and self.old.pc in self.live:
             return f"the new run ends by {ended.end} before the old one, which passes its block"
         return None
+
+
+class InStep(Both):
+    """The run `old` of an executable and the run `new` of the one in which its blocks are renamed, after `n` steps for
+    which the first is tame."""
+
+    def __init__(self, old, new, live):
+        super().__init__(old, new, live, {})
+
+    def run(self, most):
+        """Makes so many steps at most, until the first run has ended or isn't tame, and puts down where the two differ
+        first."""
+        self.look()
+        while self.n < most and not (self.fault or self.old.wild or self.old.end):
+            self.n += 1
+            self.old.step()
+            self.new.step()
+            if not self.old.wild:
+                self.look()
+
+    def difference(self):
+        old, new = self.old, self.new
+        if (old.end, old.pc, old.output, old.cost) != (new.end, new.pc, new.output, new.cost):
+            return (f"the new run stands at {new.pc:08x}, ends by {new.end} and costs {new.cost}, and the old one at "
+                    f"{old.pc:08x}, by {old.end} and {old.cost}; or their outputs differ")
+        return old.pc in self.live and self.difference_in_registers() or self.difference_outside()

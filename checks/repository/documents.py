@@ -12,7 +12,7 @@ import re
 from checks.common import TOP, end, text_of, words
 
 LEFT_OUT = {".git", "out", "__pycache__"}
-SOURCES = (".rt", ".antt", ".py", ".sh", ".txt", ".tsv", ".c", ".h")
+SOURCES = (".rt", ".antt", ".py", ".sh", ".txt", ".tsv", ".c", ".h", ".v")
 FILE = re.compile(r"[\w./-]+\.(?:antt|rt|py|sh|md|tsv)")
 NAME = re.compile(r"\w+(?:-\w+)*")
 # Names of the toolchain's library that the sources don't say.

@@ -11,6 +11,7 @@ from checks.common import end, words
 from checks.repository import usage
 
 CHOICES = ["find", "check", "area"]
+PROFILED = [*CHOICES, "rename"]
 SEARCHES = ["best", "best --at", "pair", "pair --at"]
 CALLS = ["best --at", "pair --at", *(command.name for command in usage.usage()[0])]
 # Those that read files.
@@ -20,14 +21,14 @@ LINES = {
     "1 usage": CALLS,
     "2 read NAME": READERS,
     "3 write -": CALLS,
-    "3 write NAME": ["asm", "find", "gates", "relog"],
+    "3 write NAME": ["asm", "find", "gates", "relog", "rename"],
     "4 too large NAME": READERS,
-    **{f"5 elf {rule} A B": ["best --at", "pair --at", "blocks", "run", *CHOICES] for rule in range(1, 10)},
+    **{f"5 elf {rule} A B": ["best --at", "pair --at", "blocks", "run", *PROFILED] for rule in range(1, 10)},
     **{f"6 table {rule}": [*SEARCHES, "run", *CHOICES] for rule in (1, 2)},
     **{f"6 table {rule} KEY": [*SEARCHES, "run", *CHOICES] for rule in (3, 4)},
-    "7 unsupported POSITION WORD": [*SEARCHES, "blocks", *CHOICES],
+    "7 unsupported POSITION WORD": [*SEARCHES, "blocks", *PROFILED],
     "7 unsupported POSITION 00000000": ["eval", "geval"],
-    "8 text touched PC ADDR": CHOICES,
+    "8 text touched PC ADDR": PROFILED,
     **{f"9 units {kind} OFFSET": ["eval", "gates", "run", "check"] for kind in range(1, 10)},
     **{f"10 log {kind} 0": ["check", "relog"] for kind in (1, 3)},
     **{f"10 log {kind} OFFSET": ["check", "relog"] for kind in (2, 4)},

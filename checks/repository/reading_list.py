@@ -29,7 +29,10 @@ PRIVATE = "/specs/private/"
 TOLD_PRIVATE = "For private contracts: "
 CHOICES = "Find", "Check"
 LAWS = "crates/ci_find/src/laws.rt"
-READERS = "Best", "Pair", "Blocks", "Run", *CHOICES, "Area"
+RUNS = "crates/ci_runs/src/laws.rt"
+RENAMED = ((RUNS, "renamed_files_analyse_alike"), (RUNS, "renamed_files_run_in_step"),
+           (RUNS, "renamed_choices_run_alike"))
+READERS = "Best", "Pair", "Blocks", "Run", *CHOICES, "Area", "Rename"
 
 
 @dataclasses.dataclass
@@ -63,6 +66,7 @@ CLAIMS = {
     "14": Claim((*ENDS, "cause", "ends", "due", "statuses", "complete", "printed")),
     "15": Claim(("no_write", "writes", "files_stay", "left")),
     "16": Claim((*ENDS, "first_files", "ends", "complete", "left")),
+    "17": Claim((*ENDS, "renamed", "renamed_over_files"), ("Rename",), RENAMED),
 }
 
 

@@ -27,7 +27,7 @@ BUILT_IN = {"cd", "do", "done", "echo", "read", "while"}
 GCC, VERSION = "riscv64-unknown-elf-gcc", "12.2.0"
 LIMIT = 120
 # The views, and what some of them need.
-VIEWS, VIEW_TOOLS, VIEW_LIBRARIES = "views/", ("dot", "parallel"), ("jinja2", "matplotlib")
+VIEWS, VIEW_TOOLS, VIEW_LIBRARIES = "views/", ("dot", "parallel", "iverilog"), ("jinja2", "matplotlib")
 
 
 class Command:

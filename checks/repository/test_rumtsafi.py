@@ -38,8 +38,8 @@ rumtsafi area OLD --limit N [--in N]
 """
 # The numbers of the lines on each of these commands.
 USAGE_LINES = {"eval": (0, 1, 9, 10), "area": (2, 3, 4, 6, 7, 8)}
-MISSING = (f"{USAGE}rumtsafi: a command is missing; there are: find check area relog best pair blocks run eval gates "
-           "geval load asm dis\n")
+MISSING = (f"{USAGE}rumtsafi: a command is missing; there are: find check area rename relog best pair blocks run eval "
+           "gates geval load asm dis\n")
 TOOLCHAIN = "kit of the tests"
 NO_PROGRAM = "there is no program that runs here: ./rumtsafi --build builds it"
 FOREIGN = "bin/rumtsafi doesn't run on this machine: ./rumtsafi --build builds one that does"
@@ -316,6 +316,7 @@ class Shipped(Repository):
                            (["asm", "a", "b", "c d"], "asm takes TEXT OUT, and 'c d' is a word too many"),
                            (["asm", "a", "a"], "asm can't write 'a', which it names twice"),
                            (["relog", "a", "a"], "relog can't write 'a', which it names twice"),
+                           (["rename", "a", "a"], "rename can't write 'a', which it names twice"),
                            (["relog", "a", "b", "--log"], "--log lacks its value"),
                            (["relog", "a", "b", "--log", "3"], "--log takes a number from 1 to 2, which '3' is not"),
                            (["check", "--log", "2", *"abcd"], "check has no option '--log'"),
@@ -352,16 +353,18 @@ class Shipped(Repository):
         self.ship('[ "$1" = find ] && echo a choice')
         cut_off = ("the run of 'an elf' didn't exit: --steps cut it off after 8 steps, "
                    "and the choice rests on these alone\n")
-        one = "1 search that needs more than 9 branches was given up: a greater --budget may find more\n"
+        one = ("1 search that needs more than 9 branches was given up, of a block that has 75 % of the steps: a greater "
+               "--budget may find more, and views/tune tells the call\n")
+        block = "block 00010070 length 2 entries 1\nblock 00010078 length 3 entries 2\n"
         for lines, notes in (
                 ("profile exit 00000000 steps 8 cost 9\ncut 0 block 00010078\n", []),
                 ("profile limit steps 8 cost 9\n", [cut_off]),
                 ("profile access 7ffffffc 4 steps 8 cost 9\n",
                  [cut_off.replace("--steps cut it off", "'access 7ffffffc 4' ended it")]),
-                ("profile limit steps 8 cost 9\nskip 0 block 00010078 budget 9\n", [cut_off, one]),
-                ("profile exit 00000000 steps 8 cost 9\n" + 2 * "skip 0 block 00010078 budget 9\n",
-                 [one.replace("1 search that needs", "2 searches that need").replace("was", "were")]),
-                ("profile exit 00000000 steps 8 cost 9\nskip 0 block 00010078 budget 4194304\n",
+                (f"profile limit steps 8 cost 9\n{block}skip 0 block 00010078 budget 9\n", [cut_off, one]),
+                (f"profile exit 00000000 steps 8 cost 9\n{block}" + 2 * "skip 0 block 00010078 budget 9\n",
+                 [one.replace("1 search that needs", "2 searches that need").replace("was given up, of a block that has", "were given up, of blocks that have")]),
+                (f"profile exit 00000000 steps 8 cost 9\n{block}skip 0 block 00010078 budget 4194304\n",
                  [one.replace("than 9", "than 4194304").replace("a greater --budget", "--out 1")])):
             with self.subTest(lines):
                 with open(os.path.join(self.room, "a report"), "w", encoding="utf-8") as file:
@@ -412,8 +415,14 @@ class Shipped(Repository):
 
     def test_the_script_alone_answers_help_and_version(self):
         self.take_rt()
-        for word in ("--help", "-h"):
+        for word in ("--help", "-h", "help"):
             self.assertEqual(self.use(word), (0, USAGE, ""))
+        self.write("docs/usage.txt", MORE_USAGE)
+        lines = MORE_USAGE.splitlines(keepends=True)
+        for command, numbers in USAGE_LINES.items():
+            for words in (["help", command], [command, "--help"], [command, "-h"]):
+                self.assertEqual(self.use(*words), (0, "".join(lines[number] for number in numbers), ""))
+        self.write("docs/usage.txt", USAGE)
         status, output, told = self.use("--version")
         self.assertEqual((status, told), (0, ""))
         self.assertTrue(output.startswith("rumtsafi 2026-01-02, and later changes\nprogram none: "), output)
@@ -593,6 +602,27 @@ class AtTerminal(Repository):
             self.ship(f"printf '{text}'; exit 0")
             self.assertEqual(self.at_terminal("run", "a"), (0, answer))
 
+    def test_what_helps_further_is_said(self):
+        options = b"rumtsafi: check takes the options that find had: "
+        self.ship("echo fault 11 rejected 0 00010074 0 7; exit 11")
+        self.assertIn(options, self.at_terminal("check", *"abcd")[1])
+        table = os.path.join(self.room, "table")
+        self.ship("echo fault 6 table 2; exit 6")
+        for text, said in (("read = 2\n[software]\nadd = 2\nmil = 3 # add\n", "the key mil; software has add logic"),
+                           ("pod = 1\n", "the key pod; on top has read pad"),
+                           ("[hardware]\nload = 2\n", "the key load; hardware has add"),
+                           ("[latency]\n", "the table [latency], and there are software and hardware")):
+            with open(table, "w", encoding="utf-8") as file:
+                file.write(text)
+            for words in (["--table", table], [f"--table={table}"]):
+                self.assertIn(f"' has {said}".encode(), self.at_terminal("run", "a", *words)[1])
+        for word, said in (("0401310b", True), ("000000ab", True), ("00000000", False), ("0000005b", False)):
+            self.ship(f"printf 'put\\nend illegal {word} steps 4 cost 4\\n'")
+            note = f"rumtsafi: the run ended at the custom word {word}: ".encode()
+            self.assertEqual(note in self.at_terminal("run", "a")[1], said)
+            self.assertNotIn(note, self.at_terminal("run", "a", "--units", "b")[1])
+            self.assertNotIn(note, self.at_terminal("dis", "a")[1])
+
     def test_usage_follows_status_1(self):
         self.ship("echo fault 1 usage; exit 1")
         self.assertEqual(self.with_file("error"), (1, b"fault 1 usage\n", MISSING))
@@ -649,6 +679,7 @@ class Made(unittest.TestCase):
         self.assertEqual(self.complete("pair", "crc32.elf", "--"), "--at --leader --in --out --budget --table")
         self.assertEqual(self.complete("eval", "crc32.e"), "crc32.elf")
         self.assertEqual(self.complete("relog", "crc32.elf", "--"), "--log")
+        self.assertEqual(self.complete("rename", "crc32.elf", "--"), "--steps --input --leader")
         self.assertEqual(self.complete("eval", "crc32.elf", "c"), "")
         self.assertEqual(self.complete("eval", "crc32.elf", "0", "-"), "--d --e")
         self.assertEqual(self.complete("eval", "crc32.elf", "0", "--d", ""), "")
