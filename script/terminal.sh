@@ -26,8 +26,21 @@ run_at_terminal() {
     [ ! -t 3 ] || exec >&3
     exec 3>&-
     wait "$watching" || true
-    [ "$status" = 0 ] || [ ! -f "$kept" ] ||
-        { tail -c "+$((begin + 1))" "$kept" 2> /dev/null | tail -c "$most" | tr -d '\0'; echo .; } | explain fault "$status" "$@" >&2
+    [ -f "$kept" ] || return 0
+    case $status:${1-} in
+        0:run) printed "$kept" "$begin" | explain end "$@" >&2 ;;
+        0:*) ;;
+        *)
+            printed "$kept" "$begin" | explain fault "$status" "$@" >&2
+            explain hint "$status" "$@" < /dev/null >&2
+            ;;
+    esac
+}
+
+# The end of what was printed, with a dot behind it.
+printed() {
+    tail -c "+$(($2 + 1))" "$1" 2> /dev/null | tail -c "$most" | tr -d '\0'
+    echo .
 }
 
 # What a signal ends is the program, and that ends what calls this.
