@@ -25,17 +25,44 @@ mod tests;
 /// A slot of a region. Contracts see its number, which is below the capacity.
 #[derive(Clone, Copy, Debug, PartialEq, Eq)]
 pub struct Slot {
-    number: u32,
+    // The bytes of its number. What holds slots has no gaps between its parts, so that less memory is touched.
+    bytes: [u8; 4],
 }
 
 impl Model for Slot {
-    ghost use Rattle.std.specs.Prelude.{ℕ};
+    ghost use Rattle.std.specs.Prelude.{◌≡◌, ℕ, ◌<◌, length, get_or, refl};
+    ghost use Rattle.std.specs.Int.{w32, from_le_bytes, to_le_bytes};
+    ghost use Rattle.std.proofs.lemmas.Nat.{le_bytes_4};
 
     ghost Value = { ℕ };
 
-    ghost view = { λ slot. slot.number };
+    ghost view = { λ slot. from_le_bytes w32 slot.bytes };
 
-    ghost inverse = { λ n. record { number = n } };
+    ghost invariant = { λ slot. (length slot.bytes ≡ 4) × ((place : ℕ) → get_or slot.bytes place 0 < 256) };
+
+    ghost inverse = { λ n. record { bytes = to_le_bytes w32 n } };
+
+    ghost inverse_ok = { λ slot are_bytes i. record {
+      bytes = le_bytes_4 slot.bytes (from_le_bytes w32 slot.bytes) are_bytes.0 are_bytes.1 refl i;
+    } };
+}
+
+impl Slot {
+    /// The slot of this number.
+    fn of(number: u32) -> Slot
+        ensures { result ≡ number }
+    {
+        Slot {
+            bytes: number.to_le_bytes(),
+        }
+    }
+
+    /// The number.
+    fn number(&self) -> u32
+        ensures { result ≡ self.now }
+    {
+        u32::from_le_bytes(self.bytes)
+    }
 }
 
 /// A pool of slots, reserved once, each of which is live and holds a value or is free.
@@ -149,7 +176,7 @@ impl<T> Region<T> {
         self.first_free = self.cells.fill(number, self.reached, value);
         self.used += 1;
         self.reached = self.reached.max(number + 1);
-        Ok(Slot { number })
+        Ok(Slot::of(number))
     }
 
     /// The value of a live slot.
@@ -157,7 +184,7 @@ impl<T> Region<T> {
         requires { IsLive self.now slot }
         ensures { map.get self.now.values slot ≡ Some result.now }
     {
-        match self.cells.cell(slot.number as usize) {
+        match self.cells.cell(slot.number() as usize) {
             Cell::Live(value) => value,
             Cell::Free(_) => unreachable!(),
         }
@@ -169,7 +196,7 @@ impl<T> Region<T> {
         ensures* writes_back { sem 𝓛 (LendsValue T.row self.entry slot result) }
         ensures value { map.get self.old.values slot ≡ Some result.now }
     {
-        value_mut(self.cells.cell_mut(slot.number as usize))
+        value_mut(self.cells.cell_mut(slot.number() as usize))
     }
 
     /// Takes the value out of a live slot, which is free then.
@@ -179,10 +206,11 @@ impl<T> Region<T> {
         ensures rest { self.new ≡ without self.old slot }
     {
         let next = self.first_free;
-        let cell = self.cells.cell_mut(slot.number as usize);
+        let number = slot.number();
+        let cell = self.cells.cell_mut(number as usize);
         match mem::replace(cell, Cell::Free(next)) {
             Cell::Live(value) => {
-                self.first_free = slot.number;
+                self.first_free = number;
                 self.used -= 1;
                 value
             }

@@ -18,7 +18,7 @@ fn live_slot<T>(region: &Region<T>, number: u32) -> Option<Slot>
         return None;
     }
     match region.cells.cell(number as usize) {
-        Cell::Live(_) => Some(Slot { number }),
+        Cell::Live(_) => Some(Slot::of(number)),
         Cell::Free(_) => None,
     }
 }
@@ -26,7 +26,7 @@ fn live_slot<T>(region: &Region<T>, number: u32) -> Option<Slot>
 // Both take the value, and say the same.
 fn take_both(rt: &impl Abort, raw: &mut Region<u32>, safe: &mut SafeRegion, value: u32) {
     match raw.take(value) {
-        Ok(slot) => assert_eq!(rt; safe.take(value), Some(slot.number)),
+        Ok(slot) => assert_eq!(rt; safe.take(value), Some(slot.number())),
         Err(back) => {
             assert_eq!(rt; back, value);
             assert_eq!(rt; safe.take(value), None);

@@ -55,17 +55,18 @@ invariant_of-self g c =
 pub returns-clause-holds : goal.returns-clause-holds
 returns-clause-holds g c =
     let filled = c.fill-self-inside.ensures in
-    region-take _ _ _ _ _ _ _ c.self.invariant.0 filled.next_free filled.in_place filled.next _ _ c.self.view_is
+    rw c.of.ensures
+    (region-take _ _ _ _ _ _ _ c.self.invariant.0 filled.next_free filled.in_place filled.next _ _ c.self.view_is)
 
 pub returns-clause-live : goal.returns-clause-live
 returns-clause-live g c =
-    ap (λ (m : BoundedMap g.row.T.Denot). map.get m.values c.self.inside.first_free) (returns-clause-holds g c)
-    ∙ get-insert_same c.args.self.now.values c.self.inside.first_free c.args.value
+    ap (λ (m : BoundedMap g.row.T.Denot). map.get m.values c.of.result) (returns-clause-holds g c)
+    ∙ get-insert_same c.args.self.now.values c.of.result c.args.value
 
 pub returns-clause-was_free : goal.returns-clause-was_free
 returns-clause-was_free g c =
     let free = first_is_free _ _ _ _ c.self.invariant.0 in
-    rw (← c.self.view_is) (get-values_in c.self.inside.cells.cells c.self.inside.first_free ∙ free)
+    rw c.of.ensures (rw (← c.self.view_is) (get-values_in c.self.inside.cells.cells c.self.inside.first_free ∙ free))
 
 pub returns-clause-below_capacity : goal.returns-clause-below_capacity
 returns-clause-below_capacity g c =

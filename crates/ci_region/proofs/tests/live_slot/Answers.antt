@@ -6,4 +6,4 @@ use Rattle.ci_region.proofs.tests.live_slot.Goals as goal
 pub returns-in-Live : goal.returns-in-Live
 returns-in-Live g c =
     let cell = get-values_in c.region.inside.cells.cells c.args.number in
-    rw (← c.region.view_is) (ap is_some (cell ∙ ap value_of (sym c.cell.ensures ∙ c.in-Live.is)))
+    rw c.of.ensures (rw (← c.region.view_is) (ap is_some (cell ∙ ap value_of (sym c.cell.ensures ∙ c.in-Live.is))))
