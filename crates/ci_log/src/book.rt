@@ -7,7 +7,7 @@ use ci_word::Row;
 use std::marker::Model;
 
 /// An entry of a log book. The leader is the address of the block that it speaks of.
-#[derive(Debug, Drop)]
+#[derive(Drop)]
 pub enum Entry {
     /// A search that found the cut, whose nodes are numbered in the block, and its log.
     Best { leader: u32, cut: Row, log: Log },
@@ -29,7 +29,7 @@ pub enum Finish {
 }
 
 /// How a book spells its logs.
-#[derive(Clone, Copy, Debug, PartialEq, Eq)]
+#[derive(Clone, Copy)]
 pub enum Version {
     /// A letter for each item.
     One,
@@ -41,7 +41,7 @@ pub enum Version {
 /// and the finish.
 ///
 /// The cut of a search has a node, each unit is below 32, and each budget is at most 9,999,999.
-#[derive(Debug, Drop)]
+#[derive(Drop)]
 pub struct LogBook {
     entries: Vec<Entry>,
     finish: Finish,

@@ -1,7 +1,10 @@
 //! Trees of logs in a region, and their items in preorder.
-ghost use Rattle.std.specs.Prelude.{◌≡◌, ◌<◌, ◌^◌, IfOk};
+ghost use Rattle.std.specs.Prelude.{◌≡◌, ◌<◌, ◌≤◌, ◌^◌, List, [], ◌∷◌, ◌++◌, length, IfOk, MatchOption};
 ghost use Rattle.ci_region.specs.BoundedMap.{used};
-ghost use Rattle.ci_log.specs.RegionTrees.{LiesIn, StandsFor};
+ghost use Rattle.ci_region.specs.private.TreeReading.{IsReadUpTo};
+ghost use Rattle.ci_log.specs.declared.flattening.Child.TheVariants.{Inner};
+ghost use Rattle.ci_log.specs.declared.log.Item.{Item};
+ghost use Rattle.ci_log.specs.RegionTrees.{Slots, log_tree, LiesIn, StandsFor};
 
 use crate::log::{Item, Log};
 use ci_region::{Region, Slot};
@@ -35,21 +38,56 @@ pub fn flatten(alloc: Global, region: &Region<LogNode>, root: Child) -> Result<L
     ensures { IfOk result (StandsFor region.now root) }
 {
     let mut items = Vec::new(alloc);
-    // The children whose trees are to be listed yet, the next one last.
+    // The children whose trees are to be listed behind that of the branch, the next one last.
     let mut waiting = Vec::new(alloc);
-    waiting.push(root)?;
-    while let Some(child) = waiting.pop() {
-        match child {
+    let Some(mut slot) = first_branch(&mut items, &mut waiting, root)? else {
+        return Ok(Log::new(items));
+    };
+    loop {
+        let node = region.get(slot);
+        items.push(Item::B)?;
+        slot = match node.taken {
+            Child::Inner(next) => {
+                waiting.push(node.left_out)?;
+                next
+            }
+            // Most branches are of this kind, so that few children wait.
             Child::Leaf(item) => {
                 items.push(item)?;
+                let Some(next) = first_branch(&mut items, &mut waiting, node.left_out)? else {
+                    return Ok(Log::new(items));
+                };
+                next
             }
-            Child::Inner(slot) => {
-                let node = region.get(slot);
-                items.push(Item::B)?;
-                waiting.push(node.left_out)?;
-                waiting.push(node.taken)?;
+        };
+    }
+}
+
+/// Lists the child and those that wait, from the last one on, up to the first branch, and answers its slot; or all of
+/// them, and answers `None`.
+#[inline]
+fn first_branch(
+    items: &mut Vec<Item>,
+    waiting: &mut Vec<Child>,
+    child: Child,
+) -> Result<Option<Slot>, AllocError>
+    ensures listed { (slots : Slots) (listed : List Item)
+        → IsReadUpTo log_tree slots (waiting.old.items ++ child ∷ []) items.old.items listed
+        → IfOk result (λ found. MatchOption found (items.new.items ≡ listed)
+        (λ slot. IsReadUpTo log_tree slots (waiting.new.items ++ Inner slot ∷ []) items.new.items listed)) }
+    ensures longer { length items.old.items ≤ length items.new.items }
+{
+    let mut child = child;
+    loop {
+        match child {
+            Child::Inner(slot) => return Ok(Some(slot)),
+            Child::Leaf(item) => {
+                items.push(item)?;
+                let Some(next) = waiting.pop() else {
+                    return Ok(None);
+                };
+                child = next;
             }
         }
     }
-    Ok(Log::new(items))
 }

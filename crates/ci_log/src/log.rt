@@ -23,7 +23,7 @@ pub enum Item {
 
 /// The log of a search: a tree in which a branch has two children and other items none, in
 /// preorder. It has fewer than 2 to the power 32 items.
-#[derive(Debug, Drop)]
+#[derive(Drop)]
 pub struct Log {
     items: Vec<Item>,
 }
