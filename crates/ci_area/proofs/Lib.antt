@@ -4,6 +4,7 @@ pub mod AreaOrder
 pub mod AreaRegionLaws
 pub mod DecidedLaws
 pub mod BoundTests
+pub mod BetterTests
 pub mod AreaWalk
 pub mod GreedyLaws
 pub mod AreaSearchLaws

@@ -2,7 +2,6 @@
 use Rattle.std.proofs.Common.{◌≡◌, ℕ, suc, ◌+◌, ◌-◌, ◌*◌, ◌^◌, ◌<◌, ◌≤◌, Bool, true, refl, ap, ◌∙◌, arith, le_refl, List, length}
 use Rattle.std.proofs.lemmas.Bool.{false_from_ne_true}
 use Rattle.std.proofs.lemmas.Nat.{mul-le}
-use Rattle.std.specs.FinSet as set
 use Rattle.ci_word.specs.Numbers.{sum_below}
 use Rattle.ci_word.proofs.NumberLaws.{sum_below-suc, sum_below-add, sum_below-mono, sum_below-none}
 use Rattle.ci_area.specs.declared.decided.Decided.{Decided}
@@ -10,8 +9,8 @@ use Rattle.ci_area.specs.declared.piece.Piece.{Piece}
 use Rattle.ci_area.specs.Pieces.{ArePieces, area_at, gain_at, area, gain}
 use Rattle.ci_area.specs.AreaPrefixes.{Prefix, undecided, taken, scaled_bound}
 use Rattle.ci_area.specs.Representation.{Represents}
+use Rattle.ci_area.specs.private.Beyond.{beyond_below}
 use Rattle.ci_area.proofs.AreaLaws.{beyond_few, taken_from}
-use Rattle.ci_area.proofs.DecidedLaws.{same_taken}
 
 -- the sum of some is no more than that of all
 pub sum_below-whole : (n : ℕ) (p : ℕ → Bool) (f : ℕ → ℕ) → sum_below n p f ≤ sum_below n (λ _. true) f
@@ -65,27 +64,25 @@ module _ (pieces : List Piece) (are : ArePieces pieces) where
         sum_below-whole m (λ k. taken pieces prefix (u + k)) (λ k. f (u + k)),
       )
 
-  -- the bound fits 128 bits
-  pub bound_fits : (prefix : Prefix) (limit num den : ℕ) → limit < 2 ^ 32 → num < 2 ^ 63 → den < 2 ^ 63
-      → scaled_bound pieces limit num den prefix < 2 ^ 127
-  bound_fits prefix limit num den few_limit few_num few_den =
+  -- what is gained, and gained beyond a price, fits 126 bits
+  pub gains_fit : (prefix : Prefix) (num den : ℕ) → den < 2 ^ 63
+      → den * gain pieces (taken pieces prefix) + beyond_below pieces num den (undecided pieces prefix) < 2 ^ 126
+  gains_fit prefix num den few_den =
       let p = gain pieces (taken pieces prefix) in
       let u = sum_below (undecided pieces prefix) (λ _. true) (gain_at pieces) in
-      let left = limit - area pieces (taken pieces prefix) in
       let all : p + u ≤ 2 ^ 63 - 1 = omega (arith, apart prefix (gain_at pieces), are.gain_most) in
       let products : den * (p + u) ≤ (2 ^ 63 - 1) * (2 ^ 63 - 1) = mul-le den (p + u) (2 ^ 63 - 1) (2 ^ 63 - 1) (omega (arith, few_den)) all in
-      let price : num * left ≤ (2 ^ 63 - 1) * (2 ^ 32 - 1) = mul-le num left (2 ^ 63 - 1) (2 ^ 32 - 1) (omega (arith, few_num)) (omega (arith, few_limit)) in
       let beyond = beyond_few num den (gain_at pieces) (area_at pieces) (undecided pieces prefix) in
-      omega (arith, products, price, beyond)
+      omega (arith, products, beyond)
 
--- what the code sums up is the bound times its denominator
-pub scaled_is : (pieces : List Piece) (limit num den : ℕ) (prefix : Prefix) (decided : Decided) → Represents pieces prefix decided
-    → (so_far : Piece) → so_far.area ≡ area pieces (set.contains decided.taken) → so_far.gain ≡ gain pieces (set.contains decided.taken)
-    → (beyond : ℕ) → beyond ≡ sum_below decided.left (λ _. true) (λ k. den * gain_at pieces k - num * area_at pieces k)
-    → den * so_far.gain + num * (limit - so_far.area) + beyond ≡ scaled_bound pieces limit num den prefix
-scaled_is pieces limit num den prefix decided is so_far areas gains beyond rest =
-    let same = same_taken pieces prefix decided is in
-    let gain_is = gains ∙ ap (gain pieces) same in
-    let area_is = areas ∙ ap (area pieces) same in
-    let rest_is = rest ∙ ap (λ (n : ℕ). sum_below n (λ _. true) (λ k. den * gain_at pieces k - num * area_at pieces k)) is.is_left in
-    λ i. den * gain_is i + num * (limit - area_is i) + rest_is i
+module _ (pieces : List Piece) (prefix : Prefix) (decided : Decided) (is : Represents pieces prefix decided) (num den beyond : ℕ)
+    (rest : beyond ≡ beyond_below pieces num den decided.left) where
+  rest_is : beyond ≡ beyond_below pieces num den (undecided pieces prefix)
+  rest_is = rest ∙ ap (λ (n : ℕ). beyond_below pieces num den n) is.is_left
+
+  pub decided_fits : ArePieces pieces → den < 2 ^ 63 → den * decided.so_far.gain + beyond < 2 ^ 126
+  decided_fits are few_den = omega (arith, gains_fit pieces are prefix num den few_den, ap (λ (n : ℕ). den * n) is.gain_is, rest_is)
+
+  -- what the code sums up is the bound times its denominator
+  pub scaled_is : (limit : ℕ) → den * decided.so_far.gain + num * (limit - decided.so_far.area) + beyond ≡ scaled_bound pieces limit num den prefix
+  scaled_is limit = λ i. den * is.gain_is i + num * (limit - is.area_is i) + rest_is i

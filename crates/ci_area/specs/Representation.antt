@@ -5,15 +5,17 @@ use Rattle.ci_area.specs.declared.decided.Decided.{Decided}
 use Rattle.ci_area.specs.declared.log.AreaItem.{AreaItem}
 use Rattle.ci_area.specs.declared.piece.Piece.{Piece}
 use Rattle.ci_area.specs.declared.rules.Incumbent.{Incumbent}
-use Rattle.ci_area.specs.Pieces.{gain, IsWithin}
+use Rattle.ci_area.specs.Pieces.{area, gain, IsWithin}
 use Rattle.ci_area.specs.AreaPrefixes.{Prefix, undecided, taken}
 use Rattle.ci_area.specs.AreaTrees.{IsTree}
 
--- the decisions of a prefix: the pieces taken in, and how many are undecided
+-- the decisions of a prefix: the pieces taken in, what they have together, and how many are undecided
 pub record Represents (pieces : List Piece) (prefix : Prefix) (decided : Decided) : Type 0 where
   pub within : length prefix ≤ length pieces
   pub is_left : decided.left ≡ undecided pieces prefix
   pub is_taken : (k : ℕ) → set.contains decided.taken k ≡ taken pieces prefix k
+  pub area_is : decided.so_far.area ≡ area pieces (taken pieces prefix)
+  pub gain_is : decided.so_far.gain ≡ gain pieces (taken pieces prefix)
 
 abbrev pub RepresentsSome : List Piece → Decided → Type 0
 RepresentsSome pieces decided = (prefix : Prefix) × Represents pieces prefix decided

@@ -1,3 +1,4 @@
 pub mod Judged
 pub mod Tried
 pub mod Searched
+pub mod Beyond

@@ -85,7 +85,7 @@ fn check_tree(
     if !branches(item) {
         return Ok(place + 1);
     }
-    let with_piece = decided.take_in();
+    let with_piece = decided.take_in(pieces);
     let end = check_tree(pieces, limit, best, items, place + 1, &with_piece)?;
     let without = decided.leave_out();
     check_tree(pieces, limit, best, items, end, &without)

@@ -25,6 +25,7 @@ mod laws;
 mod leaves;
 mod log;
 mod piece;
+mod rates;
 mod rules;
 mod searching;
 mod trees;

@@ -6,6 +6,7 @@ ghost use Rattle.ci_area.specs.AreaNeed.{ReachesGreedy};
 ghost use Rattle.ci_area.specs.AreaPrefixes.{Prefix};
 ghost use Rattle.ci_area.specs.Pieces.{ArePieces};
 ghost use Rattle.ci_area.specs.Representation.{Represents, RepresentsSome, IsMeasured};
+ghost use Rattle.ci_area.specs.private.Beyond.{AreRates};
 ghost use Rattle.ci_area.specs.private.Searched.{IsSearchOf, CanBeJoined, IsJoined};
 
 use crate::decided::Decided;
@@ -14,6 +15,7 @@ use crate::greedy::greedy;
 use crate::leaves::{improved, pruning_item};
 use crate::log::AreaItem;
 use crate::piece::{Piece, together};
+use crate::rates::Rates;
 use crate::rules::Incumbent;
 use crate::trees::{branch, give_back};
 use ci_region::Region;
@@ -53,8 +55,9 @@ pub fn choose_within(pieces: &[Piece], limit: u32, region: &mut Region<AreaNode>
         set,
         gain: together(pieces, &set).gain,
     };
+    let rates = Rates::of(pieces);
     let none = Decided::none(pieces);
-    let Some(root) = search(pieces, limit, region, &none, &mut best) else {
+    let Some(root) = search(pieces, &rates, limit, region, &none, &mut best) else {
         return AreaFound::Spent { budget };
     };
     AreaFound::Best {
@@ -67,12 +70,14 @@ pub fn choose_within(pieces: &[Piece], limit: u32, region: &mut Region<AreaNode>
 /// tree of the prefix. `None` where slots are wanting, and then the region holds what it held.
 fn search(
     pieces: &[Piece],
+    rates: &Rates,
     limit: u32,
     region: &mut Region<AreaNode>,
     decided: &Decided,
     best: &mut Incumbent,
 ) -> Option<AreaChild>
     requires pieces { ArePieces pieces.now }
+    requires rates { AreRates pieces.now rates.now }
     requires represents { RepresentsSome pieces.now decided.now }
     requires measured { IsMeasured pieces.now limit best.old }
     requires greedy { ReachesGreedy pieces.now limit best.old.gain }
@@ -81,16 +86,16 @@ fn search(
         → IsSearchOf pieces.now limit prefix best.old best.new region.old region.new result }
 {
     if decided.left == 0 {
-        *best = improved(pieces, limit, best, &decided.taken);
+        *best = improved(limit, best, decided);
         return Some(AreaChild::Leaf(AreaItem::F));
     }
-    if let Some(item) = pruning_item(pieces, limit, best, decided) {
+    if let Some(item) = pruning_item(pieces, rates, limit, best, decided) {
         return Some(AreaChild::Leaf(item));
     }
-    let with_piece = decided.take_in();
-    let first = search(pieces, limit, region, &with_piece, best)?;
+    let with_piece = decided.take_in(pieces);
+    let first = search(pieces, rates, limit, region, &with_piece, best)?;
     let without = decided.leave_out();
-    let second = search(pieces, limit, region, &without, best);
+    let second = search(pieces, rates, limit, region, &without, best);
     join(region, first, second)
 }
 

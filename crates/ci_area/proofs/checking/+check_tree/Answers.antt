@@ -76,7 +76,7 @@ check_tree-requires t c =
       (
         c.requires.pieces,
         (
-          (true ∷ some.0, c.take_in-with_piece.ensures.represents c.args.pieces.now some.0 some.1),
+          (true ∷ some.0, c.take_in-with_piece.ensures.represents some.0 some.1),
           (
             c.requires.measured,
             (
@@ -97,7 +97,7 @@ pub returns-in_err-end : goal.returns-in_err-end
 returns-in_err-end t c prefix one rest tree represents splits =
     let b = branch_at t (goal.at.returns-in_err-end t c).After-take_in-with_piece prefix one rest tree represents splits in
     let first = c.in_err-end.ensures (true ∷ prefix) b.parts.first (b.parts.second ++ rest) b.parts.first_tree
-    (c.take_in-with_piece.ensures.represents c.args.pieces.now prefix represents) b.parts.is_tail in
+    (c.take_in-with_piece.ensures.represents prefix represents) b.parts.is_tail in
     let p = err_from_is_err_and c.from_residual.result c.from_residual.ensures.1 in
     rw (p.1, p.2) (judged_by_first c.args.pieces.now c.args.limit (set.contains c.args.best.now.set) tree prefix _ rest b.parts b.right
     c.args.place c.in_err-end.field-0.0 first)
@@ -118,7 +118,7 @@ later_at t c prefix one rest tree represents splits =
     let parts = sub_trees tree prefix (get_or c.args.items.now c.args.place B) (drop (c.args.place + 1) c.args.items.now) rest
     (first_item c.args.items.now one rest c.args.place (tree_within c.args.items.now c.args.place c.requires.tree) splits) branches in
     let judged = c.in_ok-end.ensures (true ∷ prefix) parts.first (parts.second ++ rest) parts.first_tree
-    (c.take_in-with_piece.ensures.represents c.args.pieces.now prefix represents) parts.is_tail in
+    (c.take_in-with_piece.ensures.represents prefix represents) parts.is_tail in
     record {
       parts = parts;
       right = subst (λ (item : AreaItem). IsRight c.args.pieces.now c.args.limit (set.contains c.args.best.now.set) prefix item)

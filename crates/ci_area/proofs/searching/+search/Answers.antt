@@ -12,7 +12,8 @@ pub returns-then-decided-eq0 : goal.returns-then-decided-eq0
 returns-then-decided-eq0 t c prefix represents =
     searched_whole c.args.pieces.now c.args.limit prefix c.args.best.now c.args.region.now c.requires.within
     (omega (arith, c.if-decided-eq0.true, represents.is_left)) (set.contains c.args.decided.now.taken)
-    (same_taken c.args.pieces.now prefix c.args.decided.now represents) c.improved.result c.improved.ensures
+    (same_taken c.args.pieces.now prefix c.args.decided.now represents) c.improved.result
+    (c.improved.ensures c.args.pieces.now (prefix, represents) c.requires.measured)
 
 pub returns-in-Some : goal.returns-in-Some
 returns-in-Some t c prefix represents =
@@ -23,13 +24,13 @@ pub returns-in_err-first : goal.returns-in_err-first
 returns-in_err-first t c prefix represents =
     rw c.from_residual.ensures (spent_first c.args.pieces.now c.args.limit prefix (omega (arith, c.if-decided-eq0.false, represents.is_left))
     c.args.region.now c.search.new.region
-    (c.in_err-first.ensures (true ∷ prefix) (c.take_in-with_piece.ensures.represents c.args.pieces.now prefix represents)))
+    (c.in_err-first.ensures (true ∷ prefix) (c.take_in-with_piece.ensures.represents prefix represents)))
 
 -- what was found where the next piece is taken in
 first_at : (t : ℕ) (c : In_ok-first t) (prefix : Prefix) → Represents c.args.pieces.now prefix c.args.decided.now
     → IsSearched c.args.pieces.now c.args.limit (true ∷ prefix) c.args.best.now c.search.new.best c.args.region.now c.search.new.region c.in_ok-first.first
 first_at t c prefix represents =
-    c.in_ok-first.ensures (true ∷ prefix) (c.take_in-with_piece.ensures.represents c.args.pieces.now prefix represents)
+    c.in_ok-first.ensures (true ∷ prefix) (c.take_in-with_piece.ensures.represents prefix represents)
 
 pub search-second-requires : goal.search-second-requires
 search-second-requires t c =
@@ -40,12 +41,15 @@ search-second-requires t c =
       (
         c.requires.pieces,
         (
-          (false ∷ prefix, c.leave_out-without.ensures.represents c.args.pieces.now prefix represents),
+          c.requires.rates,
           (
-            first.logged.measured,
+            (false ∷ prefix, c.leave_out-without.ensures.represents c.args.pieces.now prefix represents),
             (
-              reached_later c.args.pieces.now c.args.limit c.args.best.now c.search.new.best c.requires.measured first.logged.measured first.logged.grows c.requires.greedy,
-              first.within,
+              first.logged.measured,
+              (
+                reached_later c.args.pieces.now c.args.limit c.args.best.now c.search.new.best c.requires.measured first.logged.measured first.logged.grows c.requires.greedy,
+                first.within,
+              ),
             ),
           ),
         ),
