@@ -7,18 +7,22 @@ ghost use Rattle.std.specs.List.{All};
 use crate::flow::{Flow, Successors};
 use std::alloc::{AllocError, Global};
 
-/// A block leads to another one, by their numbers.
+/// The arc from a block to another one, in a chain of those that lead there.
 #[derive(Clone, Copy)]
 pub(crate) struct Arc {
+    /// The number of the block from which it leads.
     from: usize,
-    to: usize,
+    /// One more than the place of the next one of the chain, which stands before this one; 0 behind its last one.
+    next: usize,
 }
 
 /// What leads to each block.
 #[derive(Drop)]
 pub(crate) struct Predecessors {
-    /// Sorted by the blocks that they lead to.
+    /// Those of all chains.
     arcs: Vec<Arc>,
+    /// For each block one more than the place of the first arc of its chain; 0 where nothing leads there.
+    first: Vec<usize>,
     /// The blocks that lead to any block.
     from_jumps: Vec<usize>,
     /// How many blocks there are.
@@ -27,13 +31,22 @@ pub(crate) struct Predecessors {
     ghost jumps_below: { All (λ from. from < count) from_jumps.items },
 }
 
-/// Adds the arc from a block on one of its successors, if there is one.
-fn add_arc(arcs: &mut Vec<Arc>, from: usize, successor: Option<usize>) -> Result<(), AllocError>
+/// Adds the arc from a block on one of its successors, if there is one, to the chain of those that lead there.
+fn add_arc(
+    arcs: &mut Vec<Arc>,
+    first: &mut [usize],
+    from: usize,
+    successor: Option<usize>,
+) -> Result<(), AllocError>
     ensures { OnOk result ((count : ℕ) → from < count → All (λ arc. arc.from < count) arcs.old.items
         → All (λ arc. arc.from < count) arcs.new.items) }
 {
-    if let Some(to) = successor {
-        arcs.push(Arc { from, to })?;
+    let Some(to) = successor else {
+        return Ok(());
+    };
+    if let Some(first) = first.get_mut(to) {
+        arcs.push(Arc { from, next: *first })?;
+        *first = arcs.len();
     }
     Ok(())
 }
@@ -44,22 +57,31 @@ impl Predecessors {
         ensures { IfOk result (λ predecessors. predecessors.count ≡ length flows.now) }
     {
         let mut arcs = Vec::new(alloc);
+        let mut first = vec![in alloc; 0; flows.len()]?;
         let mut from_jumps = Vec::new(alloc);
         for (from, flow) in flows.iter().enumerate() {
             match flow.successors {
-                Successors::Named(first, second) => {
-                    add_arc(&mut arcs, from, first)?;
-                    add_arc(&mut arcs, from, second)?;
+                Successors::Named(target, following) => {
+                    add_arc(&mut arcs, &mut first, from, target)?;
+                    add_arc(&mut arcs, &mut first, from, following)?;
                 }
                 Successors::Anywhere => from_jumps.push(from)?,
             }
         }
-        arcs.sort_unstable_by_key(|arc| arc.to);
         Ok(Predecessors {
             arcs,
+            first,
             from_jumps,
             count: flows.len(),
         })
+    }
+
+    /// One more than the place of the first arc of the chain of those that lead to a block; 0 where there is none.
+    fn first_to(&self, to: usize) -> usize {
+        match self.first.get(to) {
+            Some(place) => *place,
+            None => 0,
+        }
     }
 
     /// Lists the blocks that lead to this one by name.
@@ -67,12 +89,14 @@ impl Predecessors {
         requires { All (λ from. from < self.now.count) pending.old.items }
         ensures { OnOk result (All (λ from. from < self.now.count) pending.new.items) }
     {
-        let start = self.arcs.partition_point(|arc| arc.to < to);
-        for arc in &self.arcs[start..] {
-            if arc.to != to {
+        let mut place = self.first_to(to);
+        while place > 0 {
+            let Some(arc) = self.arcs.get(place - 1) else {
                 break;
-            }
+            };
             pending.push(arc.from)?;
+            // An arc's next stands before it, so that nothing is lost.
+            place = arc.next.min(place - 1);
         }
         Ok(())
     }

@@ -1,7 +1,6 @@
 use Rattle.std.proofs.Common.{ℕ, ◌<◌, List, length, subst, sym}
 use Rattle.std.specs.List.{All}
 use Rattle.std.proofs.lemmas.List.Elements.{All-push}
-use Rattle.std.proofs.lemmas.List.Sorted.{All-permutation}
 use Rattle.ci_live.specs.declared.predecessors.Arc.{Arc}
 use Rattle.ci_live.proofs.predecessors.Predecessors.new.Goals as goal
 use Rattle.ci_live.proofs.predecessors.Predecessors.new.Goals.{in-Named+in_ok-add_arc-in-Named+in_ok-add_arc-in-Named-2, in-Anywhere+in_ok-push-in-Anywhere}
@@ -29,9 +28,4 @@ loop-from-preserved c =
     ]
 
 pub invariant_of-result : goal.invariant_of-result
-invariant_of-result c =
-    let n : ℕ = length c.args.flows.now in
-    record {
-      arcs_below = All-permutation (λ (arc : Arc). arc.from < n) _ _ c.sort_unstable_by_key.ensures.permutation c.loop-from.invariant.arcs;
-      jumps_below = c.loop-from.invariant.jumps;
-    }
+invariant_of-result c = record { arcs_below = c.loop-from.invariant.arcs; jumps_below = c.loop-from.invariant.jumps }
