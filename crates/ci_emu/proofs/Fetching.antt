@@ -57,15 +57,15 @@ module _ (has_unit : ℕ → Bool) (has_hidden : Bool) (word : ℕ) where
   same_moved core (Cput rs1 rs2) = chosen (λ insn. moved insn core) [] has_hidden (Cput rs1 rs2) (Illegal word) refl refl
   same_moved core insn = refl
 
-  pub same_change : (text : ℕ → Bool) (core : Core) (reading : Insn)
-      → may_change text (standing has_unit has_hidden word reading) core ≡ may_change text reading core
-  same_change text core (Unit number rd rs1 rs2 rs3) =
-      chosen (λ insn. may_change text insn core) false (has_unit number) (Unit number rd rs1 rs2 rs3) (Illegal word) refl refl
-  same_change text core (Cread rd index) =
-      chosen (λ insn. may_change text insn core) false has_hidden (Cread rd index) (Illegal word) refl refl
-  same_change text core (Cput rs1 rs2) =
-      chosen (λ insn. may_change text insn core) false has_hidden (Cput rs1 rs2) (Illegal word) refl refl
-  same_change text core insn = refl
+  pub same_change : (program : Program) (end : ℕ) (core : Core) (reading : Insn)
+      → may_change program end (standing has_unit has_hidden word reading) core ≡ may_change program end reading core
+  same_change program end core (Unit number rd rs1 rs2 rs3) =
+      chosen (λ insn. may_change program end insn core) false (has_unit number) (Unit number rd rs1 rs2 rs3) (Illegal word) refl refl
+  same_change program end core (Cread rd index) =
+      chosen (λ insn. may_change program end insn core) false has_hidden (Cread rd index) (Illegal word) refl refl
+  same_change program end core (Cput rs1 rs2) =
+      chosen (λ insn. may_change program end insn core) false has_hidden (Cput rs1 rs2) (Illegal word) refl refl
+  same_change program end core insn = refl
 
   pub same_target : (outcome : Outcome) (pc : ℕ) (reading : Insn)
       → target_of (standing has_unit has_hidden word reading) outcome pc ≡ target_of reading outcome pc

@@ -1,9 +1,10 @@
 -- Lines of which it is known that their words stand in the text, without a look at memory.
 use Rattle.std.proofs.Common.{◌^◌, add-zero, inl, inr, eq-eqb, ◌≡◌, ℕ, ◌+◌, ◌%◌, ◌<◌, ◌≤◌, ap, sym, subst, refl, ◌∙◌, arith, List, length, Option, None, Some}
-use Rattle.std.specs.Prelude.{Bool, true, false, ◌==◌, if◌then◌else◌, is_some}
+use Rattle.std.specs.Prelude.{Bool, true, false, ◌==◌, ◌&&◌, ◌||◌, nat_lt, if◌then◌else◌, is_some}
 use Rattle.std.specs.Prelude.{slice_index_or, slice_set}
 use Rattle.std.specs.List.{list_all}
 use Rattle.std.proofs.lemmas.Bool.{cases_eq, cases_lt, eqb-true}
+use Rattle.std.proofs.lemmas.Bool.Decides.{nat_tests}
 use Rattle.std.proofs.lemmas.List.{get_or-set_same, get_or-set_other, length-set, set_past}
 use Rattle.std.proofs.lemmas.List.Elements.{All-set}
 use Rattle.std.proofs.lemmas.List.Sums.{AllPass-from_list_all}
@@ -11,14 +12,18 @@ use Rattle.ci_isa.specs.declared.instruction.Insn.{Insn}
 use Rattle.ci_isa.specs.declared.instruction.Insn.TheVariants.{Jal, Jalr, Branch, Ecall, Store}
 use Rattle.ci_isa.specs.Effects.{ends_block}
 use Rattle.ci_machine.specs.declared.ends.End.TheVariants as ends
+use Rattle.ci_machine.specs.Calls.{answering, bad_file, call, heap_call, is_output, may_end_at, no_such_call}
+use Rattle.ci_machine.specs.Calls.{range_at, read_call, with_heap_end, write_call, written_from}
 use Rattle.ci_machine.specs.Cores.{Core, register, with_register}
 use Rattle.ci_machine.specs.Outcomes.{Outcome, Next, Ended, reached}
 use Rattle.ci_machine.specs.Actions.{Units, act, accessed}
-use Rattle.ci_machine.specs.Programs.{Program, State, at_pc, in_text}
+use Rattle.ci_machine.specs.Programs.{Program, State, at_pc, in_text, lies_in}
 use Rattle.ci_machine.specs.Steps.{onward, directed, is_taken, then_onward, control, execute}
 use Rattle.ci_machine.specs.Blocks.{HaveSameText}
+use Rattle.ci_machine.specs.Touches.{may_change_below, may_move_heap_below}
 use Rattle.ci_machine.proofs.BlockSteps.{text_stays}
 use Rattle.ci_machine.proofs.InstructionFrame.{keeps}
+use Rattle.ci_machine.proofs.TestLaws.{neither_first, neither_second}
 use Rattle.ci_machine.proofs.TextLaws.{none_found}
 use Rattle.ci_machine.proofs.BlockSteps.{same_insn}
 use Rattle.ci_elf.specs.declared.ranges.Range.{Range}
@@ -32,13 +37,65 @@ use Rattle.ci_machine.specs.Steps.{Meaning, word_at, fetched}
 use Rattle.ci_emu.specs.declared.decode_cache.Decoded.{Decoded}
 use Rattle.ci_emu.specs.declared.steps.Outcome as emu
 use Rattle.ci_emu.specs.Alignment.{are_aligned}
-use Rattle.ci_emu.specs.private.Fetched.{may_change}
+use Rattle.ci_emu.specs.private.Fetched.{may_change, IsTextBelow}
 use Rattle.ci_emu.specs.private.Lines.{AreKept, AreKnown, IsTimed, IsWordAt}
 use Rattle.ci_emu.specs.Steps.{LeadsTo}
 use Rattle.ci_emu.proofs.Fetching.{fetched_is}
 
 abbrev KeepsMemory : State → Outcome State → Type 0
 KeepsMemory state outcome = (reached state outcome).state.core.memory ≡ state.core.memory
+
+-- ---- a call that may not change bytes below an address keeps them
+
+not_between : (start end a : ℕ) → a < start → lies_in start end a ≡ false
+not_between start end a below = grind (arith, nat_tests)
+
+module _ (program : Program) (core : Core) (end a : ℕ) (below : a < end) where
+  write_keeps : (write_call core).memory a ≡ core.memory a
+  write_keeps = tested (is_output (register core 10))
+    where
+      from : (found : Option (List ℕ)) → (written_from core found).memory a ≡ core.memory a
+      from None = refl
+      from (Some bytes) = refl
+
+      tested : (test : Bool)
+          → (if test then written_from core (range_at core.memory (register core 11) (register core 12)) else answering core bad_file).memory a
+          ≡ core.memory a
+      tested true = from _
+      tested false = refl
+
+  moved_keeps : (heap : ℕ) → end ≤ core.heap_end → end ≤ heap → core.memory a ≡ (with_heap_end core heap).memory a
+  moved_keeps heap before behind =
+      let old : lies_in core.heap_end heap a ≡ false = not_between core.heap_end heap a (omega arith) in
+      let new : lies_in heap core.heap_end a ≡ false = not_between heap core.heap_end a (omega arith) in
+      λ i. if sym old i then Some 0 else if sym new i then None else core.memory a
+
+  not_less : (m : ℕ) → nat_lt m end ≡ false → end ≤ m
+  not_less m none = grind (arith, nat_tests)
+
+  heap_keeps : may_move_heap_below program end core ≡ false → (heap_call program core).memory a ≡ core.memory a
+  heap_keeps none = tested (may_end_at program (register core 10)) (neither_second _ _ none)
+    where
+      tested : (may : Bool) → (may && nat_lt (register core 10) end) ≡ false
+          → (let next = if may then with_heap_end core (register core 10) else core in answering next next.heap_end).memory a ≡ core.memory a
+      tested true moves =
+          sym (moved_keeps (register core 10) (not_less core.heap_end (neither_first _ _ none)) (not_less (register core 10) moves))
+      tested false moves = refl
+
+  called_keeps : may_change_below program end core ≡ false → (reached core (call program core)).state.memory a ≡ core.memory a
+  called_keeps none = tested (register core 17 == 63) (register core 17 == 64) (register core 17 == 93) (register core 17 == 214) none
+    where
+      tested : (read write exit heap : Bool) → (read || (heap && may_move_heap_below program end core)) ≡ false
+          → (reached core (if read then Next (read_call core) else if write then Next (write_call core)
+          else if exit then Ended (ends.Exit (register core 10)) else if heap then Next (heap_call program core)
+          else Next (answering core no_such_call))).state.memory a ≡ core.memory a
+      tested true write exit heap none = cc
+      tested false true exit heap none = write_keeps
+      tested false false true heap none = refl
+      tested false false false true none = heap_keeps none
+      tested false false false false none = refl
+
+-- ---- steps that keep the text
 
 module _ (state : State) where
   directed_keeps : (target rd value : ℕ) → KeepsMemory state (directed target (with_register state.core rd value))
@@ -57,30 +114,45 @@ module _ (state : State) where
       tested false = refl
   branch_keeps false target = refl
 
-  control_keeps : (program : Program) (insn : Insn) → may_change (in_text program) insn state.core ≡ false
-      → KeepsMemory state (control program insn state.pc state.core)
-  control_keeps program (Jal rd offset) none = directed_keeps _ rd _
-  control_keeps program (Jalr rd rs1 offset) none = directed_keeps _ rd _
-  control_keeps program (Branch cond rs1 rs2 offset) none = branch_keeps (is_taken cond (register state.core rs1) (register state.core rs2)) _
-  control_keeps program Ecall none = cc
-  control_keeps program insn none = refl
-
   then_keeps : (outcome : Outcome Core) (a : ℕ)
       → (reached state.core outcome).state.memory a ≡ state.core.memory a
       → (reached state (then_onward state.pc outcome)).state.core.memory a ≡ state.core.memory a
   then_keeps (Next core) a same = same
   then_keeps (Ended end) a same = refl
 
-  -- an instruction that may not change the text keeps it
-  pub executed_keeps : (units : Units) (program : Program) (insn : Insn) → may_change (in_text program) insn state.core ≡ false
+  kept_at : (outcome : Outcome State) (a : ℕ) → KeepsMemory state outcome → (reached state outcome).state.core.memory a ≡ state.core.memory a
+  kept_at outcome a same = ap (λ memory. memory a) same
+
+  control_keeps : (program : Program) (end a : ℕ) → a < end → (insn : Insn) → may_change program end insn state.core ≡ false
+      → (reached state (control program insn state.pc state.core)).state.core.memory a ≡ state.core.memory a
+  control_keeps program end a below (Jal rd offset) none =
+      kept_at (control program (Jal rd offset) state.pc state.core) a (directed_keeps _ rd _)
+  control_keeps program end a below (Jalr rd rs1 offset) none =
+      kept_at (control program (Jalr rd rs1 offset) state.pc state.core) a (directed_keeps _ rd _)
+  control_keeps program end a below (Branch cond rs1 rs2 offset) none =
+      kept_at (control program (Branch cond rs1 rs2 offset) state.pc state.core) a
+      (branch_keeps (is_taken cond (register state.core rs1) (register state.core rs2)) _)
+  control_keeps program end a below Ecall none =
+      then_keeps (call program state.core) a (called_keeps program state.core end a below none)
+  control_keeps program end a below insn none = refl
+
+  -- an instruction that may not change the text, which ends there, keeps it
+  pub executed_keeps : (units : Units) (program : Program) (end : ℕ) → IsTextBelow (in_text program) end
+      → (insn : Insn) → may_change program end insn state.core ≡ false
       → HaveSameText program state.core.memory (reached state (execute units program insn state)).state.core.memory
-  executed_keeps units program insn none a is = tested (ends_block insn) refl
+  executed_keeps units program end below insn none a is = tested (ends_block insn) refl
     where
       untouched : (o : Option ℕ) → is_some o ≡ false → o ≡ None
       untouched None some = refl
       untouched (Some address) some = cc
 
-      clear : (insn : Insn) → may_change (in_text program) insn state.core ≡ false
+      within : a < end
+      within = elim (cases_lt a end) [
+        | inl before ↦ before
+        | inr from ↦ absurd (let e : true ≡ false = sym is ∙ below a from in cc)
+      ]
+
+      clear : (insn : Insn) → may_change program end insn state.core ≡ false
           → (reached state.core (act units insn state.core)).state.memory a ≡ state.core.memory a
       clear (Store width rs1 rs2 offset) none =
           text_stays (in_text program) units (Store width rs1 rs2 offset) state.core a
@@ -90,7 +162,7 @@ module _ (state : State) where
       tested : (test : Bool) → ends_block insn ≡ test
           → state.core.memory a
           ≡ (reached state (if test then control program insn state.pc state.core else then_onward state.pc (act units insn state.core))).state.core.memory a
-      tested true ends = sym (ap (λ memory. memory a) (control_keeps program insn none))
+      tested true ends = sym (control_keeps program end a within insn none)
       tested false ends = sym (then_keeps (act units insn state.core) a (clear insn none))
 
 -- ---- the bytes of a word are text
@@ -147,16 +219,16 @@ module _ (meaning : Meaning) (program : Program) where
   }
 
   -- behind a step
-  pub behind_step : (cycles : ℕ → Insn → ℕ) (lines : List Decoded) (changes : ℕ) (state after : State) (insn : Insn) (outcome : emu.Outcome) (test : Bool)
-      → may_change (in_text program) insn state.core ≡ test → AreKept cycles changes lines
+  pub behind_step : (cycles : ℕ → Insn → ℕ) (lines : List Decoded) (changes end : ℕ) → IsTextBelow (in_text program) end
+      → (state after : State) (insn : Insn) (outcome : emu.Outcome) (test : Bool) → may_change program end insn state.core ≡ test → AreKept cycles changes lines
       → LeadsTo state (execute meaning.units program insn state) after outcome
       → AreKnown meaning program state.core.memory changes lines
       → AreKnown meaning program after.core.memory (changes + (if test then 1 else 0)) lines
-  behind_step cycles lines changes state after insn outcome true is kept leads known =
+  behind_step cycles lines changes end below state after insn outcome true is kept leads known =
       none_known after.core.memory cycles lines changes (changes + 1) (omega arith) kept
-  behind_step cycles lines changes state after insn outcome false is kept leads known =
+  behind_step cycles lines changes end below state after insn outcome false is kept leads known =
       rw add-zero (still_known state.core.memory after.core.memory lines changes
-      (subst (HaveSameText program state.core.memory) (ap (λ r. r.state.core.memory) leads) (executed_keeps state meaning.units program insn is)) known)
+      (subst (HaveSameText program state.core.memory) (ap (λ r. r.state.core.memory) leads) (executed_keeps state meaning.units program end below insn is)) known)
 
   -- a line that was compared with memory is
   module _ (state : State) (small : state.pc < 2 ^ 32) (place : ℕ) (here : word_place program.text state.pc ≡ Some place)

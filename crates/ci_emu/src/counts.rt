@@ -1,5 +1,5 @@
 //! Counts of steps by the address at which they began.
-ghost use Rattle.std.specs.Prelude.{◌≡◌, Some, ◌+◌, ◌<◌, ◌^◌, length, IfOk, IfSome, slice_index, slice_set};
+ghost use Rattle.std.specs.Prelude.{◌≡◌, Some, ◌+◌, ◌-◌, ◌*◌, ◌/◌, ◌%◌, ◌<◌, ◌≤◌, ◌^◌, true, length, IfOk, IfSome, slice_index, slice_set};
 ghost use Rattle.ci_elf.specs.WordPlaces.{word_count, word_place};
 ghost use Rattle.ci_emu.specs.Alignment.{are_aligned};
 
@@ -62,12 +62,42 @@ impl Nearby {
         }
     }
 
+    /// The number of the word at the address among those of the range; `None` where the address lies outside it, or is
+    /// no multiple of four.
+    ///
+    /// That is how far the address lies behind the start, turned by two bits: an address before the range is far behind
+    /// it by the wrap, and low bits go to the top, so that either makes a number past all words, which one comparison
+    /// tells.
+    #[inline(always)]
+    fn word(&self, address: u32) -> Option<usize>
+        requires fits { self.now.range.start + 4 * self.now.range.words ≤ 2 ^ 32 }
+        requires on_words { self.now.range.start % 4 ≡ 0 }
+        ensures within { IfSome result (λ number. has_byte self.now.range address ≡ true) }
+        ensures aligned { IfSome result (λ number. address % 4 ≡ 0) }
+        ensures number { IfSome result (λ number. number ≡ (address - self.now.range.start) / 4) }
+    {
+        let past = address.wrapping_sub(self.range.start);
+        let number = past / 4 + past % 4 * 0x4000_0000;
+        if number < self.range.words {
+            return Some(number as usize);
+        }
+        None
+    }
+
     /// Whether the byte at the address is one of the range's.
     fn has(&self, address: u32) -> bool
         ensures { result ≡ has_byte self.now.range address }
     {
         self.range.start <= address && (address - self.range.start) / 4 < self.range.words
     }
+}
+
+/// Whether the words of the range begin at multiples of four, and none of them ends past the last address.
+fn has_aligned_words(range: Range) -> bool
+    ensures aligned { result ≡ true → range.start % 4 ≡ 0 }
+    ensures fits { result ≡ true → range.start + 4 * range.words ≤ 2 ^ 32 }
+{
+    range.start % 4 == 0 && u64::from(range.start) + 4 * u64::from(range.words) <= 0x1_0000_0000
 }
 
 /// How many steps began at each word of the text.
@@ -132,13 +162,8 @@ impl Counts {
         ensures value { IfSome result (λ place. word_place self.now.places address ≡ Some place) }
         ensures within { IfSome result (λ place. place < length self.now.by_place.items) }
     {
-        if address % 4 != 0 {
-            return None;
-        }
-        if nearby.has(address) {
-            return Some(nearby.first + ((address - nearby.range.start) / 4) as usize);
-        }
-        None
+        let number = nearby.word(address)?;
+        Some(nearby.first + number)
     }
 
     /// Whether the word at the address lies in another range than in the one that is near; that range is near then.
@@ -167,7 +192,8 @@ impl Counts {
         self.look_up(nearby, address)
     }
 
-    /// The same, by the range that has the address, which is tried first for it from then on.
+    /// The same, by the range that has the address, which is tried first for it from then on. That range is near then,
+    /// where its words begin at multiples of four.
     #[cold]
     #[inline(never)]
     fn look_up(&self, nearby: &mut Nearby, address: u32) -> Option<usize>
@@ -182,8 +208,10 @@ impl Counts {
         nearby.remember(text, address, index);
         let range = text[index];
         let past = ((address - range.start) / 4) as usize;
-        nearby.range = range;
-        nearby.first = place - past;
+        if has_aligned_words(range) {
+            nearby.range = range;
+            nearby.first = place - past;
+        }
         Some(place)
     }
 

@@ -53,7 +53,8 @@ pub(crate) fn execute<M: Machine>(
     ensures touched { touches.new.first ≡ first_touch touches.old.first (state_of state.old).pc
         (find (in_text (program_of state.old)) (moved insn (state_of state.old).core)) }
     ensures changes { touches.new.changes ≡ touches.old.changes
-        + (if may_change (in_text (program_of state.old)) insn (state_of state.old).core then 1 else 0) }
+        + (if may_change (program_of state.old) touches.old.end insn (state_of state.old).core then 1
+        else 0) }
     ensures end { touches.new.end ≡ touches.old.end }
 {
     match insn {

@@ -52,7 +52,7 @@ pub(crate) fn perform<M: Machine>(
         (find (in_text (program_of state.old)) (moved (insn_of action.now) (state_of state.old).core))
         ≡ touches.now.first }
     ensures changes { result ≡ true
-        → may_change (in_text (program_of state.old)) (insn_of action.now) (state_of state.old).core ≡ false }
+        → may_change (program_of state.old) touches.now.end (insn_of action.now) (state_of state.old).core ≡ false }
     ensures led { result ≡ true → (address : ℕ)
         → target_of (insn_of action.now) Next (state_of state.new).pc ≡ Some address → Led targets.now address }
 {

@@ -14,7 +14,7 @@ use ci_machine::{End, State};
 use std::alloc::AllocError;
 
 /// What a step comes to: the run goes on, or ends.
-#[derive(Clone, Copy, Debug, PartialEq, Eq)]
+#[derive(Clone, Copy, PartialEq, Eq)]
 pub enum Outcome {
     Next,
     Ended(End),

@@ -5,7 +5,7 @@ ghost use Rattle.ci_isa.specs.Effects.{width_bytes};
 ghost use Rattle.ci_machine.specs.Accesses.{addresses};
 ghost use Rattle.ci_machine.specs.Programs.{in_text};
 ghost use Rattle.ci_machine.specs.States.{program_of, state_of};
-ghost use Rattle.ci_machine.specs.Touches.{moved_by_call};
+ghost use Rattle.ci_machine.specs.Touches.{may_change_below, moved_by_call};
 ghost use Rattle.ci_emu.specs.private.Counting.{first_touch};
 ghost use Rattle.ci_emu.specs.private.Fetched.{IsTextBelow};
 
@@ -62,6 +62,7 @@ impl Touches {
 
     /// The first byte of the text that an access moves. One behind the text moves none.
     #[inline(always)]
+    #[tactic(auto, using(crate::proofs::TextEnds::nothing_behind))]
     pub(crate) fn touched(&self, state: &State, address: u32, width: Width) -> Option<u32>
         requires { IsTextBelow (in_text (program_of state.now)) self.now.end }
         ensures { result ≡ find (in_text (program_of state.now)) (addresses (width_bytes width) address) }
@@ -136,17 +137,20 @@ impl Touches {
         }
     }
 
-    /// Notes the touch of the environment call that the registers ask for, where it is the first of a run, and that the
-    /// call may change the text.
+    /// Notes the touch of the environment call that the registers ask for, where it is the first of a run, and counts
+    /// the call where it may change the text.
     #[tactic(auto, using(crate::proofs::Touched::laws))]
     pub(crate) fn note_call(&mut self, state: &State)
         requires { self.old.changes ≤ 2 ^ 33 }
         ensures first { self.new.first ≡ first_touch self.old.first (state_of state.now).pc
             (find (in_text (program_of state.now)) (moved_by_call (state_of state.now).core)) }
-        ensures changes { self.new.changes ≡ self.old.changes + 1 }
+        ensures changes { self.new.changes ≡ self.old.changes
+            + (if may_change_below (program_of state.now) self.old.end (state_of state.now).core then 1 else 0) }
         ensures end { self.new.end ≡ self.old.end }
     {
-        self.changes += 1;
+        if state.may_change_below(self.end) {
+            self.changes += 1;
+        }
         if self.first.is_some() {
             return;
         }

@@ -1,11 +1,12 @@
--- For readers of profiles and laws: which bytes of memory a step moves, which of them are text, and runs that leave the
--- text alone.
-use Rattle.std.specs.Prelude.{◌≡◌, ℕ, ◌<◌, ◌==◌, ◌&&◌, true, if◌then◌else◌, List, [], Option, Some, None, find}
+-- For readers of profiles and laws: which bytes of memory a step moves, which of them are text, which calls may change
+-- bytes below an address, and runs that leave the text alone.
+use Rattle.std.specs.Prelude.{◌≡◌, ℕ, ◌<◌, Bool, ◌==◌, ◌&&◌, ◌||◌, nat_lt, true, if◌then◌else◌, List, []}
+use Rattle.std.specs.Prelude.{Option, Some, None, find}
 use Rattle.ci_isa.specs.declared.instruction.Insn.{Insn}
 use Rattle.ci_isa.specs.declared.instruction.Insn.TheVariants.{Ecall}
 use Rattle.ci_machine.specs.Accesses.{addresses}
 use Rattle.ci_machine.specs.Actions.{accessed}
-use Rattle.ci_machine.specs.Calls.{is_output, range_at, read_length}
+use Rattle.ci_machine.specs.Calls.{is_output, may_end_at, range_at, read_length}
 use Rattle.ci_machine.specs.Cores.{Core, register}
 use Rattle.ci_machine.specs.Programs.{Program, State, in_text}
 use Rattle.ci_machine.specs.Runs.{before_step, is_made}
@@ -25,6 +26,17 @@ moved_by_call core =
     if (register core 17 == 63) && (register core 10 == 0) then moved_range core (read_length core)
     else if (register core 17 == 64) && is_output (register core 10) then moved_range core (register core 12)
     else []
+
+-- the heap ends below this address, or would where the call asks for
+abbrev pub may_move_heap_below : Program → ℕ → Core → Bool
+may_move_heap_below program address core =
+    nat_lt core.heap_end address || (may_end_at program (register core 10) && nat_lt (register core 10) address)
+
+-- The call may change bytes below this address: each read may, and so may one that sets the end of the heap, where that
+-- lies below the address before or behind the call.
+abbrev pub may_change_below : Program → ℕ → Core → Bool
+may_change_below program address core =
+    (register core 17 == 63) || ((register core 17 == 214) && may_move_heap_below program address core)
 
 -- the addresses of the bytes that an instruction moves, in the order of the access
 abbrev pub moved : Insn → Core → List ℕ

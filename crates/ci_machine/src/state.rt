@@ -12,7 +12,7 @@ use ci_isa::{Reg, Width};
 pub struct Unmapped;
 
 /// What an environment call comes to: the run goes on, or ends with this exit code.
-#[derive(Clone, Copy, Debug, PartialEq, Eq)]
+#[derive(Clone, Copy, PartialEq, Eq)]
 pub enum Call {
     Goes,
     Exit(u32),

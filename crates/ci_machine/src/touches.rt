@@ -5,11 +5,12 @@ use crate::state::State;
 use ci_isa::Width;
 
 impl State {
-    ghost use Rattle.std.specs.Prelude.{◌≡◌, ◌-◌, find};
+    ghost use Rattle.std.specs.Prelude.{◌≡◌, ◌-◌, ◌&&◌, ◌||◌, find, nat_lt};
     ghost use Rattle.ci_isa.specs.Effects.{width_bytes};
     ghost use Rattle.ci_machine.specs.Accesses.{addresses};
-    ghost use Rattle.ci_machine.specs.Calls.{read_length};
-    ghost use Rattle.ci_machine.specs.Touches.{moved_by_call, moved_range};
+    ghost use Rattle.ci_machine.specs.Calls.{may_end_at, read_length};
+    ghost use Rattle.ci_machine.specs.Cores.{register};
+    ghost use Rattle.ci_machine.specs.Touches.{may_change_below, may_move_heap_below, moved_by_call, moved_range};
     ghost use Rattle.ci_machine.specs.Programs.{in_text};
     ghost use Rattle.ci_machine.specs.States.{state_of, program_of};
 
@@ -56,6 +57,34 @@ impl State {
             return None;
         }
         self.first_in_text(address, count)
+    }
+
+    /// Whether the environment call that the registers ask for may change bytes below this address: each read may, and
+    /// so may a call that sets the end of the heap, where that lies below the address before or behind the call.
+    pub fn may_change_below(&self, address: u64) -> bool
+        ensures { result ≡ may_change_below (program_of self.now) address (state_of self.now).core }
+    {
+        match self.registers[17] {
+            63 => true,
+            214 => self.may_move_heap_below(address),
+            _ => false,
+        }
+    }
+
+    /// Whether the heap ends below this address, or would where the call asks for.
+    fn may_move_heap_below(&self, address: u64) -> bool
+        ensures { result ≡ may_move_heap_below (program_of self.now) address (state_of self.now).core }
+    {
+        let asked = self.registers[10];
+        u64::from(self.memory.heap_end()) < address
+            || self.may_end_at(asked) && u64::from(asked) < address
+    }
+
+    /// Whether the heap may end there.
+    fn may_end_at(&self, end: u32) -> bool
+        ensures { result ≡ may_end_at (program_of self.now) end }
+    {
+        self.memory.may_end_at(end)
     }
 
     /// How many bytes a read gives: those that are wanted, or those that are left.

@@ -1,9 +1,11 @@
-use Rattle.std.proofs.Common.{◌≡◌, ◌∙◌, ℕ, Some, ap, rules, sym, subst}
+use Rattle.std.proofs.Common.{◌≡◌, ◌≤◌, ◌∙◌, arith, ℕ, Some, ap, rules, sym, subst, Result, Ok, Err}
+use Rattle.std.specs.Prelude.{OnErr}
 use Rattle.ci_machine.specs.States.{program_of, state_of}
 use Rattle.ci_machine.specs.Steps.{Meaning, fetched}
 use Rattle.ci_emu.specs.Machines.{standing}
 use Rattle.ci_emu.proofs.Fetching.{behind_one, fetched_as, index_fits, stands_at, same_change, same_moved, same_target}
-use Rattle.ci_machine.specs.Programs.{in_text}
+use Rattle.ci_machine.specs.Programs.{Program, State}
+use Rattle.ci_emu.specs.Steps.{IsReached}
 use Rattle.ci_isa.specs.declared.instruction.Insn.{Insn}
 use Rattle.ci_isa.specs.Laws.{IsInsnAtX}
 use Rattle.ci_emu.specs.declared.decode_cache.Decoded.{Decoded}
@@ -42,6 +44,17 @@ execute-requires-clause-index g c =
     let s = (goal.at.execute-requires-clause-index g c).After-insn in
     subst HasHiddenIndex (sym s.insn.ensures) (index_fits _ _ (stands_at _ _ (line g s).decoded))
 
+-- where memory runs out in a step, none was made
+unmoved : (Means : Meaning → Type 0) (program : Program) (before reached : State) {A E : Type 0} (result : Result A E) → reached ≡ before
+    → OnErr result (IsReached Means program before 1 reached)
+unmoved Means program before reached (Ok value) same = tt
+unmoved Means program before reached (Err e) same = record { steps = 0; within = omega arith; there = λ meaning means. same }
+
+pub returns-in_err-outcome-clause-refused : goal.returns-in_err-outcome-clause-refused
+returns-in_err-outcome-clause-refused g c =
+    unmoved (g.M.Machine.meanings c.args.machine.now) (program_of c.args.state.now) (state_of c.args.state.now) _ c.from_residual.result
+    c.in_err-outcome.ensures.refused
+
 pub returns-in_err-note-clause-refused : goal.returns-in_err-note-clause-refused
 returns-in_err-note-clause-refused g c =
     behind_one (program_of c.args.state.now) (state_of c.args.state.now) (g.M.Machine.meanings c.args.machine.now) _ _
@@ -64,13 +77,13 @@ returns-clause-made g c = let s = (goal.at.returns-clause-made g c).After-insn i
       let state = state_of c.args.state.now in
       let insn = c.insn.result in
       let changes = same_change (g.M.Machine.has_unit c.args.machine.now) (g.M.Machine.has_hidden c.args.machine.now) c.index-line.result.now.word
-      (in_text program) state.core insn in
+      program c.args.tally.now.touches.end state.core insn in
       subst (λ (n : ℕ). AreKnown meaning program (state_of c.execute.new.state).core.memory n c.enter.new.cache.words.items)
       (sym c.execute.ensures.changes)
       (behind_step meaning program (cycles g s) c.enter.new.cache.words.items
-      c.args.tally.now.touches.changes state (state_of c.execute.new.state)
+      c.args.tally.now.touches.changes c.args.tally.now.touches.end c.requires.room.behind state (state_of c.execute.new.state)
       (standing (g.M.Machine.has_unit c.args.machine.now) (g.M.Machine.has_hidden c.args.machine.now) c.index-line.result.now.word insn)
-      c.in_ok-outcome.outcome (may_change (in_text program) insn state.core) changes
+      c.in_ok-outcome.outcome (may_change program c.args.tally.now.touches.end insn state.core) changes
       c.in-Some.ensures.kept (c.in_ok-outcome.ensures.executed meaning means)
       (c.in-Some.ensures.known meaning (c.requires.room.known meaning means)));
 }

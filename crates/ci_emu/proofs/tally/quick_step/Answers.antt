@@ -2,7 +2,6 @@
 use Rattle.std.proofs.Common.{◌≡◌, ◌∙◌, ◌<◌, ◌^◌, ℕ, Some, ap, arith, refl, rules, sym, subst, length, add-zero}
 use Rattle.ci_machine.specs.States.{program_of, state_of}
 use Rattle.ci_machine.specs.Steps.{Meaning, fetched}
-use Rattle.ci_machine.specs.Programs.{in_text}
 use Rattle.ci_elf.specs.WordPlaces.{word_place}
 use Rattle.ci_elf.proofs.WordPlaceLaws.{text_word}
 use Rattle.ci_isa.specs.declared.instruction.Insn.{Insn}
@@ -90,9 +89,10 @@ returns-clause-made g c = λ e.
           let word = c.index-line.result.now.word in
           let lines = c.args.tally.now.cache.words.items in
           subst (λ (n : ℕ). AreKnown meaning program (state_of c.perform.new.state).core.memory n lines) (add-zero c.args.tally.now.touches.changes)
-          (behind_step meaning program (cycles g s) lines c.args.tally.now.touches.changes state (state_of c.perform.new.state)
+          (behind_step meaning program (cycles g s) lines c.args.tally.now.touches.changes c.args.tally.now.touches.end c.requires.room.behind
+          state (state_of c.perform.new.state)
           (standing (g.M.Machine.has_unit c.args.machine.now) (g.M.Machine.has_hidden c.args.machine.now) word insn) Next false
-          (same_change (g.M.Machine.has_unit c.args.machine.now) (g.M.Machine.has_hidden c.args.machine.now) word (in_text program) state.core insn
+          (same_change (g.M.Machine.has_unit c.args.machine.now) (g.M.Machine.has_hidden c.args.machine.now) word program c.args.tally.now.touches.end state.core insn
           ∙ c.perform.ensures.changes c.if-not-perform.false)
           c.requires.room.kept (c.perform.ensures.performed c.if-not-perform.false word meaning means) (c.requires.room.known meaning means));
     }

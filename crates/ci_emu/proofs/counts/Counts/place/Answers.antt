@@ -9,15 +9,15 @@ returns-then-address-ne0-clause-value c = not_aligned c.args.self.now.places c.a
 pub returns-then-has-clause-value : goal.returns-then-has-clause-value
 returns-then-has-clause-value c =
     placed_word c.args.self.now.places c.args.address _ c.if-address-ne0.false
-    (c.requires c.args.address (sym c.has.ensures ∙ c.if-has.true))
+    (c.requires.placed c.args.address (sym c.has.ensures ∙ c.if-has.true))
 
 pub returns-then-has-clause-within : goal.returns-then-has-clause-within
 returns-then-has-clause-within c =
     within_places c.args.self.now.places c.args.address _ _ c.args.self.now.whole
     (placed_word c.args.self.now.places c.args.address _ c.if-address-ne0.false
-    (c.requires c.args.address (sym c.has.ensures ∙ c.if-has.true)))
+    (c.requires.placed c.args.address (sym c.has.ensures ∙ c.if-has.true)))
 
 pub overflow_add-result : goal.overflow_add-result
 overflow_add-result c =
-    let below = place_below c.args.self.now.places c.args.address _ (c.requires c.args.address (sym c.has.ensures ∙ c.if-has.true)) in
+    let below = place_below c.args.self.now.places c.args.address _ (c.requires.placed c.args.address (sym c.has.ensures ∙ c.if-has.true)) in
     omega (arith, c.args.self.now.whole, below)
