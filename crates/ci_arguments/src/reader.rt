@@ -21,7 +21,7 @@ pub struct Words<'a> {
 }
 
 /// Why the words gave no command.
-#[derive(Clone, Copy, Debug, Drop, PartialEq, Eq)]
+#[derive(Clone, Copy, Drop)]
 pub enum WordsErr {
     /// The words have no reading.
     NoReading,

@@ -1,7 +1,7 @@
 //! The commands and their options, a row each.
 
 /// The commands by name.
-#[derive(Clone, Copy, PartialEq, Eq, Debug)]
+#[derive(Clone, Copy)]
 pub enum CommandName {
     /// `best`
     Best,
@@ -36,7 +36,7 @@ pub enum CommandName {
 }
 
 /// The options by name.
-#[derive(Clone, Copy, PartialEq, Eq, Debug)]
+#[derive(Clone, Copy, PartialEq, Eq)]
 pub enum OptionName {
     /// `--in`
     Inputs,
@@ -69,7 +69,7 @@ pub enum OptionName {
 }
 
 /// What a command does with a file.
-#[derive(Clone, Copy, PartialEq, Eq, Debug)]
+#[derive(Clone, Copy)]
 pub enum Access {
     /// It reads the file.
     Reads,

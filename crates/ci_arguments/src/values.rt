@@ -7,7 +7,7 @@ use crate::tables::{Access, Kind};
 use ci_reading::number_of_digits;
 
 /// What a positional word or the value of an option says.
-#[derive(Clone, Copy, PartialEq, Debug)]
+#[derive(Clone, Copy)]
 pub enum Value<'a> {
     /// The name of a file, with what the command does with the file.
     File(Access, &'a str),

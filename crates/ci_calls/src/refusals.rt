@@ -226,10 +226,7 @@ impl<'a> Refusal<'a> {
     {
         let status = self.status();
         let text = self.text(alloc)?;
-        let mut line = String::from_str(alloc, "fault ")?;
-        write!(line, "{status} ")?;
-        writeln!(line, "{text}")?;
-        Ok(line)
+        format!(in alloc; "fault {status} {text}\n")
     }
 
     /// What stands in the fault line behind the status.
@@ -281,11 +278,7 @@ fn numbers_text(
 ) -> Result<String, AllocError>
     ensures { IfOk result (λ text. string_bytes text ≡ numbers_text word.now first second third) }
 {
-    let mut text = String::from_str(alloc, word)?;
-    write!(text, " {first}")?;
-    write!(text, " {second}")?;
-    write!(text, " {third}")?;
-    Ok(text)
+    format!(in alloc; "{word} {first} {second} {third}")
 }
 
 /// That a file is no executable.
@@ -380,20 +373,14 @@ fn words_text(alloc: Global, word: &str, first: u32, second: u32) -> Result<Stri
 fn pair_text(alloc: Global, word: &str, first: u8, second: u32) -> Result<String, AllocError>
     ensures { IfOk result (λ text. string_bytes text ≡ pair_text word.now first second) }
 {
-    let mut text = String::from_str(alloc, word)?;
-    write!(text, " {first}")?;
-    write!(text, " {second}")?;
-    Ok(text)
+    format!(in alloc; "{word} {first} {second}")
 }
 
 /// That the modules up to the one of this number have too many gates.
 fn many_text(alloc: Global, number: u32, gates: u64) -> Result<String, AllocError>
     ensures { IfOk result (λ text. string_bytes text ≡ many_text number gates) }
 {
-    let mut text = String::from_str(alloc, "many")?;
-    write!(text, " {number}")?;
-    write!(text, " {gates}")?;
-    Ok(text)
+    format!(in alloc; "many {number} {gates}")
 }
 
 /// Puts the fault line of a refusal, and answers its status.

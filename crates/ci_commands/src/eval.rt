@@ -7,7 +7,7 @@ ghost use Rattle.ci_commands.specs.EvalCommand.{results_line, third_result};
 
 use ci_calls::{Refusal, Success, read_units};
 use ci_io::Shelf;
-use ci_reading::push_hex;
+use ci_reading::{hex_text, push_word};
 use std::alloc::{AllocError, Global};
 
 /// Makes the line of the results y and z, and of a wide module x too, that the module of this number, counted from 0,
@@ -56,10 +56,8 @@ pub(crate) fn results_text(
 ) -> Result<String, AllocError>
     ensures { IfOk result (λ text. string_bytes text ≡ results_line wide y z x) }
 {
-    let mut text = String::new(alloc);
-    push_hex(&mut text, y)?;
-    text.push(' ')?;
-    push_hex(&mut text, z)?;
+    let mut text = hex_text(alloc, y)?;
+    push_word(&mut text, " ", z)?;
     push_third(&mut text, wide, x)?;
     text.push('\n')?;
     Ok(text)
@@ -70,8 +68,8 @@ fn push_third(text: &mut String, wide: bool, x: u32) -> Result<(), AllocError>
     ensures { OnOk result (string_bytes text.new ≡ string_bytes text.old ++ third_result wide x) }
 {
     if wide {
-        text.push(' ')?;
-        push_hex(text, x)?;
+        push_word(text, " ", x)
+    } else {
+        Ok(())
     }
-    Ok(())
 }

@@ -88,7 +88,5 @@ fn netlists(alloc: Global, modules: &[Module]) -> Result<Vec<Netlist>, AllocErro
 fn gates_text(alloc: Global, nets: usize, gates: u64) -> Result<String, AllocError>
     ensures { IfOk result (λ text. string_bytes text ≡ gates_line nets gates) }
 {
-    let mut text = format!(in alloc; "modules {nets}")?;
-    writeln!(text, " gates {gates}")?;
-    Ok(text)
+    format!(in alloc; "modules {nets} gates {gates}\n")
 }

@@ -44,9 +44,7 @@ fn relog_line(alloc: Global, version: Version, written: &[u8]) -> Result<String,
 {
     let number = version_number(version);
     let bytes = written.len();
-    let mut text = format!(in alloc; "relog version {number}")?;
-    writeln!(text, " bytes {bytes}")?;
-    Ok(text)
+    format!(in alloc; "relog version {number} bytes {bytes}\n")
 }
 
 /// The number of the version.

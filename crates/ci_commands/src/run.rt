@@ -115,12 +115,8 @@ fn run_by(
 fn end_line(alloc: Global, profile: &Profile) -> Result<String, AllocError>
     ensures { IfOk result (λ text. string_bytes text ≡ end_line profile.now.end profile.now.steps profile.now.cost) }
 {
-    let mut text = String::from_str(alloc, "end ")?;
     let end = end_text(alloc, profile.end)?;
-    text.push_str(end.as_str())?;
     let steps = profile.steps;
     let cost = profile.cost;
-    write!(text, " steps {steps}")?;
-    writeln!(text, " cost {cost}")?;
-    Ok(text)
+    format!(in alloc; "end {end} steps {steps} cost {cost}\n")
 }

@@ -174,8 +174,7 @@ fn area_text(alloc: Global, pieces: &[Piece], chosen: &Row) -> Result<String, Al
     ensures { IfOk result (λ text. string_bytes text ≡ area_line pieces.now (set.contains chosen.now)) }
 {
     let Piece { area, gain } = together(pieces, chosen);
-    let mut text = format!(in alloc; "area {area}")?;
-    write!(text, " gain {gain} units")?;
+    let mut text = format!(in alloc; "area {area} gain {gain} units")?;
     push_members(&mut text, chosen)?;
     text.push('\n')?;
     Ok(text)

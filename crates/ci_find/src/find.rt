@@ -203,11 +203,7 @@ pub(crate) fn summary(alloc: Global, chosen: &Chosen) -> Result<String, AllocErr
     let (cuts, skipped) = (takes(entries), skips(entries));
     let units = chosen.units.len();
     let saved = chosen.saved;
-    let mut text = format!(in alloc; "cuts {cuts}")?;
-    write!(text, " units {units}")?;
-    write!(text, " skipped {skipped}")?;
-    write!(text, " gain {saved}")?;
-    Ok(text)
+    format!(in alloc; "cuts {cuts} units {units} skipped {skipped} gain {saved}")
 }
 
 /// How many of the entries are takes.

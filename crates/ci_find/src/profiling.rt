@@ -1,5 +1,9 @@
 //! The run that a choice of cuts is made from, and the basic blocks that it enters.
 ghost use Rattle.std.specs.Prelude.{◌≡◌, ◌≤◌, ◌++◌, ℕ, List, Option, IfOk, IfErr};
+ghost use Rattle.ci_machine.specs.Programs.{loaded_program, opening};
+ghost use Rattle.ci_machine.specs.Steps.{Meaning, IsPlain};
+ghost use Rattle.ci_emu.specs.Profiles.{IsProfileOf};
+ghost use Rattle.ci_emu.specs.TableLatencies.{latencies_of};
 ghost use Rattle.ci_calls.specs.Files.{optional_bytes, AreGiven, AreLatencies, input_bytes};
 ghost use Rattle.ci_calls.specs.Reads.{HaveRead, HaveNotRead};
 ghost use Rattle.ci_calls.specs.Refused.{name_in};
@@ -16,7 +20,7 @@ use ci_live::{Analysis, analysis_of};
 use ci_machine::State;
 use ci_machine::laws::bytes_are_small;
 use ci_select::Plan;
-use std::alloc::Global;
+use std::alloc::{AllocError, Global};
 
 /// What a choice is made by.
 #[derive(Clone, Copy)]
@@ -96,11 +100,27 @@ pub fn profiled_run<'a>(
 {
     refuse_custom_words(image)?;
     bytes_are_small(input.as_slice());
-    let mut state = State::start_on(alloc, image, input)?;
-    let profile = ci_emu::run(alloc, &mut state, table, steps)?;
+    let profile = profile_of(alloc, image, table, input, steps)?;
     if let Some((pc, address)) = profile.touched {
         return Err(Refusal::TextTouched { pc, address });
     }
     let analysis = analysis_of(alloc, image, profile.targets(), leaders)?;
     Ok(Profiled { profile, analysis })
+}
+
+/// The profile of so many steps of the executable on the plain machine, with the input.
+fn profile_of(
+    alloc: Global,
+    image: &Image,
+    table: &Table,
+    input: Vec<u8>,
+    steps: u64,
+) -> Result<Profile, AllocError>
+    requires { steps ≤ 4294967296 }
+    ensures { IfOk result (λ profile. (meaning : Meaning) → IsPlain meaning
+        → IsProfileOf meaning (loaded_program image.now) steps (opening image.now input.items)
+        (latencies_of table.now) profile) }
+{
+    let mut state = State::start_on(alloc, image, input)?;
+    ci_emu::run(alloc, &mut state, table, steps)
 }

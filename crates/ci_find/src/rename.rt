@@ -90,9 +90,7 @@ fn success_of<'a>(
 fn rename_text(alloc: Global, values: u32, changed: u32) -> Result<String, AllocError>
     ensures { IfOk result (λ text. string_bytes text ≡ rename_line values changed) }
 {
-    let mut text = format!(in alloc; "renamed {values}")?;
-    writeln!(text, " blocks {changed}")?;
-    Ok(text)
+    format!(in alloc; "renamed {values} blocks {changed}\n")
 }
 
 /// The bytes of the renamed file.

@@ -36,13 +36,18 @@ mod runs;
 
 fn main(rt: HostRuntime) -> io::Result<ExitCode> {
     let mut units = UnitTable::new(rt.alloc());
+    answer_all(&rt, &mut units)
+}
+
+/// Answers all lines, and then writes the Verilog of the units.
+fn answer_all(rt: &HostRuntime, units: &mut UnitTable) -> io::Result<ExitCode> {
     for line in rt.lines(rt.alloc()) {
         let line = line?;
-        if !answer(&rt, line.as_str(), &mut units)? {
+        if !answer(rt, line.as_str(), units)? {
             return Ok(ExitCode::from(1));
         }
     }
-    write_modules(&rt, &units)?;
+    write_modules(rt, units)?;
     Ok(ExitCode::SUCCESS)
 }
 
@@ -66,12 +71,10 @@ fn answer(rt: &HostRuntime, line: &str, units: &mut UnitTable) -> io::Result<boo
 /// Writes how the runs of blocks that are made up compare.
 fn write_tally(rt: &HostRuntime, seed: u32, count: u32) -> io::Result<()> {
     let tally = compare_blocks(rt.alloc(), seed, count)?;
-    print!(rt; "{} pass alike, {} end alike, ", tally.passed, tally.ended)?;
-    print!(rt;
-        "{} end by the same access, {} touch the text, ",
-        tally.refused, tally.touched
-    )?;
-    println!(rt; "{} differ", tally.different)
+    println!(rt;
+        "{} pass alike, {} end alike, {} end by the same access, {} touch the text, {} differ",
+        tally.passed, tally.ended, tally.refused, tally.touched, tally.different
+    )
 }
 
 /// Writes the words of a block.

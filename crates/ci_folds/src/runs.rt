@@ -29,7 +29,7 @@ const STACK_WORDS: u16 = 2048;
 const MOST_BYTES: usize = 65536;
 
 /// How the runs of a block and of its folded block compare.
-#[derive(Clone, Copy, PartialEq, Eq)]
+#[derive(Clone, Copy)]
 pub enum Verdict {
     /// Both pass alike.
     Passed,

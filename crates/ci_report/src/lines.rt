@@ -34,20 +34,13 @@ fn push_word(text: &mut String, name: &str, word: u32) -> Result<(), AllocError>
 pub fn push_plan(text: &mut String, plan: &Plan, table: &Table) -> Result<(), AllocError>
     ensures { OnOk result (string_bytes text.new ≡ string_bytes text.old ++ lines.plan_line plan.now table.now) }
 {
-    push_limits(text, plan)?;
-    push_number(text, " pad ", u64::from(table.pad()))?;
-    push_number(text, " read ", u64::from(table.read()))?;
-    text.push('\n')
-}
-
-/// Appends the limits of the choice.
-fn push_limits(text: &mut String, plan: &Plan) -> Result<(), AllocError>
-    ensures { OnOk result (string_bytes text.new ≡ string_bytes text.old ++ lines.limits_text plan.now) }
-{
-    push_number(text, "ports ", u64::from(plan.limits.inputs))?;
-    push_number(text, " ", u64::from(plan.limits.outputs))?;
-    push_number(text, " count ", u64::from(plan.count))?;
-    push_number(text, " budget ", u64::from(plan.budget))
+    let (inputs, outputs) = (plan.limits.inputs, plan.limits.outputs);
+    let (count, budget) = (plan.count, plan.budget);
+    let (pad, read) = (table.pad(), table.read());
+    writeln!(
+        text,
+        "ports {inputs} {outputs} count {count} budget {budget} pad {pad} read {read}"
+    )
 }
 
 /// Appends the line of the profiled run.
@@ -55,12 +48,9 @@ pub fn push_profile(alloc: Global, text: &mut String, profile: &Profile) -> Resu
     ensures { OnOk result (string_bytes text.new ≡ string_bytes text.old
         ++ lines.profile_line profile.now.end profile.now.steps profile.now.cost) }
 {
-    text.push_str("profile ")?;
     let end = end_text(alloc, profile.end)?;
-    text.push_str(end.as_str())?;
-    push_number(text, " steps ", profile.steps)?;
-    push_number(text, " cost ", profile.cost)?;
-    text.push('\n')
+    let (steps, cost) = (profile.steps, profile.cost);
+    writeln!(text, "profile {end} steps {steps} cost {cost}")
 }
 
 /// Appends the line of a block that was entered so often.
@@ -131,11 +121,11 @@ pub fn push_unit(
 ) -> Result<(), AllocError>
     ensures { OnOk result (string_bytes text.new ≡ string_bytes text.old ++ lines.unit_line number unit.now uses) }
 {
-    push_number(text, "unit ", number as u64)?;
-    push_number(text, " cycles ", u64::from(unit.cycles()))?;
-    push_number(text, " operations ", unit.ops().len() as u64)?;
-    push_number(text, " uses ", uses as u64)?;
-    text.push('\n')
+    let (cycles, operations) = (unit.cycles(), unit.ops().len());
+    writeln!(
+        text,
+        "unit {number} cycles {cycles} operations {operations} uses {uses}"
+    )
 }
 
 /// Appends the line of what all cuts save.

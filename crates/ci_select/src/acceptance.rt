@@ -29,7 +29,7 @@ use ci_word::Row;
 use std::alloc::{AllocError, Global};
 
 /// What is found of a log book with modules and a new file.
-#[derive(Clone, Copy, Debug, PartialEq, Eq)]
+#[derive(Clone, Copy)]
 pub enum Verdict {
     /// The book is legal, and the modules and the file are its own.
     Accepted,
@@ -92,14 +92,32 @@ pub fn accept(
 {
     bytes_are_small(image.bytes());
     let mut rounds = Rounds::new(alloc, profile, blocks, live, table, plan)?;
-    if let Some(wrong) = first_wrong(alloc, &mut rounds, book)? {
-        return Ok(rejected(&rounds, wrong));
+    // What owns the rounds ends in one place: at each end the proof walks through all their parts.
+    verdict_by(alloc, image, &mut rounds, book, modules, new)
+}
+
+/// The verdict on the book, the modules and the new file, by rounds before the first entry.
+fn verdict_by(
+    alloc: Global,
+    image: &Image,
+    rounds: &mut Rounds,
+    book: &LogBook,
+    modules: &[Module],
+    new: &[u8],
+) -> Result<Verdict, AllocError>
+    requires image { IsReadAs image.now.bytes (Ok image.now) }
+    requires blocks { AreBlocksOf image.now (instance_in rounds.old).blocks (instance_in rounds.old).live }
+    requires none { Follows [] rounds.old }
+    ensures { IfOk result (IsVerdict (instance_in rounds.old) image.now book.now modules.now new.now) }
+{
+    if let Some(wrong) = first_wrong(alloc, rounds, book)? {
+        return Ok(rejected(rounds, wrong));
     }
     if !are_modules(alloc, rounds.units(), modules)? {
-        return Ok(rejected(&rounds, nowhere(11)));
+        return Ok(rejected(rounds, nowhere(11)));
     }
-    if !is_new_file(alloc, &rounds, image, new)? {
-        return Ok(rejected(&rounds, nowhere(12)));
+    if !is_new_file(alloc, rounds, image, new)? {
+        return Ok(rejected(rounds, nowhere(12)));
     }
     Ok(Verdict::Accepted)
 }

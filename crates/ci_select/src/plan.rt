@@ -4,7 +4,7 @@ ghost use Rattle.std.specs.Prelude.{◌≤◌};
 use ci_cut::Limits;
 
 /// What bounds a choice of cuts.
-#[derive(Clone, Copy, Debug, PartialEq, Eq)]
+#[derive(Clone, Copy)]
 pub struct Plan {
     /// The limits on the ports of a cut.
     pub limits: Limits,

@@ -37,7 +37,7 @@ use std::cmp::Reverse;
 use std::collections::BTreeMap;
 
 /// What a book has next.
-#[derive(Clone, Copy, Debug, PartialEq, Eq)]
+#[derive(Clone, Copy)]
 pub enum Due {
     /// The search of the block of this leader.
     Search(u32),
@@ -61,7 +61,7 @@ struct Candidate {
 }
 
 /// Which candidate goes first: the one that saves most, and of those that save as much the one of the least leader.
-#[derive(Clone, Copy, Debug, PartialEq, Eq, PartialOrd, Ord)]
+#[derive(Clone, Copy, PartialEq, Eq, PartialOrd, Ord)]
 struct Rank {
     /// The gain of the cut in cycles, as often as the block was entered.
     saved: Reverse<u128>,
