@@ -8,7 +8,7 @@ use ci_elf::Image;
 use ci_isa::has_custom_opcode;
 
 /// A word of the text with a custom opcode, and its address.
-#[derive(Clone, Copy, Debug, PartialEq, Eq)]
+#[derive(Clone, Copy, PartialEq, Eq)]
 pub struct CustomWord {
     pub address: u32,
     pub word: u32,

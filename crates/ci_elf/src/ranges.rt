@@ -14,7 +14,7 @@ use crate::sections::{Section, text_at};
 use std::alloc::{AllocError, Global};
 
 /// Whole words of the text, one behind the other.
-#[derive(Clone, Copy, Debug, PartialEq, Eq)]
+#[derive(Clone, Copy, PartialEq, Eq)]
 pub struct Range {
     /// The address of the first word.
     pub start: u32,

@@ -15,7 +15,7 @@ use std::alloc::{AllocError, Global};
 
 /// A loadable segment that has memory: a part of the file that is loaded at an address, and zeros
 /// behind it.
-#[derive(Clone, Copy, Debug, PartialEq, Eq)]
+#[derive(Clone, Copy, PartialEq, Eq)]
 pub struct Segment {
     /// Where its memory begins (`p_vaddr`).
     pub address: u32,

@@ -3,7 +3,7 @@ use crate::register::Reg;
 use ci_word::Op;
 
 /// How many bytes a load or a store moves: one, two or four.
-#[derive(Clone, Copy, Debug, PartialEq, Eq)]
+#[derive(Clone, Copy, PartialEq, Eq)]
 pub enum Width {
     Byte,
     Half,
@@ -29,7 +29,7 @@ impl Width {
 }
 
 /// When a branch is taken. `Ltu` and `Geu` compare unsigned numbers, `Lt` and `Ge` signed ones.
-#[derive(Clone, Copy, Debug, PartialEq, Eq)]
+#[derive(Clone, Copy, PartialEq, Eq)]
 pub enum Cond {
     Eq,
     Ne,
@@ -40,7 +40,7 @@ pub enum Cond {
 }
 
 /// What a load reads: a byte, a half or a word. `B` and `H` extend the sign, `Bu` and `Hu` extend with zeros.
-#[derive(Clone, Copy, Debug, PartialEq, Eq)]
+#[derive(Clone, Copy, PartialEq, Eq)]
 pub enum LoadKind {
     B,
     H,
@@ -52,7 +52,7 @@ pub enum LoadKind {
 /// An instruction. Offsets are in bytes, from the instruction's own address or from the register `rs1`.
 ///
 /// It is *well formed* where some word of the extended table reads as it, or where it is `Illegal`.
-#[derive(Clone, Copy, Debug, PartialEq, Eq)]
+#[derive(Clone, Copy, PartialEq, Eq)]
 pub enum Insn {
     /// An operation on two registers.
     Alu {

@@ -6,7 +6,7 @@ use crate::fields::bits;
 use std::marker::Model;
 
 /// One of the registers x0 to x31. Contracts see its number.
-#[derive(Clone, Copy, Debug, PartialEq, Eq)]
+#[derive(Clone, Copy, PartialEq, Eq)]
 pub struct Reg {
     number: u8,
 }

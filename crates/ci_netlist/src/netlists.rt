@@ -11,7 +11,7 @@ pub const GATES: usize = 4_194_304;
 ///
 /// There are at most 4,194,304 gates. Each names bits of the inputs and earlier gates alone, and the results have 32
 /// bits each.
-#[derive(Debug, Drop)]
+#[derive(Drop)]
 pub struct Netlist {
     gates: Vec<Gate>,
     outputs: Vec<Bit>,

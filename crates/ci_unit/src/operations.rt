@@ -3,7 +3,7 @@ use ci_word::{Class, Op};
 use std::hash::{Hash, Hasher};
 
 /// What an operation of a unit is applied to.
-#[derive(Clone, Copy, Debug, PartialEq, Eq, Hash)]
+#[derive(Clone, Copy, PartialEq, Eq, Hash)]
 pub enum Arg {
     /// The input of this number.
     Input(u8),
@@ -14,7 +14,7 @@ pub enum Arg {
 }
 
 /// An operation of a unit.
-#[derive(Clone, Copy, Debug, PartialEq, Eq)]
+#[derive(Clone, Copy, PartialEq, Eq)]
 pub struct UnitOp {
     /// The class of the instruction that it was, which has its delay.
     pub class: Class,

@@ -8,7 +8,7 @@ use std::marker::Model;
 ///
 /// Where `Wires::name` made it, the number of its wire stands beside the bytes, so that the wire is found at once.
 /// The number is tried before all others, and nothing depends on it.
-#[derive(Debug, Drop)]
+#[derive(Drop)]
 pub struct Name {
     bytes: Vec<u8>,
     place: u16,
@@ -76,7 +76,7 @@ impl Eq for Name {
 }
 
 /// A part of a term that names one thing.
-#[derive(Debug, Drop, PartialEq, Eq)]
+#[derive(Drop, PartialEq, Eq)]
 pub enum Simple {
     /// All bits of a name.
     Whole(Name),
@@ -87,7 +87,7 @@ pub enum Simple {
 }
 
 /// A part of a concatenation.
-#[derive(Debug, Drop, PartialEq, Eq)]
+#[derive(Drop, PartialEq, Eq)]
 pub enum Item {
     Plain(Simple),
     /// So many copies, one behind the other (IEEE 1364-2005, section 5.1.14).
@@ -95,7 +95,7 @@ pub enum Item {
 }
 
 /// The items of a concatenation, the highest first. Contracts see a list.
-#[derive(Debug, Drop)]
+#[derive(Drop)]
 pub struct Items {
     items: Vec<Item>,
 }
@@ -157,7 +157,7 @@ impl Eq for Items {
 }
 
 /// An operand.
-#[derive(Debug, Drop, PartialEq, Eq)]
+#[derive(Drop, PartialEq, Eq)]
 pub enum Term {
     Plain(Simple),
     /// So many copies, one behind the other (IEEE 1364-2005, section 5.1.14).
@@ -183,7 +183,7 @@ pub enum Operator {
 }
 
 /// An expression (IEEE 1364-2005, section 5.1).
-#[derive(Debug, Drop, PartialEq, Eq)]
+#[derive(Drop, PartialEq, Eq)]
 pub enum Expr {
     One(Term),
     Two(Operator, Term, Term),
@@ -192,7 +192,7 @@ pub enum Expr {
 }
 
 /// A wire of so many bits, which always has the value of its expression (IEEE 1364-2005, section 6.1).
-#[derive(Debug, Drop, PartialEq, Eq)]
+#[derive(Drop, PartialEq, Eq)]
 pub struct Wire {
     pub name: Name,
     pub width: u8,

@@ -11,7 +11,7 @@ use std::marker::Model;
 /// Each name in a term is an input or an earlier wire, no two of these have one name, no wire of a wide one is named x,
 /// widths are from 1 to 64 and agree, constants, counts, indices and ranges are within their bounds, and there are at
 /// most 2,048 wires.
-#[derive(Debug, Drop)]
+#[derive(Drop)]
 pub struct Module {
     number: u8,
     cycles: u32,

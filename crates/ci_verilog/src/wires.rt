@@ -16,7 +16,7 @@ pub const WIRES: usize = 2048;
 /// of its expression. Contracts see a list, and whether the module is a wide one. A reader or an emitter takes the
 /// wires of a module one after the other; before each it may ask of what width a name, a term or an expression is, if
 /// any, and whether a wire may come next.
-#[derive(Debug, Drop)]
+#[derive(Drop)]
 pub struct Wires {
     wide: bool,
     wires: Vec<Wire>,

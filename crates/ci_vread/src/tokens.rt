@@ -5,7 +5,7 @@ use std::mem::size_of;
 
 /// The words of the grammar, which are no names, and its marks, but operators (IEEE 1364-2005, sections 3.7.1 and A.1).
 /// d, e and x are names: they are words of wide modules alone.
-#[derive(Clone, Copy, Debug, PartialEq, Eq)]
+#[derive(Clone, Copy, PartialEq, Eq)]
 pub enum Sign {
     ModuleWord,
     InputWord,
@@ -32,7 +32,7 @@ pub enum Sign {
 }
 
 /// What a token is.
-#[derive(Clone, Copy, Debug, PartialEq, Eq)]
+#[derive(Clone, Copy, PartialEq, Eq)]
 pub(crate) enum Kind {
     Sign(Sign),
     Operator(Operator),
