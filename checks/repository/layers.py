@@ -14,7 +14,7 @@ from checks.common import TOP, crates, end, text_of, words
 
 DOCUMENT = "docs/ARCHITECTURE.md"
 # Crates that have no code but tests.
-TESTS = "ci_tests", "ci_call_tests"
+TESTS = "ci_tests", "ci_text_tests", "ci_search_tests", "ci_unit_tests", "ci_program_tests", "ci_call_tests"
 
 
 def layers(below):
@@ -37,8 +37,8 @@ def modules(crate, whole=False):
 
 def row(layer, crate):
     """A crate with its layer and its modules."""
-    return textwrap.fill(" ".join(modules(crate)), 100, initial_indent=f"{layer}  {crate:13}  ",
-                         subsequent_indent=" " * 18) + "\n"
+    return textwrap.fill(" ".join(modules(crate)), 100, initial_indent=f"{layer}  {crate:16}  ",
+                         subsequent_indent=" " * 21) + "\n"
 
 
 def sentence(crate, module):

@@ -17,26 +17,40 @@ fn x(n: u8) -> Reg
     Reg::new(n).unwrap()
 }
 
-/// Both tables have this row.
-fn is_row(rt: &impl Abort, word: u32, insn: Insn) {
-    assert!(rt; decode(word) == Some(insn), "{word:08x}");
-    assert!(rt; insn_at(word) == insn, "{word:08x}");
-    is_extended_row(rt, word, insn);
+// What is compared is the answer of a function, which costs a proof less than an assertion does.
+
+/// Asserts what was found of a word.
+fn expect(rt: &impl Abort, word: u32, what: &str, is_due: bool) {
+    assert!(rt; is_due, "{what} of {word:08x}");
 }
 
-/// The extended table has no row for this word.
-fn is_no_row(rt: &impl Abort, word: u32) {
-    assert!(rt; decode_x(word) == None, "{word:08x}");
-    assert!(rt; insn_at(word) == Insn::Illegal { word }, "{word:08x}");
+/// Whether both tables have this row.
+fn is_row(word: u32, insn: &Insn) -> bool {
+    decode(word) == Some(*insn) && insn_at(word) == *insn && is_extended_row(word, insn)
 }
 
-/// The extended table has this row.
-fn is_extended_row(rt: &impl Abort, word: u32, insn: Insn) {
-    let found = decode_x(word);
-    assert!(rt; found == Some(insn), "{word:08x}");
-    if let Some(insn) = found {
-        assert!(rt; encode(&insn) == word, "{word:08x}");
+/// Whether the extended table has no row for this word.
+fn is_no_row(word: u32) -> bool {
+    decode_x(word) == None && insn_at(word) == Insn::Illegal { word }
+}
+
+/// Whether the extended table has this row.
+fn is_extended_row(word: u32, insn: &Insn) -> bool {
+    match decode_x(word) {
+        Some(found) => found == *insn && encode(&found) == word,
+        None => false,
     }
+}
+
+/// Asserts that both tables have this row.
+fn expect_row(rt: &impl Abort, word: u32, insn: Insn) {
+    expect(rt, word, "the row", is_row(word, &insn));
+}
+
+/// Asserts that the extended table has this row, and that of the standard's instructions none.
+fn expect_extended_row(rt: &impl Abort, word: u32, insn: Insn) {
+    expect(rt, word, "the extended row", is_extended_row(word, &insn));
+    expect(rt, word, "no row", decode(word) == None);
 }
 
 // Long tables are the answers of functions, so that the proof of a test looks at none of them.
@@ -74,7 +88,7 @@ fn reads_operations_on_registers(rt: HostRuntime) {
             rs1: x(6),
             rs2: x(7),
         };
-        is_row(&rt, *word, insn);
+        expect_row(&rt, *word, insn);
     }
 }
 
@@ -102,13 +116,13 @@ fn reads_operations_on_a_constant(rt: HostRuntime) {
             rs1: x(6),
             imm: *imm,
         };
-        is_row(&rt, *word, insn);
+        expect_row(&rt, *word, insn);
     }
 }
 
 #[test]
 fn reads_upper_immediates_and_jumps(rt: HostRuntime) {
-    is_row(
+    expect_row(
         &rt,
         0x1234_52b7,
         Insn::Lui {
@@ -116,7 +130,7 @@ fn reads_upper_immediates_and_jumps(rt: HostRuntime) {
             upper: 0x1234_5000,
         },
     );
-    is_row(
+    expect_row(
         &rt,
         0xffff_ff97,
         Insn::Auipc {
@@ -124,7 +138,7 @@ fn reads_upper_immediates_and_jumps(rt: HostRuntime) {
             upper: 0xffff_f000,
         },
     );
-    is_row(
+    expect_row(
         &rt,
         0x8000_00ef,
         Insn::Jal {
@@ -132,7 +146,7 @@ fn reads_upper_immediates_and_jumps(rt: HostRuntime) {
             offset: -1_048_576,
         },
     );
-    is_row(
+    expect_row(
         &rt,
         0x7fff_f06f,
         Insn::Jal {
@@ -140,7 +154,7 @@ fn reads_upper_immediates_and_jumps(rt: HostRuntime) {
             offset: 1_048_574,
         },
     );
-    is_row(
+    expect_row(
         &rt,
         0x0030_00ef,
         Insn::Jal {
@@ -148,7 +162,7 @@ fn reads_upper_immediates_and_jumps(rt: HostRuntime) {
             offset: 2050,
         },
     );
-    is_row(
+    expect_row(
         &rt,
         0xffc2_80e7,
         Insn::Jalr {
@@ -180,7 +194,7 @@ fn reads_branches(rt: HostRuntime) {
             rs2,
             offset,
         };
-        is_row(&rt, word, insn);
+        expect_row(&rt, word, insn);
     }
 }
 
@@ -213,7 +227,7 @@ fn reads_loads_and_stores(rt: HostRuntime) {
             rs1: x(2),
             offset: *offset,
         };
-        is_row(&rt, *word, insn);
+        expect_row(&rt, *word, insn);
     }
     for (width, offset, word) in stores() {
         let insn = Insn::Store {
@@ -222,13 +236,13 @@ fn reads_loads_and_stores(rt: HostRuntime) {
             rs2: x(1),
             offset: *offset,
         };
-        is_row(&rt, *word, insn);
+        expect_row(&rt, *word, insn);
     }
 }
 
 #[test]
 fn reads_the_environment(rt: HostRuntime) {
-    is_row(
+    expect_row(
         &rt,
         0x0330_000f,
         Insn::Fence {
@@ -237,7 +251,7 @@ fn reads_the_environment(rt: HostRuntime) {
             rd: x(0),
         },
     );
-    is_row(
+    expect_row(
         &rt,
         0x8330_000f,
         Insn::Fence {
@@ -246,8 +260,8 @@ fn reads_the_environment(rt: HostRuntime) {
             rd: x(0),
         },
     );
-    is_row(&rt, 0x0000_0073, Insn::Ecall);
-    is_row(&rt, 0x0010_0073, Insn::Ebreak);
+    expect_row(&rt, 0x0000_0073, Insn::Ecall);
+    expect_row(&rt, 0x0010_0073, Insn::Ebreak);
 }
 
 #[test]
@@ -259,7 +273,7 @@ fn reads_the_words_of_units(rt: HostRuntime) {
         rs2: x(11),
         rs3: x(12),
     };
-    is_extended_row(&rt, 0x60b5_028b, first);
+    expect_extended_row(&rt, 0x60b5_028b, first);
     let last = Insn::Unit {
         number: 31,
         rd: x(31),
@@ -267,27 +281,40 @@ fn reads_the_words_of_units(rt: HostRuntime) {
         rs2: x(2),
         rs3: x(3),
     };
-    is_extended_row(&rt, 0x1e20_ff8b, last);
-    assert!(rt; decode(0x60b5_028b) == None);
+    expect_extended_row(&rt, 0x1e20_ff8b, last);
 }
 
 #[test]
 fn reads_what_passes_further_operands_and_results(rt: HostRuntime) {
-    let first = Insn::Cread { rd: x(6), index: 0 };
-    is_extended_row(&rt, 0x0000_032b, first);
+    expect_extended_row(&rt, 0x0000_032b, Insn::Cread { rd: x(6), index: 0 });
     let second = Insn::Cread { rd: x(7), index: 1 };
-    is_extended_row(&rt, 0x0010_03ab, second);
+    expect_extended_row(&rt, 0x0010_03ab, second);
     let pair = Insn::Cput {
         rs1: x(13),
         rs2: x(14),
     };
-    is_extended_row(&rt, 0x00e6_902b, pair);
-    assert!(rt; is_cread(&second) && !is_cput(&second));
-    assert!(rt; is_cput(&pair) && !is_cread(&pair) && !is_unit(&pair));
-    assert!(rt; operands(&pair) == [13, 14, 0, 0]);
-    assert!(rt; destination(&pair) == 0);
-    assert!(rt; decode(0x0000_032b) == None);
-    assert!(rt; decode(0x00e6_902b) == None);
+    expect_extended_row(&rt, 0x00e6_902b, pair);
+    expect(
+        &rt,
+        0x0010_03ab,
+        "the kind",
+        is_cread(&second) && !is_cput(&second),
+    );
+    expect(
+        &rt,
+        0x00e6_902b,
+        "the operands",
+        puts(&pair, [13, 14, 0, 0]),
+    );
+}
+
+/// Whether an instruction hands on these operands, and does nothing else.
+fn puts(insn: &Insn, due: [u8; 4]) -> bool {
+    is_cput(insn)
+        && !is_cread(insn)
+        && !is_unit(insn)
+        && operands(insn) == due
+        && destination(insn) == 0
 }
 
 /// Words that are no instructions.
@@ -336,49 +363,65 @@ fn others() -> &'static [u32] {
 #[test]
 fn reads_no_other_word(rt: HostRuntime) {
     for word in others() {
-        is_no_row(&rt, *word);
+        expect(&rt, *word, "no row", is_no_row(*word));
     }
     assert!(rt; encode(&insn_at(0xffff_ffff)) == 0xffff_ffff);
 }
 
-/// Asserts what registers an instruction reads or writes.
-fn expect_set(rt: &impl Abort, set: &Row, registers: &[u8]) {
-    assert!(rt; (set.count() as usize) == registers.len());
+/// Whether a set has these registers, and no others.
+fn has_all(set: &Row, registers: &[u8]) -> bool {
     for register in registers {
-        assert!(rt; set.has(*register));
+        if !set.has(*register) {
+            return false;
+        }
     }
+    set.count() as usize == registers.len()
 }
 
-/// Asserts what registers an instruction reads, and what it writes.
-fn expect_registers(rt: &impl Abort, insn: &Insn, read: &[u8], written: &[u8]) {
-    expect_set(rt, &reads(insn), read);
-    expect_set(rt, &writes(insn), written);
+/// Whether an instruction reads and writes these registers.
+fn has_registers(insn: &Insn, read: &[u8], written: &[u8]) -> bool {
+    has_all(&reads(insn), read) && has_all(&writes(insn), written)
 }
 
-/// Asserts what a store of register 18 to an address in register 11 reads and writes.
-fn expect_store(rt: &impl Abort, store: &Insn) {
-    expect_registers(rt, store, &[11, 18], &[]);
-    assert!(rt; operands(store) == [11, 18, 0, 0]);
-    assert!(rt; destination(store) == 0);
-    assert!(rt; reads_register(store, 18) && !reads_register(store, 0));
-    assert!(rt; is_access(store));
+/// Whether this is a store of register 18 to an address in register 11.
+fn is_store(store: &Insn) -> bool {
+    has_registers(store, &[11, 18], &[])
+        && operands(store) == [11, 18, 0, 0]
+        && destination(store) == 0
+        && reads_register(store, 18)
+        && !reads_register(store, 0)
+        && is_access(store)
 }
 
-/// Asserts what an environment call reads and writes.
-fn expect_call(rt: &impl Abort, call: &Insn) {
-    expect_registers(rt, call, &[10, 11, 12, 17], &[10]);
-    assert!(rt; writes_register(call, 10));
-    assert!(rt; !is_access(call));
-    assert!(rt; !is_unit(call) && !is_cread(call));
+/// Whether this reads and writes what an environment call does.
+fn is_call(call: &Insn) -> bool {
+    has_registers(call, &[10, 11, 12, 17], &[10])
+        && writes_register(call, 10)
+        && !is_access(call)
+        && !is_unit(call)
+        && !is_cread(call)
+}
+
+/// Whether this reads and writes nothing.
+fn is_no_op(insn: &Insn) -> bool {
+    has_registers(insn, &[], &[]) && !writes_register(insn, 0)
 }
 
 #[test]
 fn knows_the_registers(rt: HostRuntime) {
-    expect_call(&rt, &Insn::Ecall);
-    expect_store(&rt, &insn_at(0x0125_a823));
-    let no_op = insn_at(0x0000_0013);
-    expect_registers(&rt, &no_op, &[], &[]);
-    assert!(rt; !writes_register(&no_op, 0));
+    expect(&rt, 0x0000_0073, "the kind", is_call(&Insn::Ecall));
+    expect(
+        &rt,
+        0x0125_a823,
+        "the kind",
+        is_store(&insn_at(0x0125_a823)),
+    );
+    expect(
+        &rt,
+        0x0000_0013,
+        "the kind",
+        is_no_op(&insn_at(0x0000_0013)),
+    );
 }
 
 /// What an instruction may be in a block.
@@ -473,16 +516,28 @@ fn kinds_of_others() -> &'static [Told] {
     ]
 }
 
+/// Whether an instruction may stand there, and nowhere else.
+fn belongs(insn: &Insn, place: Place) -> bool {
+    let (joins, ends) = match place {
+        Place::Unit => (true, false),
+        Place::Block => (false, false),
+        Place::End => (false, true),
+    };
+    is_eligible(insn) == joins && is_terminator(insn) == ends
+}
+
 /// Asserts what these words stand for, by the extended table.
 fn expect_kinds(rt: &impl Abort, rows: &[Told]) {
     for (word, due, place, read, written) in rows {
         let insn = decode_x(*word).unwrap_or(Insn::Illegal { word: *word });
-        assert!(rt; class(&insn) == *due, "the class of {word:08x}");
-        let may_join = matches!(place, Place::Unit);
-        assert!(rt; is_eligible(&insn) == may_join, "whether {word:08x} joins");
-        let ends = matches!(place, Place::End);
-        assert!(rt; is_terminator(&insn) == ends, "whether {word:08x} ends");
-        expect_registers(rt, &insn, read, written);
+        expect(rt, *word, "the class", class(&insn) == *due);
+        expect(rt, *word, "the place", belongs(&insn, *place));
+        expect(
+            rt,
+            *word,
+            "the registers",
+            has_registers(&insn, read, written),
+        );
     }
 }
 
