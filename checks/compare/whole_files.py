@@ -173,7 +173,8 @@ def see_stack(here):
     here.put("old", executable.frame((*[CHAIN] * 253, *EXIT)))
     here.put("block", CHAIN.to_bytes(4, "little") * 256)
     files = "new", "units", "logs", "report"
-    for words in (("best", "block"), ("find", "old", *files), ("check", "old", *files[:3]), ("load", "7")):
+    for words in (("best", "block"), ("pair", "block", "--in", "5", "--out", "3"), ("find", "old", *files),
+                  ("check", "old", *files[:3]), ("area", "old", "--limit", "100"), ("load", "7")):
         here.same(f"{words[0]} with {least} KiB of stack", ends(least, *words), {0})
     here.left("calls that have little stack", "out", "old", "block", *files)
 

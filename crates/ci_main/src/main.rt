@@ -24,8 +24,8 @@ const NO_WORDS: u8 = 16;
 /// The status where memory ran out before there were words, or a call.
 const NO_MEMORY: u8 = 12;
 
-/// How many bytes of stack a call may take: `check` of a cut among 256 operations takes 240 KiB, the most, as measured.
-const STACK: usize = 262144;
+/// How many bytes of stack a call may take: `pair` of a block of 256 operations takes 284 KiB, the most, as measured.
+const STACK: usize = 327680;
 
 fn main(rt: HostRuntime) -> ExitCode {
     match words(&rt) {
