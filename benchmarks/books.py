@@ -2,9 +2,9 @@
 
     python3 -m benchmarks.books [PROGRAM]
 
-PROGRAM is bin/rumtsafi if left out. The books are those that `find` writes, by the greatest budget, of the programs of
-run.py, of what GCC makes of ciphers.c with loops unrolled, and of a sample; and one of all their searches, again and
-again, which has LONG bytes at least. Each goes by `relog` to version 2, from there to version 2 once more, and back,
+PROGRAM is bin/rumtsafi if left out. The books are those that `find` writes, by the greatest budget, of the SEARCHED
+programs of run.py, of what GCC makes of ciphers.c with loops unrolled, and of a sample; and one of all their searches,
+again and again, which has LONG bytes at least. Each goes by `relog` to version 2, from there to version 2 once more, and back,
 and is then what it was. A line has the bytes in each version and their ratio, and of books of LEAST bytes or more, for
 each way, the millions of bytes of version 1 in a second of processor time, by the least of ROUNDS, without what a call
 on an empty book takes. Of the long book it also has the greatest resident memory of each way, in bytes for each item of
@@ -20,7 +20,7 @@ import sys
 import tempfile
 
 from benchmarks.common import CROSS, bare_executable, measure, missing, processor_time, program, write
-from benchmarks.run import GUESTS, STEPS
+from benchmarks.run import SEARCHED, STEPS
 from checks.common import SAMPLES, read
 
 ROUNDS, LEAST, LONG = 5, 2 ** 20, 2 ** 27
@@ -109,7 +109,7 @@ def main():
         with open(one, "wb") as output:
             output.write(EMPTY)
         idle = min(relog(folder, *way)[0] for way in WAYS)
-        for name in (*GUESTS, CIPHERS, SAMPLE):
+        for name in (*SEARCHED, CIPHERS, SAMPLE):
             book_of(name, folder)
             searches += b"".join(SEARCHES.findall(read(one)))
             passed.append(report(name, folder, idle))

@@ -31,7 +31,7 @@ from benchmarks.best import LEVELS, PORTS
 from benchmarks.common import (
     HOST, PACKAGES, bare_executable, port_name, port_words, processor_time, program)
 from benchmarks.graphs import blocks_of
-from benchmarks.run import GUESTS
+from benchmarks.run import SEARCHED
 from benchmarks.searches import MOST, SHORT, Comparison, Figures, figures_text
 from checks.oracles import choices
 from checks.oracles.cuts import Table
@@ -47,7 +47,7 @@ USUAL_BUDGET, ROUNDS = 65_536, 2
 def executables(folder):
     """The executables, each with its name."""
     for name, source, level in (*((f"ciphers {level}", "ciphers.c", level) for level in LEVELS),
-                                *((os.path.basename(source)[:-2], source, "-O2") for source in GUESTS)):
+                                *((os.path.basename(source)[:-2], source, "-O2") for source in SEARCHED)):
         file = os.path.join(folder, name.replace(" ", ""))
         bare_executable(source, file, level, *["-funroll-loops"] * (source == "ciphers.c"))
         yield name, file
