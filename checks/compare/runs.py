@@ -2,8 +2,8 @@
 
 The executables are the samples, each C program of checks/programs, compiled for RV32IM by GCC with -O2 and with -Os and
 linked with picolibc, and 212 that are made up, always in the same way: with loads and stores between the operations,
-calls, jumps through a table of addresses, accesses that fail, and ends of all kinds. `find` chooses cuts of each, by
-several plans, tables and numbers of steps. Old and new program run beside each other on plain machines in Python, on
+calls, jumps through a table of addresses, accesses that fail, and ends of all kinds; and one of full blocks. `find`
+chooses cuts of each, by several plans, tables and numbers of steps. Old and new program run beside each other on plain machines in Python, on
 the profiled input and on others, for some number of steps. Where the old run is tame, the two have to be alike: after
 each step in their output; at each listed leader in address, memory outside the text, heap end, input left, live
 registers, and in what was saved up to there; and in their ends. `run` has to print the same as these machines. What
@@ -23,7 +23,7 @@ from collections import Counter
 from checks import common
 from checks.common import Check, called, main, read
 from checks.generators.blocks import costly
-from checks.generators.programs import TEXT, program
+from checks.generators.programs import TEXT, long_text, program
 from checks.oracles import units
 from checks.oracles.blocks import Text, live_sets
 from checks.oracles.choices import Plan, text_places
@@ -148,6 +148,22 @@ class Runs(Check):
         if number < WRONG:
             self.plant(rewriting, inputs)
 
+    def full_blocks(self):
+        """Compares the runs of a text of full blocks, whose beginnings a target of the profiled run moves: a jump to
+        one that the file alone gives isn't tame."""
+        data, first = long_text()
+        moved, alone = first + 4 * (100 + 256), first + 4 * 256
+        given = {number: number.to_bytes(4, "little") for number in (100, 0, 356, 256)}
+        rewriting = Rewriting(self, data, given[100], ["--out", "1"], Table(), MOST)
+        if not self.has_choice("a long text", rewriting):
+            return
+        for number, number_read in given.items():
+            self.compare(f"a long text, from word {number}", rewriting, number_read, (), MOST)
+        both = rewriting.both(given[256])
+        both.run(MOST)
+        self.need(both.old.wild and moved in rewriting.live and alone not in rewriting.live
+                  and alone in Text(rewriting.old.image, ()).blocks(), "a long text: its leaders are others")
+
     def plant(self, rewriting, inputs):
         """Plants wrong words and units, one at a time, and looks which are found on one of the inputs."""
         for kind, new in wrong_programs(self.source, rewriting):
@@ -263,6 +279,7 @@ def look(runs):
     interpreter = None if lacks_host else compiled.interpreter(runs.folder)
     for number in range(MADE):
         runs.made_up(number)
+    runs.full_blocks()
     for name, path in compiled.samples() if missing else compiled.executables(runs.folder):
         for options in COMPILED:
             runs.compiled(" ".join((name, *options)), path, interpreter, options)

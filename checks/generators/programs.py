@@ -1,9 +1,12 @@
 """Small programs that are made up: blocks of operations with loads and stores between them, joined by branches, jumps,
 calls and jumps through a table of addresses, until a counter is spent; and such programs with unit words."""
+import random
+
 from checks.oracles.operations import WORDS, with_registers
 from readers import executable
 from readers.folds import cput_word, cread_word, unit_word
 from readers.instructions import with_offset
+from readers.latencies import NO_OPERATION
 
 TEXT, DATA = 0x10074, 0x20000
 # Registers that keep their meaning: the address of the data, and how many blocks are left to be entered.
@@ -159,6 +162,28 @@ class Maker:
             self.words[place] = with_offset(self.words[place], 4 * (self.labels[label] - place))
         table = [TEXT + 4 * self.labels[f"block {self.source.randrange(self.blocks)}"] for _ in range(TABLE)]
         return executable.frame(self.words, (), table + [self.source.getrandbits(32) for _ in range(SIZE // 4 - TABLE)])
+
+
+def long_text(length=600):
+    """The bytes of an executable that reads a number, and goes to the word of this number of so many without a jump
+    among them; and the address of the first of these. Some are pairs of operations, and the others no-ops."""
+    maker = Maker(random.Random(0))
+    maker.add(0x37 | BASE << 7 | DATA)
+    maker.call(READ, 0, None, 4)
+    maker.add(with_table(0x2003, 6, BASE, BUFFER))
+    maker.operate("slli", 6, 6, 2)
+    maker.add(0x17 | 7 << 7)
+    maker.operate("add", 7, 7, 6)
+    maker.add(0x67 | 7 << 15 | 12 << 20)
+    first = len(maker.words)
+    maker.add(*[NO_OPERATION] * length)
+    pair = with_registers("add", 5, 5, 10), with_registers("xor", 5, 5, 11)
+    for place in (100, 156, 256, 356, 512):
+        maker.words[first + place - 1:first + place + 1] = pair
+    maker.operate("addi", 10, 5, 0)
+    maker.operate("addi", 17, 0, EXIT)
+    maker.add(0x73)
+    return executable.frame(maker.words, (), [0] * (SIZE // 4)), TEXT + 4 * first
 
 
 class UnitMaker(Maker):
