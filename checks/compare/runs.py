@@ -3,12 +3,12 @@
 The executables are the samples, each C program of checks/programs, compiled for RV32IM by GCC with -O2 and with -Os and
 linked with picolibc, and 212 that are made up, always in the same way: with loads and stores between the operations,
 calls, jumps through a table of addresses, accesses that fail, and ends of all kinds; and one of full blocks. `find`
-chooses cuts of each, by several plans, tables and numbers of steps. Old and new program run beside each other on plain machines in Python, on
-the profiled input and on others, for some number of steps. Where the old run is tame, the two have to be alike: after
-each step in their output; at each listed leader in address, memory outside the text, heap end, input left, live
-registers, and in what was saved up to there; and in their ends. `run` has to print the same as these machines. What
-GCC compiled also runs to its end by `run`, and has to save what the gains and the entries say, which are those of the
-interpreter of benchmarks/.
+chooses cuts of each, by several plans, tables and numbers of steps. Old and new program run beside each other on plain
+machines in Python, on the profiled input and on others, for some number of steps. Where the old run is tame, the two
+have to be alike: after each step in their output; at each listed leader in address, memory outside the text, heap end,
+input left, live registers, and in what was saved up to there; and in their ends. `run` has to print the same as these
+machines. What GCC compiled also runs to its end by `run`, and has to save what the gains and the entries say, which are
+those of the interpreter of benchmarks/.
 
 Then wrong words are planted in new programs that were made up, and wrong units: of each kind many have to be found.
 
