@@ -96,6 +96,10 @@ ENDS = (
      "position-independent or shared: field at offset 16 is 3; use -static -no-pie"),
     ("rename crc32.elf no/folder", "3 write no/folder", "no/folder can't be written"),
     ("relog huge out", "4 too large huge", "huge has more than 268,435,456 bytes"),
+    ("relog most out", "10 log 1 0", "LOGS is no log book: due is the line ci-log 1 or ci-log 2"),
+    ("check crc32.elf empty empty huge", "4 too large huge",
+     "huge: over 16,777,216 bytes (LOGS 268,435,456, UNITS 4,194,304, table 65,536)"),
+    ("check crc32.elf empty empty most", "10 log 1 0", "LOGS is no log book: due is the line ci-log 1 or ci-log 2"),
     ("relog text out", "10 log 1 0", "LOGS is no log book: due is the line ci-log 1 or ci-log 2"),
     ("relog packed out", "10 log 2 10", "byte 10 of LOGS: no log book goes on so"),
     ("relog cut.logs out", "10 log 3 0", "LOGS ends too early"),
@@ -128,6 +132,8 @@ ENDS = (
     ("gates many.v out", "14 many 1 4992000",
      "the modules up to number 1 have 4992000 gates, and 4,194,304 are the most"),
     ("geval huge 0 0x0 0x0 0x0", "4 too large huge", "huge has more than 268,435,456 bytes"),
+    ("geval most 0 0x0 0x0 0x0", "15 nets 0",
+     "byte 0 of NETS: no netlist goes on so, or the text ends there too early"),
     ("geval few 2 0x0 0x0 0x0", "7 unsupported 00000002 00000000",
      "the file has no netlist 00000002 (hex): netlists count from 0"),
     ("geval empty 0 0x0 0x0 0x0", "7 unsupported 00000000 00000000", "the file has no netlists"),
@@ -150,6 +156,8 @@ def look(check):
     os.symlink(os.path.join(SAMPLES, "crc32.elf"), check.path("crc32.elf"))
     for name, content in FILES.items():
         check.write(name, content)
+    # Of zeros that take no room: the longest log book, or text of netlists, that is read, and one of a byte more.
+    os.truncate(check.write("most", b""), 268435456)
     os.truncate(check.write("huge", b""), 268435457)
     for call, line, due in ENDS:
         words = call.split()
