@@ -471,7 +471,7 @@ class Shipped(Repository):
                 process = self.start("one")
                 program, number = int(process.stdout.readline()), signal.Signals[f"SIG{name}"]
                 process.send_signal(number)
-                self.assertEqual(process.wait(timeout=10), 128 + number)
+                self.assertEqual(process.wait(timeout=10), -number if name == "INT" else 128 + number)
                 self.assertRaises(ProcessLookupError, os.kill, program, 0)
                 process.communicate()
 
@@ -647,10 +647,17 @@ class AtTerminal(Repository):
                   "sleep 30 > /dev/null 2>&1 & wait")
         for run in (self.at_terminal, functools.partial(self.with_file, "output")):
             status, shown, *_ = run("best", "a", keys="\x03", before=b"running, ")
-            self.assertEqual(status, 130)
+            self.assertEqual(status, -signal.SIGINT)
             self.assertTrue(os.path.exists(mark))
             self.assertTrue(shown.endswith(b"\r"), shown)
             os.remove(mark)
+
+    def test_control_c_ends_a_loop_of_calls(self):
+        self.ship("exec sleep 30")
+        loop = ["bash", "-c", 'for time in 1 2; do "$@"; echo went on; done', "bash"]
+        status, shown = self.at_terminal("best", "a", keys="\x03", before=b"running, ", shell=loop)
+        self.assertEqual(status, -signal.SIGINT)
+        self.assertNotIn(b"went on", shown)
 
     def test_control_backslash_ends_it_without_a_word(self):
         self.ship("exec sleep 30")
