@@ -91,7 +91,7 @@ def compare_stop(views, files, given):
                 break
             time.sleep(0.02)
         suite.send_signal(signal.SIGINT)
-        suite.wait()
+        views.need(suite.wait() == -signal.SIGINT, f"an interrupt ended a suite by {suite.returncode}")
     rows = read_rows(views, "stopped.csv")
     views.need(2 <= len(rows) < len(files), f"{len(rows)} rows after a stop")
     views.works("suite", *words)
