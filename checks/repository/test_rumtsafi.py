@@ -473,7 +473,13 @@ class Shipped(Repository):
                 process.send_signal(number)
                 self.assertEqual(process.wait(timeout=10), -number if name == "INT" else 128 + number)
                 self.assertRaises(ProcessLookupError, os.kill, program, 0)
-                process.communicate()
+                self.assertEqual(process.communicate()[1], "")
+
+    def test_a_signal_from_elsewhere_is_named(self):
+        for name in ("KILL", "SEGV", "XFSZ", "TERM"):
+            self.ship(f"kill -{name} $$")
+            self.assertEqual(self.use("one"), (128 + signal.Signals[f"SIG{name}"], "",
+                                               f"rumtsafi: the signal {name} ended the program\n"))
 
     def test_a_signal_that_the_program_does_not_mind_changes_nothing(self):
         self.ship("trap '' PIPE; echo begun; sleep 2; exit 7")
