@@ -181,13 +181,30 @@ def jobs_of(text):
 
 def main(view):
     """Ends a script with the status of its view; a refusal or a file that fails makes one line."""
+    sys.stderr = sys.stderr or open(os.devnull, "w", encoding="utf-8")
     try:
-        sys.exit(view())
+        if sys.stdout is None:
+            fail("standard output is closed")
+        try:
+            status = view()
+        finally:
+            sys.stdout.flush()
+        sys.exit(status)
     except Refused as refused:
         fail(refused)
+    except BrokenPipeError:
+        end_by(signal.SIGPIPE)
     except OSError as error:
-        fail(f"{error.filename}: {error.strerror}")
+        if error.filename is None:
+            # What standard output didn't take would be tried again at the end.
+            os.dup2(os.open(os.devnull, os.O_WRONLY), sys.stdout.fileno())
+        fail(f"{error.filename or 'standard output'}: {error.strerror}")
     except KeyboardInterrupt:
-        # A shell ends a loop of calls by an interrupt only where that is what ended the call.
-        signal.signal(signal.SIGINT, signal.SIG_DFL)
-        signal.raise_signal(signal.SIGINT)
+        end_by(signal.SIGINT)
+
+
+def end_by(number):
+    """Ends the view by a signal, as a tool that doesn't know it: by an interrupt, so that a shell's loop of calls ends,
+    too, and where nobody reads on."""
+    signal.signal(number, signal.SIG_DFL)
+    signal.raise_signal(number)

@@ -4,11 +4,13 @@ The hottest blocks of samples and of programs that GCC compiled are shown, by th
 by the greatest ones: the marked instructions have to be the members of the cut that `best` prints, the sum of the gain
 has to be right, no line may have more than 80 columns, and the graph has to be one for Graphviz, with the members in
 its cluster. One is shown in tmux, in a window of 80 columns. The picture in docs/ has to be the one that the view
-makes. Wrong calls end with the usage and status 2.
+makes. Wrong calls end with the usage and status 2, and what standard output doesn't take with one line and status 1.
 """
+import functools
 import json
 import os
 import re
+import signal
 import subprocess
 import time
 import xml.etree.ElementTree
@@ -62,6 +64,21 @@ def compare_terminal(views):
     views.need([line.rstrip() for line in seen.rstrip().splitlines()] == lines, f"tmux shows {seen}")
 
 
+def compare_output(views, *words):
+    """Standard output that takes nothing ends the view by one line, and without a word where nobody reads on."""
+    reading, writing = os.pipe()
+    os.close(reading)
+    for output, status, said in ((os.open("/dev/full", os.O_WRONLY), 1, "standard output: No space left on device"),
+                                 (writing, -signal.SIGPIPE, None), (None, 1, "standard output is closed")):
+        closing = functools.partial(os.close, 1) if output is None else None
+        done = subprocess.run([views.view("block"), *words], cwd=views.folder, env=views.environment, stdout=output,
+                              stderr=subprocess.PIPE, preexec_fn=closing, text=True, check=False)
+        due = status, f"block: {said}\n" if said else ""
+        views.same(f"what is said of {said}", (done.returncode, done.stderr), due)
+        if output is not None:
+            os.close(output)
+
+
 def look(views):
     """Looks at blocks of all programs."""
     for name, (path, given) in views.programs().items():
@@ -75,6 +92,8 @@ def look(views):
             compare_block(views, path, f"0x{leader}", *viewing.GREATEST)
         views.need(views.hashes(path) == before, f"{path} was changed")
     compare_terminal(views)
+    for more in ((), ("--json",), ("--svg",)):
+        compare_output(views, os.path.join(TOP, SHOWN[0]), SHOWN[1], *more)
     version = subprocess.run(["dot", "-V"], stderr=subprocess.PIPE, text=True, check=True).stderr
     is_same = views.works("block", os.path.join(TOP, SHOWN[0]), *SHOWN[1:]) == text_of("docs/sha256_cut.svg")
     views.need(is_same or GRAPHVIZ not in version, f"docs/ has another picture than views/block {' '.join(SHOWN)}")
