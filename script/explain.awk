@@ -2,7 +2,7 @@
 # stand the status, the words of the call, or OLD. The variable TOP of the environment is the top of the repository.
 BEGIN {
     if (ARGV[1] == "words") explain_words(ARGV[2])
-    else if (ARGV[1] == "help") show_usage(ARGV[2])
+    else if (ARGV[1] == "help") explain_command(ARGV[2])
     else if (ARGV[1] == "end") explain_end(ARGV[2])
     else if (ARGV[1] == "hint") say_more(ARGV[2])
     else if (ARGV[1] == "fault") explain_fault(ARGV[2], ARGV[3])
@@ -20,6 +20,19 @@ function say(line) {
 function explain_words(command) {
     show_usage(command)
     say(misread(command))
+}
+
+# Where help is asked for: the lines on use of a command; of a word that is none the status is 1.
+function explain_command(command) {
+    show_usage(command)
+    if (command in names || command ~ /^(-.*|help)$/) return
+    gsub(/[[:cntrl:]]/, "?", command)
+    print "rumtsafi: " no_command(command) > "/dev/stderr"
+    exit 1
+}
+
+function no_command(word) {
+    return "there is no command '" word "'; there are:" commands
 }
 
 # The lines on use of a command, or all lines where there is none.
@@ -66,7 +79,7 @@ function read_usage(    line, command, part, n, i, name) {
 function misread(command,    i, word, why, ended, given, wanted, some, n) {
     if (ARGC < 3) return "a command is missing; there are:" commands
     if (command ~ /^(-h|--help|--version|--build)$/) return command " stands alone"
-    if (!(command in names)) return "there is no command '" command "'; there are:" commands
+    if (!(command in names)) return no_command(command)
     for (i = 3; i < ARGC && why == ""; i++) {
         word = ARGV[i]
         if (ended || word !~ /^-./) given[++some] = word

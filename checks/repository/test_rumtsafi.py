@@ -422,6 +422,11 @@ class Shipped(Repository):
         for command, numbers in USAGE_LINES.items():
             for words in (["help", command], [command, "--help"], [command, "-h"]):
                 self.assertEqual(self.use(*words), (0, "".join(lines[number] for number in numbers), ""))
+        for words in (["help", "fi\nd"], ["fi\nd", "--help"], ["fi\nd", "-h"]):
+            self.assertEqual(self.use(*words),
+                             (1, MORE_USAGE, "rumtsafi: there is no command 'fi?d'; there are: eval area\n"))
+        for words in (["help", "--build"], ["--build", "--help"], ["help", "help"]):
+            self.assertEqual(self.use(*words), (0, MORE_USAGE, ""))
         self.write("docs/usage.txt", USAGE)
         status, output, told = self.use("--version")
         self.assertEqual((status, told), (0, ""))
