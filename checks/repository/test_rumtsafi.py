@@ -690,6 +690,8 @@ class Made(unittest.TestCase):
     def test_bash_completes_commands_options_and_files(self):
         self.assertEqual(self.complete("b"), "best blocks")
         self.assertEqual(self.complete("--v"), "--version")
+        self.assertEqual(self.complete("he"), "help")
+        self.assertEqual(self.complete("help", "b"), "best blocks")
         self.assertEqual(self.complete("run", "crc32.elf", "--"), "--steps --units --input --table")
         self.assertEqual(self.complete("best", "crc32.e"), "crc32.elf")
         self.assertEqual(self.complete("best", "--table", "crc32.e"), "crc32.elf")

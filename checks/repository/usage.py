@@ -97,7 +97,8 @@ def completions(commands, calls, options, words):
             return ""
         return f'; [ "$COMP_CWORD" -le {files + 1} ] || [[ $word = -* ]] || return'
 
-    names = " ".join([command.name for command in commands] + [call for call, _ in calls])
+    names = " ".join(command.name for command in commands)
+    own = " ".join(call for call, _ in calls)
     texts = " | ".join(f"--{option.name}" for option in options if option.kind != FILE)
     cases = [f"        {command.name}) options='{' '.join('--' + name for name in command.options)}'"
              f"{end_of_files(command)} ;;" for command in commands]
@@ -106,10 +107,14 @@ def completions(commands, calls, options, words):
         f"# {MADE}: completions for bash. To use them: source this file.",
         "",
         "_rumtsafi() {",
-        "    local word=${COMP_WORDS[COMP_CWORD]} before=${COMP_WORDS[COMP_CWORD - 1]} options=''",
+        "    local word=${COMP_WORDS[COMP_CWORD]} before=${COMP_WORDS[COMP_CWORD - 1]} options='' words=''",
         "    COMPREPLY=()",
-        '    if [ "$COMP_CWORD" = 1 ]; then',
-        f"        mapfile -t COMPREPLY < <(compgen -W '{names}' -- \"$word\")",
+        "    case $COMP_CWORD:${COMP_WORDS[1]} in",
+        f"        1:*) words='{names} help {own}' ;;",
+        f"        2:help) words='{names}' ;;",
+        "    esac",
+        '    if [ -n "$words" ]; then',
+        '        mapfile -t COMPREPLY < <(compgen -W "$words" -- "$word")',
         "        return",
         "    fi",
         "    case ${COMP_WORDS[1]} in",
