@@ -153,7 +153,10 @@ class Choice:
             fail(f"REPORT is of another table, with pad {self.report.pad} and read {self.report.read}")
         listed = Executable(self.old_path).blocks
         self.old = Executable(self.old_path, sorted({*self.report.blocks, *leaders} - listed.keys()))
-        self.new = executable.Image(read(self.new_path))
+        try:
+            self.new = executable.Image(read(self.new_path))
+        except executable.Fault:
+            fail(f"{self.new_path} is no executable")
         self.modules = modules(read(self.units_path).decode(errors="replace"))
         self.taken, self.words = [], {leader: self.old.words(leader) for leader in self.report.blocks}
         for cut in self.report.cuts:

@@ -15,6 +15,7 @@ import json
 import os
 import random
 import re
+import shutil
 import subprocess
 
 from checks.common import SAMPLES, TOP
@@ -276,6 +277,12 @@ def look(views):
     views.need(status == 1 and said.count("\n") == 1, f"refused: {status} {said}")
     status, _, said = views.look("report", "crc32")
     views.need(status == 1 and "give --input" in said, f"another input: {status} {said}")
+    shutil.copytree(views.path("sha256"), views.path("no_new"))
+    for text in ("", "no executable", views.read("sha256/new.elf")[:100]):
+        views.write("no_new/new.elf", text)
+        for view, *more in (("report", "--input", viewing.INPUT), ("callgrind",)):
+            views.same("what is said of a NEW that is none", views.look(view, "no_new", *more),
+                       (1, "", f"{view}: no_new/new.elf is no executable\n"))
     views.write("no_table", "read = [")
     views.refuses("report", "sha256", "--table", "no_table")
     views.wrong("report", (), ("a", "b"), ("sha256", "--out", "4"), ("sha256", "--page", "sha256/new.elf"),
