@@ -137,7 +137,9 @@ class Parser(argparse.ArgumentParser):
         for name, word, about in lines:
             if name in names:
                 again = "append" if name in (*several, "leader") else "store"
-                self.add_argument(f"--{name}", metavar=word, help=about, action=again, type=value_of(word, about))
+                # What `area` has to be given, a view may be given.
+                self.add_argument(f"--{name}", metavar=word, help=about.removesuffix(" (has to be given)"),
+                                  action=again, type=value_of(word, about))
                 self.shared.append(name)
 
     def take_json(self):

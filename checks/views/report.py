@@ -285,6 +285,7 @@ def look(views):
                        (1, "", f"{view}: no_new/new.elf is no executable\n"))
     views.write("no_table", "read = [")
     views.refuses("report", "sha256", "--table", "no_table")
+    views.need("has to be given" not in " ".join(views.works("report", "--help").split()), "--limit may be left out")
     views.wrong("report", (), ("a", "b"), ("sha256", "--out", "4"), ("sha256", "--page", "sha256/new.elf"),
                 ("sha256", "--limit", "4294967296"))
 
