@@ -171,7 +171,7 @@ function say_key(    i, name, line, place, part, known) {
     while (name != "" && (getline line < name) > 0) {
         sub(/[ \t]*#.*/, "", line)
         if (line ~ /^[ \t]*\[/) {
-            gsub(/[][ \t]/, "", line)
+            gsub(/[][ \t"']/, "", line)
             place = line
             if (!(place in known)) {
                 say("'" name "' has the table [" place "], and there are software and hardware")

@@ -622,6 +622,7 @@ class AtTerminal(Repository):
         for text, said in (("read = 2\n[software]\nadd = 2\nmil = 3 # add\n", "the key mil; software has add logic"),
                            ("pod = 1\n", "the key pod; on top has read pad"),
                            ("[hardware]\nload = 2\n", "the key load; hardware has add"),
+                           ("['hardware']\n[ \"software\" ]\nlode = 2\n", "the key lode; software has add"),
                            ("[latency]\n", "the table [latency], and there are software and hardware")):
             with open(table, "w", encoding="utf-8") as file:
                 file.write(text)
