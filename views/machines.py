@@ -59,4 +59,5 @@ def side_by_side(view, given, files, words, calls):
                 print(f"\r{number} of {len(calls)} ", end="\r", file=sys.stderr, flush=True)
             yield line
     if jobs.returncode:
-        fail(f"{jobs.returncode} of {len(calls)} calls failed")
+        # Above 100 it is no number of calls.
+        fail(f"{jobs.returncode} of {len(calls)} calls failed" if jobs.returncode <= 100 else "GNU parallel failed")

@@ -200,7 +200,7 @@ def main(view):
         if error.filename is None:
             # What standard output didn't take would be tried again at the end.
             os.dup2(os.open(os.devnull, os.O_WRONLY), sys.stdout.fileno())
-        fail(f"{error.filename or 'standard output'}: {error.strerror}")
+        fail(f"{error.filename}: {error.strerror}" if error.filename else error.strerror)
     except KeyboardInterrupt:
         end_by(signal.SIGINT)
 

@@ -68,7 +68,7 @@ def compare_output(views, *words):
     """Standard output that takes nothing ends the view by one line, and without a word where nobody reads on."""
     reading, writing = os.pipe()
     os.close(reading)
-    for output, status, said in ((os.open("/dev/full", os.O_WRONLY), 1, "standard output: No space left on device"),
+    for output, status, said in ((os.open("/dev/full", os.O_WRONLY), 1, "No space left on device"),
                                  (writing, -signal.SIGPIPE, None), (None, 1, "standard output is closed")):
         closing = functools.partial(os.close, 1) if output is None else None
         done = subprocess.run([views.view("block"), *words], cwd=views.folder, env=views.environment, stdout=output,

@@ -99,6 +99,17 @@ def compare_stop(views, files, given):
     views.need(len(after) == len(files) and {**after, **rows} == after, "rows changed after a stop")
 
 
+def compare_lost(views, file):
+    """Where GNU parallel finds no folder for what it keeps, no row is made, and no call is counted as failed."""
+    kept, views.environment = views.environment, {**views.environment, "TMPDIR": views.path("no_folder")}
+    status, shown, said = views.look("suite", file, "--rows", "lost.csv")
+    views.need(status == 1 and shown.endswith("lost.csv has these rows\n") and "1 of 1 rows could not" in said,
+               f"a lost row: {status} {shown} {said}")
+    status, shown, said = views.look("tune", file)
+    views.need(status == 1 and not shown and said.endswith("tune: GNU parallel failed\n"), f"no folder: {shown} {said}")
+    views.environment = kept
+
+
 def look(views):
     """Looks at the rows of all programs."""
     programs = views.programs()
@@ -120,6 +131,7 @@ def look(views):
     views.need(views.hashes(*before) == before, "an input was changed")
     compare_list(views, programs)
     compare_stop(views, files, given)
+    compare_lost(views, files[0])
     status, _, said = views.look("suite", refused[1])
     views.need(status == 1 and said.count("\n") == 1, f"a missing file: {status} {said}")
     views.wrong("suite", (), (files[0], "--out", "4"), (files[0], "--rows", files[0]))
