@@ -176,6 +176,7 @@ def man_page(commands, calls, options, words):
         "with the status; 16 never has one, 12 may lack it, and 3 where standard output takes none.",
         "16: the system didn't give the words; one of them is not UTF\\-8.",
         "70: no program runs here, or none could be built, or it has too little stack; standard error says why.",
+        "Above 128: a signal ended the program, of the number above 128.",
         "Where standard error is a terminal, a fault line that went to a terminal or into a file is said there in",
         "words.",
         ".SH FAULT LINES",
