@@ -130,6 +130,14 @@ class Parser(argparse.ArgumentParser):
                          allow_abbrev=False, formatter_class=argparse.RawDescriptionHelpFormatter)
         self.shared = []
 
+    def parse_args(self, *words, **more):
+        """Reads the words, which are UTF-8, as those of the program are."""
+        try:
+            "".join(sys.argv[1:]).encode()
+        except UnicodeEncodeError:
+            fail("a word isn't UTF-8")
+        return super().parse_args(*words, **more)
+
     def share(self, names, several=()):
         """Takes options of the program too, some of which may stand several times."""
         with open(os.path.join(TOP, "docs", "usage.txt"), encoding="utf-8") as file:

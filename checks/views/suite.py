@@ -132,6 +132,8 @@ def look(views):
     compare_list(views, programs)
     compare_stop(views, files, given)
     compare_lost(views, files[0])
+    for view, *words in (("suite", "\udcff.elf"), ("block", "\udcff.elf", "0x0")):
+        views.same("a word that isn't UTF-8", views.look(view, *words), (1, "", f"{view}: a word isn't UTF-8\n"))
     status, _, said = views.look("suite", refused[1])
     views.need(status == 1 and said.count("\n") == 1, f"a missing file: {status} {said}")
     views.wrong("suite", (), (files[0], "--out", "4"), (files[0], "--rows", files[0]))
