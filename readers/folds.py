@@ -154,10 +154,15 @@ class Block:
         return [*passed, unit_word(number, outputs[0], inputs),
                 *(cread_word(register, index) for index, register in enumerate(outputs[1:]))]
 
+    def around(self, cut):
+        """The nodes that stand in front of the members' places in the folded block, and those that stand behind."""
+        others = [node for node in self.nodes if node not in cut]
+        early = [node for node in others if self.behind[node] & cut]
+        return early, [node for node in others if node not in early]
+
     def folded(self, cut, number):
         """The words of the folded block, where the unit of this number stands for the members."""
-        early = [node for node in self.nodes if node not in cut and self.behind[node] & cut]
-        late = [node for node in self.nodes if node not in cut and node not in early]
+        early, late = self.around(cut)
         use = self.use(cut, number)
         return [*(self.words[node] for node in early), *use, *[NO_OPERATION] * (len(cut) - len(use)),
                 *(self.words[node] for node in late)]

@@ -29,8 +29,9 @@ Skip = namedtuple("Skip", "round leader budget")
 Unit = namedtuple("Unit", "number cycles operations uses")
 # A block of the program's listing: its addresses, and the registers that are live where it begins and after it.
 Listed = namedtuple("Listed", "addresses live after")
-# A cut's block before it was taken, and its words behind that.
-Taken = namedtuple("Taken", "cut block folded")
+# A cut's block before it was taken, its words behind that, and where its instructions stand in OLD: None for the words
+# of earlier cuts.
+Taken = namedtuple("Taken", "cut block folded places")
 
 
 class Report:
@@ -159,10 +160,13 @@ class Choice:
             fail(f"{self.new_path} is no executable")
         self.modules = modules(read(self.units_path).decode(errors="replace"))
         self.taken, self.words = [], {leader: self.old.words(leader) for leader in self.report.blocks}
+        places = {leader: list(self.old.blocks[leader].addresses) for leader in self.report.blocks}
         for cut in self.report.cuts:
-            block = self.old.graph(cut.leader, self.words[cut.leader])
-            self.words[cut.leader] = block.folded(set(cut.nodes), cut.unit)
-            self.taken.append(Taken(cut, block, self.words[cut.leader]))
+            block, members, own = self.old.graph(cut.leader, self.words[cut.leader]), set(cut.nodes), places[cut.leader]
+            self.words[cut.leader] = block.folded(members, cut.unit)
+            self.taken.append(Taken(cut, block, self.words[cut.leader], own))
+            early, late = block.around(members)
+            places[cut.leader] = [*(own[node] for node in early), *[None] * len(members), *(own[node] for node in late)]
         self.compare()
 
     def compare(self):
@@ -184,14 +188,27 @@ class Choice:
         if len(self.modules) != len(self.report.units):
             fail("UNITS and REPORT have different numbers of units")
 
+    def saved_by_instruction(self):
+        """What each instruction of OLD has of the cycles saved: those of a cut are shared among its members, by their
+        cycles before, so that none takes less than no cycle after, wherever the unit's word stands."""
+        found = Counter()
+        for cut, block, _, places in self.taken:
+            cycles = [self.latencies.latency(block.words[node]) for node in cut.nodes]
+            left, weight = cut.gain * cut.entries, sum(cycles)
+            for node, own in zip(cut.nodes, cycles):
+                part = left * own // weight
+                found[places[node]] += part
+                left, weight = left - part, weight - own
+        return found
+
     def instructions(self):
-        """The instructions of the run's blocks: the address, the entries, and the cycles of all before and after."""
-        cycles = [unit.cycles for unit in self.report.units]
+        """The instructions of OLD in the run's blocks: the address, the entries, and the cycles of all before, after
+        and saved."""
+        saved = self.saved_by_instruction()
         for leader, (_, entries) in self.report.blocks.items():
-            for address, old, new in zip(self.old.blocks[leader].addresses, self.old.words(leader), self.words[leader],
-                                         strict=True):
-                yield (address, entries, entries * cost(old, self.latencies, cycles),
-                       entries * cost(new, self.latencies, cycles))
+            for address, word in zip(self.old.blocks[leader].addresses, self.old.words(leader), strict=True):
+                before = entries * self.latencies.latency(word)
+                yield address, entries, before, before - saved[address], saved[address]
 
     def cycles(self, leader, words):
         """The cycles of one run of a block of these words."""
