@@ -1,8 +1,9 @@
 """Runs the testbenches that `views/bench` writes, and the lines that it tells.
 
 The units of a sample pass by Icarus, by the line that the view tells and by its own run; Verilator takes the testbench
-too. Wide units pass as well, and units that were changed don't. Yosys tells the area and the longest path of a unit by
-a small library of cells. A text that is no units is refused, and wrong calls end with the usage and status 2.
+too, where no row stands in the block that waits, and runs that of a few units. Wide units pass as well, and units that
+were changed don't. Yosys tells the area and the longest path of a unit by a small library of cells. A text that is no
+units is refused, and wrong calls end with the usage and status 2.
 """
 import os
 import re
@@ -47,6 +48,11 @@ def look(views):
     status, printed = shell(views, "verilator --lint-only " + lines["Verilator"].split("--binary ")[1].split(" && ")[0])
     views.need(status == 0, f"Verilator says {printed[:600]}")
     views.need(views.works("bench", "units.v", "--run", "icarus").endswith(" vectors, 0 wrong\n"), "the view's own run")
+    # Such a block of so many rows takes the compiler minutes.
+    waits = [part for part in re.split(r"^initial ", views.read("units_bench.v").decode(), flags=re.M) if "#1" in part]
+    views.need(waits and not any("] = 256'h" in part for part in waits), "rows stand in the block that waits")
+    views.told("find", SAMPLE, "new", "few.v", "logs", "report", "--count", "2")
+    views.need(views.works("bench", "few.v", "--run", "verilator").endswith(" vectors, 0 wrong\n"), "Verilator's run")
     views.need(views.works("bench", "wide.v", "--run", "icarus").endswith(" vectors, 0 wrong\n"), "a wide unit")
     views.told("find", SAMPLE, "new", "greatest.v", "logs", "report", *viewing.GREATEST)
     views.need(views.works("bench", "greatest.v", "--run", "icarus").endswith(" vectors, 0 wrong\n"), "wide units")
