@@ -2,10 +2,10 @@
 
 A sample is swept by the usual latency table and by another one. Some rows of the CSV have to be what `find` prints by
 these ports, this number of units and this table; the table on the terminal has to have the same numbers in at most 80
-columns, and the plot the points of the CSV. Some rows of the CSV of areas have to be what `area` prints where there is
-room for their gates, and for one gate less than those of the next row; the last one of each pair of ports saves what
-all units do, and the plot has to have the points of these rows. A refused file makes one line, and wrong calls end with
-the usage and status 2.
+columns, and the plot the points of the CSV, within its fields. Some rows of the CSV of areas have to be what `area`
+prints where there is room for their gates, and for one gate less than those of the next row; the last one of each pair
+of ports saves what all units do, and the plot has to have the points of these rows. A refused file makes one line, and
+wrong calls end with the usage and status 2.
 """
 import csv
 import json
@@ -17,7 +17,9 @@ import xml.etree.ElementTree
 from checks.common import SAMPLES, TOP
 from checks.views import viewing
 
-TABLE, COLUMNS, TAKEN = "[hardware]\nadd = 900\nlogic = 300\n", 80, 7
+# By this table most choices save more than as usual.
+TABLE = "[software]\nshift_const = 2\n[hardware]\nadd = 900\nlogic = 300\n"
+COLUMNS, TAKEN = 80, 7
 # Of so many rows of areas one is compared with the program, and the greatest limit.
 AREAS_TAKEN, MOST = 97, 2 ** 32 - 1
 SAMPLE = os.path.join(SAMPLES, "sha256.elf")
@@ -80,7 +82,7 @@ def corners(path):
 
 
 def compare_plot(views, rows, name, points_of):
-    """Compares the points of the plot with the rows, by each table."""
+    """Compares the points of the plot with the rows, by each table; a line that leaves its field lacks some of them."""
     tree, lines = xml.etree.ElementTree.parse(views.path(name)), {}
     for part in tree.iter(f"{SVG}g"):
         if part.get("id", "").startswith("ports "):
@@ -88,7 +90,9 @@ def compare_plot(views, rows, name, points_of):
     found = {}
     for row in rows:
         found.setdefault(f"{row['table']} {row['inputs']} {row['outputs']}", []).append(int(row["saved"]))
-    views.need(lines.keys() == found.keys(), f"the plot has {lines.keys()}")
+    counts = [{line: len(part) for line, part in some.items()} for some in (lines, found)]
+    if not views.need(counts[0] == counts[1], f"{name} has points by line {counts[0]}, and {counts[1]} is due"):
+        return
     for table in {row["table"] for row in rows}:
         pairs = [(saved, point[1]) for line in found if line.startswith(f"{table} ")
                  for saved, point in zip(found[line], lines[line], strict=True)]
