@@ -51,8 +51,8 @@ def look(views):
     # Such a block of so many rows takes the compiler minutes.
     waits = [part for part in re.split(r"^initial ", views.read("units_bench.v").decode(), flags=re.M) if "#1" in part]
     views.need(waits and not any("] = 256'h" in part for part in waits), "rows stand in the block that waits")
-    views.told("find", SAMPLE, "new", "few.v", "logs", "report", "--count", "2")
-    views.need(views.works("bench", "few.v", "--run", "verilator").endswith(" vectors, 0 wrong\n"), "Verilator's run")
+    views.told("find", SAMPLE, "new", "zwölf.v", "logs", "report", "--count", "2")
+    views.need(views.works("bench", "zwölf.v", "--run", "verilator").endswith(" vectors, 0 wrong\n"), "Verilator's run")
     views.need(views.works("bench", "wide.v", "--run", "icarus").endswith(" vectors, 0 wrong\n"), "a wide unit")
     views.told("find", SAMPLE, "new", "greatest.v", "logs", "report", *viewing.GREATEST)
     views.need(views.works("bench", "greatest.v", "--run", "icarus").endswith(" vectors, 0 wrong\n"), "wide units")

@@ -1,9 +1,9 @@
 """Tries the headers that `views/header` writes: by GCC, and by runs of `rumtsafi run --units`.
 
 For the units of a sample, by the usual limits on inputs and outputs and by the greatest ones, a program calls each
-macro on corner values and random words and writes what it gives, which has to be what `eval` prints. The lines of
-objdump of the new program have to have each word of a unit, a `cread` and a `cput` as the program's own disassembly
-has it. A text that is no units is refused, and wrong calls end with the usage and status 2.
+macro on corner values and random words and writes what it gives, which has to be what `eval` prints. UNITS may have any
+name. The lines of objdump of the new program have to have each word of a unit, a `cread` and a `cput` as the program's
+own disassembly has it. A text that is no units is refused, and wrong calls end with the usage and status 2.
 """
 import json
 import os
@@ -78,6 +78,10 @@ def look(views):
         compare_macros(views, name)
         compare_listing(views, name)
         views.need(views.hashes(*before) == before, "an input was changed")
+    views.write("3 größer.v", views.read("usual/units.v"))
+    views.need(views.works("header", "3 größer.v") == "3 größer.h\n", "another name")
+    subprocess.run([compiled.GCC, *compiled.TARGET[:3], "-Wall", "-Werror", "-fsyntax-only", "3 größer.h"],
+                   cwd=views.folder, check=True)
     views.write("none.v", "module")
     views.refuses("header", "none.v")
     views.refuses("header", "usual/units.v", "none.v")
