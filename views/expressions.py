@@ -2,8 +2,9 @@
 import re
 
 import beside  # noqa: F401 (readers/ is found from here on)
-from readers.templates import LINES
+from readers.templates import LINES, unit_text
 
+HEADER = re.compile(r"// cycles (\d+)\nmodule ci_(\d+)\(")
 WIRE = re.compile(r"^wire \[(\d+):0\] ([a-z])(\d+);\nassign \2\3 = (.*);$", re.M)
 TERM = re.compile(r"([a-e])|t(\d+)|32'h([0-9a-f]{8})")
 NAMES = {tuple((letter, width - 1, value) for letter, width, value in lines): name for name, lines in LINES.items()}
@@ -26,6 +27,21 @@ def operations(module):
                            for letter, width, value in others)]
         found.append((name, argument(first), argument(second)))
     return found, [int(number) for number in re.findall(r"^assign [yzx] = t(\d+);$", module, re.M)]
+
+
+def read_unit(module):
+    """The operations of a module, and the numbers of those whose results are its outputs; a ValueError where it isn't
+    what `find` writes of them."""
+    try:
+        found, outputs = operations(module)
+        cycles, number = HEADER.match(module).groups()
+    except (KeyError, AttributeError) as error:
+        raise ValueError("no unit of operations") from error
+    placed = [(name, *((kind, "abcde".index(value) if kind == "input" else value) for kind, value in arguments))
+              for name, *arguments in found]
+    if unit_text(number, (placed, outputs, cycles)) != module:
+        raise ValueError("no unit of operations")
+    return found, outputs
 
 
 def argument(text):
@@ -52,7 +68,7 @@ class Unit:
     """The expressions of a unit. What is read more than once gets a name of its own."""
 
     def __init__(self, module):
-        found, self.outputs = operations(module)
+        found, self.outputs = read_unit(module)
         self.operations, self.constants = folded(found)
         self.rotations = dict(self.find_rotations())
         needed = self.needed()

@@ -3,7 +3,8 @@
 For the units of a sample, by the usual limits on inputs and outputs and by the greatest ones, a program calls each
 macro on corner values and random words and writes what it gives, which has to be what `eval` prints. UNITS may have any
 name. The lines of objdump of the new program have to have each word of a unit, a `cread` and a `cput` as the program's
-own disassembly has it. A text that is no units is refused, and wrong calls end with the usage and status 2.
+own disassembly has it. A text that is no units is refused, and so are units that `find` doesn't write; wrong calls end
+with the usage and status 2.
 """
 import json
 import os
@@ -16,7 +17,10 @@ from checks.common import SAMPLES
 from checks.tools import compiled
 from checks.views import viewing
 from readers.corners import vectors
+from readers.templates import HEADER
 
+# A unit of one's own, as the tutorial has it.
+OWN = HEADER.format(cycles=1, number=0) + "assign y = b;\nassign z = a;\nendmodule\n"
 SAMPLE, VECTORS = os.path.join(SAMPLES, "sha256.elf"), 3
 OBJDUMP = "riscv64-unknown-elf-objdump"
 
@@ -85,6 +89,11 @@ def look(views):
     views.write("none.v", "module")
     views.refuses("header", "none.v")
     views.refuses("header", "usual/units.v", "none.v")
+    for text in (OWN, views.read("usual/units.v").decode().rstrip()):
+        views.write("own.v", text)
+        status, printed, said = views.look("header", "own.v")
+        views.need(status == 1 and not printed and said.count("\n") == 1 and not os.path.exists(views.path("own.h")),
+                   f"units that find doesn't write: {status} {printed} {said}")
     views.wrong("header", (), ("usual/units.v", "--header", "usual/units.v"), ("a", "b", "c"))
 
 
