@@ -1,4 +1,5 @@
 """Pictures of data-flow graphs, by Graphviz: a block with a cut, as a text for `dot` or as an SVG."""
+import html
 import re
 import subprocess
 
@@ -134,6 +135,7 @@ def svg(dot, about, colours):
     text = short(re.sub(r' id="\w+"', "", text))
     width, height, box = re.search(r'<svg width="(\d+)pt" height="(\d+)pt"\s+viewBox="([^"]+)"', text).groups()
     x, y = box.split()[:2]
+    about = html.escape(about)
     head = (f'<svg xmlns="http://www.w3.org/2000/svg" role="img" aria-label="{about}" width="{width}" '
             f'height="{height}" viewBox="{box}">\n<title>{about}</title>\n{colours}'
             f'<rect class="paper" x="{x}" y="{y}" width="100%" height="100%" rx="8"/>')

@@ -79,6 +79,15 @@ def compare_output(views, *words):
             os.close(output)
 
 
+def compare_words(views):
+    """A picture tells in words of which file it is, whatever the name, and whether there is a cut."""
+    views.write("a&b <c>.elf", views.read(os.path.join(TOP, SHOWN[0])))
+    for budget, due in (("65536", "with its best cut of 19 operations"), ("1", "skipped budget 1")):
+        text = views.works("block", "a&b <c>.elf", *SHOWN[1:], "--budget", budget)
+        said = xml.etree.ElementTree.fromstring(text).get("aria-label")
+        views.need("of a&b <c>.elf" in said and said.endswith(due), f"a picture says {said}")
+
+
 def look(views):
     """Looks at blocks of all programs."""
     for name, (path, given) in views.programs().items():
@@ -94,6 +103,7 @@ def look(views):
     compare_terminal(views)
     for more in ((), ("--json",), ("--svg",)):
         compare_output(views, os.path.join(TOP, SHOWN[0]), SHOWN[1], *more)
+    compare_words(views)
     version = subprocess.run(["dot", "-V"], stderr=subprocess.PIPE, text=True, check=True).stderr
     is_same = views.works("block", os.path.join(TOP, SHOWN[0]), *SHOWN[1:]) == text_of("docs/sha256_cut.svg")
     views.need(is_same or GRAPHVIZ not in version, f"docs/ has another picture than views/block {' '.join(SHOWN)}")

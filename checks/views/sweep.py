@@ -126,7 +126,10 @@ def look(views):
     with open(views.path("slow.toml"), "w", encoding="ascii") as file:
         file.write(TABLE)
     before = views.hashes(SAMPLE, "slow.toml")
-    shown = views.works("sweep", SAMPLE, "--table", "slow.toml")
+    # The plot has the name as a title, and no formula of it.
+    views.write("a$_$.elf", views.read(SAMPLE))
+    shown = views.works("sweep", "a$_$.elf", "--table", "slow.toml")
+    views.need(">a$_$.elf, by slow.toml<" in views.read("sweep.svg").decode(), "no title of the plot")
     rows = read_rows(views)
     compare_rows(views, rows)
     compare_plot(views, rows, "sweep.svg", points)
