@@ -47,7 +47,9 @@ def compare_library(views):
     views.need(delays["logic"] < delays["shift"] and delays["logic"] < delays["add"] < delays["mulh"], f"{delays}")
     line = views.told("find", SAMPLE, "new", "units", "logs", "report", "--table", "made.toml")
     views.need(line.startswith("cuts "), f"the table isn't taken: {line}")
-    views.works("area", "two/units.v", "--library", "CELLS.lib", "--table", "slow.toml", "--clock", str(2 * int(CLOCK)))
+    slow = "--table", "slow.toml", "--clock", str(2 * int(CLOCK))
+    views.same("the units as JSON, with a table", json.loads(
+        views.works("area", "two/units.v", "--library", "CELLS.lib", "--json", *slow))["units"], found)
     with open(views.path("slow.toml"), "rb") as file:
         slower = tomllib.load(file)["hardware"]
     views.need(all(abs(delays[name] - 2 * slower[name]) <= 2 for name in delays), f"{delays} and {slower}")

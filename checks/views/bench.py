@@ -5,6 +5,7 @@ too, where no row stands in the block that waits, and runs that of a few units. 
 were changed don't. Yosys tells the area and the longest path of a unit by a small library of cells. A text that is no
 units is refused, and wrong calls end with the usage and status 2.
 """
+import json
 import os
 import re
 import subprocess
@@ -53,6 +54,8 @@ def look(views):
     views.need(waits and not any("] = 256'h" in part for part in waits), "rows stand in the block that waits")
     views.told("find", SAMPLE, "new", "zwölf.v", "logs", "report", "--count", "2")
     views.need(views.works("bench", "zwölf.v", "--run", "verilator").endswith(" vectors, 0 wrong\n"), "Verilator's run")
+    told = json.loads(views.works("bench", "zwölf.v", "--run", "icarus", "--json"))
+    views.need(told["units"] == 2 and told["printed"][-1].endswith(" vectors, 0 wrong"), f"as JSON {told}")
     views.need(views.works("bench", "wide.v", "--run", "icarus").endswith(" vectors, 0 wrong\n"), "a wide unit")
     views.told("find", SAMPLE, "new", "greatest.v", "logs", "report", *viewing.GREATEST)
     views.need(views.works("bench", "greatest.v", "--run", "icarus").endswith(" vectors, 0 wrong\n"), "wide units")
