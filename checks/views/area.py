@@ -67,6 +67,9 @@ def look(views):
     views.works("report", "two")
     views.need(f"{found[0]['cells']} gates by Yosys" in views.read("two/report.html").decode(), "no area on the page")
     views.need(views.hashes(*before) == before, "an input was changed")
+    views.write("other.json", "[]")
+    status, _, said = views.look("area", "two/units.v", "--kept", "other.json")
+    views.need(status == 1 and said.count("\n") == 1 and "name another file" in said, f"another file: {status} {said}")
     views.write("none.v", "module")
     views.refuses("area", "none.v")
     views.wrong("area", (), ("two/units.v", "--fpga", "other"), ("two/units.v", "--table", "a"),
