@@ -136,7 +136,10 @@ def look(views):
         views.same("a word that isn't UTF-8", views.look(view, *words), (1, "", f"{view}: a word isn't UTF-8\n"))
     status, _, said = views.look("suite", refused[1])
     views.need(status == 1 and said.count("\n") == 1, f"a missing file: {status} {said}")
-    views.wrong("suite", (), (files[0], "--out", "4"), (files[0], "--rows", files[0]))
+    twice = files[0], os.path.join(os.path.dirname(files[0]), ".", os.path.basename(files[0]))
+    views.works("suite", *twice, "--rows", "twice.csv")
+    views.same("a file by two names", list(read_rows(views, "twice.csv")), list(twice))
+    views.wrong("suite", (), (files[0], "--out", "4"), (files[0], "--rows", files[0]), (files[0], "--jobs", "few"))
 
 
 viewing.check(__doc__, look, "views/suite", {"parallel": "parallel"})
