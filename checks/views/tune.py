@@ -3,8 +3,8 @@
 A sample is tried by some ports: what is saved with each number of units has to be the gain that `find` prints by these
 options, and the call that is told has to save what is said of it; no choice with fewer outputs, inputs or units is as
 near to the most. Unrolled rounds, whose search is given up by the usual budget, take a greater one. The tables of
-samples/tables/ have to be taken, with a `pad` of 1. A refused file makes one line, and wrong calls end with the usage
-and status 2.
+samples/tables/ have to be taken, with a `pad` of 1; by one of them nothing is saved, and no call is told. A refused
+file makes one line, and wrong calls end with the usage and status 2.
 """
 import glob
 import json
@@ -71,6 +71,8 @@ def compare_tables(views):
         with open(table, "rb") as file:
             views.same(f"pad of {table}", tomllib.load(file)["pad"], 1)
         views.need(views.told("run", SAMPLE, "--table", table).splitlines()[-1].startswith("end exit "), f"{table}")
+    printed = views.works("tune", SAMPLE, *LIMITS, "--table", os.path.join(SAMPLES, "tables", "ibex.toml"))
+    views.need("nothing to take" in printed and "rumtsafi find" not in printed, f"nothing is saved: {printed}")
 
 
 def look(views):
