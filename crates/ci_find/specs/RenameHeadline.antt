@@ -33,8 +33,8 @@ RunInStep is =
     (after plain (loaded_program is.files.file) n (opening is.files.file input))
     (after plain (loaded_program is.renaming.renamed) n (opening is.renaming.renamed input))
 
--- The graph of each block of NEW has the sources and the live values of OLD's block at its leader, and no other arcs:
--- so each set that fits there fits here with the same gain, and the best gain doesn't fall.
+-- The blocks of NEW begin where those of OLD do. The graph of each has the sources and the live values of that of OLD's
+-- block, and no other arcs: so each set that fits there fits here with the same gain, and the best gain doesn't fall.
 abbrev pub KeepsAllCuts :
     {settings : RenameSettings} {read : List (List ℕ)} {new text : List ℕ} → IsRenamingOf settings read new text
     → Type 0

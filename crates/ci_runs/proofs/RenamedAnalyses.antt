@@ -46,7 +46,7 @@ use Rattle.ci_rename.specs.RenamedFiles.{IsOutside, IsRenamedFile}
 use Rattle.ci_rename.proofs.RenamedBlocks.{computes_itself, other_kind}
 use Rattle.ci_rename.proofs.RenamedGraphs.{same_truth}
 use Rattle.ci_runs.specs.ChangedFiles.{IsChangedFile}
-use Rattle.ci_runs.specs.RenamedAnalyses.{AreAnalysedAlike, RenamedFilesAnalyseAlike, RenamedFilesKeepCuts}
+use Rattle.ci_runs.specs.RenamedAnalyses.{AreAnalysedAlike, KeepsCuts, RenamedFilesAnalyseAlike, RenamedFilesKeepCuts}
 use Rattle.ci_runs.proofs.AlikeNeeds.{leaves_alike, reads_alike}
 use Rattle.ci_runs.proofs.AlikeTexts.{GoesInto, HasCounterpart, listing_there, not_shorter}
 use Rattle.ci_runs.proofs.ChangedFiles as files
@@ -600,23 +600,29 @@ module _ (old new : Executable) (live : Sets) (values changed : ℕ) (is : IsRen
           (graph_of (words.after_it old new live values changed is first.0 first.1) (after_block live first.0.leader) table))
           (ap (λ c. c.insns) one_contents) fewer_first)))
 
+      pub keeps : KeepsCuts (graph_of block.insns.items (after_block live block.leader) table)
+          (graph_of renamed.insns.items (after_block sets renamed.leader) table)
+      keeps =
+          let old_graph = graph_of block.insns.items (after_block live block.leader) table in
+          let new_graph = graph_of renamed.insns.items (after_block sets renamed.leader) table in
+          record {
+            fewer = fewer;
+            each = λ limits cut fits. cuts_stay old_graph new_graph limits cut fewer fits;
+            some = λ limits cut was none.
+                let stays = cuts_stay old_graph new_graph limits cut fewer was.fits in
+                let gains = was.positive in
+                let not_more : gain old_graph cut ≤ℤ pos 0 = subst (λ g. g ≤ℤ pos 0) stays.1 (none cut stays.0) in
+                absurd (omega (arith, ints, gains, not_more));
+            best = λ limits cut best was is_best. best_gain_stays old_graph new_graph limits cut best fewer was is_best;
+          }
+
 pub renamed_files_analyse_alike : RenamedFilesAnalyseAlike
 renamed_files_analyse_alike old new live values changed is before after sets both =
     let analysis = by_these old new live values changed is before after sets both in
     (sets_leaders old new live values changed is after sets analysis, agree_at old new live values changed is after sets analysis)
 
 pub renamed_files_keep_cuts : RenamedFilesKeepCuts
-renamed_files_keep_cuts old new live values changed is before after sets both block renamed table there also same =
-    let old_graph = graph_of block.insns.items (after_block live block.leader) table in
-    let new_graph = graph_of renamed.insns.items (after_block sets renamed.leader) table in
-    let has_fewer = fewer old new live values changed is before after sets both block renamed table there also same in
-    record {
-      fewer = has_fewer;
-      each = λ limits cut fits. cuts_stay old_graph new_graph limits cut has_fewer fits;
-      some = λ limits cut was none.
-          let stays = cuts_stay old_graph new_graph limits cut has_fewer was.fits in
-          let gains = was.positive in
-          let not_more : gain old_graph cut ≤ℤ pos 0 = subst (λ g. g ≤ℤ pos 0) stays.1 (none cut stays.0) in
-          absurd (omega (arith, ints, gains, not_more));
-      best = λ limits cut best was is_best. best_gain_stays old_graph new_graph limits cut best has_fewer was is_best;
-    }
+renamed_files_keep_cuts old new live values changed is before after sets both = (
+  (renamed_files_analyse_alike old new live values changed is before after sets both).0,
+  keeps old new live values changed is before after sets both,
+)

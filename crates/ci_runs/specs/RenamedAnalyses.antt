@@ -43,14 +43,16 @@ pub record KeepsCuts (old new : FlowGraph) : Type 0 where
       (limits : Limits) (cut best : ℕ → Bool) → IsBest old limits cut → IsBest new limits best
       → gain old cut ≤ℤ gain new best
 
--- each block of the second file keeps the cuts of that of the first file at its leader, by every table
+-- The blocks of both files begin at the same leaders, and each block of the second file keeps the cuts of that of the
+-- first file at its leader, by every table.
 abbrev pub BlocksKeepCuts : (old new : Executable) (live : Sets) → Type 0
 BlocksKeepCuts old new live =
     (before after : List Block) (sets : Sets) → AreAnalysedAlike old new live before after sets
-    → (block renamed : Block) (table : Latencies) → Contains before block → Contains after renamed
+    → (sets.leaders ≡ live.leaders)
+    × ((block renamed : Block) (table : Latencies) → Contains before block → Contains after renamed
     → renamed.leader ≡ block.leader
     → KeepsCuts (graph_of block.insns.items (after_block live block.leader) table)
-    (graph_of renamed.insns.items (after_block sets renamed.leader) table)
+    (graph_of renamed.insns.items (after_block sets renamed.leader) table))
 
 -- So do those of a renamed file.
 abbrev pub RenamedFilesKeepCuts : Type 0
