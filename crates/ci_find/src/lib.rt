@@ -62,8 +62,9 @@ mod rename;
 ///   that the budget was too small for a search for it. `--limit` must stand.
 /// - `rename OLD NEW`, with the options `--steps N`, `--input FILE` and `--leader ADDR`: renames the values of the
 ///   basic blocks of the executable OLD, by the leaders that a run of it shows. A value that lives inside one block
-///   takes the least register that the block doesn't use, where its own is used more than once. It writes the
-///   executable to NEW, and then puts a line with how many values were renamed, and in how many blocks.
+///   takes the least register that the block doesn't use, where another instruction of the block writes its own too, or
+///   it or an earlier one reads that. It writes the executable to NEW, and then puts a line with how many values were
+///   renamed, and in how many blocks.
 /// - `relog LOGS OUT`, with the option `--log N`: writes the book that LOGS spells to OUT, in version N, and then puts
 ///   a line with N and the length of OUT.
 /// - `gates UNITS OUT`: writes the netlists of all modules of UNITS to OUT, and then puts a line with the numbers of
