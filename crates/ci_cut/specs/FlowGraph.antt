@@ -6,8 +6,8 @@ use Rattle.ci_cut.specs.declared.graph.Source.{Source}
 use Rattle.ci_cut.specs.declared.graph.Source.TheVariants.{Entry, Made}
 use Rattle.ci_cut.specs.declared.graph.Node.{Node}
 
--- the nodes, numbered from 0 in the order of the block, and two charges, in cycles: a read of each result after the
--- first, and a no-op, which fills a place of the block
+-- The nodes, numbered from 0 in the order of the block, and two charges, in cycles: `read` for each further word of a
+-- use, which reads a result after the first or passes operands, and `pad` for a no-op, which fills a place of the block.
 pub record FlowGraph : Type 0 where
   pub nodes : List Node
   pub read : ℕ

@@ -119,8 +119,8 @@ impl Model for Graph {
 impl Graph {
     ghost use Rattle.ci_cut.specs.GraphRules.{IsFlowGraph};
 
-    /// The graph of these nodes. `read` and `pad` are charges in cycles, for a read of each result after the first and
-    /// for a no-op.
+    /// The graph of these nodes. `read` and `pad` are charges in cycles: for each further word of a use, which reads a
+    /// result after the first or passes operands, and for a no-op.
     ///
     /// It has at most 256 nodes. Arcs and sources come from earlier nodes. Latencies are at most 1000, and of
     /// eligible nodes at least 1; delays are at most 100,000. `pad` is at most `read`, and at most the latency of
@@ -140,7 +140,7 @@ impl Graph {
         &self.nodes
     }
 
-    /// The cycles of a read of a result after the first.
+    /// The cycles of a further word of a use, which reads a result after the first or passes operands.
     pub fn read(&self) -> u32
         ensures { result ≡ self.now.read }
     {
