@@ -3,7 +3,7 @@ ghost use Rattle.std.specs.Prelude.{◌≡◌, ◌+◌, ◌*◌, ◌-◌, ◌^�
 ghost use Rattle.ci_area.specs.Pieces.{ArePieces};
 ghost use Rattle.ci_area.specs.private.Beyond.{beyond_below, AreBeyond};
 
-use crate::piece::Piece;
+use crate::piece::{MOST, Piece};
 
 /// What the piece gains beyond the price of its area at `num / den`, times `den`.
 fn beyond_price(piece: Piece, num: u64, den: u64) -> u128
@@ -29,12 +29,12 @@ pub fn beyond_below(pieces: &[Piece], left: usize, num: u64, den: u64) -> u128
 }
 
 /// What the pieces below each number gain beyond the price of their areas at `num / den`, times `den`.
-pub fn beyond_each(pieces: &[Piece], num: u64, den: u64) -> [u128; 33]
+pub fn beyond_each(pieces: &[Piece], num: u64, den: u64) -> [u128; MOST + 1]
     requires pieces { ArePieces pieces.now }
     requires den { den < 2 ^ 63 }
     ensures { AreBeyond pieces.now num den result }
 {
-    let mut beyond = [0; 33];
+    let mut beyond = [0; MOST + 1];
     for k in 0..pieces.len() {
         beyond[k + 1] = beyond[k] + beyond_price(pieces[k], num, den);
     }

@@ -5,6 +5,9 @@ ghost use Rattle.ci_area.specs.Pieces.{ArePieces, area, gain};
 
 use ci_word::Row;
 
+/// The most pieces of a choice.
+pub const MOST: usize = 32;
+
 /// A piece of what there may be room for.
 #[derive(Clone, Copy, Debug, PartialEq, Eq)]
 pub struct Piece {
@@ -19,7 +22,7 @@ pub struct Piece {
 pub fn are_pieces(pieces: &[Piece]) -> bool
     ensures { IsTrue result ↔ ArePieces pieces.now }
 {
-    if pieces.len() > 32 {
+    if pieces.len() > MOST {
         return false;
     }
     let mut area: u128 = 0;
