@@ -275,7 +275,7 @@ struct Reading {
     limit: u32,
     others: &'static [Piece],
     other: u32,
-    /// The numbers of the ones among the bits.
+    /// The best set: a bit for each piece.
     best: u32,
     wrong: Option<(u32, u8)>,
 }

@@ -1,5 +1,5 @@
 //! Logs and needs of small graphs that are built by hand.
-use crate::graphs::{ONE_OUTPUT, Part, SUM, best_in, graph_of, row_below, sums, two_sums};
+use crate::graphs::{ONE_OUTPUT, Part, SUM, best_in, graph_of, row_of, sums, two_sums};
 use ci_check::{Wrong, check, needs_more};
 use ci_cut::Source::{Entry, Made};
 use ci_cut::{Graph, Limits};
@@ -70,14 +70,7 @@ fn expect_each(
 ) -> Result<(), LogFault> {
     let graph = graph_of(rt, alloc, parts)?;
     for (members, letters, wrong) in rows {
-        expect(
-            rt,
-            alloc,
-            &graph,
-            Some(row_below(rt, 256, members)),
-            letters,
-            *wrong,
-        )?;
+        expect(rt, alloc, &graph, Some(row_of(members)), letters, *wrong)?;
     }
     drop(graph);
     Ok(())

@@ -1,7 +1,7 @@
 //! The terms and the best cut of small graphs that are built by hand.
 use crate::graphs::{
-    Charges, DEFAULT, ONE_OUTPUT, Part, SUM, best_in, graph_of, graph_under, row_below, sums,
-    two_sums,
+    Charges, DEFAULT, ONE_OUTPUT, Part, SUM, best_in, graph_of, graph_under, row_below, row_of,
+    sums, two_sums,
 };
 use ci_cut::Source::{Entry, Made};
 use ci_cut::{Graph, Limits, fits, gain, hardware, inputs, is_convex, outputs};
@@ -311,7 +311,7 @@ fn expect_best(
 ) -> Result<(), AllocError> {
     let graph = graph_of(rt, alloc, parts)?;
     let due = match members {
-        Some(members) => Some(row_below(rt, parts.len(), members)),
+        Some(members) => Some(row_of(members)),
         None => None,
     };
     assert!(rt; best_in(rt, &graph, &ONE_OUTPUT) == due);
@@ -443,7 +443,7 @@ fn expect_best_within(
     members: &[u8],
 ) -> Result<(), AllocError> {
     let graph = graph_of(rt, alloc, parts)?;
-    let due = Some(row_below(rt, parts.len(), members));
+    let due = Some(row_of(members));
     assert!(rt; best_in(rt, &graph, limits) == due);
     drop(graph);
     Ok(())

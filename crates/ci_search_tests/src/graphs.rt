@@ -74,6 +74,15 @@ pub(crate) fn two_sums() -> &'static [Part<'static>] {
     ]
 }
 
+/// The set of these numbers.
+pub(crate) fn row_of(numbers: &[u8]) -> Row {
+    let mut row = Row::empty();
+    for number in numbers {
+        row.insert(*number);
+    }
+    row
+}
+
 /// The set of these numbers, each below `count`.
 pub(crate) fn row_below(rt: &impl Abort, count: usize, numbers: &[u8]) -> Row
     ensures { (j : ℕ) → IsTrue (set.contains result j) → j < count }

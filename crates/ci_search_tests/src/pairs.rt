@@ -2,7 +2,7 @@
 ghost use Rattle.ci_pair.specs.RegionTrees.{LiesIn};
 ghost use Rattle.ci_pair.specs.Trees.{IsLeaf};
 
-use crate::graphs::{ONE_OUTPUT, Part, SUM, graph_of, row_below, sums, two_sums};
+use crate::graphs::{ONE_OUTPUT, Part, SUM, graph_of, row_below, row_of, sums, two_sums};
 use ci_cut::Source::{Entry, Made};
 use ci_cut::{Graph, Limits};
 use ci_pair::PairItem::{B, C, F, G, I, M, O, X};
@@ -21,17 +21,17 @@ use std::test::Fail;
 type Members<'a> = (&'a [u8], &'a [u8]);
 
 /// The pair of these sets.
-fn pair_of(rt: &impl Abort, members: Members<'_>) -> Pair {
+fn pair_of(members: Members<'_>) -> Pair {
     Pair {
-        first: row_below(rt, 256, members.0),
-        second: row_below(rt, 256, members.1),
+        first: row_of(members.0),
+        second: row_of(members.1),
     }
 }
 
 /// The same, if there is a pair.
-fn pair_if(rt: &impl Abort, members: Option<Members<'_>>) -> Option<Pair> {
+fn pair_if(members: Option<Members<'_>>) -> Option<Pair> {
     match members {
-        Some(members) => Some(pair_of(rt, members)),
+        Some(members) => Some(pair_of(members)),
         None => None,
     }
 }
@@ -112,7 +112,7 @@ fn expect_found(
     drop(graph);
     let is_due = match told? {
         Ok(pair) => match due {
-            Ok(members) => is_same(pair, pair_if(rt, members)),
+            Ok(members) => is_same(pair, pair_if(members)),
             Err(_) => false,
         },
         Err(budget) => due.is_err_and(|most| most == budget),
@@ -299,13 +299,8 @@ fn branches(rt: &impl Abort, alloc: Global, count: u8) -> Result<PairLog, AllocE
 }
 
 /// What is wrong in the log, if something is.
-fn wrong_in(
-    rt: &impl Abort,
-    graph: &Graph,
-    best: Option<Members<'_>>,
-    log: &PairLog,
-) -> Option<(u32, u8)> {
-    let best = pair_if(rt, best);
+fn wrong_in(graph: &Graph, best: Option<Members<'_>>, log: &PairLog) -> Option<(u32, u8)> {
+    let best = pair_if(best);
     match check_pair(graph, &ONE_OUTPUT, best, log) {
         Ok(()) => None,
         Err(PairWrong { item, reason }) => Some((item, reason)),
@@ -323,7 +318,7 @@ fn expect_leaf(
     requires { IsLeaf item }
 {
     let log = leaf(rt, alloc, item)?;
-    let wrong = wrong_in(rt, graph, Some((&[2, 3], &[0, 1])), &log);
+    let wrong = wrong_in(graph, Some((&[2, 3], &[0, 1])), &log);
     drop(log);
     assert!(rt; wrong == Some((0, reason)), "{item:?}");
     Ok(())
@@ -348,13 +343,13 @@ type Reading<'a> = (&'a [u8], &'a [u8], Option<(u32, u8)>);
 
 /// Asserts what is wrong in a log where there is no best pair.
 fn expect_for_none(rt: &impl Abort, graph: &Graph, log: &PairLog, due: Option<(u32, u8)>) {
-    assert!(rt; wrong_in(rt, graph, None, log) == due);
+    assert!(rt; wrong_in(graph, None, log) == due);
 }
 
 /// Asserts what is wrong in a log for each of these best pairs.
 fn expect_wrong(rt: &impl Abort, graph: &Graph, log: &PairLog, rows: &[Reading<'_>]) {
     for (first, second, due) in rows {
-        let wrong = wrong_in(rt, graph, Some((first, second)), log);
+        let wrong = wrong_in(graph, Some((first, second)), log);
         assert!(rt; wrong == *due, "{first:?} {second:?}");
     }
 }

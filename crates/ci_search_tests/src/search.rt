@@ -2,7 +2,7 @@
 ghost use Rattle.ci_log.specs.RegionTrees.{LiesIn};
 
 use crate::graphs::{
-    DEFAULT, ONE_OUTPUT, Part, SUM, add, best_in, graph_of, row_below, sums, two_sums,
+    DEFAULT, ONE_OUTPUT, Part, SUM, add, best_in, graph_of, row_of, sums, two_sums,
 };
 use ci_check::{check, needs_more};
 use ci_cut::Source::{Entry, Made};
@@ -191,10 +191,10 @@ fn expect_of(
 
 #[test]
 fn budgets(rt: HostRuntime) -> Result<(), AllocError> {
-    let whole = Some(row_below(&rt, 256, &[0, 1]));
+    let whole = Some(row_of(&[0, 1]));
     let rows = [(0, Err(0)), (1, Err(1)), (2, Ok((whole, 2)))];
     expect_of(&rt, rt.alloc(), two_sums(), &rows)?;
-    let later = Some(row_below(&rt, 256, &[2, 3]));
+    let later = Some(row_of(&[2, 3]));
     let rows = [(6, Err(6)), (7, Ok((later, 7)))];
     expect_of(&rt, rt.alloc(), sums(), &rows)?;
     expect_of(&rt, rt.alloc(), &[], &[(0, Ok((None, 0)))])

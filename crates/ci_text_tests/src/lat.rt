@@ -170,7 +170,7 @@ fn has_costs(table: &Table, class: Class, latency: u32, delay: u32) -> bool {
 fn is_usual(rt: &impl Abort, table: &Table) {
     assert!(rt; (table.read(), table.pad()) == (1, 0));
     for (class, latency, delay) in defaults() {
-        assert!(rt; has_costs(table, *class, *latency, *delay));
+        assert!(rt; has_costs(table, *class, *latency, *delay), "{class:?}");
     }
 }
 
