@@ -6,13 +6,15 @@ those of tests say so, and those of must-fail edits work in a folder of their ow
 each took are summed by crate. How many edits there were, and how many of them the prover refused for a name that they
 took away and for no goal, is read from the output. A crate that an earlier run proved is not measured, and is left out.
 
-The table is printed behind the output; with --write it takes the place of the one in docs/PROOFS.md, which stands
-between the lines `<!-- gate -->` and `<!-- /gate -->`.
+The table is printed behind the output, also where an interrupt ends the run; with --write that of a whole run takes
+the place of the one in docs/PROOFS.md, which stands between the lines `<!-- gate -->` and `<!-- /gate -->`. What other
+work of the machine runs beside makes all of it dearer.
 """
 import argparse
 import collections
 import os
 import re
+import signal
 import subprocess
 import sys
 import threading
@@ -86,11 +88,12 @@ class Sampler(threading.Thread):
 
 
 def table(sums, edits, minutes):
-    """The table, with a line on the run that it is of."""
+    """The table, with a line on the run that it is of, and on the processor time of all that it ran."""
     names = [name for name in crates() if sums[name, "proof"]]
+    spent = os.times()
     text = (f"Seconds of one processor by crate, in a run of {minutes:.0f} minutes on {len(os.sched_getaffinity(0))} "
-            "processors.\n\n| Crate | proof | tests | edits | number of edits | refused for a name alone |\n"
-            "|---|---|---|---|---|---|\n")
+            f"processors, with {(spent.children_user + spent.children_system) / 60:.0f} minutes of processor time.\n\n"
+            "| Crate | proof | tests | edits | number of edits | refused for a name alone |\n|---|---|---|---|---|---|\n")
     for name in names:
         seconds = " | ".join(f"{sums[name, kind]:.0f}" if sums[name, kind] else "none" for kind in KINDS)
         text += f"| `{name}` | {seconds} | {edits[name, False] + edits[name, True]} | {edits[name, True]} |\n"
@@ -109,11 +112,14 @@ def main():
     with subprocess.Popen(command, cwd=TOP, stdout=subprocess.PIPE, text=True, errors="replace") as gate:
         sampler = Sampler(gate.pid)
         sampler.start()
-        for line in gate.stdout:
-            print(line, end="", flush=True)
-            found = EDIT.search(line)
-            if found:
-                edits[found.group(1), bool(found.group(2))] += 1
+        try:
+            for line in gate.stdout:
+                print(line, end="", flush=True)
+                found = EDIT.search(line)
+                if found:
+                    edits[found.group(1), bool(found.group(2))] += 1
+        except KeyboardInterrupt:
+            gate.send_signal(signal.SIGINT)
     sampler.ended.set()
     sampler.join()
     made = table(sampler.sums(), edits, (time.monotonic() - began) / 60)
