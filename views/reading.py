@@ -7,13 +7,15 @@ import beside  # noqa: F401 (readers/ is found from here on)
 from readers import executable
 from readers import folds
 from readers.folds import is_cput, is_cread, is_unit
-from readers.instructions import mnemonic, ways
+from readers.instructions import mnemonic, ways, writes
 from program import fail, told
 
 # The files of a choice in a folder, in the order in which `find` has them.
 NAMES = "old.elf", "new.elf", "units.v", "logs.txt", "report.txt"
 # The type of a symbol that is a function.
 FUNCTION = 2
+# The registers by which calls return, and x0, by which a jump leads to one place.
+OF_CALLS = 0, 1, 5
 NUMBERS = r"((?: \d+)*)"
 HEAD = re.compile(r"ci-report 1\nports (\d+) (\d+) count (\d+) budget (\d+) pad (\d+) read (\d+)\n"
                   r"profile (.*) steps (\d+) cost (\d+)\n")
@@ -88,6 +90,19 @@ class Executable:
     def graph(self, leader, words=None):
         """A block with its data-flow graph; of other words where these are given."""
         return folds.Block(words or self.words(leader), self.blocks[leader].after)
+
+    def jumps_by_sums(self):
+        """The addresses of the jumps that lead to a sum, as those of GCC do that take a word from a table of differences:
+        an ADD of the same block made what the register holds, which is none of calls and returns."""
+        found = []
+        for leader, (addresses, *_) in self.blocks.items():
+            last = self.image.word(addresses[-1])
+            if mnemonic(last) != "jalr" or last >> 7 & 31 or last >> 15 & 31 in OF_CALLS:
+                continue
+            makers = [word for word in self.words(leader)[:-1] if last >> 15 & 31 in writes(word)]
+            if makers and mnemonic(makers[-1]) == "add":
+                found.append(addresses[-1])
+        return sorted(found)
 
 
 def symbols(data, kinds=None):

@@ -235,6 +235,26 @@ def compare_source(views):
                     if block["function"] == "run"))))
 
 
+def compare_jumps(views):
+    """Where a jump table is one of differences its jump is told, on the page and by a line, and else none is."""
+    for options, count in ((["-mcmodel=medlow"], 0), (["-mcmodel=medany"], 1), (["-fPIC"], 1),
+                           (["-mcmodel=medany", "-fno-jump-tables"], 0)):
+        path = views.path("jumps.elf")
+        subprocess.run([compiled.GCC, *compiled.TARGET, "-O2", *options,
+                        os.path.join(compiled.PROGRAMS, "jump_table.c"), compiled.SUPPORT, "-o", path], check=True)
+        views.choose("jumps", path)
+        status, printed, said = views.look("report", "jumps", "--json")
+        told = json.loads(printed)["jumps_by_sums"]
+        views.same(f"what is told of jumps by {options}", (status, len(told), said.count("lead to sums")),
+                   (0, count, count))
+        views.works("report", "jumps")
+        texts, said, _ = parts_of(views, "jumps")
+        views.need(("sums" in texts) == (count > 0) and all(address in said for address in told), f"{told} on the page")
+        ends = {f"{int(leader, 16) + 4 * int(length) - 4:08x}" for leader, length in
+                re.findall(r"^block (\w+) length (\d+)", views.read("jumps/report.txt").decode(), re.M)}
+        views.need(ends.issuperset(told), f"{told} ends no block that ran")
+
+
 def look(views):
     """Looks at the pages of all programs."""
     source = random.Random(1)
@@ -259,6 +279,7 @@ def look(views):
     views.need(0 < said.index("Skipped blocks The search") < said.index("By function, as symbols"), "skips come later")
     views.need(" --budget 8000" in said and " skipped " in said, "no call, or no mark, of a skipped block")
     compare_source(views)
+    compare_jumps(views)
     views.need("saved-within" not in parts_of(views, "skipped")[0], "a limit that wasn't given")
     views.write("three.elf", executable.frame(THREE_UNITS, values=[]))
     views.choose("little", views.path("three.elf"), "--budget", LITTLE["--budget"])
