@@ -18,7 +18,7 @@ import re
 import shutil
 import subprocess
 
-from checks.common import SAMPLES, TOP
+from checks.common import SAMPLES, TOP, text_of
 from checks.oracles.expressions import values
 from checks.tools import compiled
 from checks.views import viewing
@@ -236,23 +236,32 @@ def compare_source(views):
 
 
 def compare_jumps(views):
-    """Where a jump table is one of differences its jump is told, on the page and by a line, and else none is."""
-    for options, count in ((["-mcmodel=medlow"], 0), (["-mcmodel=medany"], 1), (["-fPIC"], 1),
-                           (["-mcmodel=medany", "-fno-jump-tables"], 0)):
-        path = views.path("jumps.elf")
-        subprocess.run([compiled.GCC, *compiled.TARGET, "-O2", *options,
-                        os.path.join(compiled.PROGRAMS, "jump_table.c"), compiled.SUPPORT, "-o", path], check=True)
-        views.choose("jumps", path)
-        status, printed, said = views.look("report", "jumps", "--json")
-        told = json.loads(printed)["jumps_by_sums"]
-        views.same(f"what is told of jumps by {options}", (status, len(told), said.count("lead to sums")),
-                   (0, count, count))
-        views.works("report", "jumps")
-        texts, said, _ = parts_of(views, "jumps")
-        views.need(("sums" in texts) == (count > 0) and all(address in said for address in told), f"{told} on the page")
-        ends = {f"{int(leader, 16) + 4 * int(length) - 4:08x}" for leader, length in
-                re.findall(r"^block (\w+) length (\d+)", views.read("jumps/report.txt").decode(), re.M)}
-        views.need(ends.issuperset(told), f"{told} ends no block that ran")
+    """Where a table of differences leads to where no block begins its jump is told, on the page and by a line, and else
+    none is: where the table has addresses, or its places are leaders."""
+    views.write("jumps.c", re.search(r"```c kinds.c\n(.*?)```", text_of("docs/GUIDE.md"), re.S)[1])
+    path = views.path("jumps.elf")
+    for options, count in ((["-mcmodel=medlow"], 0), (["-mcmodel=medany", "-fno-jump-tables"], 0), (["-fPIC"], 1),
+                           (["-mcmodel=medany"], 1)):
+        subprocess.run([compiled.GCC, *compiled.TARGET[:3], "-O2", *options, "-nostdlib", "-I", SAMPLES,
+                        views.path("jumps.c"), "-o", path], check=True)
+        compare_told(views, path, count)
+    compare_told(views, path, 0, *views.works("leaders", path).split())
+
+
+def compare_told(views, path, count, *leaders):
+    """Of a choice with these leaders so many jumps are told."""
+    views.choose("jumps", path, *leaders)
+    status, printed, said = views.look("report", "jumps", "--json", *leaders)
+    told = json.loads(printed)["jumps_by_sums"]
+    views.same(f"what is told of jumps by {leaders}", (status, len(told), said.count("lead to sums")),
+               (0, count, count))
+    views.works("report", "jumps", *leaders)
+    texts, said, _ = parts_of(views, "jumps")
+    views.need(("sums" in texts) == (count > 0) and all(address in said for address in told), f"{told} on the page")
+    listed = views.told("blocks", path, *leaders)
+    ends = {f"{int(leader, 16) + 4 * int(length) - 4:08x}" for leader, length in
+            re.findall(r"^block (\w+) length (\d+)", listed, re.M)}
+    views.need(ends.issuperset(told), f"{told} ends no block")
 
 
 def look(views):
