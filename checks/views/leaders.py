@@ -140,7 +140,8 @@ def named(views, name, due):
     views.same(f"{name}: what is printed", (status, printed, said),
                (0, " ".join(f"--leader 0x{place:x}" for place in sorted(due)) + "\n", ""))
     found = json.loads(views.works("leaders", "--json", f"{name}.elf"))
-    views.same(f"{name}: the tables' targets", {place for table in found["tables"] for place in table["targets"]}, due)
+    views.same(f"{name}: the tables' targets",
+               {int(place, 16) for table in found["tables"] for place in table["targets"]}, due)
     views.need(len(found["tables"]) >= len(found["jumps_by_sums"]), f"{name}: {found}")
     return printed.split()
 
