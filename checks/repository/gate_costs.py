@@ -5,6 +5,8 @@ this script. Meanwhile the processes that it starts are looked at twice a second
 those of tests say so, and those of must-fail edits work in a folder of their own. The seconds of one processor that
 each took are summed by crate. How many edits there were, and how many of them the prover refused for a name that they
 took away and for no goal, is read from the output. A crate that an earlier run proved is not measured, and is left out.
+Once a minute a loop of two million additions is timed, since the processors of some machines are others' too, and a
+second of one is not the same work all the time.
 
 The table is printed behind the output, also where an interrupt ends the run; with --write that of a whole run takes
 the place of the one in docs/PROOFS.md, which stands between the lines `<!-- gate -->` and `<!-- /gate -->`. What other
@@ -12,9 +14,11 @@ work of the machine runs beside makes all of it dearer.
 """
 import argparse
 import collections
+import itertools
 import os
 import re
 import signal
+import statistics
 import subprocess
 import sys
 import threading
@@ -27,6 +31,8 @@ PLACE = re.compile(r"(?<=<!-- gate -->\n).*?(?=<!-- /gate -->)", re.S)
 EDIT = re.compile(r"must-fail (\w+)/\S+: refused, as it must be( \(only because a proof file names)?")
 KINDS = ("proof", "tests", "edits")
 PAUSE = 0.5
+# How many looks are between two loops, and how many additions one makes.
+LOOKS, ADDITIONS = 120, 2_000_000
 TICKS = os.sysconf("SC_CLK_TCK")
 
 Process = collections.namedtuple("Process", "parent started seconds words folder")
@@ -55,13 +61,21 @@ def purpose(found):
     return crate, "tests" if "--test" in found.words else "proof"
 
 
+def loop():
+    """The processor seconds of a loop of additions."""
+    began, total = time.thread_time(), 0
+    for number in range(ADDITIONS):
+        total += number
+    return time.thread_time() - began
+
+
 class Sampler(threading.Thread):
     """Looks at a process and all below it, again and again, until it is told to stop."""
 
     def __init__(self, root):
         super().__init__(daemon=True)
         self.root, self.ended = root, threading.Event()
-        self.seen = {}
+        self.seen, self.loops = {}, []
 
     def look(self):
         """Keeps the seconds that each process has taken, and what it works for: what the next one above it does, where
@@ -76,8 +90,12 @@ class Sampler(threading.Thread):
                 self.seen[number, found.started] = what, found.seconds
 
     def run(self):
-        while not self.ended.wait(PAUSE):
+        for number in itertools.count():
+            if self.ended.wait(PAUSE):
+                break
             self.look()
+            if number % LOOKS == 0:
+                self.loops.append(loop())
 
     def sums(self):
         """The seconds by crate and purpose."""
@@ -87,13 +105,16 @@ class Sampler(threading.Thread):
         return total
 
 
-def table(sums, edits, minutes):
-    """The table, with a line on the run that it is of, and on the processor time of all that it ran."""
+def table(sums, edits, minutes, loops):
+    """The table, with a line on the run that it is of, on the processor time of all that it ran, and on the loops."""
     names = [name for name in crates() if sums[name, "proof"]]
     spent = os.times()
     text = (f"Seconds of one processor by crate, in a run of {minutes:.0f} minutes on {len(os.sched_getaffinity(0))} "
-            f"processors, with {(spent.children_user + spent.children_system) / 60:.0f} minutes of processor time.\n\n"
-            "| Crate | proof | tests | edits | number of edits | refused for a name alone |\n|---|---|---|---|---|---|\n")
+            f"processors, with {(spent.children_user + spent.children_system) / 60:.0f} minutes of processor time.\n"
+            f"A loop of {ADDITIONS:,} additions took {statistics.mean(loops):.2f} seconds in the mean meanwhile, and "
+            f"{min(loops):.2f} to {max(loops):.2f}.\n\n"
+            "| Crate | proof | tests | edits | number of edits | refused for a name alone |\n"
+            "|---|---|---|---|---|---|\n")
     for name in names:
         seconds = " | ".join(f"{sums[name, kind]:.0f}" if sums[name, kind] else "none" for kind in KINDS)
         text += f"| `{name}` | {seconds} | {edits[name, False] + edits[name, True]} | {edits[name, True]} |\n"
@@ -122,7 +143,7 @@ def main():
             gate.send_signal(signal.SIGINT)
     sampler.ended.set()
     sampler.join()
-    made = table(sampler.sums(), edits, (time.monotonic() - began) / 60)
+    made = table(sampler.sums(), edits, (time.monotonic() - began) / 60, sampler.loops or [loop()])
     print(made, end="")
     if write and not gate.returncode:
         text = text_of("docs/PROOFS.md")
