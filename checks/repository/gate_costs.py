@@ -1,10 +1,11 @@
 """Makes the table of what the gate costs, by crate, while it runs.
 
-COMMAND is `rt ci`, at the top of the repository, if left out; its output is passed on, and its status is that of
+COMMAND is `.ci/run`, at the top of the repository, if left out; its output is passed on, and its status is that of
 this script. Meanwhile the processes that it starts are looked at twice a second: those of the prover name their crate,
-those of tests say so, and those of must-fail edits work in a folder of their own. The seconds of one processor that
-each took are summed by crate. How many edits there were, and how many of them the prover refused for a name that they
-took away and for no goal, is read from the output. A crate that an earlier run proved is not measured, and is left out.
+those of tests say so, and those of must-fail edits and of wrong bodies work in a folder of their own. The seconds of one
+processor that each took are summed by crate. How many edits and bodies there were, and how many of them the prover
+refused for a name that they took away and for no goal, is read from the output. A crate that an earlier run proved is
+not measured, and is left out.
 Once a minute a loop of two million additions is timed, since the processors of some machines are others' too, and a
 second of one is not the same work all the time.
 
@@ -28,7 +29,7 @@ from checks.common import TOP, crates, text_of, words
 
 DOCUMENT = os.path.join(TOP, "docs", "PROOFS.md")
 PLACE = re.compile(r"(?<=<!-- gate -->\n).*?(?=<!-- /gate -->)", re.S)
-EDIT = re.compile(r"must-fail (\w+)/\S+: refused, as it must be( \(only because a proof file names)?")
+EDIT = re.compile(r"(?:must-fail|wrong body) (\w+)/\S+: refused(?:, as it must be( \(only because a proof file names)?)?")
 KINDS = ("proof", "tests", "edits")
 PAUSE = 0.5
 # How many looks are between two loops, and how many additions one makes.
@@ -113,7 +114,7 @@ def table(sums, edits, minutes, loops):
             f"processors, with {(spent.children_user + spent.children_system) / 60:.0f} minutes of processor time.\n"
             f"A loop of {ADDITIONS:,} additions took {statistics.mean(loops):.2f} seconds in the mean meanwhile, and "
             f"{min(loops):.2f} to {max(loops):.2f}.\n\n"
-            "| Crate | proof | tests | edits | number of edits | refused for a name alone |\n"
+            "| Crate | proof | tests | wrong bodies | number of these | refused for a name alone |\n"
             "|---|---|---|---|---|---|\n")
     for name in names:
         seconds = " | ".join(f"{sums[name, kind]:.0f}" if sums[name, kind] else "none" for kind in KINDS)
@@ -126,9 +127,9 @@ def table(sums, edits, minutes, loops):
 def main():
     parser = words(__doc__)
     parser.add_argument("--write", action="store_true", help="puts the table into docs/PROOFS.md")
-    parser.add_argument("command", metavar="COMMAND", nargs=argparse.REMAINDER, help="rt ci, if left out")
+    parser.add_argument("command", metavar="COMMAND", nargs=argparse.REMAINDER, help=".ci/run, if left out")
     given = parser.parse_args()
-    write, command = given.write, given.command or ["rt", "ci"]
+    write, command = given.write, given.command or [".ci/run"]
     began, edits = time.monotonic(), collections.Counter()
     with subprocess.Popen(command, cwd=TOP, stdout=subprocess.PIPE, text=True, errors="replace") as gate:
         sampler = Sampler(gate.pid)
