@@ -1,26 +1,39 @@
-"""Compares folded blocks with a plain reading of what one is, word for word.
+"""Compares folded blocks with a plain reading of what one is, word for word, and their runs with those of the blocks.
 
 FOLDS is the program of the crate `ci_folds`: it writes the folded block of each line that it is given. The blocks are
 those of the executables of samples/ and of checks/programs, which GCC builds with picolibc. Each is folded by its best
 cut, which `best --at` of PROGRAM tells, once by the usual limits on inputs and outputs and once by the greatest, and by
-some other cuts, as are blocks that are made up, always in the same way; and the folded blocks, in which units stand
-now, are folded again by some cuts. What takes a tool that is missing is skipped, with a line that says so.
+some other cuts; and the folded blocks, in which units stand now, are folded again by some cuts. What takes a tool that
+is missing is skipped, with a line that says so.
+
+Blocks that are made up, always in the same way, are folded too, with uses of units, accesses that fail and ends of all
+kinds in them; each up to ten times, and after about half of these the folded block takes the place of the block. Of
+each of these folds, the block and what the program made of it run beside each other on plain machines in Python, where
+units are the operations of their cuts, from random states that agree on what the block needs. They have to be alike in
+their ends, pc, live registers, memory outside the text, heap end, input left and output.
 """
+import collections
 import random
 
 from checks.common import FOLDS, called, main, read
+from checks.generators.folds import BlockMaker, some_live
+from checks.oracles.block_runs import ENDED, PASSED, REFUSED, Both, last_words, unit_of
 from checks.oracles.blocks import Text, live_sets
-from checks.oracles.operations import WORDS, with_registers
 from checks.tools import compiled
 from readers import executable
 from readers.folds import Block, is_cput, is_cread, is_unit
 
 # How many blocks are taken of an executable; how many cuts are tried of a block, and how many of them are folded.
 EACH, TRIES, SOME = 20, 12, 2
-# How many folds have to be compared of each kind, by what is asked of the words of the folded block.
+# How many folds have to be compared of each kind, by what is asked of the words by which the unit is used.
 LEAST = 100
-KINDS = (("that pass hidden operands", is_cput), ("with a second output", is_cread),
-         ("with a third output", lambda word: is_cread(word) and word >> 20 == 1))
+KINDS = {"that pass hidden operands": is_cput, "with a second output": is_cread,
+         "with a third output": lambda word: is_cread(word) and word >> 20 == 1}
+WITH_UNITS = "of blocks with units"
+# How many blocks are made up, how many folds of each are tried, and how many have to run: in all, by how they end, and
+# of each kind.
+MADE, FOLDED = 400, 10
+LEAST_RUNS, LEAST_ENDS, LEAST_KINDS = 1620, 293, 100
 # Limits on inputs and outputs.
 USUAL, GREATEST = ("3", "2"), ("5", "3")
 NUMBERS = 32
@@ -30,19 +43,26 @@ ROWS = (((0x00B542B3, 0x00C2C2B3, 0x00D2C2B3, 0x00E2C2B3), {0, 1, 2, 3},
         ((0x00B542B3, 0x00C2C333, 0x00A343B3, 0x00B3C3B3, 0x00C3C3B3), {0, 1, 2, 3, 4},
          (0x60B5028B, 0x0000032B, 0x001003AB, 0x00000013, 0x00000013)))
 ALL_REGISTERS = set(range(1, 32))
-# How many blocks are made up, and the words of a load and a store.
-MADE, LOAD, STORE = 200, 0x2003, 0x2023
+# Blocks behind which all registers are live, whose operations make the units that made-up blocks use. The first two
+# take three inputs, and the last one five.
+UNITS = [Block(words, ALL_REGISTERS) for words in (
+    [0x00B542B3, 0x00C28333],  # xor x5, x10, x11; add x6, x5, x12
+    [0x00B542B3, 0x00C28333, 0x40C283B3],  # the same; sub x7, x5, x12
+    [0x00B542B3, 0x00C282B3, 0x40E68333, 0x0062C3B3])]  # xor and add of x5; sub x6, x13, x14; xor x7, x5, x6
+# A fold that is to be run: the number of its line, the block, what is live behind it, the units by their numbers, and
+# what tells of the fold, in words.
+Run = collections.namedtuple("Run", "line words live units kinds")
 
 
 class Folds:
-    """The lines that the program is given, and what it has to write of them."""
+    """The lines that the program is given, what it has to write of them, and the folds that are to be run."""
 
     def __init__(self):
-        self.lines, self.wanted, self.units = [], [], 0
+        self.lines, self.wanted, self.runs, self.counts = [], [], [], collections.Counter()
 
-    def add(self, block, live, cut):
-        """A fold of a block, by the number that is next. Gives the words of the folded block."""
-        number = len(self.lines) % NUMBERS
+    def add(self, block, live, cut, number=None):
+        """A fold of a block, by the number that is next if none is given. Gives the words of the folded block."""
+        number = len(self.lines) % NUMBERS if number is None else number
         words = block.folded(cut, number)
         self.put(block, live, cut, number, words)
         return words
@@ -52,7 +72,14 @@ class Folds:
         parts = (f"{word:08x}" for word in block.words), sorted(cut), [number], sorted(live)
         self.lines.append(" | ".join(" ".join(map(str, part)) for part in parts))
         self.wanted.append(" ".join(f"{word:08x}" for word in words))
-        self.units += any(map(is_unit, block.words))
+        self.counts.update(kinds_of(block, cut))
+
+
+def kinds_of(block, cut):
+    """The kinds of the fold of a block by a cut."""
+    use = block.use(cut, 0)
+    return [*(kind for kind, is_kind in KINDS.items() if any(map(is_kind, use))),
+            *[WITH_UNITS] * any(map(is_unit, block.words))]
 
 
 def best_cut(check, path, leader, limits):
@@ -68,8 +95,8 @@ def some_cuts(source, block):
     """Cuts that fit: of most of those that may join among nodes that stand together."""
     found = []
     for _ in range(TRIES):
-        begin, size = source.choice(block.nodes), source.randrange(1, 9)
-        cut = {node for node in block.nodes[begin:begin + size] if block.joins(node) and source.randrange(4)}
+        begin, size = source.choice(block.nodes), source.randrange(1, 13)
+        cut = {node for node in block.nodes[begin:begin + size] if block.joins(node) and source.randrange(6)}
         if cut and cut not in found and block.fits(cut):
             found.append(cut)
     return found[:SOME]
@@ -92,20 +119,36 @@ def fold_rows(check, folds):
         check.same(f"the plain reading of {words}, folded", block.folded(cut, 0), list(due))
 
 
-def made_word(source, registers):
-    """Some word that doesn't end a block, over a few registers."""
-    target, first, second = (source.choice(registers) for _ in range(3))
-    kind = source.randrange(10)
-    if kind < 2:
-        return LOAD | target << 7 | first << 15 if kind else STORE | first << 15 | second << 20
-    return with_registers(source.choice(sorted(WORDS)), target, first, second)
-
-
 def fold_made(source, folds):
-    """Folds a block that is made up."""
-    registers = source.sample(range(32), source.randrange(3, 9))
-    words = [made_word(source, registers) for _ in range(source.randrange(2, 16))]
-    fold_block(source, folds, words, {register for register in registers if source.randrange(3)}, [])
+    """Folds a block that is made up, and some of the folded blocks again, each time by another number."""
+    numbers, live = source.sample(range(NUMBERS), NUMBERS), some_live(source)
+    units = {numbers.pop(): unit_of(block, set(block.nodes)) for block in UNITS}
+    *narrow, wide = units
+    block = Block(BlockMaker(source, narrow, [wide]).block(), live)
+    for _ in range(FOLDED):
+        cut = max(some_cuts(source, block), key=len, default=None)
+        if cut is None:
+            continue
+        number = numbers.pop()
+        folded = folds.add(block, live, cut, number)
+        units = {**units, number: unit_of(block, cut)}
+        folds.runs.append(Run(len(folds.lines) - 1, block.words, live, units, kinds_of(block, cut)))
+        if source.randrange(2):
+            block = Block(folded, live)
+
+
+def run_folds(check, source, folds, ours):
+    """Runs what the program made of each of these folds beside its block, and counts them by their kinds."""
+    counts = collections.Counter()
+    for run in folds.runs:
+        folded = [int(word, 16) for word in ours[run.line].split()]
+        end, what = Both(source, run.words, folded, run.live, run.units).run()
+        check.need(what is None, f"{folds.lines[run.line]}, as {ours[run.line]}: {what}")
+        counts.update([end, *run.kinds, *["with a last word that ends the block"] * bool(last_words(run.words))])
+    check.least({"runs": len(folds.runs)}, LEAST_RUNS)
+    check.least({f"runs {end}": counts[end] for end in (PASSED, ENDED, REFUSED)}, LEAST_ENDS)
+    check.least({f"runs {kind}": counts[kind] for kind in (*KINDS, WITH_UNITS)}, LEAST_KINDS)
+    return counts
 
 
 def fold_executable(source, folds, check, path):
@@ -125,6 +168,11 @@ def fold_executable(source, folds, check, path):
     return count
 
 
+def listed(counts):
+    """Counts by their kinds, in words."""
+    return ", ".join(f"{count} {kind}" for kind, count in sorted(counts.items()))
+
+
 def look(check):
     source, folds, missing = random.Random(1), Folds(), compiled.missing()
     if missing:
@@ -132,6 +180,7 @@ def look(check):
     fold_rows(check, folds)
     paths = [path for _, path in (compiled.samples() if missing else compiled.executables(check.folder))]
     best = sum(fold_executable(source, folds, check, path) for path in paths)
+    source = random.Random(1)
     for _ in range(MADE):
         fold_made(source, folds)
     done = called([check.given.folds], 120, input="".join(f"{line}\n" for line in folds.lines), text=True)
@@ -139,12 +188,11 @@ def look(check):
     for line, our, wanted in zip(folds.lines, ours, folds.wanted):
         check.same(line, our, wanted)
     check.same("the status and the number of lines", (done.returncode, len(ours)), (0, len(folds.lines)))
-    counts = {name: sum(any(is_kind(int(word, 16)) for word in wanted.split()) for wanted in folds.wanted)
-              for name, is_kind in KINDS}
-    check.least({"by best cuts": best, "of blocks with units": folds.units, **counts}, 1 if missing else LEAST)
+    check.least({"by best cuts": best, **{kind: folds.counts[kind] for kind in (*KINDS, WITH_UNITS)}},
+                1 if missing else LEAST)
+    runs = run_folds(check, source, folds, ours) if len(ours) == len(folds.lines) else {}
     return (f"{len(folds.lines)} folds of blocks of {len(paths)} executables and of {MADE} made-up blocks compared, "
-            f"{best} by best cuts, {folds.units} of blocks with units, "
-            + ", ".join(f"{count} {name}" for name, count in counts.items()))
+            f"{best} by best cuts, {listed(folds.counts)}; and {len(folds.runs)} of them run, {listed(runs)}")
 
 
 main(__doc__, look, folds=FOLDS)

@@ -41,7 +41,7 @@ class Program:
     a table, and the modules of its unit words, or None on a machine without units."""
 
     def __init__(self, data, table, modules=None):
-        self.table, self.modules = table, modules
+        self.table, self.modules, self.numbers = table, modules, range(len(modules or ()))
         self.image = executable.Image(data)
         _, headers, _ = executable.read_header(data)
         segments = [(address, address + size) for _, _, address, _, size in executable.read_segments(data, headers)]
@@ -85,7 +85,7 @@ class Program:
     def custom(self, word, target, first, second):
         """A word that is no instruction of RV32IM."""
         number = (word >> 25 & 3) * 8 + (word >> 12 & 7)
-        if self.modules is not None and is_unit(word) and number < len(self.modules):
+        if is_unit(word) and number in self.numbers:
             return self.modules[number].cycles, self.use(number, target, (first, second, word >> 27))
         if self.modules is not None and is_cread(word):
             return self.table.read, on_constant(ALU["add"], target, RESULTS + second, 0)
@@ -98,11 +98,15 @@ class Program:
             x = machine.x
             key = (number, *(x[source] for source in sources), *x[OPERANDS:REGISTERS])
             if key not in self.results:
-                self.results[key] = units.evaluate(self.modules[number], *key[1:])
+                self.results[key] = self.evaluated(self.modules[number], key[1:])
             x[target], *x[RESULTS:OPERANDS] = self.results[key]
             x[0] = 0
             machine.pc += 4
         return act
+
+    def evaluated(self, module, values):
+        """What a module gives of five words."""
+        return units.evaluate(module, *values)
 
 
 class Machine:

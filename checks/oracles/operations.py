@@ -47,8 +47,8 @@ def immediate(word):
     return (signed(word) >> 20) % WORD
 
 
-def unit_of(graph, words, cut):
-    """The unit of a cut of the block of these words."""
+def operations_of(words, cut):
+    """The operations of the members of a cut of the block of these words."""
     places = {node: place for place, node in enumerate(sorted(cut))}
     inputs, writers, operations = [], {}, []
 
@@ -70,6 +70,12 @@ def unit_of(graph, words, cut):
             second = argument(word >> 20 & 31) if name in ALU else ("constant", immediate(word) if name != "lui" else 0)
             operations.append((IMMEDIATE.get(name, "add" if name == "lui" else name), first, second))
         writers.update((register, node) for register in writes(word))
+    return operations
+
+
+def unit_of(graph, words, cut):
+    """The unit of a cut of the block of these words."""
+    operations, places = operations_of(words, cut), {node: place for place, node in enumerate(sorted(cut))}
     outputs = [places[node] for node in sorted(cut) if node in graph.live or not graph.readers[node] <= cut]
     return Unit(operations, [KEYS[mnemonic(words[node])] for node in sorted(cut)], outputs, graph.cycles(cut))
 

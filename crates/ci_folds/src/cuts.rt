@@ -1,5 +1,5 @@
 //! Cuts that fit under the greatest limits, and their units.
-ghost use Rattle.std.specs.Prelude.{◌<◌, IfOk, IfSome, IsTrue};
+ghost use Rattle.std.specs.Prelude.{IsTrue};
 ghost use Rattle.std.specs.FinSet as set;
 ghost use Rattle.ci_cut.specs.GraphRules.{AreNodes};
 ghost use Rattle.ci_unit.specs.Operands.{FitsSomeLimits};
@@ -27,18 +27,16 @@ pub fn is_cut(graph: &Graph, cut: &Row) -> bool
     fits(graph, &limits, cut)
 }
 
-/// The number of the unit, which is put into the table unless it is there already. There is none where the table is
-/// full.
-pub fn number_of(units: &mut UnitTable, unit: Unit) -> Result<Option<u8>, AllocError>
-    ensures { IfOk result (λ found. IfSome found (λ number. number < 32)) }
-{
+/// Puts the unit into the table, unless it is there already. Answers whether there was room for it.
+pub fn add_unit(units: &mut UnitTable, unit: Unit) -> Result<bool, AllocError> {
     // A table has at most 32 units.
     prove!(units.len() <= MOST_UNITS);
-    if let Some(number) = units.number_of(&unit) {
-        return Ok(Some(number));
+    if units.number_of(&unit).is_some() {
+        return Ok(true);
     }
     if units.len() == MOST_UNITS {
-        return Ok(None);
+        return Ok(false);
     }
-    Ok(Some(units.add(unit)?))
+    units.add(unit)?;
+    Ok(true)
 }

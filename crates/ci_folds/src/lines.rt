@@ -76,17 +76,6 @@ fn folded_block(alloc: Global, insns: &[Insn], text: &str) -> Result<Option<Vec<
     Ok(Some(fold(alloc, insns, &graph, &cut, number)?))
 }
 
-/// The seed and the count of blocks, if the line asks for blocks that are made up.
-pub fn made_of_line(line: &str) -> Option<(u32, u32)> {
-    let (seed, count) = line.strip_prefix("made ")?.split_once(' ')?;
-    Some((decimal(seed)?, decimal(count)?))
-}
-
-/// The number that up to nine decimal digits are.
-fn decimal(digits: &str) -> Option<u32> {
-    Some(number_of_digits(10, 9, digits.as_bytes())? as u32)
-}
-
 /// The text of the members, the number of the unit, and the set of registers.
 fn parts_of(text: &str) -> Option<(&str, u8, Row)>
     ensures { IfSome result (λ parts. parts.1 < 32) }

@@ -1,12 +1,11 @@
 //! Writes folded blocks and the Verilog of the units of cuts, for the checks that compare them with what others make of
-//! the same blocks; and runs blocks that it makes up beside their folded blocks.
+//! the same blocks, and run them.
 //!
 //! A line of standard input asks for one of these. The parts of a line stand apart by `|`, and their words by blanks.
 //!
 //! - The words of a block in hex digits, and the numbers of a cut's members: the unit of the cut, where every register
 //!   is live after the block and latencies are the usual ones. Equal units are written once, behind all else.
 //! - These two, the number of a unit, and the registers that are live after the block: the words of the folded block.
-//! - `made`, a seed and a count: how many runs of folded blocks pass as those of the blocks do, and how many don't.
 //!
 //! A line that isn't so, whose bundles aren't whole, whose cut doesn't fit, or whose unit is the 33rd, ends the program
 //! with the status 1.
@@ -17,22 +16,16 @@ ghost use Rattle.ci_rewrite.specs.Blocks.{AllFieldsFit};
 use ci_isa::Insn;
 use ci_unit::UnitTable;
 use ci_vemit::emit;
-use cuts::number_of;
-use folds::compare_blocks;
+use cuts::add_unit;
 use instructions::words_of;
-use lines::{folded_of_line, made_of_line, unit_of_line};
-use runs::Tally;
+use lines::{folded_of_line, unit_of_line};
 use std::alloc::{AllocError, Global};
 use std::io::{self, Write};
 use std::process::ExitCode;
 
 mod cuts;
-mod folds;
 mod instructions;
 mod lines;
-mod made;
-mod random;
-mod runs;
 
 fn main(rt: HostRuntime) -> io::Result<ExitCode> {
     let mut units = UnitTable::new(rt.alloc());
@@ -53,10 +46,6 @@ fn answer_all(rt: &HostRuntime, units: &mut UnitTable) -> io::Result<ExitCode> {
 
 /// Writes what the line asks for, or puts its unit into the table. Answers whether the line asks for one of these.
 fn answer(rt: &HostRuntime, line: &str, units: &mut UnitTable) -> io::Result<bool> {
-    if let Some((seed, count)) = made_of_line(line) {
-        write_tally(rt, seed, count)?;
-        return Ok(true);
-    }
     if let Some(folded) = folded_of_line(rt.alloc(), line)? {
         write_block(rt, folded.as_slice())?;
         return Ok(true);
@@ -66,15 +55,6 @@ fn answer(rt: &HostRuntime, line: &str, units: &mut UnitTable) -> io::Result<boo
     }
     println!(rt; "no block with a cut, or a unit too many: {line}")?;
     Ok(false)
-}
-
-/// Writes how the runs of blocks that are made up compare.
-fn write_tally(rt: &HostRuntime, seed: u32, count: u32) -> io::Result<()> {
-    let tally = compare_blocks(rt.alloc(), seed, count)?;
-    println!(rt;
-        "{} pass alike, {} end alike, {} end by the same access, {} touch the text, {} differ",
-        tally.passed, tally.ended, tally.refused, tally.touched, tally.different
-    )
 }
 
 /// Writes the words of a block.
@@ -117,5 +97,5 @@ fn add_unit_of(alloc: Global, line: &str, units: &mut UnitTable) -> Result<bool,
     let Some(unit) = unit_of_line(alloc, line)? else {
         return Ok(false);
     };
-    Ok(number_of(units, unit)?.is_some())
+    add_unit(units, unit)
 }

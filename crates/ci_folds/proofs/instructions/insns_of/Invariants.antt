@@ -1,6 +1,5 @@
-use Rattle.std.proofs.Common.{◌≡◌, length}
 use Rattle.ci_rewrite.specs.Blocks.{AllFieldsFit}
 use Rattle.ci_folds.proofs.instructions.insns_of.Given as goal
 
 abbrev pub invariant-loop-word : goal.invariant-loop-word
-invariant-loop-word l = record { fit : AllFieldsFit l.insns.items; count : length l.insns.items ≡ l.word-index }
+invariant-loop-word l = AllFieldsFit l.insns.items
