@@ -1,16 +1,17 @@
-//! What the modules of tests share: calls over files in memory, and executables.
+//! What the modules of tests share: tables of steps over files in memory, and what several of them name.
 use ci_elf::frame;
 use ci_find::run;
-use ci_io::{MemShelf, Shelf, Sink, SureShelf, SureSink};
+use ci_io::{MemShelf, MemSink};
 use std::alloc::{AllocError, Global};
 use std::collections::BTreeMap;
+use std::mem::replace;
 use std::process::Abort;
 
-// Tables and texts are the answers of functions, so that the proof of a test looks at none of them, and what owns
-// memory is let go by a call of `drop`, which a proof does not look into.
+// Tables are the answers of functions, so that the proof of a test looks at none of them, and what owns memory is let
+// go by a call of `drop`, which a proof does not look into.
 
 /// The words after the program's name, by blanks: `''` is the empty word.
-fn words(alloc: Global, text: &str) -> Result<Vec<String>, AllocError> {
+pub(crate) fn words(alloc: Global, text: &str) -> Result<Vec<String>, AllocError> {
     let mut words = Vec::new(alloc);
     for word in text.split(' ') {
         if word == "''" {
@@ -22,221 +23,58 @@ fn words(alloc: Global, text: &str) -> Result<Vec<String>, AllocError> {
     Ok(words)
 }
 
-/// Puts the file of a name among the others, where it has bytes.
-pub(crate) fn hold(
-    alloc: Global,
-    files: &mut BTreeMap<String, Vec<u8>>,
-    name: &str,
-    file: Option<&[u8]>,
-) -> Result<(), AllocError> {
-    if let Some(bytes) = file {
-        files.insert(
-            String::from_str(alloc, name)?,
-            Vec::from_slice(alloc, bytes)?,
-        )?;
-    }
+/// What is done with files in memory, in turn. At first there are none.
+#[derive(Clone, Copy)]
+pub(crate) enum Step {
+    /// All files go.
+    Clear,
+    /// A file of these bytes.
+    File(&'static str, &'static [u8]),
+    /// A file that is the executable of a text, constants and values.
+    Executable(&'static str, &'static [u32], &'static [u32], &'static [u32]),
+    /// A file of these words alone, the lowest byte of each first.
+    Block(&'static str, &'static [u32]),
+    /// Words are written into a file from an offset on, the lowest byte of each first.
+    Words(&'static str, usize, &'static [u32]),
+    /// A file gets this length: it is cut, or zeros come behind it.
+    Length(&'static str, usize),
+    /// A call of the program, its status and the bytes that it puts. One that is refused leaves all files as they were.
+    Call(&'static str, u8, &'static [u8]),
+    /// The same where the call of this number of the shelf fails.
+    Failing(u64, &'static str, u8, &'static [u8]),
+    /// A call whose first put fails, its status and what it puts then. Files that it wrote are whole.
+    Unheard(&'static str, u8, &'static [u8]),
+    /// A call of which no put arrives, that of its fault line neither, and its status.
+    Mute(&'static str, u8),
+    /// All that a file holds.
+    Holds(&'static str, &'static [u8]),
+    /// How a file begins, and how it ends.
+    Between(&'static str, &'static [u8], &'static [u8]),
+    /// Two files hold the same.
+    Same(&'static str, &'static str),
+}
+
+/// The files of a shelf, by their names.
+pub(crate) type Files = BTreeMap<String, Vec<u8>>;
+
+/// Puts a file among the others.
+fn put(files: &mut Files, alloc: Global, name: &str, bytes: Vec<u8>) -> Result<(), AllocError> {
+    files.insert(String::from_str(alloc, name)?, bytes)?;
     Ok(())
 }
 
-/// The files `F`, `T` and `I`, each of these bytes, if it is there.
-pub(crate) fn files_of(
+/// Puts a file of these bytes among the others.
+pub(crate) fn hold(
+    files: &mut Files,
     alloc: Global,
-    file: Option<&[u8]>,
-    table: Option<&[u8]>,
-    input: Option<&[u8]>,
-) -> Result<BTreeMap<String, Vec<u8>>, AllocError> {
-    let mut files = BTreeMap::new(alloc);
-    hold(alloc, &mut files, "F", file)?;
-    hold(alloc, &mut files, "T", table)?;
-    hold(alloc, &mut files, "I", input)?;
-    Ok(files)
-}
-
-/// Calls the program over a shelf and a sink, and gives its status.
-pub(crate) fn answer(
-    alloc: Global,
-    text: &str,
-    shelf: &mut impl Shelf,
-    out: &mut impl Sink,
-) -> Result<u8, AllocError> {
-    let words = words(alloc, text)?;
-    let answer = run(alloc, &words, shelf, out);
-    drop(words);
-    Ok(answer)
-}
-
-/// Calls the program over a shelf, and asserts its status and the bytes that it put.
-pub(crate) fn expect_call(
-    rt: &(impl Abort + AllocGlobal),
-    shelf: &mut impl Shelf,
-    text: &str,
-    status: u8,
-    put: &[u8],
-) {
-    let alloc = rt.alloc();
-    let mut out = SureSink::new(alloc);
-    let answer = answer(alloc, text, shelf, &mut out);
-    assert!(rt; answer.ok() == Some(status), "the status of {text}");
-    assert!(rt; out.taken() == put, "what {text} put");
-    drop(out);
-}
-
-/// Asserts that files are those that they should be, all of them and no other.
-pub(crate) fn expect_files(
-    rt: &impl Abort,
-    text: &str,
-    files: &BTreeMap<String, Vec<u8>>,
-    due: BTreeMap<String, Vec<u8>>,
-) {
-    assert!(rt; *files == due, "the files after {text}");
-    drop(due);
-}
-
-/// Asserts what a file of the shelf holds.
-pub(crate) fn expect_file(
-    rt: &impl Abort,
-    files: &BTreeMap<String, Vec<u8>>,
     name: &str,
     bytes: &[u8],
-) {
-    match files.get(name) {
-        Some(file) => assert!(rt; file.as_slice() == bytes, "the file {name}"),
-        None => assert!(rt; false, "no file {name}"),
-    }
-}
-
-/// Calls the program over these files, and asserts its status and the bytes that it put, and of a call that is refused
-/// that it left all files as they were.
-pub(crate) fn expect_over(
-    rt: &(impl Abort + AllocGlobal),
-    files: BTreeMap<String, Vec<u8>>,
-    text: &str,
-    status: u8,
-    put: &[u8],
 ) -> Result<(), AllocError> {
-    let before = files.clone()?;
-    let mut shelf = SureShelf::new(files);
-    expect_call(rt, &mut shelf, text, status, put);
-    if status == 0 {
-        drop(before);
-    } else {
-        expect_files(rt, text, shelf.files(), before);
-    }
-    drop(shelf);
-    Ok(())
-}
-
-/// The same where the call of this number of the shelf fails: its status, its line, and that all files are as before.
-pub(crate) fn expect_failing(
-    rt: &(impl Abort + AllocGlobal),
-    files: BTreeMap<String, Vec<u8>>,
-    failing: u64,
-    text: &str,
-    status: u8,
-    line: &str,
-) -> Result<(), AllocError> {
-    let faults = vec![in rt.alloc(); failing]?;
-    let before = files.clone()?;
-    let mut shelf = MemShelf::new(files, faults);
-    expect_call(rt, &mut shelf, text, status, line.as_bytes());
-    expect_files(rt, text, shelf.files(), before);
-    drop(shelf);
-    Ok(())
-}
-
-/// Calls the program over the file `F`, and asserts its status and the line that it put.
-pub(crate) fn expect(
-    rt: &(impl Abort + AllocGlobal),
-    file: Option<&[u8]>,
-    text: &str,
-    status: u8,
-    line: &str,
-) -> Result<(), AllocError> {
-    let files = files_of(rt.alloc(), file, None, None)?;
-    expect_over(rt, files, text, status, line.as_bytes())
-}
-
-/// The same for each of these calls.
-pub(crate) fn expect_each(
-    rt: &(impl Abort + AllocGlobal),
-    file: Option<&[u8]>,
-    texts: &[&str],
-    status: u8,
-    line: &str,
-) -> Result<(), AllocError> {
-    for text in texts {
-        expect(rt, file, text, status, line)?;
-    }
-    Ok(())
-}
-
-/// Calls the program over a file `F`, and asserts its status and the bytes that it put.
-pub(crate) fn expect_of(
-    rt: &(impl Abort + AllocGlobal),
-    file: &[u8],
-    text: &str,
-    status: u8,
-    put: &[u8],
-) -> Result<(), AllocError> {
-    let files = files_of(rt.alloc(), Some(file), None, None)?;
-    expect_over(rt, files, text, status, put)
-}
-
-/// The same for each of these calls, of which each puts a line.
-pub(crate) fn expect_lines(
-    rt: &(impl Abort + AllocGlobal),
-    file: &[u8],
-    rows: &[(&str, u8, &str)],
-) -> Result<(), AllocError> {
-    for (text, status, line) in rows {
-        expect_of(rt, file, text, *status, line.as_bytes())?;
-    }
-    Ok(())
-}
-
-/// Calls the program over each of these files `F`, and asserts its status and the line that it put.
-pub(crate) fn expect_faults(
-    rt: &(impl Abort + AllocGlobal),
-    text: &str,
-    status: u8,
-    rows: &[(&[u8], &str)],
-) -> Result<(), AllocError> {
-    for (file, line) in rows {
-        expect_of(rt, *file, text, status, line.as_bytes())?;
-    }
-    Ok(())
-}
-
-/// Calls the program over a file `F`, and asserts that it succeeds, the bytes that it put and those of the file `OUT`.
-pub(crate) fn expect_written(
-    rt: &(impl Abort + AllocGlobal),
-    file: &[u8],
-    text: &str,
-    put: &[u8],
-    written: &[u8],
-) -> Result<(), AllocError> {
-    let mut shelf = SureShelf::new(files_of(rt.alloc(), Some(file), None, None)?);
-    expect_call(rt, &mut shelf, text, 0, put);
-    expect_file(rt, shelf.files(), "OUT", written);
-    drop(shelf);
-    Ok(())
-}
-
-/// Calls the program over a file `F` and a table `T`, and asserts its status and the bytes that it put.
-pub(crate) fn expect_by(
-    rt: &(impl Abort + AllocGlobal),
-    file: &[u8],
-    table: &str,
-    text: &str,
-    status: u8,
-    put: &[u8],
-) -> Result<(), AllocError> {
-    let files = files_of(rt.alloc(), Some(file), Some(table.as_bytes()), None)?;
-    expect_over(rt, files, text, status, put)
+    put(files, alloc, name, Vec::from_slice(alloc, bytes)?)
 }
 
 /// The executable of a text, with some values behind it.
-pub(crate) fn program(
+fn program(
     rt: &(impl Abort + AllocGlobal),
     text: &[u32],
     constants: &[u32],
@@ -249,95 +87,232 @@ pub(crate) fn program(
     frame(rt.alloc(), text, constants, values)
 }
 
-/// Writes words into a file, the lowest byte of each first, each at its offset.
-pub(crate) fn change(rt: &impl Abort, bytes: &mut Vec<u8>, edits: &[(usize, u32)]) {
-    for (offset, word) in edits {
-        assert!(rt; *offset <= 1_000);
-        assert!(rt; *offset + 4 <= bytes.len());
+/// The bytes of words, the lowest byte of each first.
+fn bytes_of(alloc: Global, words: &[u32]) -> Result<Vec<u8>, AllocError> {
+    let mut bytes = Vec::new(alloc);
+    for word in words {
+        bytes.extend_from_slice(&word.to_le_bytes())?;
+    }
+    Ok(bytes)
+}
+
+/// Writes words into a file, the lowest byte of each first.
+fn write_words(rt: &impl Abort, bytes: &mut Vec<u8>, offset: usize, words: &[u32]) {
+    let mut place = offset;
+    for word in words {
+        assert!(rt; place <= 1_000);
+        assert!(rt; place + 4 <= bytes.len());
         let [first, second, third, fourth] = word.to_le_bytes();
-        bytes[*offset] = first;
-        bytes[*offset + 1] = second;
-        bytes[*offset + 2] = third;
-        bytes[*offset + 3] = fourth;
+        bytes[place] = first;
+        bytes[place + 1] = second;
+        bytes[place + 2] = third;
+        bytes[place + 3] = fourth;
+        place += 4;
     }
 }
 
-/// Calls the program over the executable of a text alone, and asserts its status and the line that it put.
-pub(crate) fn expect_of_text(
+/// Calls the program over copies of these files, asserts its status and the bytes that it puts, and gives the files
+/// after it. The call of the first number of the shelf fails, none has the number 0, and the second number says how
+/// many puts of the sink fail, from the first on and two at most.
+pub(crate) fn files_after(
     rt: &(impl Abort + AllocGlobal),
-    words: &[u32],
+    files: &Files,
+    failing: (u64, u64),
     text: &str,
     status: u8,
-    line: &str,
-) -> Result<(), AllocError> {
-    let bytes = program(rt, words, &[], &[])?;
-    let outcome = expect_of(rt, bytes.as_slice(), text, status, line.as_bytes());
-    drop(bytes);
-    outcome
+    put: &[u8],
+) -> Result<Files, AllocError> {
+    let alloc = rt.alloc();
+    let (of_shelf, of_sink) = failing;
+    let words = words(alloc, text)?;
+    let mut shelf = MemShelf::new(files.clone()?, vec![in alloc; of_shelf]?);
+    let mut out = MemSink::new(alloc, vec![in alloc; of_sink.min(1), of_sink]?);
+    let answer = run(alloc, &words, &mut shelf, &mut out);
+    drop(words);
+    assert!(rt; answer == status, "the status of {text}");
+    assert!(rt; out.taken() == put, "what {text} put");
+    drop(out);
+    let after: Result<Files, AllocError> = shelf.files().clone();
+    drop(shelf);
+    after
 }
 
-/// The same for each of these texts, with a call and the line.
-pub(crate) fn expect_of_texts(
+/// Calls the program over the files, and asserts its status and the bytes that it puts, and of a call that is refused
+/// that it left all files as they were. A call of which a put fails may have written all its files.
+fn expect_call(
     rt: &(impl Abort + AllocGlobal),
+    files: &mut Files,
+    failing: (u64, u64),
+    text: &str,
     status: u8,
-    rows: &[(&[u32], &str, &str)],
+    put: &[u8],
 ) -> Result<(), AllocError> {
-    for (words, text, line) in rows {
-        expect_of_text(rt, words, text, status, line)?;
+    let after = files_after(rt, files, failing, text, status, put)?;
+    let (_, of_sink) = failing;
+    let may_write = status == 0 || of_sink != 0;
+    assert!(rt; may_write || after == *files, "the files after {text}");
+    drop(replace(files, after));
+    Ok(())
+}
+
+/// Whether a file is there that begins and ends with these bytes, and has no others where it has to be the first alone.
+fn is_between(files: &Files, name: &str, front: &[u8], back: Option<&[u8]>) -> bool {
+    match files.get(name) {
+        Some(file) => match back {
+            Some(back) => file.as_slice().starts_with(front) && file.as_slice().ends_with(back),
+            None => file.as_slice() == front,
+        },
+        None => false,
+    }
+}
+
+/// Whether both files are there and hold the same.
+fn are_same(files: &Files, name: &str, other: &str) -> bool {
+    match files.get(other) {
+        Some(file) => is_between(files, name, file.as_slice(), None),
+        None => false,
+    }
+}
+
+/// Takes a step.
+fn take(rt: &(impl Abort + AllocGlobal), files: &mut Files, step: &Step) -> Result<(), AllocError> {
+    match *step {
+        Step::Clear => drop(replace(files, BTreeMap::new(rt.alloc()))),
+        Step::File(name, bytes) => hold(files, rt.alloc(), name, bytes)?,
+        Step::Executable(name, text, constants, values) => {
+            put(
+                files,
+                rt.alloc(),
+                name,
+                program(rt, text, constants, values)?,
+            )?
+        }
+        Step::Block(name, words) => put(files, rt.alloc(), name, bytes_of(rt.alloc(), words)?)?,
+        Step::Words(name, offset, words) => match files.get_mut(name) {
+            Some(bytes) => write_words(rt, bytes, offset, words),
+            None => assert!(rt; false, "no file {name}"),
+        },
+        Step::Length(name, length) => match files.get_mut(name) {
+            Some(bytes) => bytes.resize(length, 0)?,
+            None => assert!(rt; false, "no file {name}"),
+        },
+        Step::Call(text, status, put) => expect_call(rt, files, (0, 0), text, status, put)?,
+        Step::Failing(number, text, status, put) => {
+            expect_call(rt, files, (number, 0), text, status, put)?
+        }
+        Step::Unheard(text, status, put) => expect_call(rt, files, (0, 1), text, status, put)?,
+        Step::Mute(text, status) => expect_call(rt, files, (0, 2), text, status, b"")?,
+        Step::Holds(name, due) => {
+            assert!(rt; is_between(files, name, due, None), "the file {name}")
+        }
+        Step::Between(name, front, back) => {
+            assert!(rt;
+                is_between(files, name, front, Some(back)),
+                "the file {name}"
+            )
+        }
+        Step::Same(name, other) => {
+            assert!(rt;
+                are_same(files, name, other),
+                "the files {name} and {other}"
+            )
+        }
     }
     Ok(())
 }
 
+/// Takes these steps, one after the other.
+fn take_all(
+    rt: &(impl Abort + AllocGlobal),
+    files: &mut Files,
+    steps: &[Step],
+) -> Result<(), AllocError> {
+    for step in steps {
+        take(rt, files, step)?;
+    }
+    Ok(())
+}
+
+/// The files that these steps leave, from no files on.
+pub(crate) fn files_of(
+    rt: &(impl Abort + AllocGlobal),
+    steps: &[Step],
+) -> Result<Files, AllocError> {
+    let mut files = BTreeMap::new(rt.alloc());
+    take_all(rt, &mut files, steps)?;
+    Ok(files)
+}
+
+/// Takes these steps, from no files on.
+pub(crate) fn expect(rt: &(impl Abort + AllocGlobal), steps: &[Step]) -> Result<(), AllocError> {
+    let mut files = BTreeMap::new(rt.alloc());
+    let outcome = take_all(rt, &mut files, steps);
+    drop(files);
+    outcome
+}
+
 /// Thirty words: calls of two functions through a table, a constant, a word of output, and an exit.
-fn words_of_calls() -> &'static [u32] {
-    &[
-        0x00020437, 0x00400493, 0x00000913, 0x00042283, 0x00090513, 0x000280e7, 0x00050913,
-        0x00440413, 0xfff48493, 0xfe0494e3, 0x000205b7, 0x0125a823, 0x01058593, 0x00100513,
-        0x00400613, 0x04000893, 0x00000073, 0x00000513, 0x05d00893, 0x00000073, 0x00351313,
-        0x00a34333, 0x00530513, 0x00008067, 0x000103b7, 0x0ec3a383, 0x00750533, 0x00155313,
-        0x00654533, 0x00008067,
-    ]
-}
+pub(crate) const CALLS: &[u32] = &[
+    0x00020437, 0x00400493, 0x00000913, 0x00042283, 0x00090513, 0x000280e7, 0x00050913, 0x00440413,
+    0xfff48493, 0xfe0494e3, 0x000205b7, 0x0125a823, 0x01058593, 0x00100513, 0x00400613, 0x04000893,
+    0x00000073, 0x00000513, 0x05d00893, 0x00000073, 0x00351313, 0x00a34333, 0x00530513, 0x00008067,
+    0x000103b7, 0x0ec3a383, 0x00750533, 0x00155313, 0x00654533, 0x00008067,
+];
 
-/// The table of the functions' addresses, and the word that is put.
-fn values_of_calls() -> &'static [u32] {
-    &[0x000100c4, 0x000100d4, 0x000100c4, 0x000100d4, 0]
-}
+/// Their executable as the file `F`, with the constant that they load, the table of the functions' addresses, and the
+/// word that is put.
+pub(crate) const CALLS_AS_F: Step = Step::Executable(
+    "F",
+    CALLS,
+    &[0x000003e8],
+    &[0x000100c4, 0x000100d4, 0x000100c4, 0x000100d4, 0],
+);
 
-/// Their executable, with the constant that they load.
-pub(crate) fn calls(rt: &(impl Abort + AllocGlobal)) -> Result<Vec<u8>, AllocError> {
-    program(rt, words_of_calls(), &[0x000003e8], values_of_calls())
-}
-
-/// A break alone.
-pub(crate) fn break_alone(rt: &(impl Abort + AllocGlobal)) -> Result<Vec<u8>, AllocError> {
-    program(rt, &[0x00100073], &[], &[])
-}
+/// The executable of a break alone as the file `F`.
+pub(crate) const BREAK_AS_F: Step = Step::Executable("F", &[0x00100073], &[], &[]);
 
 /// The unit of two sums.
-pub(crate) fn unit_of_sums() -> &'static str {
-    "// cycles 1\n\
-    module ci_0(input [31:0] a, input [31:0] b, input [31:0] c, output [31:0] y, output [31:0] z);\n\
-    wire [31:0] p0;\nassign p0 = a;\nwire [31:0] q0;\nassign q0 = b;\n\
-    wire [31:0] t0;\nassign t0 = p0 + q0;\n\
-    wire [31:0] p1;\nassign p1 = t0;\nwire [31:0] q1;\nassign q1 = c;\n\
-    wire [31:0] t1;\nassign t1 = p1 + q1;\n\
-    assign y = t1;\nassign z = 32'h00000000;\nendmodule\n"
-}
+pub(crate) const UNIT_OF_SUMS: &[u8] = b"// cycles 1
+module ci_0(input [31:0] a, input [31:0] b, input [31:0] c, output [31:0] y, output [31:0] z);
+wire [31:0] p0;
+assign p0 = a;
+wire [31:0] q0;
+assign q0 = b;
+wire [31:0] t0;
+assign t0 = p0 + q0;
+wire [31:0] p1;
+assign p1 = t0;
+wire [31:0] q1;
+assign q1 = c;
+wire [31:0] t1;
+assign t1 = p1 + q1;
+assign y = t1;
+assign z = 32'h00000000;
+endmodule
+";
 
 /// The block of two sums, of which the second writes the register of the first: the words 00b502b3 and 00c282b3.
-pub(crate) fn sums() -> &'static [u8] {
-    &[0xB3, 0x02, 0xB5, 0x00, 0xB3, 0x82, 0xC2, 0x00]
-}
+pub(crate) const SUMS: &[u8] = &[0xB3, 0x02, 0xB5, 0x00, 0xB3, 0x82, 0xC2, 0x00];
+
+/// The same as the file `F`.
+pub(crate) const SUMS_AS_F: Step = Step::File("F", SUMS);
 
 /// A log book of a choice with one output, whose logs were written by hand.
-pub(crate) fn book() -> &'static str {
-    "ci-log 1\nblock 00010074 best 0 2\nBBOBOFBBFFG\ntake 00010074 unit 0\n\
-block 00010074 none\nG\nend none\n"
-}
+pub(crate) const BOOK: &[u8] = b"ci-log 1
+block 00010074 best 0 2
+BBOBOFBBFFG
+take 00010074 unit 0
+block 00010074 none
+G
+end none
+";
 
 /// The same in version 2, whose trees were packed by hand.
-pub(crate) fn packed_book() -> &'static str {
-    "ci-log 2\nblock 00010074 best 0 2\n\x00\x10\x15\x00\x56\x40\ntake 00010074 unit 0\n\
-block 00010074 none\n\x40\nend none\n"
-}
+pub(crate) const PACKED_BOOK: &[u8] = b"ci-log 2
+block 00010074 best 0 2
+\x00\x10\x15\x00\x56\x40
+take 00010074 unit 0
+block 00010074 none
+\x40
+end none
+";
