@@ -10,14 +10,15 @@ Blocks that are made up, always in the same way, are folded too, with uses of un
 kinds in them; each up to ten times, and after about half of these the folded block takes the place of the block. Of
 each of these folds, the block and what the program made of it run beside each other on plain machines in Python, where
 units are the operations of their cuts, from random states that agree on what the block needs. They have to be alike in
-their ends, pc, live registers, memory outside the text, heap end, input left and output.
+their ends, memory outside the text, heap end, input left and output, and where they pass in pc and live registers, too.
+One in four runs with another target of its unit word, too, and so many of these have to be found.
 """
 import collections
 import random
 
 from checks.common import FOLDS, called, main, read
 from checks.generators.folds import BlockMaker, some_live
-from checks.oracles.block_runs import ENDED, PASSED, REFUSED, Both, last_words, unit_of
+from checks.oracles.block_runs import ENDED, PASSED, REFUSED, WILD, Both, last_words, unit_of
 from checks.oracles.blocks import Text, live_sets
 from checks.tools import compiled
 from readers import executable
@@ -34,6 +35,8 @@ WITH_UNITS = "of blocks with units"
 # of each kind.
 MADE, FOLDED = 400, 10
 LEAST_RUNS, LEAST_ENDS, LEAST_KINDS = 1620, 293, 100
+# One of so many runs is made with a wrong word, too, and how many of these have to be found.
+PLANTED, FOUND, LEAST_FOUND = 4, "that are found with another target of the unit word", 200
 # Limits on inputs and outputs.
 USUAL, GREATEST = ("3", "2"), ("5", "3")
 NUMBERS = 32
@@ -137,17 +140,28 @@ def fold_made(source, folds):
             block = Block(folded, live)
 
 
+def with_another_target(words):
+    """The words of a folded block, of which the last unit word writes the register beside its own."""
+    place = max(place for place, word in enumerate(words) if is_unit(word))
+    return [*words[:place], words[place] ^ 1 << 7, *words[place + 1:]]
+
+
 def run_folds(check, source, folds, ours):
     """Runs what the program made of each of these folds beside its block, and counts them by their kinds."""
     counts = collections.Counter()
-    for run in folds.runs:
+    for number, run in enumerate(folds.runs):
         folded = [int(word, 16) for word in ours[run.line].split()]
         end, what = Both(source, run.words, folded, run.live, run.units).run()
         check.need(what is None, f"{folds.lines[run.line]}, as {ours[run.line]}: {what}")
         counts.update([end, *run.kinds, *["with a last word that ends the block"] * bool(last_words(run.words))])
+        if number % PLANTED == 0:
+            wrong = Both(random.Random(number), run.words, with_another_target(folded), run.live, run.units)
+            counts[FOUND] += wrong.run()[1] is not None
+    check.same("runs that touch the text", counts[WILD], 0)
     check.least({"runs": len(folds.runs)}, LEAST_RUNS)
     check.least({f"runs {end}": counts[end] for end in (PASSED, ENDED, REFUSED)}, LEAST_ENDS)
     check.least({f"runs {kind}": counts[kind] for kind in (*KINDS, WITH_UNITS)}, LEAST_KINDS)
+    check.least({f"runs {FOUND}": counts[FOUND]}, LEAST_FOUND)
     return counts
 
 
@@ -180,6 +194,7 @@ def look(check):
     fold_rows(check, folds)
     paths = [path for _, path in (compiled.samples() if missing else compiled.executables(check.folder))]
     best = sum(fold_executable(source, folds, check, path) for path in paths)
+    # Drawn anew, so that these blocks are the same whatever tools are there.
     source = random.Random(1)
     for _ in range(MADE):
         fold_made(source, folds)

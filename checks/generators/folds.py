@@ -6,8 +6,8 @@ from checks.oracles.operations import IMMEDIATE, SHIFTS, with_registers
 from readers.folds import cput_word, cread_word, unit_word
 from readers.instructions import with_offset
 
-# The registers that hold addresses, and those that operations are over.
-STACK, BASES = 2, (2, 8, 8, 9)
+# The registers that hold addresses, x8 twice as often as the others, and those that operations are over.
+BASES = 2, 8, 8, 9
 WORK = sorted({*range(1, 32)} - {*BASES})
 # What ends a block: branches, JAL, JALR, AUIPC, and words that are taken as they are, of which the last one is no
 # instruction.

@@ -89,10 +89,12 @@ class Both:
         last = last_words(self.words)
         actions = len(self.words) - len(last)
         what = self.difference(actions, needed(last, self.live))
+        if self.old.wild:
+            return WILD, None
         if self.old.end and not what:
             is_access = self.old.end.startswith("access")
             return REFUSED, None if is_access else f"both end by {self.old.end} before the last word"
-        if not what and not self.old.wild:
+        if not what:
             what = self.difference(len(self.words), self.live)
         return WILD if self.old.wild else ENDED if self.old.end else PASSED, what
 

@@ -38,7 +38,7 @@ class End(Exception):
 
 class Program:
     """What an executable's runs have in common: its memory at first, its text, what each word of that does and costs by
-    a table, and the modules of its unit words, or None on a machine without units."""
+    a table, and the modules of its unit words, with their numbers, or None on a machine without units."""
 
     def __init__(self, data, table, modules=None):
         self.table, self.modules, self.numbers = table, modules, range(len(modules or ()))
