@@ -44,7 +44,7 @@ fn blocks_of_calls(rt: HostRuntime) -> Result<(), AllocError> {
     expect(&rt, of_calls())
 }
 
-/// Four words that do nothing, `addi x0, x0, 0`, and which are leaders of a text of such words.
+/// Four words that do nothing, `addi x0, x0, 0`.
 const FOUR: Step = Step::Executable(
     "F",
     &[0x00000013, 0x00000013, 0x00000013, 0x00000013],
@@ -144,8 +144,8 @@ block 0001007c length 2 live
         ),
         Step::Words("F", 100, &[3]),
         Step::Call("blocks F", 0, b"block 00010074 length 4 live\n"),
-        // A symbol, and others beside it: the values are a symbol table that no segment loads. The section headers
-        // begin at 180, and the edits are in them at 124 and 156.
+        // A symbol, and others beside it: the values are a symbol table that no segment loads. The word at 84 makes
+        // program header 1 none to load; the section headers begin at 180, and the others are in them at 124 and 156.
         Step::Executable(
             "F",
             &[0x00000013, 0x00000013, 0x00000013, 0x00000013],

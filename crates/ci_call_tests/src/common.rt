@@ -42,7 +42,7 @@ pub(crate) enum Step {
     Call(&'static str, u8, &'static [u8]),
     /// The same where the call of this number of the shelf fails.
     Failing(u64, &'static str, u8, &'static [u8]),
-    /// A call whose first put fails, its status and what it puts then. Files that it wrote are whole.
+    /// A call whose first put fails, its status and what it puts then. Which files it wrote, steps behind it tell.
     Unheard(&'static str, u8, &'static [u8]),
     /// A call of which no put arrives, that of its fault line neither, and its status.
     Mute(&'static str, u8),
@@ -155,7 +155,7 @@ fn expect_call(
     Ok(())
 }
 
-/// Whether a file is there that begins and ends with these bytes, and has no others where it has to be the first alone.
+/// Whether a file is there that is `front` or, where `back` is given, begins with `front` and ends with `back`.
 fn is_between(files: &Files, name: &str, front: &[u8], back: Option<&[u8]>) -> bool {
     match files.get(name) {
         Some(file) => match back {

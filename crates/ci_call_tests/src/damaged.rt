@@ -4,7 +4,7 @@ use std::alloc::AllocError;
 
 /// The executable of a no-op.
 ///
-/// It has 280 bytes: the file header, the program headers at 52 and 84, the text at 116, and the section headers at
+/// It begins with the file header; the program headers are at 52 and 84, the text at 116, and the section headers at
 /// 120, of which that of the text is at 160.
 const NO_OP: Step = Step::Executable("F", &[0x00000013], &[], &[]);
 
