@@ -105,8 +105,9 @@ show_version() {
 # Builds the program into out/, and compares it with the shipped one where that was built from the same.
 build_only() {
     build_alone
-    # The newer of both programs runs.
-    touch -- "$built"
+    # The newer of both programs runs. Without -c, `touch` would open it to write, and for that moment the system would
+    # start it for no other call.
+    touch -c -- "$built"
     if cmp -s -- "$shipped" "$built"; then
         echo "out/rumtsafi has the same bits as bin/rumtsafi"
     elif cmp -s -- "$shipped.sources" "$built.sources"; then

@@ -232,6 +232,15 @@ class Built(Repository):
         self.assertTrue(any("waiting for another call" in told for _, told, _ in ended))
         self.assertEqual(self.new_calls(), BUILDS)
 
+    def test_a_build_with_nothing_to_do_opens_the_program_for_no_writing(self):
+        # The system starts no program that is open to be written. A lease on it ends where somebody opens it so.
+        self.build()
+        self.addCleanup(signal.signal, signal.SIGIO, signal.signal(signal.SIGIO, signal.SIG_IGN))
+        with open(os.path.join(self.root, "out/rumtsafi"), encoding="utf-8") as file:
+            fcntl.fcntl(file, fcntl.F_SETLEASE, fcntl.F_RDLCK)
+            self.assertEqual(self.build(), (0, ""))
+            self.assertEqual(fcntl.fcntl(file, fcntl.F_GETLEASE), fcntl.F_RDLCK)
+
     def test_a_build_that_is_stopped_leaves_nothing_that_waits_or_runs(self):
         process = self.start("--build", LASTS="5")
         latest = time.monotonic() + 30
